@@ -18,23 +18,21 @@ use Rattle.ps_certificate.proofs.FirstFlaws.{first_of_stage, closed_has_no_flaw,
 use Rattle.ps_certificate.proofs.Lists.{rising_far}
 
 -- the lists of opposing priorities rise
-pub opposing_rises : (game : ParityGame) (certificate : CertificateData) (player : ℕ) → Fits game certificate →
+pub opposing_rises : {game : ParityGame} {certificate : CertificateData} (player : ℕ) → Fits game certificate →
     IsStrictlyIncreasing (opposing certificate player)
 unfolding opposing
-opposing_rises game certificate player fits =
+opposing_rises {certificate} player fits =
     elim (player == 0) as (λ b. IsStrictlyIncreasing (cond b certificate.odd certificate.even))
     [ true ↦ fits.odd_listed.rising | false ↦ fits.even_listed.rising ]
 
 -- and have the priority of each vertex by which the player loses
-pub opposing_complete : (game : ParityGame) (certificate : CertificateData) (player : ℕ) → Fits game certificate →
+pub opposing_complete : {game : ParityGame} {certificate : CertificateData} (player : ℕ) → Fits game certificate →
     player < 2 → (v : ℕ) → v < vertex_count game → priority_of game v % 2 ≢ player →
     Contains (opposing certificate player) (priority_of game v)
 unfolding opposing
-opposing_complete game certificate zero fits is_player v below lost =
-    fits.odd_listed.complete v below (omega (arith, lost))
-opposing_complete game certificate (suc zero) fits is_player v below lost =
-    fits.even_listed.complete v below (omega (arith, lost))
-opposing_complete game certificate (suc (suc n)) fits is_player v below lost = absurd (omega arith)
+opposing_complete zero fits is_player v below lost = fits.odd_listed.complete v below (omega (arith, lost))
+opposing_complete (suc zero) fits is_player v below lost = fits.even_listed.complete v below (omega (arith, lost))
+opposing_complete (suc (suc n)) fits is_player v below lost = absurd (omega arith)
 
 -- two counts and a rising list of priorities, of which those from `start` on are at least both ends'
 pub record Compared (game : ParityGame) (certificate : CertificateData) (v w : ℕ) (priorities before after : List ℕ)
@@ -54,26 +52,27 @@ FallsAtStart game v priorities before after start =
     slice_index after start < slice_index before start
 
 -- below the start there is nothing to keep
-KeepsCount-lower : (game : ParityGame) (certificate : CertificateData) (v w : ℕ) (priorities before after : List ℕ)
-    (top start k : ℕ) → Compared game certificate v w priorities before after top start → k < start →
+KeepsCount-lower : {game : ParityGame} {certificate : CertificateData} {v w : ℕ} {priorities before after : List ℕ}
+    {top start : ℕ} (k : ℕ) → Compared game certificate v w priorities before after top start → k < start →
     KeepsCount game certificate v w k
-KeepsCount-lower game certificate v w priorities before after top start k compared early =
+KeepsCount-lower {game} {certificate} {v} {w} {priorities} {top} k compared early =
     let is : slice_index priorities k ≡ opposing_at certificate v k =
     ap (λ l. slice_index l k) compared.priorities_are in
     let small : slice_index priorities k < top = compared.lower k early in
-    let top_is : top ≡ max (priority_of game v) (priority_of game w) = compared.top_is in
     record {
       never_rises = λ own_at other_at. absurd (omega arith);
       falls = λ own_is other_at. absurd (omega arith);
     }
 
-pub KeepsCount-compared : (game : ParityGame) (certificate : CertificateData) (v w : ℕ)
-    (priorities before after : List ℕ) (top start k : ℕ) → Compared game certificate v w priorities before after top
+pub KeepsCount-compared : {game : ParityGame} {certificate : CertificateData} {v w : ℕ}
+    {priorities before after : List ℕ} {top start : ℕ} (k : ℕ) →
+    Compared game certificate v w priorities before after top
     start → FallsAtStart game v priorities before after start → k < length priorities →
     (start ≤ k → slice_index after k ≤ slice_index before k) → KeepsCount game certificate v w k
-KeepsCount-compared game certificate v w priorities before after top start k compared strict within at_most =
+KeepsCount-compared {game} {certificate} {v} {w} {priorities} {before} {after} {top} {start} k compared strict
+    within at_most =
     elim (cases_lt k start) [
-      | inl early ↦ KeepsCount-lower game certificate v w priorities before after top start k compared early
+      | inl early ↦ KeepsCount-lower k compared early
       | inr late ↦
           let is : slice_index priorities k ≡ opposing_at certificate v k =
           ap (λ l. slice_index l k) compared.priorities_are in
@@ -81,7 +80,6 @@ KeepsCount-compared game certificate v w priorities before after top start k com
           ap (λ l. slice_index l k) compared.before_are in
           let after_is : slice_index after k ≡ slice_index (counts_of certificate w) k =
           ap (λ l. slice_index l k) compared.after_are in
-          let top_is : top ≡ max (priority_of game v) (priority_of game w) = compared.top_is in
           record {
             never_rises =
                 λ own_at other_at. (let h : slice_index after k ≤ slice_index before k = at_most late in omega arith);
@@ -104,14 +102,14 @@ KeepsCount-compared game certificate v w priorities before after top start k com
     ]
 
 -- a count that rises
-pub IsFirstBroken-behind : (game : ParityGame) (certificate : CertificateData) (v w : ℕ)
-    (priorities before after : List ℕ) (top start place : ℕ) →
+pub IsFirstBroken-behind : {game : ParityGame} {certificate : CertificateData} {v w : ℕ}
+    {priorities before after : List ℕ} {top start : ℕ} (place : ℕ) →
     Compared game certificate v w priorities before after top start →
     FallsAtStart game v priorities before after start → start ≤ place → place < length priorities →
     ((k : ℕ) → start ≤ k → k < place → slice_index after k ≤ slice_index before k) →
     slice_index before place < slice_index after place → IsFirstBroken game certificate v w
     (slice_index priorities place)
-IsFirstBroken-behind game certificate v w priorities before after top start place compared strict late within
+IsFirstBroken-behind {game} {certificate} {v} {w} {priorities} {before} {after} {top} place compared strict late within
     not_before rises =
     let is : slice_index priorities place ≡ opposing_at certificate v place =
     ap (λ l. slice_index l place) compared.priorities_are in
@@ -122,7 +120,6 @@ IsFirstBroken-behind game certificate v w priorities before after top start plac
     let long : length priorities ≡ length (opposing certificate (winner_of certificate v)) =
     ap length compared.priorities_are in
     let high : top ≤ slice_index priorities place = compared.higher place late within in
-    let top_is : top ≡ max (priority_of game v) (priority_of game w) = compared.top_is in
     record {
       place = place;
       within = omega arith;
@@ -131,32 +128,31 @@ IsFirstBroken-behind game certificate v w priorities before after top start plac
           λ keeps. (let at_most : slice_index (counts_of certificate w) place ≤ slice_index (counts_of certificate v)
           place = keeps.never_rises (omega arith) (omega arith) in omega arith);
       earlier =
-          λ k early. KeepsCount-compared game certificate v w priorities before after top start k compared strict
-          (omega arith) (λ from_start. not_before k from_start early);
+          λ k early. KeepsCount-compared k compared strict (omega arith) (λ from_start. not_before k from_start early);
     }
 
 -- of one edge, the least priority comes first
-same_edge : (game : ParityGame) (certificate : CertificateData) (v w p p' : ℕ) → Fits game certificate →
+same_edge : {game : ParityGame} {certificate : CertificateData} {v w p p' : ℕ} → Fits game certificate →
     IsFirstBroken game certificate v w p → BreaksCount game certificate v w p' →
     (Rank v w p ≡ Rank v w p') ⊎ Precedes game (Rank v w p) (Rank v w p')
-same_edge game certificate v w p p' fits first other = elim (cases_order other.place first.place) [
+same_edge {certificate} {v} {w} fits first other = elim (cases_order other.place first.place) [
   | inl same ↦ inl (ap (λ n. Rank v w n) (sym first.priority ∙ ap (λ n. opposing_at certificate v n) (sym same)
       ∙ other.priority))
   | inr (inl below) ↦ absurd (other.broken (first.earlier other.place below))
   | inr (inr above) ↦
       let less : opposing_at certificate v first.place < opposing_at certificate v other.place =
       rising_far (opposing certificate (winner_of certificate v))
-      (opposing_rises game certificate (winner_of certificate v) fits) first.place other.place above other.within in
+      (opposing_rises (winner_of certificate v) fits) first.place other.place above other.within in
       inr (inr (refl, refl, omega (arith, less, first.priority, other.priority)))
 ]
 
 -- the first broken priority of the first edge that breaks the rule is the first flaw of the vertex
-pub IsFirstFlawAt-rank : (game : ParityGame) (certificate : CertificateData) (v w p : ℕ) → Fits game certificate →
+pub IsFirstFlawAt-rank : {game : ParityGame} {certificate : CertificateData} {v w p : ℕ} → Fits game certificate →
     Remains game certificate v w → winner_of certificate w ≡ winner_of certificate v →
     IsFirstBroken game certificate v w p → ((w' : ℕ) → Remains game certificate v w' →
     (w' ≡ w) ⊎ (KeepsCounts game certificate v w' ⊎ StandsBefore (successors_of game v) w w')) →
     IsFirstFlawAt game certificate 1 v (Rank v w p)
-IsFirstFlawAt-rank game certificate v w p fits remains same_winner broken edges = record {
+IsFirstFlawAt-rank {game} {certificate} {v} {w} {p} fits remains same_winner broken edges = record {
   is_flaw =
       record {
         remains = remains;
@@ -177,7 +173,7 @@ IsFirstFlawAt-rank game certificate v w p fits remains same_winner broken edges 
       | inl same ↦
           let P : ℕ → Type 0 = λ n. BreaksCount game certificate v n p' in
           let Q : ℕ → Type 0 = λ n. (Rank v w p ≡ Rank v n p') ⊎ Precedes game (Rank v w p) (Rank v n p') in
-          subst Q (sym same) (same_edge game certificate v w p p' fits broken (subst P same other))
+          subst Q (sym same) (same_edge fits broken (subst P same other))
       | inr (inl keeps) ↦ absurd (other.broken (keeps other.place other.within))
       | inr (inr behind) ↦ inr (inl (inr (refl, behind)))
     ]
@@ -192,16 +188,16 @@ IsFirstFlawAt-rank game certificate v w p fits remains same_winner broken edges 
         subst Q (sym same) (here w' p' (subst P same is_flaw))
 
 -- the winner's move is an edge
-pub own_edge : (game : ParityGame) (certificate : CertificateData) (v w : ℕ) → HasRightMove game certificate v →
+pub own_edge : {game : ParityGame} {certificate : CertificateData} {v w : ℕ} → HasRightMove game certificate v →
     owner_of game v ≡ winner_of certificate v → choice_of certificate v ≡ Some w → Remains game certificate v w
-own_edge game certificate v w right own is =
-    Remains-own game certificate v w is (IsSomeAnd-at (choice_of certificate v) (HasEdge game v) w is (right.own own))
+own_edge {game} {certificate} {v} {w} right own is =
+    Remains-own game certificate v is (IsSomeAnd-at (HasEdge game v) is (right.own own))
 
 -- a vertex that its winner owns has one edge that remains
-pub own_edges : (game : ParityGame) (certificate : CertificateData) (v w : ℕ) →
-    owner_of game v ≡ winner_of certificate v → choice_of certificate v ≡ Some w → (w' : ℕ) →
+pub own_edges : (game : ParityGame) (certificate : CertificateData) (v : ℕ) {w : ℕ} →
+    owner_of game v ≡ winner_of certificate v → choice_of certificate v ≡ Some w → {w' : ℕ} →
     Remains game certificate v w' → w' ≡ w
-own_edges game certificate v w own is w' remains =
+own_edges game certificate v own is {w'} remains =
     let other : choice_of certificate v ≡ Some w' = remains.chosen own in cc
 
 -- behind edges that keep the rule, in the order of successors
@@ -211,7 +207,7 @@ pub other_edges : (game : ParityGame) (certificate : CertificateData) (v w numbe
     Remains game certificate v w' → (w' ≡ w) ⊎ (KeepsCounts game certificate v w' ⊎
     StandsBefore (successors_of game v) w w')
 other_edges game certificate v w number within is before w' remains =
-    let (j, j_within, j_is) = place_of (successors_of game v) w' remains.edge.1 in
+    let (j, j_within, j_is) = place_of (successors_of game v) remains.edge.1 in
     elim (cases_order j number) [
       | inl same ↦ inl (sym j_is ∙ ap (λ n. slice_index (successors_of game v) n) same ∙ sym is)
       | inr (inl below) ↦ (let P : ℕ → Type 0 = KeepsCounts game certificate v in
@@ -223,7 +219,7 @@ pub KeepsCountsAt-from_all : (game : ParityGame) (certificate : CertificateData)
     ((k : ℕ) → k < length (successors_of game v) → KeepsCounts game certificate v (get_or (successors_of game v) k 0)) →
     KeepsCountsAt game certificate v
 KeepsCountsAt-from_all game certificate v each w remains =
-    let (j, j_within, j_is) = place_of (successors_of game v) w remains.edge.1 in
+    let (j, j_within, j_is) = place_of (successors_of game v) remains.edge.1 in
     let P : ℕ → Type 0 = KeepsCounts game certificate v in
     subst P j_is (each j j_within)
 
@@ -236,43 +232,41 @@ kept_has_no_flaw game certificate (Rank v w p) keeps is_flaw _ =
     is_flaw.broken (keeps w is_flaw.remains is_flaw.place is_flaw.within)
 
 -- the first flaw in the counts of a closed certificate is the first of all
-pub first_unranked : (game : ParityGame) (certificate : CertificateData) (v : ℕ) (flaw : Flaw) →
+pub first_unranked : {game : ParityGame} {certificate : CertificateData} {v : ℕ} {flaw : Flaw} →
     IsClosed game certificate → ((u : ℕ) → u < v → KeepsCountsAt game certificate u) →
     IsFirstFlawAt game certificate 1 v flaw → IsFirstFlaw game certificate flaw
-first_unranked game certificate v flaw closed kept at = record {
+first_unranked {game} {certificate} {v} {flaw} closed kept at = record {
   is_flaw = at.is_flaw;
   first = λ other is_flaw. elim (stage_cases other) [
-    | inl early ↦ absurd (closed_has_no_flaw game certificate closed other is_flaw early)
-    | inr late ↦ first_of_stage game certificate 1 v flaw at (λ o o_flaw o_stage o_below.
-        kept_has_no_flaw game certificate o (kept (vertex_of o) o_below) o_flaw o_stage) other is_flaw late
+    | inl early ↦ absurd (closed_has_no_flaw closed other is_flaw early)
+    | inr late ↦ first_of_stage at (λ o o_flaw o_stage o_below.
+        kept_has_no_flaw game certificate o (kept (vertex_of o) o_below) o_flaw o_stage) is_flaw late
   ];
 }
 
-pub IsValid-from_kept : (game : ParityGame) (certificate : CertificateData) → IsClosed game certificate →
+pub IsValid-from_kept : {game : ParityGame} {certificate : CertificateData} → IsClosed game certificate →
     ((v : ℕ) → v < vertex_count game → KeepsCountsAt game certificate v) → IsValid game certificate
-IsValid-from_kept game certificate closed kept = record {
+IsValid-from_kept closed kept = record {
   closed = closed;
   counts = λ v w k remains same_winner within. kept v remains.edge.0 w remains k within;
 }
 
 -- a valid certificate has no flaw
-pub valid_has_no_flaw : (game : ParityGame) (certificate : CertificateData) (flaw : Flaw) → IsValid game certificate →
+pub valid_has_no_flaw : {game : ParityGame} {certificate : CertificateData} (flaw : Flaw) → IsValid game certificate →
     IsFlaw game certificate flaw → ⊥
-valid_has_no_flaw game certificate (Move v m) valid is_flaw =
-    closed_has_no_flaw game certificate valid.closed (Move v m) is_flaw refl
-valid_has_no_flaw game certificate (Escape v w) valid is_flaw =
-    closed_has_no_flaw game certificate valid.closed (Escape v w) is_flaw refl
-valid_has_no_flaw game certificate (Rank v w p) valid is_flaw =
+valid_has_no_flaw {game} {certificate} (Move v m) valid is_flaw =
+    closed_has_no_flaw valid.closed (Move v m) is_flaw refl
+valid_has_no_flaw {game} {certificate} (Escape v w) valid is_flaw =
+    closed_has_no_flaw valid.closed (Escape v w) is_flaw refl
+valid_has_no_flaw (Rank v w p) valid is_flaw =
     is_flaw.broken (valid.counts v w is_flaw.place is_flaw.remains is_flaw.same_winner is_flaw.within)
 
 -- a certificate whose vertices are all sound, with no flaw found in counts
-pub valid_in_the_end : (game : ParityGame) (certificate : CertificateData) (n : ℕ) (found : Option Flaw) →
+pub valid_in_the_end : {game : ParityGame} {certificate : CertificateData} (n : ℕ) {found : Option Flaw} →
     vertex_count game ≤ n
     → ((v : ℕ) → v < n → IsSoundAt game certificate v) → IfNone found (KeepCountsBefore game certificate n) →
-    found ≡ None
-    → IsValid game certificate
-valid_in_the_end game certificate n found all sound kept none =
-    let closed : IsClosed game certificate =
-    IsClosed-from_sound game certificate (λ v below. sound v (omega (arith, below, all))) in
+    found ≡ None → IsValid game certificate
+valid_in_the_end {game} {certificate} n all sound kept none =
+    let closed : IsClosed game certificate = IsClosed-from_sound (λ v below. sound v (omega (arith, below, all))) in
     let keeps : KeepCountsBefore game certificate n = rw none at kept in
-    IsValid-from_kept game certificate closed (λ v below. keeps v (omega (arith, below, all)))
+    IsValid-from_kept closed (λ v below. keeps v (omega (arith, below, all)))

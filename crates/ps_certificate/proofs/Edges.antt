@@ -10,23 +10,24 @@ use Rattle.ps_certificate.specs.Certificates.{CertificateData, Fits, Remains, Ha
 use Rattle.ps_certificate.specs.Certificates.{choice_of}
 use Rattle.ps_certificate.specs.Prefixes.{StaysInside, IsFirstEscape}
 
-pub Contains-at : (xs : List ℕ) (k x : ℕ) → k < length xs → x ≡ slice_index xs k → Contains xs x
-Contains-at xs k x within is = (k, within, get_or_default xs k x 0 within ∙ sym is)
+pub Contains-at : (xs : List ℕ) (k : ℕ) {x : ℕ} → k < length xs → x ≡ slice_index xs k → Contains xs x
+Contains-at xs k {x} within is = (k, within, get_or_default xs k x 0 within ∙ sym is)
 
-pub place_of : (xs : List ℕ) (x : ℕ) → Contains xs x → (k : ℕ) × (k < length xs) × (slice_index xs k ≡ x)
-place_of xs x (k, within, is) = (k, within, get_or_default xs k 0 x within ∙ is)
+pub place_of : (xs : List ℕ) {x : ℕ} → Contains xs x → (k : ℕ) × (k < length xs) × (slice_index xs k ≡ x)
+place_of xs {x} (k, within, is) = (k, within, get_or_default xs k 0 x within ∙ is)
 
 -- an edge by its place
-pub HasEdge-at : (game : ParityGame) (v k w : ℕ) → v < vertex_count game → k < length (successors_of game v) →
+pub HasEdge-at : (game : ParityGame) (v k : ℕ) {w : ℕ} → v < vertex_count game → k < length (successors_of game v) →
     w ≡ slice_index (successors_of game v) k → HasEdge game v w
-HasEdge-at game v k w in_range within is = (in_range, Contains-at (successors_of game v) k w within is)
+HasEdge-at game v k in_range within is = (in_range, Contains-at (successors_of game v) k within is)
 
 -- a successor is a vertex that has an entry
-pub has_entry : (game : ParityGame) (certificate : CertificateData) → IsGame game → Fits game certificate →
-    (v k w : ℕ) → v < vertex_count game → k < length (successors_of game v) → w ≡ slice_index (successors_of game v) k →
+pub has_entry : {game : ParityGame} {certificate : CertificateData} → IsGame game → Fits game certificate →
+    (v k : ℕ) {w : ℕ} → v < vertex_count game → k < length (successors_of game v) →
+    w ≡ slice_index (successors_of game v) k →
     w < length certificate.entries
-has_entry game certificate well fits v k w in_range within is =
-    let below : w < vertex_count game = well.within v w (HasEdge-at game v k w in_range within is) in
+has_entry {game} well fits v k {w} in_range within is =
+    let below : w < vertex_count game = well.within v w (HasEdge-at game v k in_range within is) in
     omega (arith, fits.entry_each)
 
 -- each edge of a vertex of the loser remains
@@ -35,15 +36,13 @@ pub Remains-other : (game : ParityGame) (certificate : CertificateData) (v w : �
 Remains-other game certificate v w other edge = record { edge = edge; chosen = λ own. absurd (other own) }
 
 -- the winner's move remains
-pub Remains-own : (game : ParityGame) (certificate : CertificateData) (v w : ℕ) → choice_of certificate v ≡ Some w →
+pub Remains-own : (game : ParityGame) (certificate : CertificateData) (v : ℕ) {w : ℕ} →
+    choice_of certificate v ≡ Some w →
     HasEdge game v w → Remains game certificate v w
-Remains-own game certificate v w is edge = record { edge = edge; chosen = λ _. is }
+Remains-own game certificate v is edge = record { edge = edge; chosen = λ _. is }
 
-pub IsSomeAnd-at : {A : Type 0} (o : Option A) (P : A → Type 0) (x : A) → o ≡ Some x → IsSomeAnd o P → P x
-IsSomeAnd-at {A} o P x is holds = let F : Option A → Type 0 = λ p. IsSomeAnd p P in subst F is holds
-
-pub IsSomeAnd-from : {A : Type 0} (o : Option A) (P : A → Type 0) (x : A) → o ≡ Some x → P x → IsSomeAnd o P
-IsSomeAnd-from {A} o P x is holds = let F : Option A → Type 0 = λ p. IsSomeAnd p P in subst F (sym is) holds
+pub IsSomeAnd-at : {A : Type 0} {o : Option A} (P : A → Type 0) {x : A} → o ≡ Some x → IsSomeAnd o P → P x
+IsSomeAnd-at {A} P is holds = let F : Option A → Type 0 = λ p. IsSomeAnd p P in subst F is holds
 
 -- what stands at a place of the option
 pub some_of : {A : Type 0} (o : Option A) (P : A → Type 0) → IsSomeAnd o P → (x : A) × (o ≡ Some x) × P x
@@ -72,25 +71,26 @@ HasWrongMove-from_not_right game certificate v not_right = elim (cases_eq (owner
     is_some_unless (Some x) _ = refl
 
 -- and a right one is not
-pub not_wrong_when_right : (game : ParityGame) (certificate : CertificateData) (v : ℕ) →
+pub not_wrong_when_right : {game : ParityGame} {certificate : CertificateData} {v : ℕ} →
     HasRightMove game certificate v → HasWrongMove game certificate v → ⊥
-not_wrong_when_right game certificate v right (inl (own, not_move)) = not_move (right.own own)
-not_wrong_when_right game certificate v right (inr (other, is_some)) = absurd (cc (right.other other, is_some))
+not_wrong_when_right right (inl (own, not_move)) = not_move (right.own own)
+not_wrong_when_right right (inr (other, is_some)) = absurd (cc (right.other other, is_some))
 
 -- the first successor with the other winner is the first escape
-pub IsFirstEscape-at : (game : ParityGame) (certificate : CertificateData) (v k w : ℕ) → v < vertex_count game →
+pub IsFirstEscape-at : {game : ParityGame} {certificate : CertificateData} {v : ℕ} (k : ℕ) {w : ℕ} →
+    v < vertex_count game →
     owner_of game v ≢ winner_of certificate v → k < length (successors_of game v) →
     w ≡ slice_index (successors_of game v) k → ((j : ℕ) → j < k →
     winner_of certificate (get_or (successors_of game v) j 0) ≡ winner_of certificate v) →
     winner_of certificate w ≢ winner_of certificate v → IsFirstEscape game certificate v w
-IsFirstEscape-at game certificate v k w in_range other_owner within is before leaves = record {
+IsFirstEscape-at {game} {certificate} {v} k {w} in_range other_owner within is before leaves = record {
   leaves =
       record {
-        remains = Remains-other game certificate v w other_owner (HasEdge-at game v k w in_range within is);
+        remains = Remains-other game certificate v w other_owner (HasEdge-at game v k in_range within is);
         other_winner = leaves;
       };
   first = λ other other_leaves.
-      let (j, j_within, j_is) = place_of (successors_of game v) other other_leaves.remains.edge.1 in
+      let (j, j_within, j_is) = place_of (successors_of game v) other_leaves.remains.edge.1 in
       elim (cases_order j k) [
         | inl same ↦ inl (is ∙ ap (λ n. slice_index (successors_of game v) n) (sym same) ∙ j_is)
         | inr (inl below) ↦ absurd (other_leaves.other_winner (ap (λ n. winner_of certificate n) (sym j_is)
@@ -104,5 +104,5 @@ pub StaysInside-from_all : (game : ParityGame) (certificate : CertificateData) (
     ((j : ℕ) → j < length (successors_of game v) → winner_of certificate (get_or (successors_of game v) j 0) ≡ winner_of
     certificate v) → StaysInside game certificate v
 StaysInside-from_all game certificate v each w remains =
-    let (j, j_within, j_is) = place_of (successors_of game v) w remains.edge.1 in
+    let (j, j_within, j_is) = place_of (successors_of game v) remains.edge.1 in
     ap (λ n. winner_of certificate n) (sym j_is) ∙ each j j_within

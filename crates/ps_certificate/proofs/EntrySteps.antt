@@ -56,12 +56,12 @@ module _ (ids : List ℕ) (old : Place) where
   abbrev unknown : ℕ → Type 0
   unknown id = ¬ Contains ids id
 
-  pub choice_dash : comes 45 old.rest ≡ true → (new : Place) → new ≡ step_of old
+  pub choice_dash : comes 45 old.rest ≡ true → {new : Place} → new ≡ step_of old
       → Reads (choice ids) (at_place old) None (at_place new)
-  choice_dash h new next =
+  choice_dash h {new} next =
       reads_as {P = dash} {Q = choice ids} {old = at_place old} {new = at_place new} {v = None}
       (left_otherwise laws_dash (laws_chosen ids) (next_of (at_place old)) (avoids_digit old h) (λ z. z))
-      (reads_mapped (λ _. None) (byte_reads 45 old new h next))
+      (reads_mapped (λ _. None) (byte_reads 45 old h next))
 
   no_dash : comes 45 old.rest ≡ false → Stands (next_of (at_place old)) (chosen ids) (choice ids)
   no_dash h = right_otherwise laws_dash (laws_chosen ids) (next_of (at_place old)) (avoids 45 old h) (λ z. z)
@@ -71,10 +71,10 @@ module _ (ids : List ℕ) (old : Place) where
   choice_fails h o m = stops_as_well causes {P = chosen ids} {Q = choice ids} (at_place old) o (no_dash h)
       (stops_mapped causes (vertex_of ids) (number unknown) (at_place old) o m)
 
-  pub choice_reads : comes 45 old.rest ≡ false → (id : ℕ) (new : Place) (v : Option ℕ)
+  pub choice_reads : comes 45 old.rest ≡ false → {id : ℕ} (new : Place) {v : Option ℕ}
       → Reads (number (λ id. ¬ Contains ids id)) (at_place old) id (at_place new) → v ≡ vertex_of ids id
       → Reads (choice ids) (at_place old) v (at_place new)
-  choice_reads h id new v m e =
+  choice_reads h new {v} m e =
       reads_as {P = chosen ids} {Q = choice ids} {old = at_place old} {new = at_place new} {v = v} (no_dash h)
       (subst (λ o. Reads (chosen ids) (at_place old) o (at_place new)) (sym e) (reads_mapped (vertex_of ids) m))
 
@@ -171,9 +171,9 @@ module _ (compact : Bool) (odd even ids : List ℕ) where
                     (stops_mapped causes (made w c) (counts_in compact (lost_by odd even w)) s5 o
                     (subst (λ xs. Stops causes (counts_in compact xs) s5 o) lost m)))
 
-                pub entry_reads : (cs : List ℕ) (new : Stream Seen) → Reads (counts_in compact ps) s5 cs new
+                pub entry_reads : {cs : List ℕ} {new : Stream Seen} → Reads (counts_in compact ps) s5 cs new
                     → Reads (entry compact odd even ids id) old (made w c cs) new
-                entry_reads cs new m =
+                entry_reads {cs} {new} m =
                     reads_then (joint_id id) m1 (reads_then joint_space m2
                     (reads_then joint_winner m3 (reads_then (joint_second w) m4 (reads_then (joint_choice w) m5
                     (reads_mapped (made w c) (subst (λ xs. Reads (counts_in compact xs) s5 cs new) lost m))))))
@@ -240,9 +240,9 @@ module _ (odd even ids : List ℕ) where
           k3 : Carries causes whole old (then_by (number other) (λ _. behind_count compact odd even ids)) s3
           k3 = carries_then causes (joint_vertices compact) k2 m3
 
-          pub at_number : (count : ℕ) → count ≡ length ids → (o : Option (Found CertCause))
+          pub at_number : {count : ℕ} → count ≡ length ids → (o : Option (Found CertCause))
               → Stops causes (number (λ n. n ≢ count)) s3 o → Stops causes whole old o
-          at_number count size o m = k3 (Err o) s3 (stops_first causes (joint_number compact) s3 o
+          at_number size o m = k3 (Err o) s3 (stops_first causes (joint_number compact) s3 o
               (subst (λ k. Stops causes (number (λ n. n ≢ k)) s3 o) size m))
 
           module _ (count : ℕ) (size : count ≡ length ids) (n : ℕ) (s4 : Stream Seen)
@@ -259,9 +259,9 @@ module _ (odd even ids : List ℕ) where
               k5 : Carries causes whole old (then_by (priorities odd) (λ _. behind_odd compact)) s5
               k5 = carries_then causes (joint_odd_word compact) k4 m5
 
-              pub at_odd : (ps : List ℕ) → ps ≡ odd → (o : Option (Found CertCause)) → Stops causes (priorities ps) s5 o
+              pub at_odd : {ps : List ℕ} → ps ≡ odd → (o : Option (Found CertCause)) → Stops causes (priorities ps) s5 o
                   → Stops causes whole old o
-              at_odd ps same o m = k5 (Err o) s5
+              at_odd same o m = k5 (Err o) s5
                   (stops_first causes (joint_odd compact) s5 o (subst (λ xs. Stops causes (priorities xs) s5 o) same m))
 
               module _ (ps : List ℕ) (same : ps ≡ odd) (s6 : Stream Seen) (m6 : Reads (priorities ps) s5 tt s6) where
@@ -279,13 +279,12 @@ module _ (odd even ids : List ℕ) where
 
                   pub at_even : (o : Option (Found CertCause)) → Stops causes (priorities qs) s7 o
                       → Stops causes whole old o
-                  at_even o m = k7 (Err o) s7
-                      (stops_first causes (joint_even compact) s7 o
+                  at_even o m = k7 (Err o) s7 (stops_first causes (joint_even compact) s7 o
                       (subst (λ xs. Stops causes (priorities xs) s7 o) also m))
 
-                  pub head_read : (s8 : Stream Seen) → Reads (priorities qs) s7 tt s8
+                  pub head_read : {s8 : Stream Seen} → Reads (priorities qs) s7 tt s8
                       → Carries causes whole old (all_entries compact odd even ids) s8
-                  head_read s8 m8 = carries_then causes (joint_even compact) k7
+                  head_read {s8} m8 = carries_then causes (joint_even compact) k7
                       (subst (λ xs. Reads (priorities xs) s7 tt s8) also m8)
 
   -- ## The text
@@ -306,9 +305,9 @@ module _ (odd even ids : List ℕ) where
     lines_fail o m = k (Err o) now (stops_mapped causes with_lists (entries compact odd even ids ids) now o
         (subst (λ xs. Stops causes (entries compact odd even xs ids) now o) same m))
 
-    pub lines_read : (es : List EntryData) (new : Stream Seen) → Reads (entries compact odd even all ids) now es new
+    pub lines_read : {es : List EntryData} {new : Stream Seen} → Reads (entries compact odd even all ids) now es new
         → Reads whole start (with_lists es) new
-    lines_read es new m = k (Ok (with_lists es)) new
+    lines_read {es} {new} m = k (Ok (with_lists es)) new
         (reads_mapped with_lists (subst (λ xs. Reads (entries compact odd even xs ids) now es new) same m))
 
   module _ (text : List ℕ) (start : Place) (first : start ≡ record { at = 0; rest = text }) where
@@ -339,9 +338,9 @@ module _ (odd even ids : List ℕ) where
               (subst (λ bytes. IsRead whole (signs (pieces_at 0 text)) c (signs (pieces_at end.at bytes))) h m.1)
           go (b ∷ rest) h = absurd (omega (arith, e, ap length h))
 
-      pub text_trails : (e : CertFault) → (length end.rest ≡ 0 → ⊥) → e ≡ Text Syntax end.at
+      pub text_trails : {e : CertFault} → (length end.rest ≡ 0 → ⊥) → e ≡ Text Syntax end.at
           → TellsEntries odd even ids text (Err e)
-      text_trails e more is = subst (λ x. TellsEntries odd even ids text (Err x)) (sym is) (go end.rest refl)
+      text_trails more is = subst (λ x. TellsEntries odd even ids text (Err x)) (sym is) (go end.rest refl)
         where
           go : (rest : List ℕ) → end.rest ≡ rest → PartAnswers causes whole (stream_at 0 text)
               (Err (record { cause = Syntax; offset = end.at }))
@@ -349,5 +348,4 @@ module _ (odd even ids : List ℕ) where
           go (b ∷ rest) h =
               answers_trailing (laws_certificate odd even ids) (stream_at 0 text) (at_place end) c
               (record { sign = record { byte = b; behind = rest }; start = end.at })
-              (pieces_at (end.at + 1) rest) m.0 m.1
-              (ap (pieces_at end.at) h)
+              (pieces_at (end.at + 1) rest) m.0 m.1 (ap (pieces_at end.at) h)

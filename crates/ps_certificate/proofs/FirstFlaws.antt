@@ -35,11 +35,11 @@ earlier_stage game (Rank _ _ _) (Move _ _) less = omega arith
 earlier_stage game (Rank _ _ _) (Escape _ _) less = omega arith
 
 -- the first flaw of its stage
-pub first_of_stage : (game : ParityGame) (certificate : CertificateData) (stage v : ℕ) (flaw : Flaw) →
+pub first_of_stage : {game : ParityGame} {certificate : CertificateData} {stage v : ℕ} {flaw : Flaw} →
     IsFirstFlawAt game certificate stage v flaw → ((other : Flaw) → IsFlaw game certificate other →
-    stage_of other ≡ stage → vertex_of other < v → ⊥) → (other : Flaw) → IsFlaw game certificate other →
+    stage_of other ≡ stage → vertex_of other < v → ⊥) → {other : Flaw} → IsFlaw game certificate other →
     stage_of other ≡ stage → (flaw ≡ other) ⊎ Precedes game flaw other
-first_of_stage game certificate stage v flaw at none_before other is_flaw at_stage =
+first_of_stage {game} {v} {flaw} at none_before {other} is_flaw at_stage =
     elim (cases_order (vertex_of other) v) [
       | inl same ↦ at.first other is_flaw at_stage same
       | inr (inl below) ↦ absurd (none_before other is_flaw at_stage below)
@@ -52,48 +52,45 @@ stage_cases (Escape _ _) = inl refl
 stage_cases (Rank _ _ _) = inr refl
 
 -- a sound vertex has no flaw in its move or in what remains
-pub sound_has_no_flaw : (game : ParityGame) (certificate : CertificateData) (v : ℕ) → IsSoundAt game certificate v →
+pub sound_has_no_flaw : {game : ParityGame} {certificate : CertificateData} {v : ℕ} → IsSoundAt game certificate v →
     (flaw : Flaw) → IsFlaw game certificate flaw → stage_of flaw ≡ 0 → vertex_of flaw ≡ v → ⊥
-sound_has_no_flaw game certificate v sound (Move u m) is_flaw at_stage same =
-    not_wrong_when_right game certificate u (rw same sound.right_move) is_flaw.2
-sound_has_no_flaw game certificate v sound (Escape u w) is_flaw at_stage same =
+sound_has_no_flaw sound (Move u m) is_flaw at_stage same = not_wrong_when_right (rw same sound.right_move) is_flaw.2
+sound_has_no_flaw sound (Escape u w) is_flaw at_stage same =
     is_flaw.1 (let inside = rw (← same) at sound.inside in inside w is_flaw.0)
-sound_has_no_flaw game certificate v sound (Rank _ _ _) is_flaw at_stage same = omega arith
+sound_has_no_flaw sound (Rank _ _ _) is_flaw at_stage same = omega arith
 
 -- the first flaw at a vertex behind sound ones is the first of all
-pub first_unsound : (game : ParityGame) (certificate : CertificateData) (v : ℕ) (flaw : Flaw) →
+pub first_unsound : {game : ParityGame} {certificate : CertificateData} {v : ℕ} {flaw : Flaw} →
     ((u : ℕ) → u < v → IsSoundAt game certificate u) → IsFirstFlawAt game certificate 0 v flaw →
     IsFirstFlaw game certificate flaw
-first_unsound game certificate v flaw sound at = record {
+first_unsound {game} {flaw} sound at = record {
   is_flaw = at.is_flaw;
   first = λ other is_flaw. elim (stage_cases other) [
-    | inl early ↦ first_of_stage game certificate 0 v flaw at (λ o o_flaw o_stage o_below.
-        sound_has_no_flaw game certificate (vertex_of o) (sound (vertex_of o) o_below) o o_flaw o_stage refl)
-        other is_flaw early
+    | inl early ↦ first_of_stage at (λ o o_flaw o_stage o_below.
+        sound_has_no_flaw (sound (vertex_of o) o_below) o o_flaw o_stage refl) is_flaw early
     | inr late ↦ inr (earlier_stage game flaw other (omega (arith, at.at_stage)))
   ];
 }
 
-pub IsClosed-from_sound : (game : ParityGame) (certificate : CertificateData) →
+pub IsClosed-from_sound : {game : ParityGame} {certificate : CertificateData} →
     ((v : ℕ) → v < vertex_count game → IsSoundAt game certificate v) → IsClosed game certificate
-IsClosed-from_sound game certificate sound = record {
+IsClosed-from_sound sound = record {
   moves = λ v below. (sound v below).right_move;
   stays = λ v w remains. (sound v remains.edge.0).inside w remains;
 }
 
 -- a closed certificate has no flaw in a move or in what remains
-pub closed_has_no_flaw : (game : ParityGame) (certificate : CertificateData) → IsClosed game certificate →
+pub closed_has_no_flaw : {game : ParityGame} {certificate : CertificateData} → IsClosed game certificate →
     (flaw : Flaw) → IsFlaw game certificate flaw → stage_of flaw ≡ 0 → ⊥
-closed_has_no_flaw game certificate closed (Move v m) is_flaw at_stage =
-    not_wrong_when_right game certificate v (closed.moves v is_flaw.0) is_flaw.2
-closed_has_no_flaw game certificate closed (Escape v w) is_flaw at_stage = is_flaw.1 (closed.stays v w is_flaw.0)
-closed_has_no_flaw game certificate closed (Rank _ _ _) is_flaw at_stage = omega arith
+closed_has_no_flaw closed (Move v m) is_flaw at_stage = not_wrong_when_right (closed.moves v is_flaw.0) is_flaw.2
+closed_has_no_flaw closed (Escape v w) is_flaw at_stage = is_flaw.1 (closed.stays v w is_flaw.0)
+closed_has_no_flaw closed (Rank _ _ _) is_flaw at_stage = omega arith
 
 -- the wrong move of a vertex is its first flaw
-pub first_move : (game : ParityGame) (certificate : CertificateData) (v : ℕ) (choice : Option ℕ) →
+pub first_move : {game : ParityGame} {certificate : CertificateData} {v : ℕ} {choice : Option ℕ} →
     v < vertex_count game → choice ≡ choice_of certificate v → ¬ HasRightMove game certificate v →
     IsFirstFlawAt game certificate 0 v (Move v choice)
-first_move game certificate v choice in_range is not_right = record {
+first_move {game} {certificate} {v} {choice} in_range is not_right = record {
   is_flaw = (in_range, sym is, HasWrongMove-from_not_right game certificate v not_right);
   at_stage = refl;
   at_vertex = refl;

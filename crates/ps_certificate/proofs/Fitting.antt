@@ -45,15 +45,14 @@ counts_in_long false ps text cs h = counts_long (length ps) text cs h
 counts_in_long true ps text cs h = ap length h.is_right.2 ∙ length-map ps h.value.count
 
 module _ (compact : Bool) (odd even all : List ℕ) where
-  entry_fits : (id : ℕ) (text : List Seen) (e : EntryData) → (entry compact odd even all id).IsText text e
+  entry_fits : (id : ℕ) (text : List Seen) {e : EntryData} → (entry compact odd even all id).IsText text e
       → EntryFits odd even (length all) e
-  entry_fits id text e h =
+  entry_fits id text h =
       let line = h.is_right.is_right in
       let moved = line.is_right.is_right in
       let counted = moved.is_right in
       let made : EntryData = record { winner = line.value; choice = moved.value; counts = counted.0 } in
-      subst (EntryFits odd even (length all)) (sym counted.2)
-      (record {
+      subst (EntryFits odd even (length all)) (sym counted.2) (record {
         winner = winner_below line.left line.value line.is_left;
         choice = choice_below all moved.left moved.value moved.is_left;
         counts = counts_in_long compact (lost_by odd even line.value) moved.right counted.0 counted.1;
@@ -64,23 +63,21 @@ module _ (compact : Bool) (odd even all : List ℕ) where
       → (length es ≡ length ids) × All (EntryFits odd even (length all)) es
   entries_fit [] text es h = (
     ap length h.1,
-    subst (All (EntryFits odd even (length all))) (sym h.1)
-        (All-nil (EntryFits odd even (length all))),
+    subst (All (EntryFits odd even (length all))) (sym h.1) (All-nil (EntryFits odd even (length all))),
   )
   entries_fit (id ∷ ids) text es h =
       let others = h.is_right in
       let rest = entries_fit ids h.right others.0 others.1 in (
         ap length others.2 ∙ ap suc rest.0,
         subst (All (EntryFits odd even (length all))) (sym others.2)
-            (All-cons (EntryFits odd even (length all)) h.value others.0
-            (entry_fits id h.left h.value h.is_left) rest.1),
+            (All-cons (EntryFits odd even (length all)) h.value others.0 (entry_fits id h.left h.is_left) rest.1),
       )
 
-pub certificate_fits : (game : ParityGame) (odd even ids : List ℕ) (text : List Seen) (c : CertificateData)
+pub certificate_fits : {game : ParityGame} {odd even : List ℕ} (ids : List ℕ) (text : List Seen) {c : CertificateData}
     → length ids ≡ vertex_count game → ListsPriorities game 1 odd → ListsPriorities game 0 even
     → (certificate odd even ids).IsText text c → Fits game c
 unfolding winner_of choice_of counts_of opposing
-certificate_fits game odd even ids text c each odd_listed even_listed h =
+certificate_fits {game} {odd} {even} ids text each odd_listed even_listed h =
     let behind = h.is_right.is_right in
     let lines = behind.is_right.is_right.is_right.is_right.is_right.is_right in
     subst (Fits game) (sym lines.2) (fits lines.0 (entries_fit h.is_right.value odd even ids ids _ lines.0 lines.1))

@@ -63,86 +63,81 @@ bounded game certificate player path i j place lost k after before = elim (cases
   | inr earlier ↦ le-loop_priority game path i j k after (omega arith) (omega (arith, lost.loop.within))
 ]
 
-winner_along : (game : ParityGame) (certificate : CertificateData) (player : ℕ) (path : List ℕ) (i j place : ℕ) →
+winner_along : {game : ParityGame} {certificate : CertificateData} {player : ℕ} {path : List ℕ} {i j place : ℕ} →
     LostLoop game certificate player path i j place → (k : ℕ) → k ≤ j →
     winner_of certificate (slice_index path k) ≡ player
-winner_along game certificate player path i j place lost k before =
+winner_along {game} {certificate} {player} {path} lost k before =
     path_stays game certificate player path lost.valid.closed lost.is_path lost.follows lost.begins k
     (omega (arith, lost.loop.within))
 
 -- the opposing priority at the place, at each vertex of the loop
-at_place : (game : ParityGame) (certificate : CertificateData) (player : ℕ) (path : List ℕ) (i j place : ℕ) →
+at_place : {game : ParityGame} {certificate : CertificateData} {player : ℕ} {path : List ℕ} {i j place : ℕ} →
     LostLoop game certificate player path i j place → (k : ℕ) → k ≤ j →
     opposing_at certificate (slice_index path k) place ≡ loop_priority game path i j
-at_place game certificate player path i j place lost k before =
-    ap (λ q. slice_index (opposing certificate q) place) (winner_along game certificate player path i j place lost k
-    before) ∙ lost.is
+at_place {certificate} {place} lost k before =
+    ap (λ q. slice_index (opposing certificate q) place) (winner_along lost k before) ∙ lost.is
 
 -- each step of the loop keeps the rule for its priority
-step_keeps : (game : ParityGame) (certificate : CertificateData) (player : ℕ) (path : List ℕ) (i j place : ℕ) →
+step_keeps : {game : ParityGame} {certificate : CertificateData} {player : ℕ} {path : List ℕ} {i j place : ℕ} →
     LostLoop game certificate player path i j place → (k : ℕ) → i ≤ k → k < j →
     KeepsCount game certificate (slice_index path k) (slice_index path (k + 1)) place
-step_keeps game certificate player path i j place lost k after below =
-    let here : winner_of certificate (slice_index path k) ≡ player =
-    winner_along game certificate player path i j place lost k (omega arith) in
-    let next : winner_of certificate (slice_index path (k + 1)) ≡ player =
-    winner_along game certificate player path i j place lost (k + 1) (omega arith) in
+step_keeps {game} {certificate} {player} {path} {place} lost k after below =
+    let here : winner_of certificate (slice_index path k) ≡ player = winner_along lost k (omega arith) in
+    let next : winner_of certificate (slice_index path (k + 1)) ≡ player = winner_along lost (k + 1) (omega arith) in
     let long : length (opposing certificate (winner_of certificate (slice_index path k))) ≡ length
     (opposing certificate player) = ap (λ q. length (opposing certificate q)) here in
     lost.valid.counts (slice_index path k) (slice_index path (k + 1)) place
-    (path_remains game certificate player path k lost.is_path lost.follows (omega (arith, lost.loop.within)) here)
+    (path_remains certificate k lost.is_path lost.follows (omega (arith, lost.loop.within)) here)
     (next ∙ sym here) (omega (arith, lost.within))
 
-step_at_most : (game : ParityGame) (certificate : CertificateData) (player : ℕ) (path : List ℕ) (i j place : ℕ) →
+step_at_most : {game : ParityGame} {certificate : CertificateData} {player : ℕ} {path : List ℕ} {i j place : ℕ} →
     LostLoop game certificate player path i j place → (k : ℕ) → i ≤ k → k < j →
     slice_index (counts_of certificate (slice_index path (k + 1))) place ≤ slice_index
     (counts_of certificate (slice_index path k)) place
-step_at_most game certificate player path i j place lost k after below =
+step_at_most {game} {certificate} {player} {path} {i} {j} {place} lost k after below =
     let is : opposing_at certificate (slice_index path k) place ≡ loop_priority game path i j =
-    at_place game certificate player path i j place lost k (omega arith) in
+    at_place lost k (omega arith) in
     let here : priority_of game (slice_index path k) ≤ loop_priority game path i j =
     bounded game certificate player path i j place lost k after (omega arith) in
     let next : priority_of game (slice_index path (k + 1)) ≤ loop_priority game path i j =
     bounded game certificate player path i j place lost (k + 1) (omega arith) (omega arith) in
-    (step_keeps game certificate player path i j place lost k after below).never_rises (omega arith) (omega arith)
+    (step_keeps lost k after below).never_rises (omega arith) (omega arith)
 
 -- so there is no such loop
-no_lost_loop : (game : ParityGame) (certificate : CertificateData) (player : ℕ) (path : List ℕ) (i j place : ℕ) →
+no_lost_loop : {game : ParityGame} {certificate : CertificateData} {player : ℕ} {path : List ℕ} {i j place : ℕ} →
     LostLoop game certificate player path i j place → ⊥
-no_lost_loop game certificate player path i j place lost =
+no_lost_loop {game} {certificate} {player} {path} {i} {j} {place} lost =
     let (m, after, below, has) = loop_priority_stands game path i j lost.loop.rises (omega (arith, lost.loop.within)) in
     let count : ℕ → ℕ = λ k. slice_index (counts_of certificate (slice_index path k)) place in
     let is : opposing_at certificate (slice_index path m) place ≡ loop_priority game path i j =
-    at_place game certificate player path i j place lost m (omega arith) in
+    at_place lost m (omega arith) in
     let next : priority_of game (slice_index path (m + 1)) ≤ loop_priority game path i j =
     bounded game certificate player path i j place lost (m + 1) (omega arith) (omega arith) in
     let falls : slice_index (counts_of certificate (slice_index path (m + 1))) place < slice_index
     (counts_of certificate (slice_index path m)) place =
-    (step_keeps game certificate player path i j place lost m after below).falls (has ∙ sym is) (omega arith) in
+    (step_keeps lost m after below).falls (has ∙ sym is) (omega arith) in
     let lower : slice_index (counts_of certificate (slice_index path j)) place < slice_index
     (counts_of certificate (slice_index path i)) place =
-    falls_in_the_end count i j m after below (step_at_most game certificate player path i j place lost) falls in
+    falls_in_the_end count i j m after below (step_at_most lost) falls in
     let same : slice_index (counts_of certificate (slice_index path i)) place ≡ slice_index
     (counts_of certificate (slice_index path j)) place =
     ap (λ v. slice_index (counts_of certificate v) place) lost.loop.same in
     omega arith
 
-wins_each_loop : (game : ParityGame) (certificate : CertificateData) (player : ℕ) → player < 2 → Fits game certificate →
-    IsValid game certificate → (path : List ℕ) (i j : ℕ) → IsPath game path →
+wins_each_loop : {game : ParityGame} {certificate : CertificateData} {player : ℕ} → player < 2 → Fits game certificate →
+    IsValid game certificate → {path : List ℕ} {i j : ℕ} → IsPath game path →
     winner_of certificate (slice_index path 0) ≡ player → Follows game player (choice_of certificate) path →
     IsLoop path i j → WinsLoop game player path i j
-wins_each_loop game certificate player is_player fits valid path i j is_path begins follows loop =
+wins_each_loop {game} {certificate} {player} is_player fits valid {path} {i} {j} is_path begins follows loop =
     elim (cases_eq (loop_priority game path i j % 2) player) [
       | inl wins ↦ wins
       | inr loses ↦
           let (m, after, below, has) = loop_priority_stands game path i j loop.rises (omega (arith, loop.within)) in
           let in_range : slice_index path m < vertex_count game = is_path.vertices m (omega (arith, loop.within)) in
           let lost : priority_of game (slice_index path m) % 2 ≢ player = λ e. loses (ap (λ p. p % 2) (sym has) ∙ e) in
-          let (place, within, is) =
-          place_of (opposing certificate player) (priority_of game (slice_index path m))
-          (opposing_complete game certificate player fits is_player (slice_index path m) in_range lost) in
-          absurd (no_lost_loop game certificate player path i j place
-          (record {
+          let (place, within, is) = place_of (opposing certificate player)
+          (opposing_complete player fits is_player (slice_index path m) in_range lost) in
+          absurd (no_lost_loop (record {
             fits = fits;
             valid = valid;
             is_path = is_path;
@@ -159,7 +154,7 @@ pub BothHold-from_valid : (game : ParityGame) (certificate : CertificateData) �
 BothHold-from_valid game certificate fits valid player is_player = record {
   keeps = BothKeep-from_closed game certificate valid.closed player is_player;
   wins =
-      λ path i j is_path begins follows loop. wins_each_loop game certificate player is_player fits valid path i j
+      λ path i j is_path begins follows loop. wins_each_loop is_player fits valid
       is_path (eqb-true (winner_of certificate (slice_index path 0)) player begins) follows loop;
 }
 

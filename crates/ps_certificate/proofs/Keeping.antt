@@ -8,11 +8,11 @@ use Rattle.ps_certificate.specs.Certificates.{CertificateData, Remains, IsClosed
 use Rattle.ps_certificate.specs.Regions.{BothKeep}
 
 -- a step of a path from a player's region, by the player's moves, goes along an edge that remains
-pub path_remains : (game : ParityGame) (certificate : CertificateData) (player : ℕ) (path : List ℕ) (k : ℕ) →
+pub path_remains : {game : ParityGame} (certificate : CertificateData) {player : ℕ} {path : List ℕ} (k : ℕ) →
     IsPath game path → Follows game player (choice_of certificate) path → k + 1 < length path →
     winner_of certificate (slice_index path k) ≡ player → Remains game certificate (slice_index path k)
     (slice_index path (k + 1))
-path_remains game certificate player path k is_path follows within is = record {
+path_remains certificate k is_path follows within is = record {
   edge = is_path.edges k within;
   chosen = λ own. follows k within (own ∙ is);
 }
@@ -26,7 +26,7 @@ path_stays game certificate player path closed is_path follows begins zero withi
 path_stays game certificate player path closed is_path follows begins (suc k) within =
     let before : winner_of certificate (slice_index path k) ≡ player =
     path_stays game certificate player path closed is_path follows begins k (omega arith) in
-    let remains = path_remains game certificate player path k is_path follows (omega arith) before in
+    let remains = path_remains certificate k is_path follows (omega arith) before in
     rw (← add-one k) (closed.stays (slice_index path k) (slice_index path (k + 1)) remains ∙ before)
 
 pub BothKeep-from_closed : (game : ParityGame) (certificate : CertificateData) → IsClosed game certificate →

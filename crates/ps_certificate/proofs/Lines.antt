@@ -1,6 +1,6 @@
 -- Entries that are kept by winners, lines and one list of placed counts.
-use Rattle.std.proofs.Common.{◌≡◌, ℕ, ◌<◌, ◌≤◌, min, None, List, [], ◌∷◌, ◌++◌, length, map, get_or, take, drop}
-use Rattle.std.proofs.Common.{refl, ap, sym, subst, ◌∙◌, arith}
+use Rattle.std.proofs.Common.{◌≡◌, ℕ, ◌<◌, ◌≤◌, min, None, List, [], ◌∷◌, ◌++◌, length, map, get_or, take, drop, refl}
+use Rattle.std.proofs.Common.{ap, sym, subst, ◌∙◌, arith}
 use Rattle.std.specs.List.{All, slice_range, zip}
 use Rattle.std.proofs.lemmas.Grind.{common_steps}
 use Rattle.std.proofs.lemmas.List.{map-append, get_or-map, length-map}
@@ -24,30 +24,30 @@ zip_push (a ∷ ws) [] w l h = absurd (omega arith)
 zip_push (a ∷ ws) (b ∷ ls) w l h = ap (λ rest. (a, b) ∷ rest) (zip_push ws ls w l (omega arith))
 
 -- so do entries, and lines
-entries_kept : (ws : List ℕ) (ls : List Line) (cs more : List PlacedCount) → All (IsWithin cs) ls
+entries_kept : (ws : List ℕ) (ls : List Line) {cs : List PlacedCount} (more : List PlacedCount) → All (IsWithin cs) ls
     → entries_in ws ls (cs ++ more) ≡ entries_in ws ls cs
-entries_kept [] ls cs more h = refl
-entries_kept (a ∷ ws) [] cs more h = refl
-entries_kept (a ∷ ws) (b ∷ ls) cs more h =
+entries_kept [] ls more h = refl
+entries_kept (a ∷ ws) [] more h = refl
+entries_kept (a ∷ ws) (b ∷ ls) {cs} more h =
     let same : part_of (cs ++ more) b ≡ part_of cs b =
     range_kept cs more b.start b.end (All-head (IsWithin cs) b ls h).ends in
     ap (λ (part : List PlacedCount). record { winner = a; choice = b.choice; counts = row_of b.width part } ∷
-    entries_in ws ls (cs ++ more)) same
-    ∙ ap (λ (rest : List EntryData). entry_in cs (a, b) ∷ rest)
-    (entries_kept ws ls cs more (All-tail (IsWithin cs) b ls h))
+    entries_in ws ls (cs ++ more)) same ∙ ap (λ (rest : List EntryData). entry_in cs (a, b) ∷ rest)
+    (entries_kept ws ls more (All-tail (IsWithin cs) b ls h))
 
-within_kept : (cs more : List PlacedCount) (l : Line) → IsWithin cs l → IsWithin (cs ++ more) l
-within_kept cs more l h = record {
+within_kept : {cs : List PlacedCount} (more : List PlacedCount) {l : Line} → IsWithin cs l → IsWithin (cs ++ more) l
+within_kept {cs} more {l} h = record {
   rises = h.rises;
   ends = grind (arith, common_steps, h.ends);
   row = subst (IsRow l.width) (sym (range_kept cs more l.start l.end h.ends)) h.row;
 }
 
-all_kept : (ls : List Line) (cs more : List PlacedCount) → All (IsWithin cs) ls → All (IsWithin (cs ++ more)) ls
-all_kept [] cs more h = All-nil (IsWithin (cs ++ more))
-all_kept (a ∷ ls) cs more h =
-    All-cons (IsWithin (cs ++ more)) a ls (within_kept cs more a (All-head (IsWithin cs) a ls h))
-    (all_kept ls cs more (All-tail (IsWithin cs) a ls h))
+all_kept : (ls : List Line) {cs : List PlacedCount} (more : List PlacedCount) → All (IsWithin cs) ls →
+    All (IsWithin (cs ++ more)) ls
+all_kept [] {cs} more h = All-nil (IsWithin (cs ++ more))
+all_kept (a ∷ ls) {cs} more h =
+    All-cons (IsWithin (cs ++ more)) a ls (within_kept more (All-head (IsWithin cs) a ls h))
+    (all_kept ls more (All-tail (IsWithin cs) a ls h))
 
 -- one list begins with another
 begins : {X : Type 0} (xs ys : List X) → take (length xs) ys ≡ xs → (more : List X) × (ys ≡ xs ++ more)
@@ -59,21 +59,21 @@ module _ (ws : List ℕ) (ls : List Line) (cs new : List PlacedCount) (are : Are
   pub entries_same : entries_in ws ls new ≡ entries_in ws ls cs
   entries_same =
       let more = begins cs new kept in
-      ap (λ (all : List PlacedCount). entries_in ws ls all) more.1 ∙ entries_kept ws ls cs more.0 are.within
+      ap (λ (all : List PlacedCount). entries_in ws ls all) more.1 ∙ entries_kept ws ls more.0 are.within
 
   pub lines_same : AreLines ws ls new
   lines_same = record {
     each = are.each;
     within =
         let more = begins cs new kept in
-        subst (λ all. All (IsWithin all) ls) (sym more.1) (all_kept ls cs more.0 are.within);
+        subst (λ all. All (IsWithin all) ls) (sym more.1) (all_kept ls more.0 are.within);
   }
 
   module _ (w : ℕ) (line : Line) where
-    pub entries_push : (row : List ℕ) → row_of line.width (part_of new line) ≡ row
+    pub entries_push : {row : List ℕ} → row_of line.width (part_of new line) ≡ row
         → entries_in (ws ++ w ∷ []) (ls ++ line ∷ []) new
         ≡ entries_in ws ls cs ++ record { winner = w; choice = line.choice; counts = row } ∷ []
-    entries_push row is =
+    entries_push is =
         ap (map (entry_in new)) (zip_push ws ls w line are.each)
         ∙ map-append (entry_in new) (zip ws ls) ((w, line) ∷ [])
         ∙ ap (λ (earlier : List EntryData). earlier ++ entry_in new (w, line) ∷ []) entries_same
@@ -88,9 +88,9 @@ module _ (ws : List ℕ) (ls : List Line) (cs new : List PlacedCount) (are : Are
           (All-cons (IsWithin new) line [] is (All-nil (IsWithin new)));
     }
 
-pub length-entries : (ws : List ℕ) (ls : List Line) (cs : List PlacedCount) → AreLines ws ls cs
+pub length-entries : {ws : List ℕ} {ls : List Line} {cs : List PlacedCount} → AreLines ws ls cs
     → length (entries_in ws ls cs) ≡ length ls
-length-entries ws ls cs are =
+length-entries {ws} {ls} {cs} are =
     length-map (zip ws ls) (entry_in cs) ∙ length-zip ws ls ∙ shorter (length ws) (length ls) are.each
   where
     shorter : (m n : ℕ) → m ≡ n → min m n ≡ n
@@ -99,18 +99,19 @@ length-entries ws ls cs are =
 module _ (ws : List ℕ) (ls : List Line) (cs : List PlacedCount) (v : ℕ) (are : AreLines ws ls cs)
     (within : v < length (entries_in ws ls cs)) where
   pub has_line : v < length ls
-  has_line = omega (arith, length-entries ws ls cs are)
+  has_line = omega (arith, length-entries are)
 
   pub has_winner : v < length ws
-  has_winner = omega (arith, length-entries ws ls cs are, are.each)
+  has_winner = omega (arith, length-entries are, are.each)
 
   at : (w : ℕ) (line : Line) → get_or (entries_in ws ls cs) v no_entry ≡ entry_in cs (get_or ws v w, get_or ls v line)
   at w line =
       get_or-map (entry_in cs) (zip ws ls) v (w, line) no_entry (omega (arith, length-zip ws ls, has_winner, has_line))
       ∙ ap (entry_in cs) (get_or-zip ws ls v (w, line) has_winner has_line)
 
-  pub winner_at : (w : ℕ) → w ≡ get_or ws v w → w ≡ (get_or (entries_in ws ls cs) v no_entry).winner
-  winner_at w is = is ∙ sym (ap (λ (e : EntryData). e.winner) (at w (record { choice = None; width = 0; start = 0; end = 0 })))
+  pub winner_at : {w : ℕ} → w ≡ get_or ws v w → w ≡ (get_or (entries_in ws ls cs) v no_entry).winner
+  winner_at {w} is =
+      is ∙ sym (ap (λ (e : EntryData). e.winner) (at w (record { choice = None; width = 0; start = 0; end = 0 })))
 
   module _ (line : Line) (is : line ≡ get_or ls v line) where
     pub choice_at : line.choice ≡ (get_or (entries_in ws ls cs) v no_entry).choice

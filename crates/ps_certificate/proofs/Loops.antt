@@ -57,9 +57,9 @@ module _ (text : List ℕ) (i : ℕ) (start now : Stream Seen)
   left : i < length text → Carries causes (word text) start (word (get_or text i 0 ∷ drop (i + 1) text)) now
   left lt = subst (λ z. Carries causes (word text) start (word z) now) (drop_more text i 0 lt) k
 
-  pub word_next : i < length text → (next : Stream Seen) → Reads (byte (get_or text i 0)) now tt next
+  pub word_next : i < length text → {next : Stream Seen} → Reads (byte (get_or text i 0)) now tt next
       → Carries causes (word text) start (word (drop (i + 1) text)) next
-  word_next lt next m = carries_then causes joint_word (left lt) m
+  word_next lt m = carries_then causes joint_word (left lt) m
 
   pub word_fails : i < length text → (o : Option (Found CertCause)) → Stops causes (byte (get_or text i 0)) now o
       → Stops causes (word text) start o
@@ -77,23 +77,23 @@ module _ (ps : List ℕ) where
   joint_listed = tight_joint (laws_byte 32)
       (λ _. laws_mapped (λ _. drop 1 ps) (number (NotNext ps)) (laws_number (NotNext ps)))
 
-  pub listed_reads : (old mid new : Stream Seen) → Reads (byte 32) old tt mid → (n : ℕ)
-      → Reads (number (NotNext ps)) mid n new → (left : List ℕ) → left ≡ drop 1 ps → Reads (priority ps) old left new
-  listed_reads old mid new m n k left e = subst (λ xs. Reads (priority ps) old xs new) (sym e)
+  pub listed_reads : {old mid new : Stream Seen} → Reads (byte 32) old tt mid → {n : ℕ}
+      → Reads (number (NotNext ps)) mid n new → {left : List ℕ} → left ≡ drop 1 ps → Reads (priority ps) old left new
+  listed_reads {old} {new} m k e = subst (λ xs. Reads (priority ps) old xs new) (sym e)
       (reads_then joint_listed m (reads_mapped (λ _. drop 1 ps) k))
 
   -- what the test of the next number says
-  pub is_not_next : (n : ℕ) (o : Option ℕ) → o ≡ slice_get ps 0 → true ≡ not (option_eq eqb o (Some n)) → NotNext ps n
-  is_not_next n o e h is = go o (e ∙ is) h
+  pub is_not_next : (n : ℕ) {o : Option ℕ} → o ≡ slice_get ps 0 → true ≡ not (option_eq eqb o (Some n)) → NotNext ps n
+  is_not_next n {o} e h is = go o (e ∙ is) h
     where
       go : (o : Option ℕ) → o ≡ Some n → true ≡ not (option_eq eqb o (Some n)) → ⊥
       go None e h = cc
       go (Some m) e h = let same : m ≡ n = cc in let t : eqb m n ≡ true = eq-eqb m n same in
           let f : true ≡ not (eqb m n) = h in let g : true ≡ false = f ∙ ap not t in cc
 
-  pub is_next : (n : ℕ) (o : Option ℕ) → o ≡ slice_get ps 0 → false ≡ not (option_eq eqb o (Some n))
+  pub is_next : {n : ℕ} {o : Option ℕ} → o ≡ slice_get ps 0 → false ≡ not (option_eq eqb o (Some n))
       → slice_get ps 0 ≡ Some n
-  is_next n o e h = sym e ∙ go o h
+  is_next {n} {o} e h = sym e ∙ go o h
     where
       go : (o : Option ℕ) → false ≡ not (option_eq eqb o (Some n)) → o ≡ Some n
       go None h = absurd cc
@@ -132,23 +132,15 @@ pub record Listing {A : Type 0} (whole : Field (List A)) (start : Stream Seen) (
       → Goes causes whole start (behind front r) new
 
 module _ {A : Type 0} (whole : Field (List A)) (start : Stream Seen) where
-  pub listing_start : (front : List A) → front ≡ [] → Listing whole start whole start front
-  listing_start front e = subst (Listing whole start whole start) (sym e) (record { carries = same })
-    where
-      same : (r : Result (List A) (Option (Found CertCause))) (new : Stream Seen) → Goes causes whole start r new
-          → Goes causes whole start (behind [] r) new
-      same (Ok others) new m = m
-      same (Err o) new m = m
-
   module _ (rest : Field (List A)) (now : Stream Seen) (front : List A) (l : Listing whole start rest now front) where
     pub listing_fails : (o : Option (Found CertCause)) → Stops causes rest now o → Stops causes whole start o
     listing_fails o m = l.carries (Err o) now m
 
-    pub listing_next : (other : Field (List A)) (next : Stream Seen) (a : A)
+    pub listing_next : {other : Field (List A)} {next : Stream Seen} (a : A)
         → ((others : List A) (new : Stream Seen) → Reads other next others new → Reads rest now (a ∷ others) new)
-        → ((o : Option (Found CertCause)) → Stops causes other next o → Stops causes rest now o) → (longer : List A)
+        → ((o : Option (Found CertCause)) → Stops causes other next o → Stops causes rest now o) → {longer : List A}
         → longer ≡ front ++ a ∷ [] → Listing whole start other next longer
-    listing_next other next a reads stops longer e = subst (Listing whole start other next) (sym e)
+    listing_next {other} {next} a reads stops e = subst (Listing whole start other next) (sym e)
         (record { carries = more })
       where
         more : (r : Result (List A) (Option (Found CertCause))) (new : Stream Seen) → Goes causes other next r new
@@ -157,8 +149,8 @@ module _ {A : Type 0} (whole : Field (List A)) (start : Stream Seen) where
             (l.carries (Ok (a ∷ others)) new (reads others new m))
         more (Err o) new m = l.carries (Err o) new (stops o m)
 
-    pub listing_ends : (new : Stream Seen) → Reads rest now [] new → Reads whole start front new
-    listing_ends new m = subst (λ xs. Reads whole start xs new) (append-nil front) (l.carries (Ok []) new m)
+    pub listing_ends : {new : Stream Seen} → Reads rest now [] new → Reads whole start front new
+    listing_ends {new} m = subst (λ xs. Reads whole start xs new) (append-nil front) (l.carries (Ok []) new m)
 
 -- ## Counts
 
@@ -184,30 +176,27 @@ module _ (n i : ℕ) (start now : Stream Seen) (front : List ℕ)
   space_fails lt o m = listing_fails (counts n) start (counts (suc (n - (i + 1)))) now front (some_left lt) o
       (stops_first causes (joint_counts (n - (i + 1))) now o m)
 
-  pub count_fails : i < n → (mid : Stream Seen) → Reads (byte 32) now tt mid → (o : Option (Found CertCause))
+  pub count_fails : i < n → {mid : Stream Seen} → Reads (byte 32) now tt mid → (o : Option (Found CertCause))
       → Stops causes (number Never) mid o → Stops causes (counts n) start o
-  count_fails lt mid m o k =
+  count_fails lt {mid} m o k =
       listing_fails (counts n) start (counts (suc (n - (i + 1)))) now front (some_left lt) o
-      (stops_behind causes (joint_counts (n - (i + 1))) m o
-      (stops_first causes (joint_count (n - (i + 1))) mid o k))
+      (stops_behind causes (joint_counts (n - (i + 1))) m o (stops_first causes (joint_count (n - (i + 1))) mid o k))
 
-  pub count_next : i < n → (mid next : Stream Seen) (count : ℕ) → Reads (byte 32) now tt mid
-      → Reads (number Never) mid count next → (longer : List ℕ) → longer ≡ front ++ count ∷ []
+  pub count_next : i < n → {mid next : Stream Seen} {count : ℕ} → Reads (byte 32) now tt mid
+      → Reads (number Never) mid count next → {longer : List ℕ} → longer ≡ front ++ count ∷ []
       → Listing (counts n) start (counts (n - (i + 1))) next longer
-  count_next lt mid next count m k longer e =
-      listing_next (counts n) start (counts (suc (n - (i + 1)))) now front (some_left lt)
-      (counts (n - (i + 1))) next count
+  count_next lt {next} {count} m k e =
+      listing_next (counts n) start (counts (suc (n - (i + 1)))) now front (some_left lt) count
       (λ others new x. reads_then (joint_counts (n - (i + 1))) m
       (reads_then (joint_count (n - (i + 1))) k (reads_mapped (λ others. count ∷ others) x)))
-      (λ o x. stops_behind causes (joint_counts (n - (i + 1))) m o
-      (stops_behind causes (joint_count (n - (i + 1))) k o
-      (stops_mapped causes (λ others. count ∷ others) (counts (n - (i + 1))) next o x))) longer e
+      (λ o x. stops_behind causes (joint_counts (n - (i + 1))) m o (stops_behind causes (joint_count (n - (i + 1))) k o
+      (stops_mapped causes (λ others. count ∷ others) (counts (n - (i + 1))) next o x))) e
 
   none_left : n ≤ i → Listing (counts n) start (counts 0) now front
   none_left le = let e : n - i ≡ 0 = omega arith in subst (λ k. Listing (counts n) start (counts k) now front) e l
 
-  pub counts_end : n ≤ i → (new : Stream Seen) → Reads (byte 10) now tt new → Reads (counts n) start front new
-  counts_end le new m = listing_ends (counts n) start (counts 0) now front (none_left le) new (reads_mapped (λ _. []) m)
+  pub counts_end : n ≤ i → {new : Stream Seen} → Reads (byte 10) now tt new → Reads (counts n) start front new
+  counts_end le m = listing_ends (counts n) start (counts 0) now front (none_left le) (reads_mapped (λ _. []) m)
 
   pub counts_end_fails : n ≤ i → (o : Option (Found CertCause)) → Stops causes (byte 10) now o
       → Stops causes (counts n) start o
@@ -231,27 +220,26 @@ module _ (compact : Bool) (odd even all ids : List ℕ) (i : ℕ) (start now : S
   entry_left lt = subst (λ z. Listing (entries compact odd even all ids) start
       (entries compact odd even all z) now front) (drop_more ids i 0 lt) l
 
-  pub entry_fails : i < length ids → (id : ℕ) → id ≡ get_or ids i 0 → (o : Option (Found CertCause))
+  pub entry_fails : i < length ids → {id : ℕ} → id ≡ get_or ids i 0 → (o : Option (Found CertCause))
       → Stops causes (entry compact odd even all id) now o → Stops causes (entries compact odd even all ids) start o
-  entry_fails lt id is o m =
+  entry_fails lt is o m =
       listing_fails (entries compact odd even all ids) start
       (entries compact odd even all (get_or ids i 0 ∷ drop (i + 1) ids)) now front (entry_left lt) o
       (stops_first causes joint_entries now o (subst (λ k. Stops causes (entry compact odd even all k) now o) is m))
 
-  pub entry_next : i < length ids → (id : ℕ) → id ≡ get_or ids i 0 → (next : Stream Seen) (e : EntryData)
-      → Reads (entry compact odd even all id) now e next → (longer : List EntryData) → longer ≡ front ++ e ∷ []
+  pub entry_next : i < length ids → {id : ℕ} → id ≡ get_or ids i 0 → {next : Stream Seen} {e : EntryData}
+      → Reads (entry compact odd even all id) now e next → {longer : List EntryData} → longer ≡ front ++ e ∷ []
       → Listing (entries compact odd even all ids) start rest_of next longer
-  entry_next lt id same next e m longer is =
+  entry_next lt same {next} {e} m is =
       let this : Reads (entry compact odd even all (get_or ids i 0)) now e next = subst
       (λ k. Reads (entry compact odd even all k) now e next) same m in
       listing_next (entries compact odd even all ids) start
-      (entries compact odd even all (get_or ids i 0 ∷ drop (i + 1) ids)) now front (entry_left lt) rest_of next e
+      (entries compact odd even all (get_or ids i 0 ∷ drop (i + 1) ids)) now front (entry_left lt) e
       (λ others new x. reads_then joint_entries this (reads_mapped (λ others. e ∷ others) x))
-      (λ o x. stops_behind causes joint_entries this o
-      (stops_mapped causes (λ others. e ∷ others) rest_of next o x)) longer is
+      (λ o x. stops_behind causes joint_entries this o (stops_mapped causes (λ others. e ∷ others) rest_of next o x)) is
 
   pub entries_end : length ids ≤ i → Reads (entries compact odd even all ids) start front now
   entries_end le =
       listing_ends (entries compact odd even all ids) start (entries compact odd even all []) now front
       (subst (λ z. Listing (entries compact odd even all ids) start (entries compact odd even all z) now front)
-      (drop_all i ids le) l) now (reads_give now [])
+      (drop_all i ids le) l) (reads_give now [])

@@ -23,8 +23,8 @@ use Rattle.ps_certificate.specs.Reading.{at_place, numeral, HasNoNumber, IsNumbe
 use Rattle.ps_certificate.specs.Texts.{Seen, pieces_at, stream_at, bytes_of, causes, EndsField, Verdict, IsBadNumber}
 use Rattle.ps_certificate.specs.Texts.{judged, OfOtherGame, number}
 use Rattle.ps_text.proofs.Decimals.{value_grows}
-use Rattle.ps_certificate.proofs.Numerals.{numeral_split, numeral_plain, numeral_longest, plain_front}
-use Rattle.ps_certificate.proofs.Numerals.{numeral_ended, numeral_zero}
+use Rattle.ps_certificate.proofs.Numerals.{numeral_split, numeral_plain, numeral_longest, plain_front, numeral_ended}
+use Rattle.ps_certificate.proofs.Numerals.{numeral_zero}
 
 -- ## Places and streams
 
@@ -72,23 +72,24 @@ IsWrongRun Wrong bytes f =
     ((f ≡ Syntax) × (2 ^ 64 ≤ decimal_value (numeral bytes)))
     ⊎ Wrong (drop (run_length bytes) bytes) (decimal_value (numeral bytes)) f
 
-pub run_long : (bytes digits more : List ℕ) → bytes ≡ digits ++ more → IsPlainNumber digits → 0 < run_length bytes
-run_long bytes digits more e h =
+pub run_long : {bytes : List ℕ} (digits more : List ℕ) → bytes ≡ digits ++ more → IsPlainNumber digits →
+    0 < run_length bytes
+run_long {bytes} digits more e h =
     let long = numeral_longest digits more h in
     let l : run_length bytes ≡ length digits + length long.0 = ap run_length e ∙ ap length long.1 ∙ length-append
     digits long.0 in
     omega (arith, l, h.0.0)
 
-pub run_is_wrong : (Wrong : Verdict) → Settled Wrong → (bytes : List ℕ) (t : Seen) (f : CertCause)
+pub run_is_wrong : {Wrong : Verdict} → Settled Wrong → {bytes : List ℕ} {t : Seen} {f : CertCause}
     → bytes ≡ t.byte ∷ t.behind → IsBadNumber Wrong t f → (0 < run_length bytes) × IsWrongRun Wrong bytes f
-run_is_wrong Wrong settled bytes t f e b = (run_long bytes b.digits b.more whole b.number, go b.bad)
+run_is_wrong {Wrong} settled {bytes} {f} e b = (run_long b.digits b.more whole b.number, go b.bad)
   where
     whole : bytes ≡ b.digits ++ b.more
     whole = e ∙ b.split
 
     run_is : EndsField b.more ⊎ (decimal_value b.digits ≡ 0) → numeral bytes ≡ b.digits
-    run_is (inl ended) = ap numeral whole ∙ numeral_ended b.digits b.more b.number ended
-    run_is (inr null) = ap numeral whole ∙ numeral_zero b.digits b.more b.number null
+    run_is (inl ended) = ap numeral whole ∙ numeral_ended b.more b.number ended
+    run_is (inr null) = ap numeral whole ∙ numeral_zero b.more b.number null
 
     go : ((f ≡ Syntax) × (2 ^ 64 ≤ decimal_value b.digits)) ⊎ Wrong b.more (decimal_value b.digits) f
         → IsWrongRun Wrong bytes f
@@ -105,9 +106,9 @@ run_is_wrong Wrong settled bytes t f e b = (run_long bytes b.digits b.more whole
         inr (subst (λ more. Wrong more (decimal_value (numeral bytes)) f) rest
         (subst (λ r. Wrong b.more (decimal_value r) f) (sym run) x))
 
-pub wrong_run_is : (Wrong : Verdict) (bytes : List ℕ) (t : Seen) (f : CertCause) → bytes ≡ t.byte ∷ t.behind
+pub wrong_run_is : {Wrong : Verdict} {bytes : List ℕ} {t : Seen} {f : CertCause} → bytes ≡ t.byte ∷ t.behind
     → 0 < run_length bytes → IsWrongRun Wrong bytes f → IsBadNumber Wrong t f
-wrong_run_is Wrong bytes t f e l w = record {
+wrong_run_is {bytes} e l w = record {
   digits = numeral bytes;
   more = drop (run_length bytes) bytes;
   split = sym e ∙ numeral_split bytes;
@@ -121,8 +122,7 @@ run_within : (bytes : List ℕ) → run_length bytes ≤ length bytes
 run_within bytes = omega (
   arith,
   ap length (numeral_split bytes),
-  length-append (numeral bytes)
-      (drop (run_length bytes) bytes),
+  length-append (numeral bytes) (drop (run_length bytes) bytes),
 )
 
 taken_is_run : (at : ℕ) (bytes : List ℕ) → bytes_of (signs (take (run_length bytes) (pieces_at at bytes))) ≡ numeral
@@ -142,12 +142,12 @@ suffix_behind n at bytes l = record {
 one_byte : (b : ℕ) (more : List ℕ) → IsPlainNumber (b ∷ more) → IsPlainNumber (b ∷ [])
 one_byte b more h = plain_front (b ∷ []) more (omega arith) h
 
-read_run : (Wrong : Verdict) → Settled Wrong → (at : ℕ) (bytes : List ℕ) → 0 < run_length bytes
+read_run : {Wrong : Verdict} → Settled Wrong → (at : ℕ) (bytes : List ℕ) → 0 < run_length bytes
     → decimal_value (numeral bytes) < 2 ^ 64
     → ((f : CertCause) → Wrong (drop (run_length bytes) bytes) (decimal_value (numeral bytes)) f → ⊥)
     → IsRead (judged Wrong) (signs (pieces_at at bytes)) (decimal_value (numeral bytes))
     (signs (pieces_at (at + run_length bytes) (drop (run_length bytes) bytes)))
-read_run Wrong settled at bytes long small right = record {
+read_run {Wrong} settled at bytes long small right = record {
   text = text;
   split = signs_split (pieces_at at bytes) (take (run_length bytes) (pieces_at at bytes))
       (pieces_at (at + run_length bytes) rest) (pieces_split (run_length bytes) at bytes (run_within bytes));
@@ -173,8 +173,7 @@ read_run Wrong settled at bytes long small right = record {
         let whole : bytes_of ((text ++ sign ∷ []) ++ b.more) ≡ (numeral bytes ++ c ∷ []) ++ bytes_of b.more =
         bytes_append (text ++ sign ∷ []) b.more ∙ ap (λ x. x ++ bytes_of b.more)
         (bytes_append text (sign ∷ []) ∙ ap (λ x. x ++ c ∷ []) same) in
-        let plain : IsPlainNumber (numeral bytes ++ c ∷ []) =
-        plain_front (numeral bytes ++ c ∷ []) (bytes_of b.more)
+        let plain : IsPlainNumber (numeral bytes ++ c ∷ []) = plain_front (numeral bytes ++ c ∷ []) (bytes_of b.more)
         (omega (arith, length-append (numeral bytes) (c ∷ []))) (subst IsPlainNumber whole b.is_text.0) in
         let split : bytes ≡ (numeral bytes ++ c ∷ []) ++ r = numeral_split bytes ∙ ap
         (λ x. numeral bytes ++ x) e ∙ sym (append_assoc (numeral bytes) (c ∷ []) r) in
@@ -185,8 +184,7 @@ read_run Wrong settled at bytes long small right = record {
 
     clean : CleanUpTo (judged Wrong) (signs (pieces_at at bytes)) (length text + 1)
     clean front more t f e l c =
-        let w = run_is_wrong Wrong settled bytes t f (first_sees at bytes t more (e ∙ ap (λ x. x ++ t ∷ more) c.0))
-        c.1 in
+        let w = run_is_wrong settled (first_sees at bytes t more (e ∙ ap (λ x. x ++ t ∷ more) c.0)) c.1 in
         go w.1
       where
         go : IsWrongRun Wrong bytes f → ⊥
@@ -213,35 +211,32 @@ module _ (Wrong : Verdict) (settled : Settled Wrong) (old new : Place) (n : ℕ)
       let m : Reads (judged Wrong) (at_place old) (decimal_value (numeral old.rest))
       (stream_at (old.at + run_length old.rest) run_behind) = (
         suffix_behind (run_length old.rest) old.at old.rest (run_within old.rest),
-        read_run Wrong settled old.at
-            old.rest r.long small (λ f w. right f (said_back f w)),
+        read_run settled old.at old.rest r.long small (λ f w. right f (said_back f w)),
       ) in
       subst (λ v. Reads (judged Wrong) (at_place old) v (at_place new)) (sym r.value)
       (subst (λ at. Reads (judged Wrong) (at_place old) (decimal_value (numeral old.rest)) (stream_at at new.rest))
-      (sym r.at)
-      (subst (λ bytes. Reads (judged Wrong) (at_place old) (decimal_value (numeral old.rest))
+      (sym r.at) (subst (λ bytes. Reads (judged Wrong) (at_place old) (decimal_value (numeral old.rest))
       (stream_at (old.at + run_length old.rest) bytes)) (sym r.rest) m))
 
 pub judged_begins : (Wrong : Verdict) → Begins (judged Wrong).IsText []
 judged_begins Wrong = record {
   more = record { byte = 48; behind = [] } ∷ [];
   value = 0;
-  is_text =
-      (numeral_plain (48 ∷ []) (omega arith), refl);
+  is_text = (numeral_plain (48 ∷ []) (omega arith), refl);
 }
 
 -- the cause or the refusal at the first sign
-fault_here : (Wrong : Verdict) (at : ℕ) (bytes : List ℕ) (f : CertCause)
+fault_here : (Wrong : Verdict) (at : ℕ) (bytes : List ℕ) {f : CertCause}
     → IsFaultAt causes (judged Wrong) [] (first_of (signs (pieces_at at bytes))) f
     → StopsWith causes (judged Wrong) (stream_at at bytes) (record { cause = f; offset = at })
-fault_here Wrong at [] f h = record {
+fault_here Wrong at [] h = record {
   front = [];
   rest = [];
   split = refl;
   fault = record { front = []; split = refl; clean = λ front more t g e l c. absurd (omega (arith, l)); fault = h };
   offset = omega arith;
 }
-fault_here Wrong at (b ∷ bytes) f h = record {
+fault_here Wrong at (b ∷ bytes) h = record {
   front = [];
   rest = pieces_at at (b ∷ bytes);
   split = refl;
@@ -254,17 +249,16 @@ pub nothing_there : (Wrong : Verdict) (at : ℕ) (bytes : List ℕ) → numeral 
     → IsFaultAt causes (judged Wrong) [] (first_of (signs (pieces_at at bytes))) Syntax
 nothing_there Wrong at [] e = is_refusal (record {
   before = judged_begins Wrong;
-  no_text = λ v h. absurd
-      (omega (arith, h.0.0.0));
+  no_text = λ v h. absurd (omega (arith, h.0.0.0));
   stops = tt;
   no_cause = tt;
 }) refl
 nothing_there Wrong at (b ∷ bytes) e = is_refusal (record {
   before = judged_begins Wrong;
   no_text = λ v h. absurd (omega (arith, h.0.0.0));
-  stops = λ x. let l = run_long (b ∷ bytes) (b ∷ []) bytes refl (one_byte b (bytes_of x.more) x.is_text.0) in
+  stops = λ x. let l = run_long (b ∷ []) bytes refl (one_byte b (bytes_of x.more) x.is_text.0) in
       omega (arith, l, ap length e);
-  no_cause = λ f c. let l = run_long (b ∷ bytes) c.1.digits c.1.more c.1.split c.1.number in
+  no_cause = λ f c. let l = run_long c.1.digits c.1.more c.1.split c.1.number in
       omega (arith, l, ap length e);
 }) refl
 
@@ -278,20 +272,17 @@ pub too_large : (Wrong : Verdict) (at : ℕ) (bytes : List ℕ) → 0 < run_leng
 too_large Wrong at [] l h = absurd (omega arith)
 too_large Wrong at (b ∷ bytes) l h =
     let sign : Seen = record { byte = b; behind = bytes } in
-    is_cause sign refl (refl, wrong_run_is Wrong (b ∷ bytes) sign Syntax refl l (inl (refl, h))) (λ g c. syntax_least g)
+    is_cause sign refl (refl, wrong_run_is refl l (inl (refl, h))) (λ g c. syntax_least g)
 
 -- a number of which the verdict speaks
-pub wrong_number : (Wrong : Verdict) → Settled Wrong → (at : ℕ) (bytes : List ℕ) (f : CertCause) → 0 < run_length bytes
-    → decimal_value (numeral bytes) < 2 ^ 64
-    → Wrong (drop (run_length bytes) bytes) (decimal_value (numeral bytes)) f
+pub wrong_number : {Wrong : Verdict} → Settled Wrong → (at : ℕ) (bytes : List ℕ) {f : CertCause} → 0 < run_length bytes
+    → decimal_value (numeral bytes) < 2 ^ 64 → Wrong (drop (run_length bytes) bytes) (decimal_value (numeral bytes)) f
     → ((g : CertCause) → Wrong (drop (run_length bytes) bytes) (decimal_value (numeral bytes)) g
-    → cause_number f ≤ cause_number g)
-    → IsFaultAt causes (judged Wrong) [] (first_of (signs (pieces_at at bytes))) f
-wrong_number Wrong settled at [] f l small wrong first = absurd (omega arith)
-wrong_number Wrong settled at (b ∷ bytes) f l small wrong first =
+    → cause_number f ≤ cause_number g) → IsFaultAt causes (judged Wrong) [] (first_of (signs (pieces_at at bytes))) f
+wrong_number settled at [] l small wrong first = absurd (omega arith)
+wrong_number {Wrong} settled at (b ∷ bytes) {f} l small wrong first =
     let sign : Seen = record { byte = b; behind = bytes } in
-    is_cause sign refl (refl, wrong_run_is Wrong (b ∷ bytes) sign f refl l (inr wrong))
-    (λ g c. least g (run_is_wrong Wrong settled (b ∷ bytes) sign g refl c.1).1)
+    is_cause sign refl (refl, wrong_run_is refl l (inr wrong)) (λ g c. least g (run_is_wrong settled refl c.1).1)
   where
     least : (g : CertCause) → IsWrongRun Wrong (b ∷ bytes) g → cause_number f ≤ cause_number g
     least g (inl x) = absurd (omega (arith, x.1, small))
@@ -300,20 +291,19 @@ wrong_number Wrong settled at (b ∷ bytes) f l small wrong first =
 pub judged_fails : (Wrong : Verdict) (old new : Place) (e : CertFault) → TellsNumber old (Err e) new
     → Stops causes (judged Wrong) (at_place old) (found_of e)
 judged_fails Wrong old new e h = subst (λ x. Stops causes (judged Wrong) (at_place old) (found_of x)) (sym h.0)
-    (fault_here Wrong old.at old.rest Syntax (go h.1))
+    (fault_here Wrong old.at old.rest (go h.1))
   where
     go : HasNoNumber old.rest → IsFaultAt causes (judged Wrong) [] (first_of (signs (pieces_at old.at old.rest))) Syntax
     go (inl none) = nothing_there Wrong old.at old.rest none
     go (inr large) = too_large Wrong old.at old.rest large.0 large.1
 
-pub judged_wrong : (Wrong : Verdict) → Settled Wrong → (old new : Place) (n : ℕ) (f : CertCause) (e : CertFault)
+pub judged_wrong : {Wrong : Verdict} → Settled Wrong → {old new : Place} {n : ℕ} (f : CertCause) {e : CertFault}
     → IsNumberRead old new n → Wrong new.rest n f
     → ((g : CertCause) → Wrong new.rest n g → cause_number f ≤ cause_number g) → e ≡ Text f old.at
     → Stops causes (judged Wrong) (at_place old) (found_of e)
-judged_wrong Wrong settled old new n f e r wrong first is =
-    subst (λ x. Stops causes (judged Wrong) (at_place old) (found_of x)) (sym is)
-    (fault_here Wrong old.at old.rest f
-    (wrong_number Wrong settled old.at old.rest f r.long (small Wrong settled old new n r)
+judged_wrong {Wrong} settled {old} {new} {n} f r wrong first is =
+    subst (λ x. Stops causes (judged Wrong) (at_place old) (found_of x)) (sym is) (fault_here Wrong old.at old.rest
+    (wrong_number settled old.at old.rest r.long (small Wrong settled old new n r)
     (said Wrong settled old new n r f wrong) (λ g w. first g (said_back Wrong settled old new n r g w))))
 
 -- a number that is not the game's, where it is ended
@@ -321,9 +311,9 @@ module _ (Wrong : ℕ → Type 0) (old new : Place) (n : ℕ) (r : IsNumberRead 
   pub number_reads : (EndsField new.rest → Wrong n → ⊥) → Reads (number Wrong) (at_place old) n (at_place new)
   number_reads right = judged_reads (OfOtherGame Wrong) (settled_other Wrong) old new n r (λ f w. right w.1 w.2)
 
-  pub number_wrong : (e : CertFault) → EndsField new.rest → Wrong n → e ≡ Text OtherGame old.at
+  pub number_wrong : {e : CertFault} → EndsField new.rest → Wrong n → e ≡ Text OtherGame old.at
       → Stops causes (number Wrong) (at_place old) (found_of e)
-  number_wrong e ended wrong is = judged_wrong (OfOtherGame Wrong) (settled_other Wrong) old new n OtherGame e r
+  number_wrong ended wrong is = judged_wrong (settled_other Wrong) OtherGame r
       (refl, ended, wrong) (λ g w. rw w.0 (omega arith)) is
 
 -- ## The laws

@@ -1,7 +1,6 @@
 -- The digits that a text begins with: the longest run without a leading zero, and the number that it writes.
-use Rattle.std.proofs.Common.{◌≡◌, ℕ, suc, ◌+◌, ◌<◌, Bool, true, false, cond, eqb, List, [], ◌∷◌, ◌++◌}
-use Rattle.std.proofs.Common.{length, drop, refl, sym, ap, ap₂, subst, inl, inr, ◌∙◌, append_assoc, append-nil, arith}
-use Rattle.std.proofs.Common.{length-append}
+use Rattle.std.proofs.Common.{◌≡◌, ℕ, suc, ◌+◌, ◌<◌, Bool, true, false, cond, eqb, List, [], ◌∷◌, ◌++◌, length, drop}
+use Rattle.std.proofs.Common.{refl, sym, ap, ap₂, subst, inl, inr, ◌∙◌, append_assoc, append-nil, arith, length-append}
 use Rattle.std.specs.Prelude.{take_while}
 use Rattle.std.specs.Char.{is_ascii_digit}
 use Rattle.std.specs.List.{All, prefix_len}
@@ -18,20 +17,16 @@ use Rattle.ps_certificate.specs.Texts.{EndsField}
 
 -- ## The longest run
 
-not_digit : (b : ℕ) → is_ascii_digit b ≡ false → IsDigit b → ⊥
-not_digit b e h = let t = digit_passes b h in cc
-
 taken_digits : (bytes : List ℕ) → All IsDigit (take_while is_ascii_digit bytes)
 taken_digits [] = All-nil IsDigit
-taken_digits (b ∷ bytes) = rw take_while-cons
-    (elim (cases_Bool (is_ascii_digit b)) [
-      | inl so ↦ rw so (All-cons IsDigit b (take_while is_ascii_digit bytes) (digit_is b so) (taken_digits bytes))
-      | inr other ↦ rw other (All-nil IsDigit)
-    ])
+taken_digits (b ∷ bytes) = rw take_while-cons (elim (cases_Bool (is_ascii_digit b)) [
+  | inl so ↦ rw so (All-cons IsDigit b (take_while is_ascii_digit bytes) (digit_is b so) (taken_digits bytes))
+  | inr other ↦ rw other (All-nil IsDigit)
+])
 
-taken_split : (bytes : List ℕ) → bytes ≡ take_while is_ascii_digit bytes ++ drop
+taken_split : {bytes : List ℕ} → bytes ≡ take_while is_ascii_digit bytes ++ drop
     (length (take_while is_ascii_digit bytes)) bytes
-taken_split bytes =
+taken_split {bytes} =
     sym (ap (λ n. take_while is_ascii_digit bytes ++ drop n bytes) (length-prefix_len is_ascii_digit bytes)
     ∙ take-append-drop (prefix_len is_ascii_digit bytes) bytes)
 
@@ -50,16 +45,15 @@ comes_is b (c ∷ bytes) e = (bytes, ap (λ x. x ∷ bytes) (eqb-true c b e))
 pub numeral_split : (bytes : List ℕ) → bytes ≡ numeral bytes ++ drop (length (numeral bytes)) bytes
 numeral_split bytes = elim (cases_Bool (comes 48 bytes)) [
   | inl so ↦ let z = comes_is 48 bytes so in rw (so, z.1) refl
-  | inr other ↦ rw other (taken_split bytes)
+  | inr other ↦ rw other (taken_split)
 ]
 
 no_zero : (bytes : List ℕ) → comes 48 bytes ≡ false → BeginsWithZero (take_while is_ascii_digit bytes) → ⊥
 no_zero [] e = λ z. z
-no_zero (b ∷ bytes) e = rw take_while-cons
-    (elim (cases_Bool (is_ascii_digit b)) [
-      | inl so ↦ rw so (λ z. eqb-false b 48 e z)
-      | inr other ↦ rw other (λ z. z)
-    ])
+no_zero (b ∷ bytes) e = rw take_while-cons (elim (cases_Bool (is_ascii_digit b)) [
+  | inl so ↦ rw so (λ z. eqb-false b 48 e z)
+  | inr other ↦ rw other (λ z. z)
+])
 
 -- and a number without leading zeros, unless it is empty
 pub numeral_plain : (bytes : List ℕ) → 0 < length (numeral bytes) → IsPlainNumber (numeral bytes)
@@ -69,8 +63,7 @@ numeral_plain bytes long = go (comes 48 bytes) refl long
         → IsPlainNumber (cond b (48 ∷ []) (take_while is_ascii_digit bytes))
     go true e l = (
       (omega arith, All-cons IsDigit 48 [] (omega arith, omega arith) (All-nil IsDigit)),
-      λ lt. absurd
-          (omega arith),
+      λ lt. absurd (omega arith),
     )
     go false e l = ((l, taken_digits bytes), λ lt z. no_zero bytes e z)
 
@@ -97,8 +90,9 @@ plain_front (d ∷ a) b l h = ((l, digits), λ lt z. h.1 (omega (arith, lt, leng
     digits = subst (All IsDigit) (take-append_seam (d ∷ a) b) (All-take IsDigit (length (d ∷ a)) ((d ∷ a) ++ b) h.0.1)
 
 -- where a space, a newline or a colon ends such a number, it is the whole run
-pub numeral_ended : (digits more : List ℕ) → IsPlainNumber digits → EndsField more → numeral (digits ++ more) ≡ digits
-numeral_ended digits more h ends = go long.0 long.1
+pub numeral_ended : {digits : List ℕ} (more : List ℕ) → IsPlainNumber digits → EndsField more →
+    numeral (digits ++ more) ≡ digits
+numeral_ended {digits} more h ends = go long.0 long.1
   where
     long : (m : List ℕ) × (numeral (digits ++ more) ≡ digits ++ m)
     long = numeral_longest digits more h
@@ -119,8 +113,7 @@ numeral_ended digits more h ends = go long.0 long.1
         let plain : IsPlainNumber (digits ++ x ∷ m) = subst IsPlainNumber e
         (numeral_plain (digits ++ more) (let l : length (numeral (digits ++ more)) ≡ length digits + suc
         (length m) = ap length e ∙ length-append digits (x ∷ m) in omega (arith, l))) in
-        let digit : IsDigit x = All-head IsDigit x m
-        (subst (All IsDigit) (drop-append_seam digits (x ∷ m))
+        let digit : IsDigit x = All-head IsDigit x m (subst (All IsDigit) (drop-append_seam digits (x ∷ m))
         (All-drop IsDigit (length digits) (digits ++ x ∷ m) plain.0.1)) in
         absurd (no_end x (m ++ rest) (subst EndsField tail ends) digit)
 
@@ -138,6 +131,6 @@ zero_is (d ∷ digits) h e = go digits refl
     go [] s = ap₂ (λ (x : ℕ) (xs : List ℕ). x ∷ xs) lead s
     go (c ∷ rest) s = absurd (h.1 (let l : length digits ≡ length (c ∷ rest) = ap length s in omega (arith, l)) lead)
 
-pub numeral_zero : (digits more : List ℕ) → IsPlainNumber digits → decimal_value digits ≡ 0
+pub numeral_zero : {digits : List ℕ} (more : List ℕ) → IsPlainNumber digits → decimal_value digits ≡ 0
     → numeral (digits ++ more) ≡ digits
-numeral_zero digits more h e = let z = zero_is digits h e in ap (λ r. numeral (r ++ more)) z ∙ sym z
+numeral_zero {digits} more h e = let z = zero_is digits h e in ap (λ r. numeral (r ++ more)) z ∙ sym z

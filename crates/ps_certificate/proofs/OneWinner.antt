@@ -32,9 +32,9 @@ unfolding steps
 length-steps next v zero = refl
 length-steps next v (suc n) = ap suc (length-steps next (next v) n)
 
-steps-first : (next : ℕ → ℕ) (v n : ℕ) → slice_index (steps next v (suc n)) 0 ≡ v
+steps-first : (next : ℕ → ℕ) {v : ℕ} (n : ℕ) → slice_index (steps next v (suc n)) 0 ≡ v
 unfolding steps
-steps-first next v n = refl
+steps-first next n = refl
 
 steps-next : (next : ℕ → ℕ) (v n k : ℕ) → suc k < n → slice_index (steps next v n) (suc k) ≡ next
     (slice_index (steps next v n) k)
@@ -74,19 +74,19 @@ module _ (game : ParityGame) (one other : CertificateData) (owners : (v : ℕ) �
     of_one : owner_of game v ≡ p → choice_of one v ≡ Some (next v)
     of_other : owner_of game v ≡ q → choice_of other v ≡ Some (next v)
 
-  next-one : (v w : ℕ) → owner_of game v ≡ p → choice_of one v ≡ Some w → next v ≡ w
+  next-one : (v : ℕ) {w : ℕ} → owner_of game v ≡ p → choice_of one v ≡ Some w → next v ≡ w
   unfolding next next_if
-  next-one v w own is = ap (λ b. next_if b v) (eq-eqb (owner_of game v) p own) ∙ ap (λ o. unwrap_or o 0) is
+  next-one v own is = ap (λ b. next_if b v) (eq-eqb (owner_of game v) p own) ∙ ap (λ o. unwrap_or o 0) is
 
-  next-other : (v w : ℕ) → (owner_of game v ≡ p → ⊥) → choice_of other v ≡ Some w → next v ≡ w
+  next-other : (v : ℕ) {w : ℕ} → (owner_of game v ≡ p → ⊥) → choice_of other v ≡ Some w → next v ≡ w
   unfolding next next_if
-  next-other v w never is = ap (λ b. next_if b v) (ne_eqb (owner_of game v) p never) ∙ ap (λ o. unwrap_or o 0) is
+  next-other v never is = ap (λ b. next_if b v) (ne_eqb (owner_of game v) p never) ∙ ap (λ o. unwrap_or o 0) is
 
   step : (v : ℕ) → IsBoth v → IsStep v
   step v b = elim (cases_eq (owner_of game v) p) [
     | inl own ↦
         let m = given game one fits valid v b.within (own ∙ sym b.by_one) in
-        let e : m.0 ≡ next v = sym (next-one v m.0 own m.1) in
+        let e : m.0 ≡ next v = sym (next-one v own m.1) in
         record {
           edge = subst (HasEdge game v) e m.2;
           within = subst (λ w. w < vertex_count game) e m.3;
@@ -96,7 +96,7 @@ module _ (game : ParityGame) (one other : CertificateData) (owners : (v : ℕ) �
     | inr never ↦
         let own : owner_of game v ≡ q = (let low = owners v b.within in omega arith) in
         let m = given game other fits' valid' v b.within (own ∙ sym b.by_other) in
-        let e : m.0 ≡ next v = sym (next-other v m.0 never m.1) in
+        let e : m.0 ≡ next v = sym (next-other v never m.1) in
         record {
           edge = subst (HasEdge game v) e m.2;
           within = subst (λ w. w < vertex_count game) e m.3;
@@ -131,7 +131,7 @@ module _ (game : ParityGame) (one other : CertificateData) (owners : (v : ℕ) �
 
     path-first : slice_index path 0 ≡ v
     unfolding path
-    path-first = steps-first next v (vertex_count game)
+    path-first = steps-first next (vertex_count game)
 
     both : (k : ℕ) → k < length path → IsBoth (slice_index path k)
     unfolding path

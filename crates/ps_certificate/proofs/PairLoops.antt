@@ -63,13 +63,12 @@ pub record PairsSoFar (ps : List ℕ) (start : Stream Seen) (now : Place) (last 
   pub counts_are : counts ≡ map pairs.count ps
   pub carries : Carries causes (many (pair ps) no_pairs) start (many (pair ps) pairs) (at_place now)
 
-pub no_pairs_yet : (ps : List ℕ) (start : Place) (n : ℕ) → n ≡ length ps
+pub no_pairs_yet : {ps : List ℕ} {start : Place} {n : ℕ} → n ≡ length ps
     → PairsSoFar ps (at_place start) start None (replicate n 0)
-no_pairs_yet ps start n e = record {
+no_pairs_yet {ps} {start} {n} e = record {
   pairs = no_pairs;
   last_is = refl;
-  counts_are = splat_is_map ps n 0
-      (sym e);
+  counts_are = splat_is_map ps n 0 (sym e);
   carries = carries_start causes (many (pair ps) no_pairs) (at_place start);
 }
 
@@ -87,10 +86,10 @@ pair_shrinks ps last now next p m read =
 
 module _ (ps : List ℕ) (start : Stream Seen) (now : Place) (last : Option ℕ) (counts : List ℕ)
     (so_far : PairsSoFar ps start now last counts) where
-  pub pair_more : IsStrictlyIncreasing ps → (next : Place) (k m : ℕ) → k < length ps
+  pub pair_more : IsStrictlyIncreasing ps → {next : Place} (k m : ℕ) → k < length ps
       → ReadsPair ps last now (slice_index ps k) m next
       → PairsSoFar ps start next (Some (slice_index ps k)) (set counts k m)
-  pair_more rising next k m lt read = record {
+  pair_more rising k m lt read = record {
     pairs = with_pair so_far.pairs (slice_index ps k) m;
     last_is = refl;
     counts_are = ap (λ cs. set cs k m) so_far.counts_are ∙ set_is_put so_far.pairs.count m ps k

@@ -41,9 +41,9 @@ syntax_least OtherGame = omega arith
 settled_zero : Settled IsZero
 settled_zero more n f w = inr w.1
 
-pub zero_fails : (old : Place) (e : CertFault) → comes 48 old.rest ≡ true → e ≡ Text Syntax old.at
+pub zero_fails : (old : Place) {e : CertFault} → comes 48 old.rest ≡ true → e ≡ Text Syntax old.at
     → Stops causes (judged IsZero) (at_place old) (found_of e)
-zero_fails old e h is = judged_wrong IsZero settled_zero old new 0 Syntax e read (refl, refl) (λ g w. syntax_least g) is
+zero_fails old h is = judged_wrong settled_zero Syntax read (refl, refl) (λ g w. syntax_least g) is
   where
     new : Place
     new = record { at = old.at + 1; rest = drop 1 old.rest }
@@ -60,9 +60,9 @@ zero_fails old e h is = judged_wrong IsZero settled_zero old new 0 Syntax e read
       rest = ap (λ run. drop (length run) old.rest) (sym zero);
     }
 
-pub positive_reads : (old new : Place) (n : ℕ) → comes 48 old.rest ≡ false → IsNumberRead old new n
+pub positive_reads : {old new : Place} {n : ℕ} → comes 48 old.rest ≡ false → IsNumberRead old new n
     → Reads (judged IsZero) (at_place old) n (at_place new)
-positive_reads old new n h r = judged_reads IsZero settled_zero old new n r
+positive_reads {old} {new} {n} h r = judged_reads IsZero settled_zero old new n r
     (λ f w. let k : comes 48 old.rest ≡ true = begins w.1 in cc)
   where
     begins : n ≡ 0 → comes 48 old.rest ≡ true
@@ -74,21 +74,21 @@ positive_reads old new n h r = judged_reads IsZero settled_zero old new n r
 
 pub number_positive : (old new : Place) (r : Result ℕ CertFault) → comes 48 old.rest ≡ false → TellsNumber old r new
     → Tells (λ n. n) (judged IsZero) old r new
-number_positive old new (Ok n) h m = positive_reads old new n h m
+number_positive old new (Ok n) h m = positive_reads h m
 number_positive old new (Err e) h m = judged_fails IsZero old new e m
 
 -- ## The priority of a count
 
-rises_not : (last : Option ℕ) (pairs : Pairs) (n : ℕ) → pairs.last ≡ last → rises last n ≡ true → DoesNotRise pairs n
+rises_not : {last : Option ℕ} (pairs : Pairs) (n : ℕ) → pairs.last ≡ last → rises last n ≡ true → DoesNotRise pairs n
     → ⊥
-rises_not last pairs n same e h = go pairs.last (ap (λ o. rises o n) same ∙ e) h
+rises_not {last} pairs n same e h = go pairs.last (ap (λ o. rises o n) same ∙ e) h
   where
     go : (last : Option ℕ) → rises last n ≡ true → DoesNotRise (record { last = last; count = pairs.count }) n → ⊥
     go None e h = h
     go (Some last) e h = omega (arith, h, ltb-true last n e)
 
-stays_below : (last : Option ℕ) (pairs : Pairs) (n : ℕ) → pairs.last ≡ last → rises last n ≡ false → DoesNotRise pairs n
-stays_below last pairs n same e = go pairs.last (ap (λ o. rises o n) same ∙ e)
+stays_below : {last : Option ℕ} (pairs : Pairs) (n : ℕ) → pairs.last ≡ last → rises last n ≡ false → DoesNotRise pairs n
+stays_below {last} pairs n same e = go pairs.last (ap (λ o. rises o n) same ∙ e)
   where
     go : (last : Option ℕ) → rises last n ≡ false → DoesNotRise (record { last = last; count = pairs.count }) n
     go None e = absurd cc
@@ -109,42 +109,40 @@ module _ (ps : List ℕ) (last : Option ℕ) (pairs : Pairs) (same : pairs.last 
   priority_fails new e h = inl (judged_fails (WrongPriority ps pairs) old new e h)
 
   module _ (mid : Place) (n : ℕ) (r : IsNumberRead old mid n) where
-    pub priority_open : (new : Place) (e : CertFault) → ends mid.rest ≡ false → e ≡ Text Syntax mid.at
+    pub priority_open : (new : Place) {e : CertFault} → ends mid.rest ≡ false → e ≡ Text Syntax mid.at
         → TellsPriority ps pairs old (Err e) new
-    priority_open new e h is =
+    priority_open new {e} h is =
         inr (
           n,
           mid,
-          judged_reads (WrongPriority ps pairs) settled old mid n r
-              (λ f w. ends_false mid.rest h w.0),
-          byte_fails 58 mid e (no_colon mid.rest h) is,
+          judged_reads (WrongPriority ps pairs) settled old mid n r (λ f w. ends_false mid.rest h w.0),
+          byte_fails 58 mid (no_colon mid.rest h) is,
         )
 
-    pub priority_low : (new : Place) (e : CertFault) → ends mid.rest ≡ true → rises last n ≡ false
+    pub priority_low : (new : Place) {e : CertFault} → ends mid.rest ≡ true → rises last n ≡ false
         → e ≡ Text Syntax old.at → TellsPriority ps pairs old (Err e) new
-    priority_low new e h low is =
-        inl (judged_wrong (WrongPriority ps pairs) settled old mid n Syntax e r
-        (ends_true mid.rest h, inl (refl, stays_below last pairs n same low)) (λ g w. syntax_least g) is)
+    priority_low new h low is =
+        inl (judged_wrong settled Syntax r
+        (ends_true mid.rest h, inl (refl, stays_below pairs n same low)) (λ g w. syntax_least g) is)
 
-    pub priority_unknown : (new : Place) (e : CertFault) → ends mid.rest ≡ true → rises last n ≡ true
+    pub priority_unknown : (new : Place) {e : CertFault} → ends mid.rest ≡ true → rises last n ≡ true
         → (Contains ps n → ⊥) → e ≡ Text OtherGame old.at → TellsPriority ps pairs old (Err e) new
-    priority_unknown new e h up none is =
-        inl (judged_wrong (WrongPriority ps pairs) settled old mid n OtherGame e r
-        (ends_true mid.rest h, inr (refl, none)) (λ g w. least g w.1) is)
+    priority_unknown new h up none is =
+        inl (judged_wrong settled OtherGame r (ends_true mid.rest h, inr (refl, none)) (λ g w. least g w.1) is)
       where
         least : (g : CertCause) → ((g ≡ Syntax) × DoesNotRise pairs n) ⊎ ((g ≡ OtherGame) × ¬ Contains ps n)
             → cause_number OtherGame ≤ cause_number g
-        least g (inl x) = absurd (rises_not last pairs n same up x.1)
+        least g (inl x) = absurd (rises_not pairs n same up x.1)
         least g (inr x) = rw x.0 (omega arith)
 
-    pub priority_reads : (place : ℕ) → rises last n ≡ true → IsAt ps n place
+    pub priority_reads : {place : ℕ} → rises last n ≡ true → IsAt ps n place
         → Reads (judged (WrongPriority ps pairs)) (at_place old) (slice_index ps place) (at_place mid)
-    priority_reads place up at =
+    priority_reads {place} up at =
         subst (λ v. Reads (judged (WrongPriority ps pairs)) (at_place old) v (at_place mid)) (sym at.is)
         (judged_reads (WrongPriority ps pairs) settled old mid n r (λ f w. right f w.1))
       where
         right : (f : CertCause) → ((f ≡ Syntax) × DoesNotRise pairs n) ⊎ ((f ≡ OtherGame) × ¬ Contains ps n) → ⊥
-        right f (inl x) = rises_not last pairs n same up x.1
+        right f (inl x) = rises_not pairs n same up x.1
         right f (inr x) = x.1 (subst (Contains ps) at.is (Contains-get_or ps place 0 at.within))
 
 pub priority_exits : (ps : List ℕ) (pairs : Pairs) (old new : Place) (e : CertFault) (r : Result ℕ CertFault)
@@ -168,8 +166,7 @@ module _ (ps : List ℕ) (pairs : Pairs) (old : Place) where
     pair_priority e new (inl s) = stops_behind causes joint_pair m (found_of e)
         (stops_first causes (joint_priority ps pairs) (at_place mid) (found_of e) s)
     pair_priority e new (inr s) =
-        stops_behind causes joint_pair m (found_of e)
-        (stops_behind causes (joint_priority ps pairs) s.2 (found_of e)
+        stops_behind causes joint_pair m (found_of e) (stops_behind causes (joint_priority ps pairs) s.2 (found_of e)
         (stops_first causes (joint_colon s.0) (at_place s.1) (found_of e) s.3))
       where
         joint_colon : (p : ℕ) → Joint (byte 58) (λ _. mapped (λ m. with_pair pairs p m) (judged IsZero))
@@ -196,8 +193,7 @@ module _ (ps : List ℕ) (pairs : Pairs) (old : Place) where
         pair_count o s = behind_priority o (stops_behind causes joint_count c o
             (stops_mapped causes (λ m. with_pair pairs p m) (judged IsZero) (at_place last) o s))
 
-        pub pair_reads : (count : ℕ) (new : Place) → Reads (judged IsZero) (at_place last) count (at_place new)
+        pub pair_reads : {count : ℕ} (new : Place) → Reads (judged IsZero) (at_place last) count (at_place new)
             → Reads (pair ps pairs) (at_place old) (with_pair pairs p count) (at_place new)
-        pair_reads count new s = reads_then joint_pair m
-            (reads_then (joint_priority ps pairs) k (reads_then joint_count c
+        pair_reads new s = reads_then joint_pair m (reads_then (joint_priority ps pairs) k (reads_then joint_count c
             (reads_mapped (λ m. with_pair pairs p m) s)))

@@ -1,12 +1,10 @@
 -- How a row is compared with another one, and copied.
-use Rattle.std.proofs.Common.{◌≡◌, ℕ, ◌+◌, ◌-◌, ◌<◌, ◌≤◌, ◌∙◌, List, [], ◌∷◌, ◌++◌, length, replicate, refl, sym, ap}
-use Rattle.std.proofs.Common.{arith}
-use Rattle.std.proofs.Common.{take}
-use Rattle.std.proofs.Common.{inl, inr}
+use Rattle.std.proofs.Common.{◌≡◌, ℕ, ◌+◌, ◌-◌, ◌<◌, ◌≤◌, ◌∙◌, List, [], ◌∷◌, ◌++◌, length, replicate, sym, ap, arith}
+use Rattle.std.proofs.Common.{take, inl, inr}
 use Rattle.std.proofs.lemmas.Bool.{cases_order, cases_lt}
 use Rattle.std.proofs.lemmas.List.{length-append, length-replicate, take_all}
-use Rattle.ps_certificate.specs.Sparse.{count_at, row_of, IsRow, place_at, AreRising, IsFirstFrom}
-use Rattle.ps_certificate.specs.Sparse.{AreAtMost, IsFirstAbove}
+use Rattle.ps_certificate.specs.Sparse.{count_at, row_of, IsRow, place_at, AreRising, IsFirstFrom, AreAtMost}
+use Rattle.ps_certificate.specs.Sparse.{IsFirstAbove}
 use Rattle.ps_certificate.specs.declared.row.PlacedCount.{PlacedCount}
 use Rattle.ps_certificate.proofs.Sparse.{number_at, count_missing, count_here, row_at, row_to, row_next, place_within}
 use Rattle.ps_certificate.proofs.Sparse.{rising, length-counts_from}
@@ -26,8 +24,7 @@ module _ (own other : List PlacedCount) (from number : ℕ) where
     within = first.before.within;
     late = first.behind;
     below = λ k late later.
-        let none : count_at own k ≡ 0 =
-        count_missing own k (λ i within same. elim (cases_lt i number) [
+        let none : count_at own k ≡ 0 = count_missing own k (λ i within same. elim (cases_lt i number) [
           | inl early ↦ omega (arith, first.before.below i early, same, late)
           | inr behind ↦ omega (arith, later i behind within, same)
         ]) in
@@ -59,8 +56,7 @@ module _ (own other : List PlacedCount) (from number : ℕ) where
             | inr (inr more) ↦ later j (omega (arith, more)) below
           ])
           | inr (inr past) ↦
-              let none : count_at own k ≡ 0 =
-              count_missing own k (λ i below same. elim (cases_order i number) [
+              let none : count_at own k ≡ 0 = count_missing own k (λ i below same. elim (cases_order i number) [
                 | inl at ↦ omega (arith, past, same, ap (place_at own) at)
                 | inr (inl less) ↦ omega (arith, past, same, rises i number less within)
                 | inr (inr more) ↦ omega (arith, same, later i (omega (arith, more)) below)
@@ -99,20 +95,11 @@ pub record IsFilled (width : ℕ) (placed : List PlacedCount) (list : List ℕ) 
   pub before : (i : ℕ) → i < number → place_at placed i < length list
   pub behind : (i : ℕ) → number ≤ i → i < length placed → length list ≤ place_at placed i
 
-pub filled_start : (width : ℕ) (placed : List PlacedCount) → IsFilled width placed [] 0
-filled_start width placed = record {
-  list_is = refl;
-  long = omega arith;
-  before = λ i less. absurd (omega (arith, less));
-  behind = λ i late within. omega arith;
-}
-
 -- a list that is resized to more
 pub resized : (list : List ℕ) (n long : ℕ) → long ≡ length list → length list ≤ n →
     take n list ++ replicate (n - long) 0 ≡ list ++ replicate (n - length list) 0
 resized list n long is more =
-    ap (λ front. front ++ replicate (n - long) 0) (take_all n list more)
-    ∙ ap (λ k. list ++ replicate (n - k) 0) is
+    ap (λ front. front ++ replicate (n - long) 0) (take_all n list more) ∙ ap (λ k. list ++ replicate (n - k) 0) is
 
 module _ (width : ℕ) (placed : List PlacedCount) (list : List ℕ) (number : ℕ)
     (so_far : IsFilled width placed list number) where
@@ -140,16 +127,14 @@ module _ (width : ℕ) (placed : List PlacedCount) (list : List ℕ) (number : �
 
   pub filled_next : IsRow width placed → number < length placed →
       IsFilled width placed ((list ++ replicate (place_at placed number - length list) 0) ++
-      number_at placed number ∷ [])
-      (number + 1)
+      number_at placed number ∷ []) (number + 1)
   filled_next is_row within =
       let place = place_at placed number in
       let rises : AreRising placed = rising 0 width placed is_row in
       let far : length list ≤ place = so_far.behind number (omega arith) within in
       let below : place < width = (place_within 0 width placed number is_row within).1 in
       let new : List ℕ = (list ++ replicate (place - length list) 0) ++ number_at placed number ∷ [] in
-      let long : length new ≡ place + 1 =
-      omega (
+      let long : length new ≡ place + 1 = omega (
         arith,
         far,
         length-append (list ++ replicate (place - length list) 0) (number_at placed number ∷ []),
@@ -160,16 +145,14 @@ module _ (width : ℕ) (placed : List PlacedCount) (list : List ℕ) (number : �
         list_is =
             ap (λ xs. xs ++ number_at placed number ∷ []) (zeros_next is_row within)
             ∙ ap (λ c. row_of place placed ++ c ∷ []) (sym (count_here placed number rises within))
-            ∙ sym (row_next placed place)
-            ∙ ap (λ n. row_of n placed) (sym long);
+            ∙ sym (row_next placed place) ∙ ap (λ n. row_of n placed) (sym long);
         long = omega (arith, long, below);
         before = λ i less. early i less far long;
         behind = λ i late i_within. omega (arith, long, rises number i (omega (arith, late)) i_within);
       }
     where
       early : (i : ℕ) → i < number + 1 → length list ≤ place_at placed number → {n : ℕ} →
-          n ≡ place_at placed number + 1 →
-          place_at placed i < n
+          n ≡ place_at placed number + 1 → place_at placed i < n
       early i less far long = elim (cases_lt i number) [
         | inl before ↦ omega (arith, long, so_far.before i before, far)
         | inr late ↦

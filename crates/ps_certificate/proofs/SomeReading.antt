@@ -78,7 +78,7 @@ module _ (Wrong : Verdict) (settled : Settled Wrong) where
         (sym (same_head t.byte d t.behind (digits ++ more) e)) (plain_front (d ∷ []) digits (omega arith) h)
 
     begins : 0 < run_length bytes
-    begins = run_long bytes (t.byte ∷ []) (bytes_of after) refl
+    begins = run_long (t.byte ∷ []) (bytes_of after) refl
         (one_plain (numeral (t.byte ∷ t.behind)) _ (numeral_split (t.byte ∷ t.behind)) long
         (numeral_plain (t.byte ∷ t.behind) long))
 
@@ -107,10 +107,8 @@ module _ (Wrong : Verdict) (settled : Settled Wrong) where
         omega (arith, l, length-append (numeral bytes) (c.byte ∷ []))
 
     clean : CleanUpTo (judged Wrong) all (length text + 1)
-    clean front more u f e l c = right f
-        (subst (λ s. IsWrongRun Wrong (s.byte ∷ s.behind) f)
-        (sym (same_head t u after more (e ∙ ap (λ x. x ++ u ∷ more) c.0)))
-        (run_is_wrong Wrong settled (u.byte ∷ u.behind) u f refl c.1).1)
+    clean front more u f e l c = right f (subst (λ s. IsWrongRun Wrong (s.byte ∷ s.behind) f)
+        (sym (same_head t u after more (e ∙ ap (λ x. x ++ u ∷ more) c.0))) (run_is_wrong settled refl c.1).1)
 
     pub number_read : IsRead (judged Wrong) all (decimal_value (numeral bytes)) rest
     number_read = record {
@@ -142,8 +140,7 @@ module _ (Wrong : Verdict) (settled : Settled Wrong) where
 
       small_number : 0 < run_length seen → value < 2 ^ 64 →
           Judged cause_number (Wrong (drop (run_length seen) seen) value) → Outcome causes (judged Wrong) (t ∷ after)
-      small_number long small (bad f b least) = here (t ∷ after) f
-          (wrong_number Wrong settled 0 seen f long small b least)
+      small_number long small (bad f b least) = here (t ∷ after) f (wrong_number settled 0 seen long small b least)
       small_number long small (good right) = was_read _ _ (number_read t after long (none_wrong small right))
 
       some_number : 0 < run_length seen → (value < 2 ^ 64) ⊎ (2 ^ 64 ≤ value) →
@@ -194,8 +191,7 @@ judge_priority ps pairs more n = judge_as cause_number to from (judge_one cause_
     (judge_cause cause_number Syntax (decide_both (decide_end more) (decide_rise pairs n)))
     (judge_cause cause_number OtherGame (decide_both (decide_end more) (decide_not (decide_in ps n)))))
   where
-    to : (f : CertCause) →
-        ((EndsField more × DoesNotRise pairs n) × (f ≡ Syntax)) ⊎
+    to : (f : CertCause) → ((EndsField more × DoesNotRise pairs n) × (f ≡ Syntax)) ⊎
         ((EndsField more × ¬ Contains ps n) × (f ≡ OtherGame)) → WrongPriority ps pairs more n f
     to f (inl h) = (h.0.0, inl (h.1, h.0.1))
     to f (inr h) = (h.0.0, inr (h.1, h.0.1))
@@ -225,7 +221,7 @@ abbrev sign_of : ℕ → Seen
 sign_of b = record { byte = b; behind = [] }
 
 has_byte : (b : ℕ) → Has (byte b)
-has_byte b = has_one causes (take_byte b) NoBad (sign_of b) tt (byte_taken b (sign_of b) refl) (λ t. good (λ f h. h))
+has_byte b = has_one causes (take_byte b) NoBad (sign_of b) tt (byte_taken (sign_of b) refl) (λ t. good (λ f h. h))
 
 has_word : (bytes : List ℕ) → Has (word bytes)
 has_word [] = has_give causes tt
@@ -233,7 +229,7 @@ has_word (b ∷ bytes) = has_then causes (tight_joint (laws_byte b) (λ _. laws_
     (λ _. has_word bytes)
 
 has_two : {V : Type 0} (a b : ℕ) (v w : V) → Has (two a b v w)
-has_two a b v w = has_one causes (take_two a b v w) NoBad (sign_of a) v (first_taken a b v w (sign_of a) refl)
+has_two a b v w = has_one causes (take_two a b v w) NoBad (sign_of a) v (first_taken b w (sign_of a) refl)
     (λ t. good (λ f h. h))
 
 has_number : (Wrong : ℕ → Type 0) → ((n : ℕ) → Decided (Wrong n)) → Has (number Wrong)
@@ -251,7 +247,7 @@ has_priority ps = has_space (λ _. laws_mapped (λ _. drop 1 ps) (number (NotNex
 has_priorities : (ps : List ℕ) → Has (priorities ps)
 has_priorities ps = has_then causes (joint_priorities ps)
     (has_many causes priority laws_priority digit_no_space has_priority ps)
-    (λ left. has_one causes (take_byte 10) (IsMissing left) (sign_of 10) tt (byte_taken 10 (sign_of 10) refl)
+    (λ left. has_one causes (take_byte 10) (IsMissing left) (sign_of 10) tt (byte_taken (sign_of 10) refl)
     (judge_missing left))
 
 has_choice : (ids : List ℕ) → Has (choice ids)
@@ -263,8 +259,7 @@ has_choice ids = has_either causes laws_dash (laws_chosen ids) dash_no_digit
 has_counts : (n : ℕ) → Has (counts n)
 has_counts zero = has_mapped causes (λ _. []) (byte 10) (has_byte 10)
 has_counts (suc n) = has_space (λ _. loose_then (laws_number Never) others)
-    (λ _. has_then causes (loose_joint (laws_number Never) others)
-    (has_number Never (λ m. inr (λ h. h)))
+    (λ _. has_then causes (loose_joint (laws_number Never) others) (has_number Never (λ m. inr (λ h. h)))
     (λ count. has_mapped causes (λ rest. count ∷ rest) (counts n) (has_counts n)))
   where
     others : (count : ℕ) → Laws Odd (mapped (λ rest. count ∷ rest) (counts n)) Separates Nothing ⊥
@@ -294,8 +289,7 @@ module _ (compact : Bool) (odd even ids : List ℕ) where
       (has_number (λ n. n ≡ id → ⊥) (λ n. decide_not (cases_eq n id))) (λ _.
       has_space (λ _. laws_entry_winner compact odd even ids) (λ _.
       has_then causes (tight_joint laws_winner (λ w. laws_space (λ _. laws_entry_choice compact odd even ids w)))
-      (has_two 48 49 0 1) (λ w.
-      has_space (λ _. laws_entry_choice compact odd even ids w) (λ _.
+      (has_two 48 49 0 1) (λ w. has_space (λ _. laws_entry_choice compact odd even ids w) (λ _.
       has_then causes (loose_joint (laws_choice ids) (laws_entry_counts compact odd even ids w)) (has_choice ids) (λ c.
       has_mapped causes (λ cs. record { winner = w; choice = c; counts = cs }) (counts_in compact (lost_by odd even w))
       (has_counts_in (lost_by odd even w) compact))))))
@@ -319,8 +313,7 @@ module _ (compact : Bool) (odd even ids : List ℕ) where
       has_then causes (tight_joint (laws_word_from 101 (codes "ven")) (λ _. laws_even compact odd even ids))
       (has_word even_word) (λ _.
       has_then causes (tight_joint (laws_priorities even) (λ _. laws_all_entries compact odd even ids))
-      (has_priorities even) (λ _.
-      has_mapped causes _ (entries compact odd even ids ids) (has_entries ids)))))
+      (has_priorities even) (λ _. has_mapped causes _ (entries compact odd even ids ids) (has_entries ids)))))
 
 has_certificate : (odd even ids : List ℕ) → Has (certificate odd even ids)
 has_certificate odd even ids =

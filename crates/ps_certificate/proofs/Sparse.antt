@@ -1,7 +1,6 @@
 -- Lists of counts of which only those that are not 0 are kept.
-use Rattle.std.proofs.Common.{◌≡◌, ◌≢◌, ℕ, zero, suc, ◌+◌, ◌<◌, ◌≤◌, ◌∙◌, List, [], ◌∷◌, ◌++◌, length, get_or}
-use Rattle.std.proofs.Common.{refl, sym, ap, subst, arith, drop, replicate, cond, inl, inr}
-use Rattle.std.proofs.Common.{◌-◌, take}
+use Rattle.std.proofs.Common.{◌≡◌, ◌≢◌, ℕ, zero, suc, ◌+◌, ◌<◌, ◌≤◌, ◌∙◌, List, [], ◌∷◌, ◌++◌, length, get_or, refl}
+use Rattle.std.proofs.Common.{sym, ap, subst, arith, drop, replicate, cond, inl, inr, ◌-◌, take}
 use Rattle.std.proofs.Math.Seq.{drop-cons}
 use Rattle.std.proofs.lemmas.List.{take-append-drop, drop-drop}
 use Rattle.std.proofs.lemmas.Bool.{cases_order, cases_eq, eq-eqb, ne_eqb}
@@ -39,8 +38,7 @@ counts_from_more ps zero m k =
 counts_from_more ps (suc n) m k =
     let many : suc n + m ≡ suc (n + m) = omega arith in
     let behind : suc k + n ≡ k + suc n = omega arith in
-    ap (λ j. counts_from ps j k) many
-    ∙ ap (λ rest. count_at ps k ∷ rest)
+    ap (λ j. counts_from ps j k) many ∙ ap (λ rest. count_at ps k ∷ rest)
     (counts_from_more ps n m (suc k) ∙ ap (λ j. counts_from ps n (suc k) ++ counts_from ps m j) behind)
 
 -- ## Places
@@ -66,25 +64,23 @@ rising from width (p ∷ ps) h (suc i) (suc j) less within =
 abbrev pub number_at : List PlacedCount → ℕ → ℕ
 number_at ps i = (get_or ps i (record { place = 0; count = 0 })).count
 
-same_place : (p : PlacedCount) (ps : List PlacedCount) (k : ℕ) → p.place ≡ k → count_at (p ∷ ps) k ≡ p.count
-same_place p ps k h = ap (λ b. cond b p.count (count_at ps k)) (eq-eqb p.place k h)
+same_place : (p : PlacedCount) (ps : List PlacedCount) {k : ℕ} → p.place ≡ k → count_at (p ∷ ps) k ≡ p.count
+same_place p ps {k} h = ap (λ b. cond b p.count (count_at ps k)) (eq-eqb p.place k h)
 
 other_place : (p : PlacedCount) (ps : List PlacedCount) (k : ℕ) → p.place ≢ k → count_at (p ∷ ps) k ≡ count_at ps k
 other_place p ps k h = ap (λ b. cond b p.count (count_at ps k)) (ne_eqb p.place k h)
 
 -- none stands there
-pub count_missing : (ps : List PlacedCount) (k : ℕ) → ((i : ℕ) → i < length ps → place_at ps i ≢ k) →
-    count_at ps k ≡ 0
+pub count_missing : (ps : List PlacedCount) (k : ℕ) → ((i : ℕ) → i < length ps → place_at ps i ≢ k) → count_at ps k ≡ 0
 count_missing [] k h = refl
 count_missing (p ∷ ps) k h =
-    other_place p ps k (h 0 (omega arith))
-    ∙ count_missing ps k (λ i within. h (suc i) (omega (arith, within)))
+    other_place p ps k (h 0 (omega arith)) ∙ count_missing ps k (λ i within. h (suc i) (omega (arith, within)))
 
 -- the one with a number does
 pub count_here : (ps : List PlacedCount) (i : ℕ) → AreRising ps → i < length ps →
     count_at ps (place_at ps i) ≡ number_at ps i
 count_here [] i h within = absurd (omega (arith, within))
-count_here (p ∷ ps) zero h within = same_place p ps p.place refl
+count_here (p ∷ ps) zero h within = same_place p ps refl
 count_here (p ∷ ps) (suc i) h within =
     let less : p.place < place_at ps i = h 0 (suc i) (omega arith) within in
     other_place p ps (place_at ps i) (λ same. omega (arith, less, same))
@@ -118,8 +114,7 @@ zeros_from ps zero k h = refl
 zeros_from ps (suc n) k h =
     ap (λ c. c ∷ counts_from ps n (suc k)) (count_missing ps k (λ i within same.
     omega (arith, same, h i within (omega (arith, same)))))
-    ∙ ap (λ rest. 0 ∷ rest) (zeros_from ps n (suc k) (λ i within late.
-    omega (arith, h i within (omega (arith, late)))))
+    ∙ ap (λ rest. 0 ∷ rest) (zeros_from ps n (suc k) (λ i within late. omega (arith, h i within (omega (arith, late)))))
 
 -- zeros up to the next place
 pub row_to : (ps : List PlacedCount) (from to : ℕ) → from ≤ to →
@@ -128,16 +123,15 @@ pub row_to : (ps : List PlacedCount) (from to : ℕ) → from ≤ to →
 row_to ps from to h next =
     let long : to ≡ from + (to - from) = omega (arith, h) in
     let start : 0 + from ≡ from = omega arith in
-    ap (λ n. row_of n ps) long
-    ∙ counts_from_more ps from (to - from) 0
+    ap (λ n. row_of n ps) long ∙ counts_from_more ps from (to - from) 0
     ∙ ap (λ k. row_of from ps ++ counts_from ps (to - from) k) start
     ∙ ap (λ rest. row_of from ps ++ rest) (zeros_from ps (to - from) from (λ i within late.
     omega (arith, h, next i within late)))
 
 -- ## Counts that are gathered from a list
 
-gathered_zero : (k c : ℕ) (cs : List ℕ) → c ≡ 0 → gathered k (c ∷ cs) ≡ gathered (suc k) cs
-gathered_zero k c cs h =
+gathered_zero : (k : ℕ) {c : ℕ} (cs : List ℕ) → c ≡ 0 → gathered k (c ∷ cs) ≡ gathered (suc k) cs
+gathered_zero k {c} cs h =
     ap (λ b. cond b (gathered (suc k) cs) (record { place = k; count = c } ∷ gathered (suc k) cs)) (eq-eqb c 0 h)
 
 gathered_other : (k c : ℕ) (cs : List ℕ) → c ≢ 0 →
@@ -151,7 +145,7 @@ gathered_zeros zero k cs =
     ap (λ j. gathered j cs) same
 gathered_zeros (suc n) k cs =
     let behind : suc k + n ≡ k + suc n = omega arith in
-    gathered_zero k 0 (replicate n 0 ++ cs) refl ∙ gathered_zeros n (suc k) cs ∙ ap (λ j. gathered j cs) behind
+    gathered_zero k (replicate n 0 ++ cs) refl ∙ gathered_zeros n (suc k) cs ∙ ap (λ j. gathered j cs) behind
 
 -- the rest of a list, by its first number
 rest_at : (cs : List ℕ) (k : ℕ) → k < length cs → drop k cs ≡ get_or cs k 0 ∷ drop (k + 1) cs
@@ -164,31 +158,26 @@ pub gathered_run : (cs : List ℕ) (k n : ℕ) → k < length cs → get_or cs k
 gathered_run cs k n within is_zero run =
     let next : suc k + n ≡ k + n + 1 = omega arith in
     let same : k + 1 + n ≡ k + n + 1 = omega arith in
-    let parts : drop (k + 1) cs ≡ replicate n 0 ++ drop (k + n + 1) cs =
-    sym (take-append-drop n (drop (k + 1) cs))
+    let parts : drop (k + 1) cs ≡ replicate n 0 ++ drop (k + n + 1) cs = sym (take-append-drop n (drop (k + 1) cs))
     ∙ ap (λ front. front ++ drop n (drop (k + 1) cs)) run
     ∙ ap (λ rest. replicate n 0 ++ rest) (drop-drop n (k + 1) cs ∙ ap (λ j. drop j cs) same) in
-    ap (gathered k) (rest_at cs k within)
-    ∙ gathered_zero k (get_or cs k 0) (drop (k + 1) cs) is_zero
-    ∙ ap (gathered (suc k)) parts
-    ∙ gathered_zeros n (suc k) (drop (k + n + 1) cs)
-    ∙ ap (λ j. gathered j (drop (k + n + 1) cs)) next
+    ap (gathered k) (rest_at cs k within) ∙ gathered_zero k (drop (k + 1) cs) is_zero ∙ ap (gathered (suc k)) parts
+    ∙ gathered_zeros n (suc k) (drop (k + n + 1) cs) ∙ ap (λ j. gathered j (drop (k + n + 1) cs)) next
 
 pub gathered_one : (cs : List ℕ) (k : ℕ) → k < length cs → get_or cs k 0 ≢ 0 →
     gathered k (drop k cs) ≡ record { place = k; count = get_or cs k 0 } ∷ gathered (k + 1) (drop (k + 1) cs)
 gathered_one cs k within other =
     let next : suc k ≡ k + 1 = omega arith in
-    ap (gathered k) (rest_at cs k within)
-    ∙ gathered_other k (get_or cs k 0) (drop (k + 1) cs) other
+    ap (gathered k) (rest_at cs k within) ∙ gathered_other k (get_or cs k 0) (drop (k + 1) cs) other
     ∙ ap (λ j. record { place = k; count = get_or cs k 0 } ∷ gathered j (drop (k + 1) cs)) next
 
-gathered_rises : (k w : ℕ) (cs : List ℕ) → k + length cs ≤ w → Rises k w (gathered k cs)
-gathered_rises k w [] h = tt
-gathered_rises k w (c ∷ cs) h =
-    let rest : Rises (suc k) w (gathered (suc k) cs) = gathered_rises (suc k) w cs (omega (arith, h)) in
+gathered_rises : (k : ℕ) {w : ℕ} (cs : List ℕ) → k + length cs ≤ w → Rises k w (gathered k cs)
+gathered_rises k [] h = tt
+gathered_rises k {w} (c ∷ cs) h =
+    let rest : Rises (suc k) w (gathered (suc k) cs) = gathered_rises (suc k) cs (omega (arith, h)) in
     elim (cases_eq c 0) [
       | inl zero_is ↦
-          subst (Rises k w) (sym (gathered_zero k c cs zero_is)) (rises_earlier k w (gathered (suc k) cs) rest)
+          subst (Rises k w) (sym (gathered_zero k cs zero_is)) (rises_earlier k w (gathered (suc k) cs) rest)
       | inr other ↦ subst (Rises k w) (sym (gathered_other k c cs other)) (omega arith, omega (arith, h), rest)
     ]
   where
@@ -197,7 +186,7 @@ gathered_rises k w (c ∷ cs) h =
     rises_earlier k w (p ∷ ps) h = (omega (arith, h.0), h.1, h.2)
 
 pub gathered_is_row : (cs : List ℕ) → IsRow (length cs) (gathered 0 cs)
-gathered_is_row cs = gathered_rises 0 (length cs) cs (omega arith)
+gathered_is_row cs = gathered_rises 0 cs (omega arith)
 
 counts_behind : (p : PlacedCount) (ps : List PlacedCount) (n k : ℕ) → p.place < k →
     counts_from (p ∷ ps) n k ≡ counts_from ps n k
@@ -209,27 +198,24 @@ counts_behind p ps (suc n) k h =
 gathered_counts : (k : ℕ) (cs : List ℕ) → counts_from (gathered k cs) (length cs) k ≡ cs
 gathered_counts k [] = refl
 gathered_counts k (c ∷ cs) = elim (cases_eq c 0) [
-  | inl zero_is ↦
-      ap (λ ps. counts_from ps (suc (length cs)) k) (gathered_zero k c cs zero_is)
+  | inl zero_is ↦ ap (λ ps. counts_from ps (suc (length cs)) k) (gathered_zero k cs zero_is)
       ∙ ap (λ n. n ∷ counts_from (gathered (suc k) cs) (length cs) (suc k)) (none ∙ sym zero_is)
       ∙ ap (λ rest. c ∷ rest) (gathered_counts (suc k) cs)
   | inr other ↦
       let p : PlacedCount = record { place = k; count = c } in
       ap (λ ps. counts_from ps (suc (length cs)) k) (gathered_other k c cs other)
       ∙ ap (λ n. n ∷ counts_from (p ∷ gathered (suc k) cs) (length cs) (suc k))
-      (same_place p (gathered (suc k) cs) k refl)
-      ∙ ap (λ rest. c ∷ rest)
+      (same_place p (gathered (suc k) cs) refl) ∙ ap (λ rest. c ∷ rest)
       (counts_behind p (gathered (suc k) cs) (length cs) (suc k) (omega arith) ∙ gathered_counts (suc k) cs)
 ]
   where
     none : count_at (gathered (suc k) cs) k ≡ 0
-    none = count_missing (gathered (suc k) cs) k (λ i within same.
-        omega (
-          arith,
-          same,
-          (place_within (suc k) (suc k + length cs) (gathered (suc k) cs) i
-              (gathered_rises (suc k) (suc k + length cs) cs (omega arith)) within).0,
-        ))
+    none = count_missing (gathered (suc k) cs) k (λ i within same. omega (
+      arith,
+      same,
+      (place_within (suc k) (suc k + length cs) (gathered (suc k) cs) i
+          (gathered_rises (suc k) cs (omega arith)) within).0,
+    ))
 
-pub row_gathered : (cs : List ℕ) → row_of (length cs) (gathered 0 cs) ≡ cs
-row_gathered cs = gathered_counts 0 cs
+pub row_gathered : {cs : List ℕ} → row_of (length cs) (gathered 0 cs) ≡ cs
+row_gathered {cs} = gathered_counts 0 cs

@@ -30,10 +30,10 @@ sees b bytes = record { byte = b; behind = bytes }
 
 -- ## Faults
 
-pub stops_at : {V : Type 0} (P : Field V) (old : Place) (f : CertCause) (e : CertFault)
+pub stops_at : {V : Type 0} {P : Field V} (old : Place) (f : CertCause) {e : CertFault}
     → StopsWith causes P (at_place old) (record { cause = f; offset = old.at }) → e ≡ Text f old.at
     → Stops causes P (at_place old) (found_of e)
-stops_at P old f e s is = subst (λ x. Stops causes P (at_place old) (found_of x)) (sym is) s
+stops_at {P} old f s is = subst (λ x. Stops causes P (at_place old) (found_of x)) (sym is) s
 
 pub refused_here : {V : Type 0} {P : Field V} {First More : Seen → Type 0} → Laws Odd P First More ⊥ → (place : Place)
     → ((b : ℕ) (bytes : List ℕ) → place.rest ≡ b ∷ bytes → First (sees b bytes) → ⊥)
@@ -74,11 +74,8 @@ refused_here {V} {P = P} {First = First} l place none = go place.rest refl
 
 -- ## The next byte
 
-comes_is : (b c : ℕ) (bytes rest : List ℕ) → rest ≡ c ∷ bytes → comes b rest ≡ true → c ≡ b
-comes_is b c bytes rest e h = eqb-true c b (subst (λ r. comes b r ≡ true) e h)
-
-comes_not : (b c : ℕ) (bytes rest : List ℕ) → rest ≡ c ∷ bytes → comes b rest ≡ false → c ≡ b → ⊥
-comes_not b c bytes rest e h = eqb-false c b (subst (λ r. comes b r ≡ false) e h)
+comes_not : {b c : ℕ} (bytes : List ℕ) {rest : List ℕ} → rest ≡ c ∷ bytes → comes b rest ≡ false → c ≡ b → ⊥
+comes_not {b} {c} bytes e h = eqb-false c b (subst (λ r. comes b r ≡ false) e h)
 
 module _ {V : Type 0} (take : Seen → Option V) (Bad : Seen → CertCause → Type 0) (old new : Place) (b : ℕ) (v : V) where
   -- the byte that comes is taken
@@ -98,22 +95,21 @@ module _ {V : Type 0} (take : Seen → Option V) (Bad : Seen → CertCause → T
                 → Bad (sees x bytes) f → ⊥) same (good bytes)),
           )
 
-pub byte_reads : (b : ℕ) (old new : Place) → comes b old.rest ≡ true → new ≡ step_of old
+pub byte_reads : (b : ℕ) (old : Place) {new : Place} → comes b old.rest ≡ true → new ≡ step_of old
     → Reads (byte b) (at_place old) tt (at_place new)
-byte_reads b old new h next = taken (take_byte b) NoBad old new b tt h next
-    (λ bytes. byte_taken b (sees b bytes) refl) (λ bytes f x. x)
+byte_reads b old {new} h next = taken (take_byte b) NoBad old new b tt h next
+    (λ bytes. byte_taken (sees b bytes) refl) (λ bytes f x. x)
 
-pub byte_fails : (b : ℕ) (old : Place) (e : CertFault) → comes b old.rest ≡ false → e ≡ Text Syntax old.at
+pub byte_fails : (b : ℕ) (old : Place) {e : CertFault} → comes b old.rest ≡ false → e ≡ Text Syntax old.at
     → Stops causes (byte b) (at_place old) (found_of e)
-byte_fails b old e h is = stops_at (byte b) old Syntax e
-    (refused_here (laws_byte b) old (λ c bytes s k. comes_not b c bytes old.rest s h k)) is
+byte_fails b old h is = stops_at old Syntax (refused_here (laws_byte b) old (λ c bytes s k. comes_not bytes s h k)) is
 
 -- ## One of two bytes
 
 module _ {V : Type 0} (a b : ℕ) (v w : V) (old new : Place) where
   pub two_first : comes a old.rest ≡ true → new ≡ step_of old → Reads (two a b v w) (at_place old) v (at_place new)
   two_first h next = taken (take_two a b v w) NoBad old new a v h next
-      (λ bytes. first_taken a b v w (sees a bytes) refl) (λ bytes f x. x)
+      (λ bytes. first_taken b w (sees a bytes) refl) (λ bytes f x. x)
 
   pub two_second : (a ≡ b → ⊥) → comes b old.rest ≡ true → new ≡ step_of old
       → Reads (two a b v w) (at_place old) w (at_place new)
@@ -123,12 +119,12 @@ module _ {V : Type 0} (a b : ℕ) (v w : V) (old new : Place) where
       second bytes = ap (λ x. cond x (Some v) (cond (eqb b b) (Some w) None)) (ne_eqb b a (λ e. other (sym e))) ∙ ap
           (λ x. cond x (Some w) None) (eq-eqb b b refl)
 
-  pub two_fails : (e : CertFault) → comes a old.rest ≡ false → comes b old.rest ≡ false → e ≡ Text Syntax old.at
+  pub two_fails : {e : CertFault} → comes a old.rest ≡ false → comes b old.rest ≡ false → e ≡ Text Syntax old.at
       → Stops causes (two a b v w) (at_place old) (found_of e)
-  two_fails e h k is = stops_at (two a b v w) old Syntax e (refused_here laws old none) is
+  two_fails h k is = stops_at old Syntax (refused_here laws old none) is
     where
       laws : Laws Odd (two a b v w) (Or (Taken (take_two a b v w)) (BadSign {F = CertCause} NoBad)) Nothing ⊥
-      laws = laws_one (take_two a b v w) NoBad Odd (sees a []) v (first_taken a b v w (sees a []) refl)
+      laws = laws_one (take_two a b v w) NoBad Odd (sees a []) v (first_taken b w (sees a []) refl)
           (λ t a o. none_is_some o.0 o.1) (λ t a o. none_is_some o.0 o.1)
 
       none : (c : ℕ) (bytes : List ℕ) → old.rest ≡ c ∷ bytes
@@ -137,8 +133,7 @@ module _ {V : Type 0} (a b : ℕ) (v w : V) (old new : Place) where
       none c bytes s (inl x) =
           let not_taken : take_two a b v w (sees c bytes) ≡ None =
           ap (λ z. cond z (Some v) (cond (eqb c b) (Some w) None))
-          (ne_eqb c a (comes_not a c bytes old.rest s h)) ∙ ap (λ z. cond z (Some w) None)
-          (ne_eqb c b (comes_not b c bytes old.rest s k)) in
+          (ne_eqb c a (comes_not bytes s h)) ∙ ap (λ z. cond z (Some w) None) (ne_eqb c b (comes_not bytes s k)) in
           none_is_some x.0 (sym not_taken ∙ x.1)
 
 -- ## The end of a line of priorities
@@ -147,16 +142,15 @@ module _ (left : List ℕ) (old new : Place) where
   pub end_reads : comes 10 old.rest ≡ true → new ≡ step_of old → length left ≡ 0
       → Reads (one (take_byte 10) (IsMissing left)) (at_place old) tt (at_place new)
   end_reads h next none = taken (take_byte 10) (IsMissing left) old new 10 tt h next
-      (λ bytes. byte_taken 10 (sees 10 bytes) refl) (λ bytes f x. omega (arith, x.1, none))
+      (λ bytes. byte_taken (sees 10 bytes) refl) (λ bytes f x. omega (arith, x.1, none))
 
-  pub end_fails : (e : CertFault) → comes 10 old.rest ≡ false → e ≡ Text Syntax old.at
+  pub end_fails : {e : CertFault} → comes 10 old.rest ≡ false → e ≡ Text Syntax old.at
       → Stops causes (one (take_byte 10) (IsMissing left)) (at_place old) (found_of e)
-  end_fails e h is = stops_at (one (take_byte 10) (IsMissing left)) old Syntax e
-      (refused_here (laws_newline left) old (λ c bytes s k. comes_not 10 c bytes old.rest s h k)) is
+  end_fails h is = stops_at old Syntax (refused_here (laws_newline left) old (λ c bytes s k. comes_not bytes s h k)) is
 
-  pub end_missing : (e : CertFault) → comes 10 old.rest ≡ true → 0 < length left → e ≡ Text OtherGame old.at
+  pub end_missing : {e : CertFault} → comes 10 old.rest ≡ true → 0 < length left → e ≡ Text OtherGame old.at
       → Stops causes (one (take_byte 10) (IsMissing left)) (at_place old) (found_of e)
-  end_missing e h some is = stops_at (one (take_byte 10) (IsMissing left)) old OtherGame e (go old.rest h) is
+  end_missing {e} h some is = stops_at old OtherGame (go old.rest h) is
     where
       least : (s : Seen) (g : CertCause) → IsMissing left s g → cause_number OtherGame ≤ cause_number g
       least s g k = rw k.2 (omega arith)
@@ -193,7 +187,7 @@ enters_byte b place e = go place.rest e
     go : (bytes : List ℕ) → comes b bytes ≡ true → Enters (byte b) (first_of (signs (pieces_at place.at bytes)))
     go [] e = absurd cc
     go (c ∷ bytes) e = enters_one (take_byte b) NoBad (sees c bytes)
-        (inl (tt, byte_taken b (sees c bytes) (eqb-true c b e)))
+        (inl (tt, byte_taken (sees c bytes) (eqb-true c b e)))
 
 pub ends_true : (bytes : List ℕ) → ends bytes ≡ true → EndsField bytes
 ends_true [] e = absurd cc

@@ -63,11 +63,11 @@ module _ {A B : Type 0} {P : Field A} {Q : A → Field B} {First : Seen → Type
 
 -- ## Bytes
 
-pub byte_taken : (b : ℕ) (s : Seen) → s.byte ≡ b → take_byte b s ≡ Some tt
-byte_taken b s e = ap (λ x. cond x (Some tt) None) (eq-eqb s.byte b e)
+pub byte_taken : {b : ℕ} (s : Seen) → s.byte ≡ b → take_byte b s ≡ Some tt
+byte_taken {b} s e = ap (λ x. cond x (Some tt) None) (eq-eqb s.byte b e)
 
-pub taken_byte : (b : ℕ) (s : Seen) (u : Unit {0}) → take_byte b s ≡ Some u → s.byte ≡ b
-taken_byte b s u e = go (eqb s.byte b) refl e
+pub taken_byte : {b : ℕ} (s : Seen) {u : Unit {0}} → take_byte b s ≡ Some u → s.byte ≡ b
+taken_byte {b} s {u} e = go (eqb s.byte b) refl e
   where
     go : (x : Bool) → eqb s.byte b ≡ x → cond x (Some tt) None ≡ Some u → s.byte ≡ b
     go true t h = eqb-true s.byte b t
@@ -76,20 +76,20 @@ taken_byte b s u e = go (eqb s.byte b) refl e
 pub laws_byte : (b : ℕ) → Laws Odd (byte b) (At b) Nothing ⊥
 laws_byte b =
     weaker (laws_one (take_byte b) NoBad Odd (record { byte = b; behind = [] }) tt
-    (byte_taken b (record { byte = b; behind = [] }) refl) (not_odd (Taken (take_byte b))) (not_odd (BadSign NoBad)))
+    (byte_taken (record { byte = b; behind = [] }) refl) (not_odd (Taken (take_byte b))) (not_odd (BadSign NoBad)))
     first (λ t h. h) (λ n. n)
   where
     first : (t : Seen) → Or (Taken (take_byte b)) (BadSign {F = CertCause} NoBad) t → At b t
-    first t (inl x) = taken_byte b t x.0 x.1
+    first t (inl x) = taken_byte t x.1
     first t (inr x) = absurd x.1
 
-pub first_taken : {V : Type 0} (a b : ℕ) (v w : V) (s : Seen) → s.byte ≡ a → take_two a b v w s ≡ Some v
-first_taken a b v w s e = ap (λ x. cond x (Some v) (cond (eqb s.byte b) (Some w) None)) (eq-eqb s.byte a e)
+pub first_taken : {V : Type 0} {a : ℕ} (b : ℕ) {v : V} (w : V) (s : Seen) → s.byte ≡ a → take_two a b v w s ≡ Some v
+first_taken {a} b {v} w s e = ap (λ x. cond x (Some v) (cond (eqb s.byte b) (Some w) None)) (eq-eqb s.byte a e)
 
 pub laws_two : {V : Type 0} (a b : ℕ) (v w : V) → Laws Odd (two a b v w) Any Nothing ⊥
 laws_two a b v w =
     let sign : Seen = record { byte = a; behind = [] } in
-    weaker (laws_one (take_two a b v w) NoBad Odd sign v (first_taken a b v w sign refl)
+    weaker (laws_one (take_two a b v w) NoBad Odd sign v (first_taken b w sign refl)
     (not_odd (Taken (take_two a b v w))) (not_odd (BadSign NoBad))) (λ t h. tt) (λ t h. h) (λ n. n)
 
 pub laws_word : (bytes : List ℕ) → Laws Odd (word bytes) Any Nothing (Unit {0})
@@ -115,12 +115,11 @@ digit_no_space t d e = omega (arith, e, d.0)
 pub laws_newline : (left : List ℕ) → Laws Odd (one (take_byte 10) (IsMissing left)) (At 10) Nothing ⊥
 laws_newline left =
     weaker (laws_one (take_byte 10) (IsMissing left) Odd (record { byte = 10; behind = [] }) tt
-    (byte_taken 10 (record { byte = 10; behind = [] }) refl) (not_odd (Taken (take_byte 10)))
-    (not_odd (BadSign (IsMissing left))))
-    first (λ t h. h) (λ n. n)
+    (byte_taken (record { byte = 10; behind = [] }) refl) (not_odd (Taken (take_byte 10)))
+    (not_odd (BadSign (IsMissing left)))) first (λ t h. h) (λ n. n)
   where
     first : (t : Seen) → Or (Taken (take_byte 10)) (BadSign (IsMissing left)) t → At 10 t
-    first t (inl x) = taken_byte 10 t x.0 x.1
+    first t (inl x) = taken_byte t x.1
     first t (inr x) = x.1.0
 
 numbers_end : Apart (Or AtDigit (At 32)) (At 10)

@@ -6,7 +6,7 @@ use Rattle.std.specs.Prelude.{slice_index, IfSome, is_some}
 use Rattle.std.specs.List.{All, Contains}
 use Rattle.std.specs.List.Sorted.{IsStrictlyIncreasing}
 use Rattle.std.proofs.lemmas.List.{get_or-take, get_or-drop}
-use Rattle.std.proofs.lemmas.List.Elements.{All-from_get_or, All-contains}
+use Rattle.std.proofs.lemmas.List.Elements.{All-from_get_or}
 use Rattle.std.proofs.lemmas.Bool.{cases_eq, cases_order, cases_lt}
 use Rattle.ps_game.specs.Games.{ParityGame, vertex_count, priority_of}
 use Rattle.ps_game.specs.Ranking.{HasPriority}
@@ -18,12 +18,12 @@ use Rattle.ps_certificate.proofs.Edges.{Contains-at}
 pub Contains-found : (list : List ℕ) (number : ℕ) (found : Option ℕ) → IfSome found (IsAt list number) →
     is_some found ≡ true → Contains list number
 Contains-found list number None at some = absurd (cc)
-Contains-found list number (Some k) at some = Contains-at list k number at.within (sym at.is)
+Contains-found list number (Some k) at some = Contains-at list k at.within (sym at.is)
 
 -- two places of one number in a rising list
-pub same_place : (list : List ℕ) → IsStrictlyIncreasing list → (i j : ℕ) → i < length list → j < length list →
+pub same_place : (list : List ℕ) → IsStrictlyIncreasing list → {i j : ℕ} → i < length list → j < length list →
     slice_index list i ≡ slice_index list j → i ≡ j
-same_place list rising i j i_within j_within same = elim (cases_order i j) [
+same_place list rising {i} {j} i_within j_within same = elim (cases_order i j) [
   | inl equal ↦ equal
   | inr (inl below) ↦ (let less : slice_index list i < slice_index list j = rising_far list rising i j below j_within in
       omega arith)
@@ -39,11 +39,11 @@ pub record AreMarks (game : ParityGame) (window : List ℕ) (seen : List Bool) (
       get_or seen k false ≡ true
 
 -- one more vertex whose priority is in the window
-pub AreMarks-found : (game : ParityGame) (window : List ℕ) (seen : List Bool) (vertex place priority : ℕ) →
+pub AreMarks-found : {game : ParityGame} {window : List ℕ} {seen : List Bool} {vertex place priority : ℕ} →
     IsStrictlyIncreasing window → vertex < vertex_count game → priority ≡ priority_of game vertex →
     IsAt window priority place → AreMarks game window seen vertex →
     AreMarks game window (set seen place true) (vertex + 1)
-AreMarks-found game window seen vertex place priority rising in_range is at marks = record {
+AreMarks-found {game} {window} {seen} {vertex} {place} rising in_range is at marks = record {
   room = simp length-set marks.room;
   marked = λ k within mark. elim (cases_eq k place) [
     | inl same ↦ (vertex, in_range, sym is ∙ sym at.is ∙ ap (λ n. slice_index window n) (sym same))
@@ -53,7 +53,7 @@ AreMarks-found game window seen vertex place priority rising in_range is at mark
     | inl same ↦ (let inside : place < length seen = omega (arith, at.within, marks.room) in
         ap (λ n. get_or (set seen place true) n false) same ∙ get_or-set_same seen place true false inside)
     | inr differ ↦ get_or-set_other seen place k true false differ ∙ elim (cases_eq v vertex) [
-      | inl last ↦ absurd (differ (same_place window rising k place within at.within
+      | inl last ↦ absurd (differ (same_place window rising within at.within
           (sym has ∙ ap (λ n. priority_of game n) last ∙ sym is ∙ sym at.is)))
       | inr earlier ↦ marks.passed k v within (omega arith) has
     ]
@@ -61,31 +61,30 @@ AreMarks-found game window seen vertex place priority rising in_range is at mark
 }
 
 -- one more vertex whose priority is not
-pub AreMarks-missing : (game : ParityGame) (window : List ℕ) (seen : List Bool) (vertex priority : ℕ) →
+pub AreMarks-missing : {game : ParityGame} {window : List ℕ} {seen : List Bool} {vertex priority : ℕ} →
     priority ≡ priority_of game vertex → ¬ Contains window priority → AreMarks game window seen vertex →
     AreMarks game window seen (vertex + 1)
-AreMarks-missing game window seen vertex priority is missing marks = record {
+AreMarks-missing {game} {window} {vertex} is missing marks = record {
   room = marks.room;
   marked = marks.marked;
   passed = λ k v within below has. elim (cases_eq v vertex) [
-    | inl last ↦ absurd (missing (Contains-at window k priority within
-        (is ∙ ap (λ n. priority_of game n) (sym last) ∙ has)))
+    | inl last ↦ absurd (missing (Contains-at window k within (is ∙ ap (λ n. priority_of game n) (sym last) ∙ has)))
     | inr earlier ↦ marks.passed k v within (omega arith) has
   ];
 }
 
 -- all are priorities where all are marked
-pub All-from_marks : (game : ParityGame) (window : List ℕ) (seen : List Bool) (vertex : ℕ) →
+pub All-from_marks : {game : ParityGame} {window : List ℕ} {seen : List Bool} {vertex : ℕ} →
     AreMarks game window seen vertex → ((k : ℕ) → k < length window → get_or seen k false ≡ true) →
     All (HasPriority game) window
-All-from_marks game window seen vertex marks each =
+All-from_marks {game} {window} marks each =
     All-from_get_or (HasPriority game) window 0 (λ k within. marks.marked k within (each k within))
 
 -- a number that is a priority is marked in the end
-pub marked_in_the_end : (game : ParityGame) (window : List ℕ) (seen : List Bool) (k : ℕ) →
+pub marked_in_the_end : {game : ParityGame} {window : List ℕ} {seen : List Bool} (k : ℕ) →
     AreMarks game window seen (vertex_count game) → All (HasPriority game) window → k < length window →
     get_or seen k false ≡ true
-marked_in_the_end game window seen k marks all within =
+marked_in_the_end k marks all within =
     let (v, below, has) = all k 0 within in
     marks.passed k v within below has
 
@@ -117,26 +116,12 @@ pub record AreJust (game : ParityGame) (parity : ℕ) (list : List ℕ) (seen : 
   pub marks : AreMarks game list seen vertex
   pub complete : (v : ℕ) → v < vertex → priority_of game v % 2 ≡ parity → Contains list (priority_of game v)
 
--- one more vertex of the other parity
-pub AreJust-other : (game : ParityGame) (parity : ℕ) (list : List ℕ) (seen : List Bool) (vertex priority : ℕ) →
-    All (λ p. p % 2 ≡ parity) list
-    → priority ≡ priority_of game vertex → (priority % 2 ≡ parity → ⊥) → AreJust game parity list seen vertex →
-    AreJust game parity list seen (vertex + 1)
-AreJust-other game parity list seen vertex priority right is other just = record {
-  marks =
-      AreMarks-missing game list seen vertex priority is (λ has.
-      other (All-contains (λ p. p % 2 ≡ parity) list priority right has)) just.marks;
-  complete = below_more _ _ just.complete (λ same. absurd (other (ap (λ n. n % 2) is ∙ same)));
-}
-
 -- one more vertex whose priority is listed
-pub AreJust-found : (game : ParityGame) (parity : ℕ) (list : List ℕ) (seen : List Bool) (vertex place priority : ℕ) →
+pub AreJust-found : {game : ParityGame} {parity : ℕ} {list : List ℕ} {seen : List Bool} {vertex place priority : ℕ} →
     IsStrictlyIncreasing list
     → vertex < vertex_count game → priority ≡ priority_of game vertex → IsAt list priority place
     → AreJust game parity list seen vertex → AreJust game parity list (set seen place true) (vertex + 1)
-AreJust-found game parity list seen vertex place priority rising in_range is at just = record {
-  marks = AreMarks-found game list seen vertex place priority rising in_range is at just.marks;
-  complete =
-      below_more _ _ just.complete (λ same. Contains-at list place (priority_of game vertex) at.within
-      (sym is ∙ sym at.is));
+AreJust-found {list} {place} rising in_range is at just = record {
+  marks = AreMarks-found rising in_range is at just.marks;
+  complete = below_more _ _ just.complete (λ same. Contains-at list place at.within (sym is ∙ sym at.is));
 }

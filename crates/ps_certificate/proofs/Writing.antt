@@ -5,9 +5,9 @@
 --     went_byte, went_word, went_number, went_fields, went_version, went_winner, went_choice, went_counts, went_pairs,
 --     went_entry, went_entries, went_text      each part of the text
 --     reads_again      the whole text
-use Rattle.std.proofs.Common.{◌≡◌, ◌≢◌, ℕ, zero, suc, ◌+◌, ◌^◌, ◌<◌, ◌≤◌, ◌⊎◌, Bool, true, false}
-use Rattle.std.proofs.Common.{cond, eqb, ltb, List, [], ◌∷◌, ◌++◌, length, get_or, map, drop, take, Option, Some, None}
-use Rattle.std.proofs.Common.{Ok, refl, sym, ap, ap₂, subst, inl, inr, ◌∙◌, append_assoc, add-zero, arith}
+use Rattle.std.proofs.Common.{◌≡◌, ◌≢◌, ℕ, zero, suc, ◌+◌, ◌^◌, ◌<◌, ◌≤◌, ◌⊎◌, Bool, true, false, cond, eqb, ltb, List}
+use Rattle.std.proofs.Common.{[], ◌∷◌, ◌++◌, length, get_or, map, drop, take, Option, Some, None, Ok, refl, sym, ap}
+use Rattle.std.proofs.Common.{ap₂, subst, inl, inr, ◌∙◌, append_assoc, add-zero, arith}
 use Rattle.std.specs.Prelude.{decimal, IfSome}
 use Rattle.std.specs.List.{All, AllPairs, Contains}
 use Rattle.std.proofs.Math.Seq.{drop-append_seam, take-suc}
@@ -35,9 +35,8 @@ use Rattle.ps_certificate.specs.Words.{first_word, vertices_word, odd_word, even
 use Rattle.ps_certificate.specs.Pairs.{Pairs, no_pairs, with_pair, DoesNotRise}
 use Rattle.ps_certificate.specs.Reading.{comes, numeral, IsNumberRead}
 use Rattle.ps_certificate.specs.Texts.{Field, stream_at, EndsField, Verdict, byte, word, judged, number, Never, NotNext}
-use Rattle.ps_certificate.specs.Texts.{priority, priorities, version, winner, vertex_of, choice, counts, WrongPriority}
-use Rattle.ps_certificate.specs.Texts.{pair, counts_in, lost_by, entry, entries, certificate}
-use Rattle.ps_certificate.specs.Texts.{ReadsCertificate as ReadsText}
+use Rattle.ps_certificate.specs.Texts.{priority, priorities, version, winner, vertex_of, choice, counts, pair}
+use Rattle.ps_certificate.specs.Texts.{counts_in, lost_by, entry, entries, certificate, ReadsCertificate as ReadsText}
 use Rattle.ps_certificate.specs.Written.{fields, pairs, counts_text, move_text, entry_line, entry_lines, version_digit}
 use Rattle.ps_certificate.specs.Written.{head_text, IsWord, IsWritable, HasWords, text_in}
 use Rattle.ps_certificate.proofs.OneReading.{Rises, rises as rises_of}
@@ -95,48 +94,44 @@ went_mapped : {A B : Type 0} (h : A → B) {P : Field A} {a : A} {at : ℕ} {tex
     → Went (mapped h P) (h a) at text rest
 went_mapped h w = record { to = w.to; reads = reads_mapped h w.reads }
 
-went_from : {V : Type 0} (P : Field V) (v : V) (at : ℕ) (rest : List ℕ) {text other : List ℕ} → other ≡ text
+went_from : {V : Type 0} {P : Field V} {v : V} {at : ℕ} {rest : List ℕ} {text other : List ℕ} → other ≡ text
     → Went P v at text rest → Went P v at other rest
-went_from P v at rest e w = subst (λ t. Went P v at t rest) (sym e) w
+went_from {P} {v} {at} {rest} e w = subst (λ t. Went P v at t rest) (sym e) w
 
 -- ## Bytes
 
-went_byte : (b at : ℕ) (rest : List ℕ) → Went (byte b) tt at (b ∷ rest) rest
-went_byte b at rest = record {
+went_byte : (b : ℕ) {at : ℕ} {rest : List ℕ} → Went (byte b) tt at (b ∷ rest) rest
+went_byte b {at} {rest} = record {
   to = at + 1;
-  reads = byte_reads b (place_of at (b ∷ rest)) (place_of (at + 1) rest)
-      (eq-eqb b b refl) refl;
+  reads = byte_reads b (place_of at (b ∷ rest)) (eq-eqb b b refl) refl;
 }
 
-went_word : (text : List ℕ) (at : ℕ) (rest : List ℕ) → Went (word text) tt at (text ++ rest) rest
-went_word [] at rest = record { to = at; reads = reads_give (stream_at at rest) tt }
-went_word (b ∷ text) at rest = went_then (tight_joint (laws_byte b) (λ _. laws_word text))
-    (went_byte b at (text ++ rest)) (λ to. went_word text to rest)
+went_word : (text : List ℕ) {at : ℕ} {rest : List ℕ} → Went (word text) tt at (text ++ rest) rest
+went_word [] {at} {rest} = record { to = at; reads = reads_give (stream_at at rest) tt }
+went_word (b ∷ text) {rest} = went_then (tight_joint (laws_byte b) (λ _. laws_word text))
+    (went_byte b) (λ to. went_word text)
 
-went_version : (compact : Bool) (at : ℕ) (rest : List ℕ) → Went version compact at (version_digit compact ∷ rest) rest
-went_version false at rest = record {
+went_version : (compact : Bool) {at : ℕ} {rest : List ℕ} → Went version compact at (version_digit compact ∷ rest) rest
+went_version false {at} {rest} = record {
   to = at + 1;
-  reads = two_first 49 50 false true (place_of at (49 ∷ rest))
-      (place_of (at + 1) rest) refl refl;
+  reads = two_first 49 50 false true (place_of at (49 ∷ rest)) (place_of (at + 1) rest) refl refl;
 }
-went_version true at rest = record {
+went_version true {at} {rest} = record {
   to = at + 1;
   reads = two_second 49 50 false true (place_of at (50 ∷ rest))
       (place_of (at + 1) rest) (λ e. omega (arith, e)) refl refl;
 }
 
-went_winner : (w at : ℕ) (rest : List ℕ) → w < 2 → Went winner w at ((48 + w) ∷ rest) rest
-went_winner zero at rest small = record {
+went_winner : (w : ℕ) {at : ℕ} {rest : List ℕ} → w < 2 → Went winner w at ((48 + w) ∷ rest) rest
+went_winner zero {at} {rest} small = record {
   to = at + 1;
-  reads = two_first 48 49 0 1 (place_of at (48 ∷ rest))
-      (place_of (at + 1) rest) refl refl;
+  reads = two_first 48 49 0 1 (place_of at (48 ∷ rest)) (place_of (at + 1) rest) refl refl;
 }
-went_winner (suc zero) at rest small = record {
+went_winner (suc zero) {at} {rest} small = record {
   to = at + 1;
-  reads = two_second 48 49 0 1 (place_of at (49 ∷ rest))
-      (place_of (at + 1) rest) (λ e. omega (arith, e)) refl refl;
+  reads = two_second 48 49 0 1 (place_of at (49 ∷ rest)) (place_of (at + 1) rest) (λ e. omega (arith, e)) refl refl;
 }
-went_winner (suc (suc w)) at rest small = absurd (omega (arith, small))
+went_winner (suc (suc w)) small = absurd (omega (arith, small))
 
 -- ## Numbers that are read
 
@@ -147,11 +142,11 @@ fields_end (x ∷ xs) rest = inl refl
 abbrev behind_number : ℕ → ℕ → List ℕ → Place
 behind_number n at rest = place_of (at + length (decimal n)) rest
 
-number_there : (n at : ℕ) (rest : List ℕ) → n < 2 ^ 64 → EndsField rest
+number_there : {n : ℕ} (at : ℕ) (rest : List ℕ) → n < 2 ^ 64 → EndsField rest
     → IsNumberRead (place_of at (decimal n ++ rest)) (behind_number n at rest) n
-number_there n at rest small end =
+number_there {n} at rest small end =
     let t = number_text n small in
-    let run : numeral (decimal n ++ rest) ≡ decimal n = numeral_ended (decimal n) rest (plain n small) end in
+    let run : numeral (decimal n ++ rest) ≡ decimal n = numeral_ended rest (plain n small) end in
     record {
       long = omega (arith, t.some, ap length run);
       value = sym t.value ∙ ap decimal_value (sym run);
@@ -160,47 +155,44 @@ number_there n at rest small end =
       rest = sym (drop-append_seam (decimal n) rest) ∙ ap (λ r. drop (length r) (decimal n ++ rest)) (sym run);
     }
 
-went_judged : (Wrong : Verdict) → Settled Wrong → (n at : ℕ) (rest : List ℕ) → n < 2 ^ 64 → EndsField rest
+went_judged : {Wrong : Verdict} → Settled Wrong → {n at : ℕ} {rest : List ℕ} → n < 2 ^ 64 → EndsField rest
     → ((f : CertCause) → Wrong rest n f → ⊥) → Went (judged Wrong) n at (decimal n ++ rest) rest
-went_judged Wrong settled n at rest small end right =
+went_judged {Wrong} settled {n} {at} {rest} small end right =
     record {
       to = at + length (decimal n);
       reads = judged_reads Wrong settled (place_of at (decimal n ++ rest))
-          (behind_number n at rest) n (number_there n at rest small end) right;
+          (behind_number n at rest) n (number_there at rest small end) right;
     }
 
-went_number : (Wrong : ℕ → Type 0) (n at : ℕ) (rest : List ℕ) → n < 2 ^ 64 → EndsField rest → (Wrong n → ⊥)
+went_number : (Wrong : ℕ → Type 0) {n at : ℕ} {rest : List ℕ} → n < 2 ^ 64 → EndsField rest → (Wrong n → ⊥)
     → Went (number Wrong) n at (decimal n ++ rest) rest
-went_number Wrong n at rest small end right = went_judged _ (settled_other Wrong) n at rest small end (λ f w. right w.2)
+went_number Wrong small end right = went_judged (settled_other Wrong) small end (λ f w. right w.2)
 
 -- ## Lines of priorities
 
-went_many : (ps : List ℕ) (at : ℕ) (rest : List ℕ) → All IsWord ps
+went_many : (ps : List ℕ) {at : ℕ} (rest : List ℕ) → All IsWord ps
     → Went (many priority ps) [] at (fields ps ++ 10 ∷ rest) (10 ∷ rest)
-went_many [] at rest small = record {
+went_many [] {at} rest small = record {
   to = at;
   reads = many_ends priority laws_priority digit_no_space []
       (stream_at at (10 ∷ rest)) (avoids 32 (place_of at (10 ∷ rest)) refl);
 }
-went_many (p ∷ ps) at rest small =
+went_many (p ∷ ps) {at} rest small =
     let more = fields ps ++ 10 ∷ rest in
     let first : Went (priority (p ∷ ps)) ps at (32 ∷ (decimal p ++ more)) more =
-    went_then (joint_listed (p ∷ ps)) (went_byte 32 at (decimal p ++ more)) (λ to.
-    went_mapped (λ _. ps) (went_number (NotNext (p ∷ ps)) p to more (All-head IsWord p ps small) (fields_end ps rest)
+    went_then (joint_listed (p ∷ ps)) (went_byte 32) (λ to.
+    went_mapped (λ _. ps) (went_number (NotNext (p ∷ ps)) (All-head IsWord p ps small) (fields_end ps rest)
     (λ other. other refl))) in
-    let others = went_many ps first.to rest (All-tail IsWord p ps small) in
-    went_from (many priority (p ∷ ps)) [] at (10 ∷ rest)
-    (ap (λ xs. 32 ∷ xs) (append_assoc (decimal p) (fields ps) (10 ∷ rest)))
+    let others = went_many ps rest (All-tail IsWord p ps small) in
+    went_from (ap (λ xs. 32 ∷ xs) (append_assoc (decimal p) (fields ps) (10 ∷ rest)))
     (record { to = others.to; reads = many_reads priority laws_priority digit_no_space first.reads others.reads })
 
-went_fields : (ps : List ℕ) (at : ℕ) (rest : List ℕ) → All IsWord ps
+went_fields : (ps : List ℕ) {at : ℕ} {rest : List ℕ} → All IsWord ps
     → Went (priorities ps) tt at (fields ps ++ 10 ∷ rest) rest
-went_fields ps at rest small =
-    went_then (joint_priorities ps) (went_many ps at rest small)
-    (λ to. record {
+went_fields ps {rest} small =
+    went_then (joint_priorities ps) (went_many ps rest small) (λ to. record {
       to = to + 1;
-      reads = end_reads [] (place_of to (10 ∷ rest))
-          (place_of (to + 1) rest) refl refl refl;
+      reads = end_reads [] (place_of to (10 ∷ rest)) (place_of (to + 1) rest) refl refl refl;
     })
 
 -- ## Moves and counts
@@ -209,36 +201,32 @@ no_dash : (digits rest : List ℕ) → 0 < length digits → All IsDigit digits 
 no_dash [] rest some all = absurd (omega (arith, some))
 no_dash (d ∷ digits) rest some all = ne_eqb d 45 (λ e. let h = All-head IsDigit d digits all in omega (arith, e, h.0))
 
-went_choice : (ids : List ℕ) (c : Option ℕ) (at : ℕ) (rest : List ℕ) → EndsField rest
+went_choice : (ids : List ℕ) (c : Option ℕ) {at : ℕ} {rest : List ℕ} → EndsField rest
     → IfSome c (λ v. IsWord (get_or ids v 0) × (vertex_of ids (get_or ids v 0) ≡ Some v) × Contains ids
-    (get_or ids v 0)) →
-    Went (choice ids) c at (move_text ids c ++ rest) rest
-went_choice ids None at rest end known = record {
+    (get_or ids v 0)) → Went (choice ids) c at (move_text ids c ++ rest) rest
+went_choice ids None {at} {rest} end known = record {
   to = at + 1;
-  reads = choice_dash ids (place_of at (45 ∷ rest)) refl
-      (place_of (at + 1) rest) refl;
+  reads = choice_dash ids (place_of at (45 ∷ rest)) refl refl;
 }
-went_choice ids (Some v) at rest end known =
+went_choice ids (Some v) {at} {rest} end known =
     let id = get_or ids v 0 in
     let t = number_text id known.0 in
-    let w = went_number (λ id. ¬ Contains ids id) id at rest known.0 end (λ none. none known.2) in
+    let w = went_number (λ id. ¬ Contains ids id) known.0 end (λ none. none known.2) in
     record {
       to = w.to;
       reads = choice_reads ids (place_of at (decimal id ++ rest))
-          (no_dash (decimal id) rest t.some t.all) id (place_of w.to rest) (Some v) w.reads (sym known.1);
+          (no_dash (decimal id) rest t.some t.all) (place_of w.to rest) w.reads (sym known.1);
     }
 
-went_counts : (cs : List ℕ) (at : ℕ) (rest : List ℕ) → All IsWord cs
+went_counts : (cs : List ℕ) {at : ℕ} {rest : List ℕ} → All IsWord cs
     → Went (counts (length cs)) cs at (fields cs ++ 10 ∷ rest) rest
-went_counts [] at rest small = went_mapped (λ _. []) (went_byte 10 at rest)
-went_counts (c ∷ cs) at rest small =
+went_counts [] small = went_mapped (λ _. []) (went_byte 10)
+went_counts (c ∷ cs) {rest} small =
     let more = fields cs ++ 10 ∷ rest in
-    went_from (counts (length (c ∷ cs))) (c ∷ cs) at rest
-    (ap (λ xs. 32 ∷ xs) (append_assoc (decimal c) (fields cs) (10 ∷ rest)))
-    (went_then (joint_counts (length cs)) (went_byte 32 at (decimal c ++ more)) (λ t1.
-    went_then (joint_count (length cs)) (went_number Never c t1 more (All-head IsWord c cs small) (fields_end cs rest)
-    (λ w. w)) (λ t2.
-    went_mapped (λ others. c ∷ others) (went_counts cs t2 rest (All-tail IsWord c cs small)))))
+    went_from (ap (λ xs. 32 ∷ xs) (append_assoc (decimal c) (fields cs) (10 ∷ rest)))
+    (went_then (joint_counts (length cs)) (went_byte 32) (λ t1.
+    went_then (joint_count (length cs)) (went_number Never (All-head IsWord c cs small) (fields_end cs rest)
+    (λ w. w)) (λ t2. went_mapped (λ others. c ∷ others) (went_counts cs (All-tail IsWord c cs small)))))
 
 -- ## Counts behind their priorities
 
@@ -262,11 +250,11 @@ pairs_next ps cs i lt same = ap₂ (λ (x : List ℕ) (y : List ℕ). pairs x y)
 regroup_pair : (out a b r : List ℕ) → ((out ++ a) ++ b) ++ r ≡ out ++ ((a ++ b) ++ r)
 regroup_pair out a b r = simp (append_assoc)
 
-pub pair_written : (out ps cs total : List ℕ) (i : ℕ) → i < length cs → length cs ≡ length ps
+pub pair_written : (out ps cs : List ℕ) {total : List ℕ} (i : ℕ) → i < length cs → length cs ≡ length ps
     → (get_or cs i 0 ≡ 0 → ⊥) → out ++ pairs (drop i ps) (drop i cs) ≡ total
     → ((out ++ 32 ∷ decimal (get_or ps i 0)) ++ 58 ∷ decimal (get_or cs i 0)) ++ pairs (drop (i + 1) ps)
     (drop (i + 1) cs) ≡ total
-pair_written out ps cs total i lt same some h =
+pair_written out ps cs i lt same some h =
     let more = pairs (drop (i + 1) ps) (drop (i + 1) cs) in
     let text = 32 ∷ decimal (get_or ps i 0) ++ 58 ∷ decimal (get_or cs i 0) ++ more in
     let next : pairs (drop i ps) (drop i cs) ≡ text = pairs_next ps cs i lt same ∙ ap (λ (b : Bool). cond b more text)
@@ -274,9 +262,10 @@ pair_written out ps cs total i lt same some h =
     regroup_pair out (32 ∷ decimal (get_or ps i 0)) (58 ∷ decimal (get_or cs i 0)) more ∙ ap (λ xs. out ++ xs)
     (sym next) ∙ h
 
-pub pair_skipped : (out ps cs total : List ℕ) (i : ℕ) → i < length cs → length cs ≡ length ps → get_or cs i 0 ≡ 0
+pub pair_skipped : (out ps cs : List ℕ) {total : List ℕ} (i : ℕ) → i < length cs → length cs ≡ length ps →
+    get_or cs i 0 ≡ 0
     → out ++ pairs (drop i ps) (drop i cs) ≡ total → out ++ pairs (drop (i + 1) ps) (drop (i + 1) cs) ≡ total
-pair_skipped out ps cs total i lt same none h =
+pair_skipped out ps cs i lt same none h =
     let more = pairs (drop (i + 1) ps) (drop (i + 1) cs) in
     let text = 32 ∷ decimal (get_or ps i 0) ++ 58 ∷ decimal (get_or cs i 0) ++ more in
     let next : pairs (drop i ps) (drop i cs) ≡ more = pairs_next ps cs i lt same ∙ ap (λ (b : Bool). cond b more text)
@@ -291,23 +280,22 @@ no_zero : (digits rest : List ℕ) → 0 < length digits → ¬ BeginsWithZero d
 no_zero [] rest some none = absurd (omega (arith, some))
 no_zero (d ∷ digits) rest some none = ne_eqb d 48 none
 
-went_pair : (ps : List ℕ) (so_far : Pairs) (p c at : ℕ) (rest : List ℕ) → (DoesNotRise so_far p → ⊥) → Contains ps p
+went_pair : (ps : List ℕ) (so_far : Pairs) (p c : ℕ) {at : ℕ} {rest : List ℕ} →
+    (DoesNotRise so_far p → ⊥) → Contains ps p
     → IsWord p → 0 < c → IsWord c → EndsField rest
     → Went (pair ps so_far) (with_pair so_far p c) at (32 ∷ (decimal p ++ 58 ∷ (decimal c ++ rest))) rest
-went_pair ps so_far p c at rest above there small some fits end =
-    let space = went_byte 32 at (decimal p ++ 58 ∷ (decimal c ++ rest)) in
-    let priority = went_judged (WrongPriority ps so_far) (λ more n f w. inl w.0) p space.to
-    (58 ∷ (decimal c ++ rest)) small (inr (inr refl)) (λ f w. right f w.1) in
-    let colon = went_byte 58 priority.to (decimal c ++ rest) in
+went_pair ps so_far p c {at} {rest} above there small some fits end =
+    let space = went_byte 32 in
+    let priority = went_judged (λ more n f w. inl w.0) small (inr (inr refl)) (λ f w. right f w.1) in
+    let colon = went_byte 58 in
     let t = number_text c fits in
-    let count = positive_reads (place_of colon.to (decimal c ++ rest)) (behind_number c colon.to rest) c
-    (no_zero (decimal c) rest t.some (t.lead some)) (number_there c colon.to rest fits end) in
+    let count = positive_reads (no_zero (decimal c) rest t.some (t.lead some)) (number_there colon.to rest fits end) in
     record {
       to = colon.to + length (decimal c);
       reads = pair_reads ps so_far (place_of at (32 ∷ (decimal p ++ 58 ∷ (decimal c ++ rest))))
           (place_of space.to (decimal p ++ 58 ∷ (decimal c ++ rest))) space.reads p
           (place_of priority.to (58 ∷ (decimal c ++ rest))) priority.reads
-          (place_of colon.to (decimal c ++ rest)) colon.reads c (behind_number c colon.to rest) count;
+          (place_of colon.to (decimal c ++ rest)) colon.reads (behind_number c colon.to rest) count;
     }
   where
     right : (f : CertCause) → ((f ≡ Syntax) × DoesNotRise so_far p) ⊎ ((f ≡ OtherGame) × ¬ Contains ps p) → ⊥
@@ -381,24 +369,23 @@ above_last so_far p c ps h k d lt low = omega (arith, h k d lt, low)
 pair_groups : (a b c r : List ℕ) → ((a ++ b) ++ c) ++ r ≡ a ++ (b ++ (c ++ r))
 pair_groups a b c r = simp (append_assoc)
 
-no_more : (all : List ℕ) (so_far : Pairs) (at : ℕ) (rest : List ℕ)
+no_more : (all : List ℕ) {so_far : Pairs} {at : ℕ} (rest : List ℕ)
     → Went (many (pair all) so_far) so_far at (10 ∷ rest) (10 ∷ rest)
-no_more all so_far at rest = record {
+no_more all {so_far} {at} rest = record {
   to = at;
   reads = many_ends (pair all) (laws_pair all) digit_no_space so_far
       (stream_at at (10 ∷ rest)) (avoids 32 (place_of at (10 ∷ rest)) refl);
 }
 
-went_pairs : (all ps cs : List ℕ) (so_far : Pairs) (at : ℕ) (rest : List ℕ) → AllIn all ps → Rises ps
+went_pairs : (all ps cs : List ℕ) (so_far : Pairs) {at : ℕ} (rest : List ℕ) → AllIn all ps → Rises ps
     → AllAbove so_far ps → All IsWord ps → All IsWord cs
     → Went (many (pair all) so_far) (after ps cs so_far) at (pairs ps cs ++ 10 ∷ rest) (10 ∷ rest)
-went_pairs all [] cs so_far at rest there r above small fits = no_more all so_far at rest
-went_pairs all (p ∷ ps) [] so_far at rest there r above small fits = no_more all so_far at rest
-went_pairs all (p ∷ ps) (c ∷ cs) so_far at rest there r above small fits =
-    go (eqb c 0) refl
-    (went_pairs all ps cs so_far at rest (All-tail (λ q. Contains all q) p ps there) r.1
+went_pairs all [] cs so_far rest there r above small fits = no_more all rest
+went_pairs all (p ∷ ps) [] so_far rest there r above small fits = no_more all rest
+went_pairs all (p ∷ ps) (c ∷ cs) so_far {at} rest there r above small fits =
+    go (eqb c 0) refl (went_pairs all ps cs so_far rest (All-tail (λ q. Contains all q) p ps there) r.1
     (All-tail (λ q. DoesNotRise so_far q → ⊥) p ps above) (All-tail IsWord p ps small) (All-tail IsWord c cs fits))
-    (λ to. went_pairs all ps cs (with_pair so_far p c) to rest (All-tail (λ q. Contains all q) p ps there) r.1
+    (λ to. went_pairs all ps cs (with_pair so_far p c) rest (All-tail (λ q. Contains all q) p ps there) r.1
     (above_last so_far p c ps r.0) (All-tail IsWord p ps small) (All-tail IsWord c cs fits))
   where
     more : List ℕ
@@ -409,12 +396,11 @@ went_pairs all (p ∷ ps) (c ∷ cs) so_far at rest there r above small fits =
         → Went (many (pair all) so_far) (after ps cs (with_pair so_far p c)) at
         ((32 ∷ decimal p ++ 58 ∷ decimal c ++ pairs ps cs) ++ 10 ∷ rest) (10 ∷ rest)
     written e next =
-        let one = went_pair all so_far p c at more (All-head (λ q. DoesNotRise so_far q
+        let one = went_pair all so_far p c (All-head (λ q. DoesNotRise so_far q
         → ⊥) p ps above) (All-head (λ q. Contains all q) p ps there) (All-head IsWord p ps small)
         (let h = eqb-false c 0 e in omega (arith, h)) (All-head IsWord c cs fits) (pairs_end ps cs rest) in
         let others = next one.to in
-        went_from (many (pair all) so_far) (after ps cs (with_pair so_far p c)) at (10 ∷ rest)
-        (ap (λ xs. 32 ∷ xs) (pair_groups (decimal p) (58 ∷ decimal c) (pairs ps cs) (10 ∷ rest)))
+        went_from (ap (λ xs. 32 ∷ xs) (pair_groups (decimal p) (58 ∷ decimal c) (pairs ps cs) (10 ∷ rest)))
         (record { to = others.to; reads = many_reads (pair all) (laws_pair all) digit_no_space one.reads others.reads })
 
     go : (b : Bool) → eqb c 0 ≡ b → Went (many (pair all) so_far) (after ps cs so_far) at more (10 ∷ rest)
@@ -425,16 +411,16 @@ went_pairs all (p ∷ ps) (c ∷ cs) so_far at rest there r above small fits =
     go true e skip next = skip
     go false e skip next = written e next
 
-went_counts_in : (compact : Bool) (ps cs : List ℕ) (at : ℕ) (rest : List ℕ) → Rises ps → length cs ≡ length ps
+went_counts_in : (compact : Bool) (ps : List ℕ) {cs : List ℕ} {at : ℕ} {rest : List ℕ} → Rises ps →
+    length cs ≡ length ps
     → All IsWord ps → All IsWord cs → Went (counts_in compact ps) cs at (counts_text compact ps cs ++ 10 ∷ rest) rest
-went_counts_in false ps cs at rest r same small fits = subst
-    (λ n. Went (counts n) cs at (fields cs ++ 10 ∷ rest) rest) same (went_counts cs at rest fits)
-went_counts_in true ps cs at rest r same small fits =
+went_counts_in false ps {cs} {at} {rest} r same small fits = subst
+    (λ n. Went (counts n) cs at (fields cs ++ 10 ∷ rest) rest) same (went_counts cs fits)
+went_counts_in true ps {cs} {at} {rest} r same small fits =
     subst (λ xs. Went (counts_in true ps) xs at (pairs ps cs ++ 10 ∷ rest) rest)
     (after_counts ps cs no_pairs r same (λ k d lt. refl))
-    (went_then (joint_pairs ps) (went_pairs ps ps cs no_pairs at rest (λ k d lt. Contains-get_or ps k d lt) r
-    (λ k d lt h. h) small fits) (λ to. went_mapped (λ _. map (after ps cs no_pairs).count ps)
-    (went_byte 10 to rest)))
+    (went_then (joint_pairs ps) (went_pairs ps ps cs no_pairs rest (λ k d lt. Contains-get_or ps k d lt) r
+    (λ k d lt h. h) small fits) (λ to. went_mapped (λ _. map (after ps cs no_pairs).count ps) (went_byte 10)))
 
 -- ## A certificate
 
@@ -466,47 +452,37 @@ module _ (compact : Bool) (ids odd even : List ℕ) (ids_small : All IsWord ids)
       go true = odd_small
       go false = even_small
 
-  went_entry : (id : ℕ) (e : EntryData) (at : ℕ) (rest : List ℕ) → IsWord id → IsReadable e
+  went_entry : (id : ℕ) {e : EntryData} {at : ℕ} {rest : List ℕ} → IsWord id → IsReadable e
       → Went (entry compact odd even ids id) e at (entry_line compact odd even ids id e ++ rest) rest
-  went_entry id e at rest small readable =
+  went_entry id {e} {rest} small readable =
       let lost = lost_by odd even e.winner in
       let behind = counts_text compact lost e.counts ++ 10 ∷ rest in
-      went_from (entry compact odd even ids id) e at rest
-      (regroup (decimal id) (move_text ids e.choice) (counts_text compact lost e.counts) rest (48 + e.winner))
-      (went_then (joint_id compact odd even ids id) (went_number (λ n. n ≡ id
-      → ⊥) id at (32 ∷ (48 + e.winner) ∷ 32 ∷ (move_text ids e.choice ++ behind)) small (inl refl)
-      (λ other. other refl)) (λ t1.
-      went_then (joint_space compact odd even ids)
-      (went_byte 32 t1 ((48 + e.winner) ∷ 32 ∷ (move_text ids e.choice ++ behind))) (λ t2.
-      went_then (joint_winner compact odd even ids)
-      (went_winner e.winner t2 (32 ∷ (move_text ids e.choice ++ behind)) readable.winner) (λ t3.
-      went_then (joint_second compact odd even ids e.winner) (went_byte 32 t3 (move_text ids e.choice ++ behind)) (λ t4.
+      went_from (regroup (decimal id) (move_text ids e.choice) (counts_text compact lost e.counts) rest (48 + e.winner))
+      (went_then (joint_id compact odd even ids id) (went_number (λ n. n ≡ id → ⊥) small (inl refl)
+      (λ other. other refl)) (λ t1. went_then (joint_space compact odd even ids) (went_byte 32) (λ t2.
+      went_then (joint_winner compact odd even ids) (went_winner e.winner readable.winner) (λ t3.
+      went_then (joint_second compact odd even ids e.winner) (went_byte 32) (λ t4.
       went_then (joint_choice compact odd even ids e.winner)
-      (went_choice ids e.choice t4 behind (counts_end compact lost e.counts rest) readable.choice) (λ t5.
+      (went_choice ids e.choice (counts_end compact lost e.counts rest) readable.choice) (λ t5.
       went_mapped (λ cs. record { winner = e.winner; choice = e.choice; counts = cs })
-      (went_counts_in compact lost e.counts t5 rest (lost_rises e.winner) readable.counts
-      (lost_small e.winner) readable.small)))))))
+      (went_counts_in compact lost (lost_rises e.winner) readable.counts (lost_small e.winner) readable.small)))))))
 
-  went_entries : (left : List ℕ) (es : List EntryData) (v at : ℕ)
+  went_entries : (left : List ℕ) (es : List EntryData) (v : ℕ) {at : ℕ}
       → ((k : ℕ) → k < length left → get_or ids (v + k) 0 ≡ get_or left k 0) → All IsWord left
       → length es ≡ length left → All IsReadable es →
       Went (entries compact odd even ids left) es at (entry_lines compact odd even ids v es) []
-  went_entries [] [] v at here small same readable = record { to = at; reads = reads_give (stream_at at []) [] }
-  went_entries [] (e ∷ es) v at here small same readable = absurd (omega (arith, same))
-  went_entries (id ∷ left) [] v at here small same readable = absurd (omega (arith, same))
-  went_entries (id ∷ left) (e ∷ es) v at here small same readable =
+  went_entries [] [] v {at} here small same readable = record { to = at; reads = reads_give (stream_at at []) [] }
+  went_entries [] (e ∷ es) v here small same readable = absurd (omega (arith, same))
+  went_entries (id ∷ left) [] v here small same readable = absurd (omega (arith, same))
+  went_entries (id ∷ left) (e ∷ es) v here small same readable =
       let is : get_or ids v 0 ≡ id = ap (λ n. get_or ids n 0) (sym (add-zero v)) ∙ here 0 (omega arith) in
-      went_from (entries compact odd even ids (id ∷ left)) (e ∷ es) at []
-      (ap (λ x. entry_line compact odd even ids x e ++ entry_lines compact odd even ids (v + 1) es) is)
+      went_from (ap (λ x. entry_line compact odd even ids x e ++ entry_lines compact odd even ids (v + 1) es) is)
       (went_then (tight_joint (laws_entry compact odd even ids id)
       (λ first. laws_mapped (λ others. first ∷ others) (entries compact odd even ids left)
-      (laws_entries compact odd even ids left)))
-      (went_entry id e at (entry_lines compact odd even ids (v + 1) es) (All-head IsWord id left small)
-      (All-head IsReadable e es readable)) (λ to.
-      went_mapped (λ others. e ∷ others)
-      (went_entries left es (v + 1) to (λ k lt. ap (λ n. get_or ids n 0) (omega arith) ∙ here (suc k)
-      (omega (arith, lt))) (All-tail IsWord id left small) (omega (arith, same))
-      (All-tail IsReadable e es readable))))
+      (laws_entries compact odd even ids left))) (went_entry id (All-head IsWord id left small)
+      (All-head IsReadable e es readable)) (λ to. went_mapped (λ others. e ∷ others)
+      (went_entries left es (v + 1) (λ k lt. ap (λ n. get_or ids n 0) (omega arith) ∙ here (suc k)
+      (omega (arith, lt))) (All-tail IsWord id left small) (omega (arith, same)) (All-tail IsReadable e es readable))))
 
   head_groups : (w a b c d e f g r : List ℕ) → ((((((((w ++ a) ++ b) ++ c) ++ d) ++ e) ++ f) ++ g) ++ r) ≡ w ++
       (a ++ (b ++ (c ++ (d ++ (e ++ (f ++ (g ++ r)))))))
@@ -520,27 +496,26 @@ module _ (compact : Bool) (ids odd even : List ℕ) (ids_small : All IsWord ids)
       let from_even = fields even ++ 10 ∷ lines in
       let from_odd = fields odd ++ 10 ∷ (even_word ++ from_even) in
       let from_count = decimal (length ids) ++ (odd_word ++ from_odd) in
-      went_from (certificate odd even ids) (record { odd = odd; even = even; entries = es }) 0 []
+      went_from
       (head_groups first_word (version_digit compact ∷ vertices_word) (decimal (length ids)) odd_word (fields odd)
       (10 ∷ even_word) (fields even) (10 ∷ []) lines)
-      (went_then (joint_first odd even ids) (went_word first_word 0
-      (version_digit compact ∷ (vertices_word ++ from_count))) (λ t1.
-      went_then (joint_version odd even ids) (went_version compact t1 (vertices_word ++ from_count)) (λ t2.
-      went_then (joint_vertices odd even ids compact) (went_word vertices_word t2 from_count) (λ t3.
+      (went_then (joint_first odd even ids) (went_word first_word) (λ t1.
+      went_then (joint_version odd even ids) (went_version compact) (λ t2.
+      went_then (joint_vertices odd even ids compact) (went_word vertices_word) (λ t3.
       went_then (joint_number odd even ids compact) (went_number (λ n. n ≡ length ids
-      → ⊥) (length ids) t3 (odd_word ++ from_odd) small (inr (inl refl)) (λ other. other refl)) (λ t4.
-      went_then (joint_odd_word odd even ids compact) (went_word odd_word t4 from_odd) (λ t5.
-      went_then (joint_odd odd even ids compact) (went_fields odd t5 (even_word ++ from_even) odd_small) (λ t6.
-      went_then (joint_even_word odd even ids compact) (went_word even_word t6 from_even) (λ t7.
-      went_then (joint_even odd even ids compact) (went_fields even t7 lines even_small) (λ t8.
+      → ⊥) small (inr (inl refl)) (λ other. other refl)) (λ t4.
+      went_then (joint_odd_word odd even ids compact) (went_word odd_word) (λ t5.
+      went_then (joint_odd odd even ids compact) (went_fields odd odd_small) (λ t6.
+      went_then (joint_even_word odd even ids compact) (went_word even_word) (λ t7.
+      went_then (joint_even odd even ids compact) (went_fields even even_small) (λ t8.
       went_mapped (λ es. record { odd = odd; even = even; entries = es })
-      (went_entries ids es 0 t8 (λ k lt. ap (λ n. get_or ids n 0) (omega arith)) ids_small same readable))))))))))
+      (went_entries ids es 0 (λ k lt. ap (λ n. get_or ids n 0) (omega arith)) ids_small same readable))))))))))
 
 -- ## The whole text
 
 module _ (ids : List ℕ) (differ : AllPairs (λ x y. x ≢ y) ids) where
-  found_at : (v : ℕ) → v < length ids → vertex_of ids (get_or ids v 0) ≡ Some v
-  found_at v within =
+  found_at : {v : ℕ} → v < length ids → vertex_of ids (get_or ids v 0) ≡ Some v
+  found_at {v} within =
       let id = get_or ids v 0 in
       let e = position_or_len_is (λ other. eqb other id) ids v 0 (omega (arith, within))
       (λ k lt. ne_eqb (get_or ids k 0) id (differ k v 0 lt within)) (λ _. eq-eqb id id refl) in
@@ -586,7 +561,7 @@ module _ (compact : Bool) (game : NamedGameData) (c : CertificateData) (named : 
           (vertex_of game.ids (get_or game.ids v 0) ≡ Some v) × Contains game.ids (get_or game.ids v 0))
       known_choice None h = tt
       known_choice (Some v) h = let within : v < length game.ids = omega (arith, h, named.id_each) in
-          (words.ids v 0 within, found_at game.ids named.ids_differ v within, Contains-get_or game.ids v 0 within)
+          (words.ids v 0 within, found_at game.ids named.ids_differ within, Contains-get_or game.ids v 0 within)
 
   pub reads_again : ReadsText game (text_in compact game c) (Ok c)
   reads_again =

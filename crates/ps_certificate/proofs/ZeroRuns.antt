@@ -1,8 +1,7 @@
 -- Runs of zeros, and how they are written.
-use Rattle.std.proofs.Common.{◌≡◌, ℕ, zero, suc, ◌+◌, ◌*◌, ◌<◌, ◌≤◌, ◌∙◌, List, [], ◌∷◌, ◌++◌, length, get_or}
-use Rattle.std.proofs.Common.{take, drop, replicate, refl, sym, ap, arith, add-one}
+use Rattle.std.proofs.Common.{◌≡◌, ℕ, zero, suc, ◌+◌, ◌*◌, ◌≤◌, ◌∙◌, List, [], ◌∷◌, ◌++◌, take, drop, replicate, refl}
+use Rattle.std.proofs.Common.{sym, ap, arith}
 use Rattle.std.specs.Prelude.{decimal}
-use Rattle.std.proofs.Math.Seq.{drop-cons}
 use Rattle.std.proofs.lemmas.Fmt.{decimal_digit}
 use Rattle.std.proofs.lemmas.List.{append_assoc, take-append-drop, drop-drop}
 use Rattle.ps_certificate.specs.Written.{fields}
@@ -30,14 +29,14 @@ take-zeros zero m few = refl
 take-zeros (suc n) zero few = absurd (omega (arith, few))
 take-zeros (suc n) (suc m) few =
     let twice : 2 * suc n ≡ suc (suc (2 * n)) = omega arith in
-    ap (λ k. take k (32 ∷ 48 ∷ zeros_text m)) twice
-    ∙ ap (λ text. 32 ∷ 48 ∷ text) (take-zeros n m (omega (arith, few)))
+    ap (λ k. take k (32 ∷ 48 ∷ zeros_text m)) twice ∙ ap (λ text. 32 ∷ 48 ∷ text) (take-zeros n m (omega (arith, few)))
 
 -- the zeros with which the rest begins are written
-pub zeros_written : (out numbers total : List ℕ) (place n : ℕ) → take n (drop place numbers) ≡ replicate n 0 →
+pub zeros_written : (out numbers : List ℕ) {total : List ℕ} (place n : ℕ) →
+    take n (drop place numbers) ≡ replicate n 0 →
     out ++ fields (drop place numbers) ≡ total →
     (out ++ fields (replicate n 0)) ++ fields (drop (place + n) numbers) ≡ total
-zeros_written out numbers total place n zeros so_far =
+zeros_written out numbers place n zeros so_far =
     append_assoc out (fields (replicate n 0)) (fields (drop (place + n) numbers))
     ∙ ap (λ text. out ++ text) (sym (fields-append (replicate n 0) (drop (place + n) numbers)) ∙ ap fields parts)
     ∙ so_far
@@ -47,17 +46,3 @@ zeros_written out numbers total place n zeros so_far =
         ap (λ ys. ys ++ drop (place + n) numbers) (sym zeros)
         ∙ ap (λ ys. take n (drop place numbers) ++ ys) (sym (drop-drop n place numbers))
         ∙ take-append-drop n (drop place numbers)
-
--- the first number of the rest is written
-pub number_written : (out numbers total : List ℕ) (place : ℕ) → place < length numbers →
-    out ++ fields (drop place numbers) ≡ total →
-    (out ++ 32 ∷ decimal (get_or numbers place 0)) ++ fields (drop (place + 1) numbers) ≡ total
-number_written out numbers total place within so_far =
-    append_assoc out (32 ∷ decimal (get_or numbers place 0)) (fields (drop (place + 1) numbers))
-    ∙ ap (λ text. out ++ text) (ap fields (sym next))
-    ∙ so_far
-  where
-    next : drop place numbers ≡ get_or numbers place 0 ∷ drop (place + 1) numbers
-    next =
-        drop-cons numbers place 0 within
-        ∙ ap (λ k. get_or numbers place 0 ∷ drop k numbers) (sym (add-one place))

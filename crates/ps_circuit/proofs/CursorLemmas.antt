@@ -30,9 +30,9 @@ use Rattle.ps_circuit.specs.declared.cursor.Class.{Class}
 use Rattle.ps_circuit.specs.declared.cursor.Class.TheVariants.{Digit, Blank, Inner}
 use Rattle.ps_circuit.specs.Cursors.{in_class, ended, next_byte, place_of, found_of, Tells, Passes, saturated}
 use Rattle.ps_circuit.proofs.Runs.{Odd, run_reads, run_stops, stops_here}
-use Rattle.ps_circuit.proofs.TextLaws.{At, AtBlank, byte_taken, laws_byte, laws_word, laws_gap, laws_blanks}
-use Rattle.ps_circuit.proofs.TextLaws.{laws_newline, laws_ends_here, laws_gap_more, ends_here, behind_gap, gap_more}
-use Rattle.ps_circuit.proofs.TextLaws.{joint_gap_more, blank_newline}
+use Rattle.ps_circuit.proofs.SignLaws.{At, AtBlank, byte_taken, laws_byte, laws_word, laws_gap, laws_blanks}
+use Rattle.ps_circuit.proofs.SignLaws.{laws_newline, laws_ends_here, laws_gap_more, ends_here, behind_gap, gap_more}
+use Rattle.ps_circuit.proofs.SignLaws.{joint_gap_more, blank_newline}
 
 -- ## The exits
 

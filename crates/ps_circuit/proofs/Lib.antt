@@ -1,4 +1,5 @@
 pub mod Runs
+pub mod SignLaws
 pub mod TextLaws
 pub mod CursorLemmas
 pub mod NumberLemmas

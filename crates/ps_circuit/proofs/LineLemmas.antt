@@ -24,10 +24,10 @@ use Rattle.ps_circuit.specs.Texts.{WrongLiteral, WrongDefinition, WrongReset, fi
 use Rattle.ps_circuit.specs.Texts.{add_output, add_gate, input_line, reset, latch_line, output_line, gate_line}
 use Rattle.ps_circuit.specs.Reading.{AddsVariable, Grown, none, more as grow, IsRow, TellsField}
 use Rattle.ps_circuit.proofs.Runs.{Odd}
-use Rattle.ps_circuit.proofs.TextLaws.{AtDigit, Separates, digit_separates, separates_digit, laws_number, laws_field}
-use Rattle.ps_circuit.proofs.TextLaws.{laws_line_end, laws_ended, joint_by_more, laws_reset_value, is_one, latch_next}
-use Rattle.ps_circuit.proofs.TextLaws.{latch_end, laws_latch_next, laws_latch_end, gate_first, gate_second}
-use Rattle.ps_circuit.proofs.TextLaws.{laws_gate_first, laws_gate_second}
+use Rattle.ps_circuit.proofs.TextLaws.{laws_field, laws_reset_value, is_one, latch_next, latch_end, laws_latch_next}
+use Rattle.ps_circuit.proofs.TextLaws.{laws_latch_end, gate_first, gate_second, laws_gate_first, laws_gate_second}
+use Rattle.ps_circuit.proofs.SignLaws.{AtDigit, Separates, digit_separates, separates_digit, laws_number, laws_line_end}
+use Rattle.ps_circuit.proofs.SignLaws.{laws_ended, joint_by_more}
 use Rattle.ps_circuit.proofs.NumberLemmas.{number_small, number_wrong, field_reads, field_fails}
 
 pub value_is : {V : Type 0} {P : Field V} {old new : Stream Seen} {v w : V} → v ≡ w → Reads P old v new →

@@ -21,10 +21,10 @@ use Rattle.ps_circuit.specs.Cursors.{place_of, found_of, Tells, saturated, Numbe
 use Rattle.ps_circuit.specs.Texts.{AnyNumber, WrongMost, WrongCount, HeaderData, sections, field, header}
 use Rattle.ps_circuit.specs.Reading.{TellsField, TellsCount, TellsHeader}
 use Rattle.ps_circuit.proofs.Runs.{run_reads, run_bad, run_stops}
-use Rattle.ps_circuit.proofs.TextLaws.{laws_sections, laws_counted, laws_number, joint_by_more, digit_separates}
-use Rattle.ps_circuit.proofs.TextLaws.{joint_field, laws_field, joint_header, header_1, header_2, header_3, header_4}
-use Rattle.ps_circuit.proofs.TextLaws.{header_5, header_of, laws_header_1, laws_header_2, laws_header_3, laws_header_4}
-use Rattle.ps_circuit.proofs.TextLaws.{laws_header_5}
+use Rattle.ps_circuit.proofs.TextLaws.{laws_sections, laws_counted, joint_field, laws_field, joint_header, header_1}
+use Rattle.ps_circuit.proofs.TextLaws.{header_2, header_3, header_4, header_5, header_of, laws_header_1, laws_header_2}
+use Rattle.ps_circuit.proofs.TextLaws.{laws_header_3, laws_header_4, laws_header_5}
+use Rattle.ps_circuit.proofs.SignLaws.{laws_number, joint_by_more, digit_separates}
 
 -- ## Numbers
 

@@ -35,10 +35,11 @@ use Rattle.ps_circuit.specs.Texts.{AnyNumber, Kind, OfInput, OfLatch, OfOutput, 
 use Rattle.ps_circuit.specs.Texts.{add_name, take_kind, IsBadSymbol, symbol_line, anything, comment}
 use Rattle.ps_circuit.specs.Names.{is_kind}
 use Rattle.ps_circuit.proofs.Runs.{Odd, syntax_least, stops_here}
-use Rattle.ps_circuit.proofs.TextLaws.{At, byte_taken, AtKind, letter, joint_letter, symbol_number, symbol_space}
-use Rattle.ps_circuit.proofs.TextLaws.{laws_number, laws_byte, laws_rest, laws_symbol_space, laws_symbol_name}
-use Rattle.ps_circuit.proofs.TextLaws.{laws_symbol_end, laws_symbol_line, digit_space, inner_newline, laws_c_line}
-use Rattle.ps_circuit.proofs.TextLaws.{laws_anything, c_line, any_sign}
+use Rattle.ps_circuit.proofs.TextLaws.{letter, joint_letter, symbol_number, symbol_space, laws_symbol_space}
+use Rattle.ps_circuit.proofs.TextLaws.{laws_symbol_name, laws_symbol_end, laws_symbol_line, laws_c_line, laws_anything}
+use Rattle.ps_circuit.proofs.TextLaws.{c_line, any_sign}
+use Rattle.ps_circuit.proofs.SignLaws.{At, byte_taken, AtKind, laws_number, laws_byte, laws_rest, digit_space}
+use Rattle.ps_circuit.proofs.SignLaws.{inner_newline}
 use Rattle.ps_circuit.proofs.CursorLemmas.{next_is, byte_reads}
 use Rattle.ps_circuit.proofs.NumberLemmas.{number_none, number_any}
 use Rattle.ps_circuit.proofs.LineLemmas.{value_is}

@@ -30,18 +30,18 @@ use Rattle.ps_circuit.specs.Texts.{gate_line, Kind, NamesData, names_of, take_ki
 use Rattle.ps_circuit.specs.Texts.{symbol_line, anything, comment, draft_of, symbols, body, circuit_text}
 use Rattle.ps_circuit.proofs.Runs.{Odd}
 use Rattle.ps_circuit.proofs.RunOutcomes.{Has, Spanned, run_of, stops_bytes, has_run}
-use Rattle.ps_circuit.proofs.TextLaws.{AtDigit, Separates, seen, byte_taken, blank_newline, inner_newline}
-use Rattle.ps_circuit.proofs.TextLaws.{digit_separates, separates_digit, digit_space, newline_blank, laws_byte}
-use Rattle.ps_circuit.proofs.TextLaws.{laws_word, laws_number, laws_gap, laws_rest, laws_newline, laws_blanks}
-use Rattle.ps_circuit.proofs.TextLaws.{laws_ended, ends_here, behind_gap, laws_ends_here, joint_gap_more, laws_gap_more}
-use Rattle.ps_circuit.proofs.TextLaws.{joint_by_more, laws_counted, laws_sections, joint_field, laws_field, header_of}
-use Rattle.ps_circuit.proofs.TextLaws.{laws_header_5, laws_header_4, laws_header_3, laws_header_2, laws_header_1}
-use Rattle.ps_circuit.proofs.TextLaws.{joint_header, is_one, laws_line_end, laws_reset_value, laws_latch_end}
-use Rattle.ps_circuit.proofs.TextLaws.{laws_latch_next, laws_gate_second, laws_gate_first, laws_input_line}
-use Rattle.ps_circuit.proofs.TextLaws.{laws_latch_line, laws_output_line, laws_gate_line, laws_symbol_end}
-use Rattle.ps_circuit.proofs.TextLaws.{laws_symbol_name, laws_symbol_space, joint_letter, laws_symbol_line, any_sign}
-use Rattle.ps_circuit.proofs.TextLaws.{laws_any_sign, laws_anything, laws_c_line, first_names, joint_symbols}
-use Rattle.ps_circuit.proofs.TextLaws.{joint_text}
+use Rattle.ps_circuit.proofs.TextLaws.{laws_counted, laws_sections, joint_field, laws_field, header_of, laws_header_5}
+use Rattle.ps_circuit.proofs.TextLaws.{laws_header_4, laws_header_3, laws_header_2, laws_header_1, joint_header, is_one}
+use Rattle.ps_circuit.proofs.TextLaws.{laws_reset_value, laws_latch_end, laws_latch_next, laws_gate_second}
+use Rattle.ps_circuit.proofs.TextLaws.{laws_gate_first, laws_input_line, laws_latch_line, laws_output_line}
+use Rattle.ps_circuit.proofs.TextLaws.{laws_gate_line, laws_symbol_end, laws_symbol_name, laws_symbol_space}
+use Rattle.ps_circuit.proofs.TextLaws.{joint_letter, laws_symbol_line, any_sign, laws_any_sign, laws_anything}
+use Rattle.ps_circuit.proofs.TextLaws.{laws_c_line, first_names, joint_symbols, joint_text}
+use Rattle.ps_circuit.proofs.SignLaws.{AtDigit, Separates, seen, byte_taken, blank_newline, inner_newline}
+use Rattle.ps_circuit.proofs.SignLaws.{digit_separates, separates_digit, digit_space, newline_blank, laws_byte}
+use Rattle.ps_circuit.proofs.SignLaws.{laws_word, laws_number, laws_gap, laws_rest, laws_newline, laws_blanks}
+use Rattle.ps_circuit.proofs.SignLaws.{laws_ended, ends_here, behind_gap, laws_ends_here, joint_gap_more, laws_gap_more}
+use Rattle.ps_circuit.proofs.SignLaws.{joint_by_more, laws_line_end}
 use Rattle.ps_circuit.proofs.DraftReading.{joint_inputs, joint_latches, joint_outputs, joint_gates}
 
 -- ## What a number is judged by

@@ -28,9 +28,10 @@ use Rattle.ps_circuit.specs.Signs.{gap, newline, line_end, more, NoBadRun}
 use Rattle.ps_circuit.specs.Texts.{field}
 use Rattle.ps_circuit.specs.Cursors.{Passes, place_of}
 use Rattle.ps_circuit.proofs.Runs.{Odd, run_reads}
-use Rattle.ps_circuit.proofs.TextLaws.{At, AtBlank, AtDigit, byte_taken, laws_byte, laws_word, laws_gap, laws_newline}
-use Rattle.ps_circuit.proofs.TextLaws.{laws_blanks, blank_newline, ends_here, behind_gap, laws_ends_here, laws_gap_more}
-use Rattle.ps_circuit.proofs.TextLaws.{joint_gap_more, joint_field}
+use Rattle.ps_circuit.proofs.TextLaws.{joint_field}
+use Rattle.ps_circuit.proofs.SignLaws.{At, AtBlank, AtDigit, byte_taken, laws_byte, laws_word, laws_gap, laws_newline}
+use Rattle.ps_circuit.proofs.SignLaws.{laws_blanks, blank_newline, ends_here, behind_gap, laws_ends_here, laws_gap_more}
+use Rattle.ps_circuit.proofs.SignLaws.{joint_gap_more}
 
 abbrev pub from : ℕ → ℕ → List ℕ → Stream Seen
 from e at text = record { pieces = pieces_at at text; end = e }

@@ -24,11 +24,12 @@ use Rattle.ps_circuit.specs.Texts.{WrongReset, sections, header, Lines, add_inpu
 use Rattle.ps_circuit.specs.Texts.{input_line, reset, latch_line, output_line, gate_line}
 use Rattle.ps_circuit.specs.Written.{header_line, fields, line}
 use Rattle.ps_circuit.proofs.Runs.{Odd}
-use Rattle.ps_circuit.proofs.TextLaws.{AtDigit, Separates, digit_separates, separates_digit, joint_header, laws_field}
-use Rattle.ps_circuit.proofs.TextLaws.{laws_number, laws_line_end, laws_ended, laws_header_1, laws_header_2}
-use Rattle.ps_circuit.proofs.TextLaws.{laws_header_3, laws_header_4, laws_header_5, header_0, header_1, header_of}
-use Rattle.ps_circuit.proofs.TextLaws.{laws_counted, laws_sections, joint_by_more, is_one, laws_reset_value, latch_next}
-use Rattle.ps_circuit.proofs.TextLaws.{gate_first, laws_latch_next, laws_latch_end, laws_gate_first, laws_gate_second}
+use Rattle.ps_circuit.proofs.TextLaws.{joint_header, laws_field, laws_header_1, laws_header_2, laws_header_3}
+use Rattle.ps_circuit.proofs.TextLaws.{laws_header_4, laws_header_5, header_0, header_1, header_of, laws_counted}
+use Rattle.ps_circuit.proofs.TextLaws.{laws_sections, is_one, laws_reset_value, latch_next, gate_first, laws_latch_next}
+use Rattle.ps_circuit.proofs.TextLaws.{laws_latch_end, laws_gate_first, laws_gate_second}
+use Rattle.ps_circuit.proofs.SignLaws.{AtDigit, Separates, digit_separates, separates_digit, laws_number, laws_line_end}
+use Rattle.ps_circuit.proofs.SignLaws.{laws_ended, joint_by_more}
 use Rattle.ps_circuit.proofs.WentFields.{from, Went, went_then, went_mapped, went_as, went_number, went_word}
 use Rattle.ps_circuit.proofs.WentFields.{went_field, went_end, went_more, went_no_more}
 

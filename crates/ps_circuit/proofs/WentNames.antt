@@ -27,9 +27,9 @@ use Rattle.ps_circuit.specs.Texts.{put_names, add_name, take_kind, IsBadSymbol, 
 use Rattle.ps_circuit.specs.Written as written
 use Rattle.ps_circuit.specs.Written.{symbol_lines}
 use Rattle.ps_circuit.proofs.Runs.{Odd, run_reads}
-use Rattle.ps_circuit.proofs.TextLaws.{letter, laws_byte, laws_number, laws_rest, laws_symbol_space, laws_symbol_name}
-use Rattle.ps_circuit.proofs.TextLaws.{laws_symbol_end, laws_symbol_line, symbol_number, joint_letter, digit_space}
-use Rattle.ps_circuit.proofs.TextLaws.{inner_newline, laws_c_line}
+use Rattle.ps_circuit.proofs.TextLaws.{letter, laws_symbol_space, laws_symbol_name, laws_symbol_end, laws_symbol_line}
+use Rattle.ps_circuit.proofs.TextLaws.{symbol_number, joint_letter, laws_c_line}
+use Rattle.ps_circuit.proofs.SignLaws.{laws_byte, laws_number, laws_rest, digit_space, inner_newline}
 use Rattle.ps_circuit.proofs.WentFields.{from, Went, went_then, went_mapped, went_as, Some_value, passes, went_number}
 use Rattle.ps_circuit.proofs.WentFields.{went_byte, went_newline}
 

@@ -12,12 +12,11 @@ use Rattle.ps_pgsolver.specs.GameTexts.{pg_causes, game}
 use Rattle.ps_pgsolver.specs.GamesOf.{named_game_of}
 use Rattle.ps_pgsolver.specs.Lexer.{lex, first_sign, first_size, stream_of}
 use Rattle.ps_pgsolver.specs.Bytes.{is_blank}
-use Rattle.ps_pgsolver.specs.Causes.{StandsWithin}
+use Rattle.ps_pgsolver.specs.Causes.{StandsWithin, PgFault}
 use Rattle.ps_pgsolver.specs.Signs.{Sign}
 use Rattle.ps_pgsolver.specs.declared.fault.PgCause.{PgCause}
 use Rattle.ps_pgsolver.specs.Nodes.{NodeData, KnowsAll, ids_of}
 use Rattle.ps_pgsolver.specs.Reading.{Answer, IsGameAnswer, HasTokens, text_limit, too_long, refused, unknown, meaning}
-use Rattle.ps_pgsolver.specs.Causes.{PgFault}
 use Rattle.ps_text.specs.declared.faults.Fault.TheVariants as faults
 use Rattle.ps_pgsolver.proofs.GameTokens.{tokens_found, only_tokens}
 use Rattle.ps_pgsolver.proofs.Sound.{knows_all, same_nodes}
@@ -54,7 +53,7 @@ pub none_unknown : (text : List ℕ) (nodes other : List NodeData) →
     PartAnswers pg_causes (game None) (stream_of text) (Ok nodes) →
     PartAnswers pg_causes (game (Some (ids_of nodes))) (stream_of text) (Ok other) → KnowsAll (ids_of nodes) nodes
 none_unknown text nodes other first second =
-    let same = same_nodes (Some (ids_of nodes)) (signs (stream_of text).pieces) nodes other first.0 second.0 in
+    let same = same_nodes (Some (ids_of nodes)) (signs (stream_of text).pieces) first.0 second.0 in
     subst (KnowsAll (ids_of nodes)) (sym same) (knows_all (ids_of nodes) (signs (stream_of text).pieces) other
     second.0 second.1)
 
@@ -78,8 +77,7 @@ lex_within n zero before (b ∷ bs) h =
     let next : length (before ++ b ∷ []) + length bs ≤ n = omega (arith, h, length-append before (b ∷ [])) in
     chosen n (is_blank b) (lex zero (before ++ b ∷ []) bs)
     ((record { sign = first_sign before (b ∷ bs); start = length before }) ∷ lex (first_size (b ∷ bs) - 1)
-    (before ++ b ∷ []) bs)
-    (lex_within n zero (before ++ b ∷ []) bs next) (
+    (before ++ b ∷ []) bs) (lex_within n zero (before ++ b ∷ []) bs next) (
       omega (arith, h),
       lex_within n (first_size (b ∷ bs) - 1) (before ++ b ∷ []) bs next,
     )
@@ -89,9 +87,9 @@ offset_within n [] [] h = omega arith
 offset_within n [] (p ∷ rest) h = h.0
 offset_within n (p ∷ front) rest h = offset_within n front rest h.1
 
-refused_within : (text : List ℕ) (stream : Stream Sign) (found : Found PgCause) (known : Option (List ℕ)) →
+refused_within : {text : List ℕ} {stream : Stream Sign} (found : Found PgCause) (known : Option (List ℕ)) →
     HasTokens text stream → PartAnswers pg_causes (game known) stream (Err found) → found.offset ≤ length text
-refused_within text stream found known t p =
+refused_within {text} {stream} found known t p =
     let same_stream : stream ≡ stream_of text = only_tokens text stream t.tokens in
     let split : lex 0 [] text ≡ p.front ++ p.rest = sym (ap (λ s. s.pieces) same_stream) ∙ p.split in
     let offset : found.offset ≡ offset_of p.rest (length text) = p.offset
@@ -102,22 +100,21 @@ refused_within text stream found known t p =
 abbrev refuses : Found PgCause → Result NamedGameData (Found PgCause)
 refuses f = Err f
 
-same_refusal : (f g : Found PgCause) → refuses f ≡ refuses g → f ≡ g
-same_refusal f g e = let x : refuses f ≡ refuses g = e in cc
+same_refusal : {f g : Found PgCause} → refuses f ≡ refuses g → f ≡ g
+same_refusal {f} {g} e = let x : refuses f ≡ refuses g = e in cc
 
-answer_within : (text : List ℕ) (found : Found PgCause) → Answer text (Err found) → found.offset ≤ length text
-answer_within text found (too_long l e) =
-    let x : found.offset ≡ text_limit = ap (λ f. f.offset) (same_refusal found _ e) in omega (arith, x, l)
-answer_within text found (refused stream f t p e) =
-    subst (λ g. g.offset ≤ length text) (sym (same_refusal found f e)) (refused_within text stream f None t p)
-answer_within text found (unknown stream nodes f t p q e) =
-    subst (λ g. g.offset ≤ length text) (sym (same_refusal found f e))
-    (refused_within text stream f (Some (ids_of nodes)) t q)
-answer_within text found (meaning stream nodes t p q e) =
+answer_within : {text : List ℕ} {found : Found PgCause} → Answer text (Err found) → found.offset ≤ length text
+answer_within {found} (too_long l e) =
+    let x : found.offset ≡ text_limit = ap (λ f. f.offset) (same_refusal e) in omega (arith, x, l)
+answer_within {text} (refused stream f t p e) =
+    subst (λ g. g.offset ≤ length text) (sym (same_refusal e)) (refused_within f None t p)
+answer_within {text} (unknown stream nodes f t p q e) =
+    subst (λ g. g.offset ≤ length text) (sym (same_refusal e)) (refused_within f (Some (ids_of nodes)) t q)
+answer_within {found} (meaning stream nodes t p q e) =
     absurd (let x : refuses found ≡ Ok (named_game_of nodes) = e in cc)
 
 pub within_text : (text : List ℕ) (r : Result NamedGameData PgFault) → IsGameAnswer text r →
     IfErr r (StandsWithin (length text))
 within_text text (Ok named) h = tt
 within_text text (Err faults.OutOfMemory) h = tt
-within_text text (Err (faults.Text cause offset)) h = answer_within text (record { cause = cause; offset = offset }) h
+within_text text (Err (faults.Text cause offset)) h = answer_within h

@@ -6,8 +6,7 @@ use Rattle.ps_text.specs.Parts.{one, NoBad}
 use Rattle.ps_text.specs.Readers.{tail}
 use Rattle.ps_text.proofs.Simple.{none_is_some, same_some}
 use Rattle.ps_text.proofs.Covered.{Enters, Avoids, enters_then, enters_one, enters_mapped}
-use Rattle.ps_text.proofs.Meeting.{left_entered, right_otherwise, meets_shrinks}
-use Rattle.ps_text.proofs.Meeting.{meets_give, meets_next}
+use Rattle.ps_text.proofs.Meeting.{left_entered, right_otherwise, meets_shrinks, meets_give, meets_next}
 use Rattle.ps_pgsolver.specs.Answered.{found_of}
 use Rattle.ps_pgsolver.specs.GameTexts.{pg_causes, setting, keyword, keyword_in, value_line, name, name_in, number_in}
 use Rattle.ps_pgsolver.specs.GameTexts.{comma, comma_in, BadId, more_successor, new_id, node, entry}
@@ -17,14 +16,15 @@ use Rattle.ps_pgsolver.specs.Signs.{Sign, Number, Word, Name, Comma}
 use Rattle.ps_pgsolver.specs.declared.fault.PgCause.{PgCause}
 use Rattle.ps_pgsolver.specs.Causes.{PgFault}
 use Rattle.ps_pgsolver.proofs.Exits.{Done, Halts, stops_right, done_then}
-use Rattle.ps_pgsolver.proofs.PartLaws.{IsKind, kind_of, laws_line, laws_no_line, joint_line, line, takes_word}
-use Rattle.ps_pgsolver.proofs.PartLaws.{laws_one_name, laws_no_name, joint_more, joint_id, from_priority, another}
-use Rattle.ps_pgsolver.proofs.PartLaws.{laws_more, laws_entry}
+use Rattle.ps_pgsolver.proofs.PartLaws.{IsKind, kind_of, laws_one_name, laws_no_name, joint_more, joint_id}
+use Rattle.ps_pgsolver.proofs.PartLaws.{from_priority, another, laws_more}
+use Rattle.ps_pgsolver.proofs.GameLaws.{laws_line, laws_no_line, joint_line, line, takes_word, laws_entry}
 
-keyword_done : (word : List ℕ) (old new : Stream Sign) → next_of old ≡ Some (Word word) → new ≡ tail old →
+keyword_done : (word : List ℕ) (old : Stream Sign) {new : Stream Sign} → next_of old ≡ Some (Word word) →
+    new ≡ tail old →
     Done (keyword word) old tt new
 unfolding keyword
-keyword_done word old new e n =
+keyword_done word old {new} e n =
     meets_next found_of pg_causes (keyword_in word) NoBad (λ u. u) old new (Word word) tt e n
     (takes_word word) (λ f b. b)
 
@@ -41,28 +41,28 @@ setting_none word old differs =
     right_otherwise found_of pg_causes (laws_line word) (laws_no_line word) (λ u. u) old old (Ok tt)
     (λ t e h. differs (e ∙ ap Some h)) (λ h. h) (meets_give found_of pg_causes (λ u. u) old tt tt refl)
 
-pub setting_done : (word : List ℕ) (old mid new : Stream Sign) → next_of old ≡ Some (Word word) → mid ≡ tail old →
+pub setting_done : (word : List ℕ) (old : Stream Sign) {mid : Stream Sign} (new : Stream Sign) →
+    next_of old ≡ Some (Word word) → mid ≡ tail old →
     Done value_line mid tt new → Done (setting word) old tt new
 unfolding setting
-setting_done word old mid new e n d =
+setting_done word old {mid} new e n d =
     left_entered found_of pg_causes (laws_line word) (laws_no_line word) (λ u. u) old new (Ok tt)
-    (λ t h k. k) (line_entered word old e) (done_then (joint_line word) old mid new tt tt
-    (keyword_done word old mid e n) d)
+    (λ t h k. k) (line_entered word old e) (done_then (joint_line word) old mid new tt tt (keyword_done word old e n) d)
 
-pub setting_halts : (word : List ℕ) (old mid : Stream Sign) (f : PgFault) → next_of old ≡ Some (Word word) →
+pub setting_halts : (word : List ℕ) (old : Stream Sign) {mid : Stream Sign} (f : PgFault) →
+    next_of old ≡ Some (Word word) →
     mid ≡ tail old → Halts value_line mid f → Halts (setting word) old f
 unfolding setting
-setting_halts word old mid f e n d =
+setting_halts word old {mid} f e n d =
     left_entered found_of pg_causes {X = Unit {0}} (laws_line word) (laws_no_line word) (λ u. u) old old (Err f)
-    (λ t h k. k) (line_entered word old e) (stops_right (joint_line word) old mid tt f
-    (keyword_done word old mid e n) d)
+    (λ t h k. k) (line_entered word old e) (stops_right (joint_line word) old mid tt f (keyword_done word old e n) d)
 
-some_none : {T : Type 0} (t : T) → Some t ≡ None → ⊥
-some_none t e = none_is_some t (sym e)
+some_none : {T : Type 0} {t : T} → Some t ≡ None → ⊥
+some_none {t} e = none_is_some t (sym e)
 
 no_name : (t : Sign) → name_of (Some t) ≡ None → IsKind 2 t → ⊥
 unfolding kind_of
-no_name (Name x) e h = some_none x e
+no_name (Name x) e h = some_none e
 no_name _ e h = absurd (omega (arith, h))
 
 named : (o : Option Sign) (inner : List ℕ) → name_of o ≡ Some inner → o ≡ Some (Name inner)
@@ -74,10 +74,11 @@ unfolding name
 name_none old e = right_otherwise found_of pg_causes laws_one_name laws_no_name (λ n. n) old old (Ok None)
     (λ t h k. no_name t (sym (ap name_of h) ∙ e) k) (λ h. h) (meets_give found_of pg_causes (λ n. n) old None None refl)
 
-pub name_done : (old new : Stream Sign) (inner : List ℕ) → name_of (next_of old) ≡ Some inner → new ≡ tail old →
+pub name_done : (old : Stream Sign) {new : Stream Sign} {inner : List ℕ} → name_of (next_of old) ≡ Some inner →
+    new ≡ tail old →
     Done name old (Some inner) new
 unfolding name
-name_done old new inner e n =
+name_done old {new} {inner} e n =
     let is : next_of old ≡ Some (Name inner) = named (next_of old) inner e in
     left_entered found_of pg_causes laws_one_name laws_no_name (λ n. n) old new (Ok (Some inner)) (λ t h k. k)
     (subst (λ there. Enters (one {F = PgCause} name_in NoBad) there) (sym is)

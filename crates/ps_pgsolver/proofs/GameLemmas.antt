@@ -54,9 +54,9 @@ draft_bare ids nodes h v l =
     let is : IsNode r.0 = r.2 IsNode h in
     omega (arith, ap length r.1, length-map r.0.successors (place_of ids), is.successor)
 
-pub draft_known : (ids : List ℕ) (nodes : List NodeData) → ids ≡ ids_of nodes → KnowsAll ids nodes →
+pub draft_known : {ids : List ℕ} (nodes : List NodeData) → ids ≡ ids_of nodes → KnowsAll ids nodes →
     NoneUnknown (draft_of ids nodes)
-draft_known ids nodes e h v l =
+draft_known {ids} nodes e h v l =
     let r = draft_at ids nodes v l in
     let known : All (λ id. Contains ids id) r.0.successors = r.2 (λ n. All (λ id. Contains ids id) n.successors) h in
     let count : vertex_count (draft_of ids nodes) ≡ length ids = draft_count ids nodes
@@ -64,12 +64,12 @@ draft_known ids nodes e h v l =
     subst (λ n. All (λ w. w < n) (successors_of (draft_of ids nodes) v)) (sym count)
     (subst (λ ws. All (λ w. w < length ids) ws) (sym r.1) (places_within ids r.0.successors known))
 
-pub same_named : (named : NamedGameData) (nodes : List NodeData) → named.game ≡ game_of nodes →
+pub same_named : {named : NamedGameData} (nodes : List NodeData) → named.game ≡ game_of nodes →
     named.ids ≡ ids_of nodes → named.names ≡ names_of nodes → named ≡ named_game_of nodes
-same_named named nodes g i n = ap₂ (λ x y. record { game = x; ids = y; names = named.names }) g i
+same_named {named} nodes g i n = ap₂ (λ x y. record { game = x; ids = y; names = named.names }) g i
     ∙ ap (λ z. record { game = game_of nodes; ids = ids_of nodes; names = z }) n
 
-pub named_count : (game : ParityGame) (nodes : List NodeData) → game ≡ game_of nodes → vertex_count game ≡ length nodes
+pub named_count : {game : ParityGame} (nodes : List NodeData) → game ≡ game_of nodes → vertex_count game ≡ length nodes
 unfolding vertex_count
-named_count game nodes e = ap length e ∙ length-map (draft_of (ids_of nodes) nodes) vertex_without_repeats
+named_count nodes e = ap length e ∙ length-map (draft_of (ids_of nodes) nodes) vertex_without_repeats
     ∙ length-map nodes (vertex_of (ids_of nodes))

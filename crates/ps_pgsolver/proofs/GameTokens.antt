@@ -1,13 +1,12 @@
 -- The tokens of a game text are those that the lexer finds, and no others.
 use Rattle.std.proofs.Common.{◌≡◌, ℕ, zero, suc, ◌+◌, ◌-◌, ◌<◌, ◌≤◌, Bool, true, false, cond, eqb, List, [], ◌∷◌, ◌++◌}
-use Rattle.std.proofs.Common.{length, get_or, take, drop, refl, sym, ap, subst, ◌∙◌, arith, append_assoc}
-use Rattle.std.proofs.Common.{append-nil, length-append}
+use Rattle.std.proofs.Common.{length, get_or, take, drop, refl, sym, ap, subst, ◌∙◌, arith, append_assoc, append-nil}
+use Rattle.std.proofs.Common.{length-append, ne_eqb, lt-ltb, le-ltb, take-append-drop}
 use Rattle.std.specs.List.{prefix_len, take_while}
 use Rattle.std.proofs.lemmas.List.{take_more, drop_all, length-drop}
 use Rattle.std.proofs.Math.Seq.{take-append_seam}
 use Rattle.std.proofs.lemmas.List.Folds.{length-prefix_len}
 use Rattle.std.proofs.lemmas.List.Sums.{prefix_len_stops}
-use Rattle.std.proofs.Common.{ne_eqb, lt-ltb, le-ltb, take-append-drop}
 use Rattle.std.proofs.lemmas.Bool.{ltb-true, ltb-false, eqb-true, eqb-false}
 use Rattle.ps_text.proofs.Splits.{same_split}
 use Rattle.ps_text.specs.Answers.{Stream}
@@ -20,16 +19,15 @@ use Rattle.ps_pgsolver.specs.Bytes.{is_blank, is_digit, is_letter, is_inner, end
 use Rattle.ps_pgsolver.specs.Signs.{Sign, Number, Word, Name, Comma, Semicolon, OpenName, Wrong}
 use Rattle.ps_pgsolver.specs.Lexer.{lex, first_sign, first_size, number_sign, word_sign, name_sign, name_size}
 use Rattle.ps_pgsolver.specs.Lexer.{mark_sign, is_closed, stream_of}
-use Rattle.ps_pgsolver.specs.GameTokens.{IsRun, number_behind_word, word_behind_number, stray}
-use Rattle.ps_pgsolver.specs.GameTokens.{IsToken, AreGameTokens}
+use Rattle.ps_pgsolver.specs.GameTokens.{IsRun, number_behind_word, word_behind_number, stray, IsToken, AreGameTokens}
 use Rattle.ps_pgsolver.proofs.TokenLemmas.{at_digit, at_letter, at_quote, at_mark, lex-blanks, lex-first, lex-end}
 use Rattle.ps_pgsolver.proofs.TokenLemmas.{prefix_len-behind, first_size-positive}
 
 -- ## Runs
 
-first_run : (p : ℕ → Bool) (b : ℕ) (bs : List ℕ) → p b ≡ true →
+first_run : {p : ℕ → Bool} (b : ℕ) (bs : List ℕ) → p b ≡ true →
     IsRun p (take (prefix_len p (b ∷ bs)) (b ∷ bs)) (drop (prefix_len p (b ∷ bs)) (b ∷ bs))
-first_run p b bs h = record {
+first_run {p} b bs h = record {
   some = let size : prefix_len p (b ∷ bs) ≡ suc (prefix_len p bs) = rw h (omega arith) in
       omega (arith, size, length-prefix_len p (b ∷ bs));
   all = run_all p (b ∷ bs);
@@ -47,16 +45,13 @@ letter_no_blank b h = grind arith
 letter_no_digit : (b : ℕ) → is_letter b ≡ true → is_digit b ≡ false
 letter_no_digit b h = grind arith
 
-inner_no_quote : (b : ℕ) → is_inner b ≡ false → b ≡ 34
-inner_no_quote b h = grind arith
+inner_no_quote : {b : ℕ} → is_inner b ≡ false → b ≡ 34
+inner_no_quote h = grind arith
 
 -- ## What the lexer finds is a token
 
 abbrev Found : List ℕ → List ℕ → Sign → ℕ → Type 0
 Found before w t n = IsToken before t (take n w) (drop n w)
-
-run_text : (p : ℕ → Bool) (w : List ℕ) → take (prefix_len p w) w ≡ take_while p w
-run_text p w = refl
 
 number_found : (before : List ℕ) (b : ℕ) (bs : List ℕ) → is_digit b ≡ true →
     Found before (b ∷ bs) (number_sign before (b ∷ bs)) (prefix_len is_digit (b ∷ bs))
@@ -67,8 +62,8 @@ number_found before b bs h = go (ends_in is_letter before) refl
 
     go : (e : Bool) → ends_in is_letter before ≡ e → IsToken before
         (cond e Wrong (Number (decimal_value (take_while is_digit (b ∷ bs))))) (take n (b ∷ bs)) (drop n (b ∷ bs))
-    go true x = number_behind_word (first_run is_digit b bs h) x
-    go false x = (first_run is_digit b bs h, refl, x)
+    go true x = number_behind_word (first_run b bs h) x
+    go false x = (first_run b bs h, refl, x)
 
 word_found : (before : List ℕ) (b : ℕ) (bs : List ℕ) → is_letter b ≡ true →
     Found before (b ∷ bs) (word_sign before (b ∷ bs)) (prefix_len is_letter (b ∷ bs))
@@ -79,8 +74,8 @@ word_found before b bs h = go (ends_in is_digit before) refl
 
     go : (e : Bool) → ends_in is_digit before ≡ e → IsToken before (cond e Wrong (Word (take_while is_letter (b ∷ bs))))
         (take n (b ∷ bs)) (drop n (b ∷ bs))
-    go true x = word_behind_number (first_run is_letter b bs h) x
-    go false x = (first_run is_letter b bs h, refl, x)
+    go true x = word_behind_number (first_run b bs h) x
+    go false x = (first_run b bs h, refl, x)
 
 name_found : (before bs : List ℕ) → Found before (34 ∷ bs) (name_sign bs) (name_size bs)
 name_found before bs = go (is_closed bs) refl
@@ -96,7 +91,7 @@ name_found before bs = go (is_closed bs) refl
         size = omega arith
 
         quote : get_or bs n 0 ≡ 34
-        quote = inner_no_quote (get_or bs n 0) (prefix_len_stops is_inner bs 0 l)
+        quote = inner_no_quote (prefix_len_stops is_inner bs 0 l)
 
         text : take (n + 2) (34 ∷ bs) ≡ 34 ∷ (take n bs ++ 34 ∷ [])
         text = ap (λ k. take k (34 ∷ bs)) size ∙ ap (λ z. 34 ∷ z) (take_more bs n 0 l)
@@ -107,8 +102,7 @@ name_found before bs = go (is_closed bs) refl
       take n bs,
       ap (λ k. take k (34 ∷ bs)) size,
       run_all is_inner bs,
-      ap (λ k. drop k (34 ∷ bs)) size
-          ∙ drop_all n bs l,
+      ap (λ k. drop k (34 ∷ bs)) size ∙ drop_all n bs l,
     )
       where
         size : n + 1 ≡ suc n
@@ -149,47 +143,47 @@ found before b bs k = go (is_digit b) (is_letter b) (eqb b 34) refl refl refl
 
     go : (d l q : Bool) → is_digit b ≡ d → is_letter b ≡ l → eqb b 34 ≡ q →
         Found before w (first_sign before w) (first_size w)
-    go true l q x y z = let p = at_digit before b bs w refl x in moved before w _ _ p.0 p.1 (number_found before b bs x)
+    go true l q x y z = let p = at_digit before b bs refl x in moved before w _ _ p.0 p.1 (number_found before b bs x)
     go false true q x y z =
-        let p = at_letter before b bs w refl x y in moved before w _ _ p.0 p.1 (word_found before b bs y)
-    go false false true x y z = let p = at_quote before b bs w refl (eqb-true b 34 z) in
+        let p = at_letter before b bs refl x y in moved before w _ _ p.0 p.1 (word_found before b bs y)
+    go false false true x y z = let p = at_quote before bs refl (eqb-true b 34 z) in
         moved before w _ _ p.0 p.1 (subst (λ c. Found before (c ∷ bs) (name_sign bs) (name_size bs))
         (sym (eqb-true b 34 z)) (name_found before bs))
     go false false false x y z =
-        let p = at_mark before b bs w refl x y z in moved before w _ _ p.0 p.1 (mark_found before b bs x y k z)
+        let p = at_mark before b bs refl x y z in moved before w _ _ p.0 p.1 (mark_found before b bs x y k z)
 
 -- ## What is a token is what the lexer finds
 
 abbrev IsFound : List ℕ → List ℕ → Sign → ℕ → Type 0
 IsFound before w t n = (first_sign before w ≡ t) × (first_size w ≡ n)
 
-run_begins : (p : ℕ → Bool) (text rest : List ℕ) → IsRun p text rest →
+run_begins : {p : ℕ → Bool} {text rest : List ℕ} → IsRun p text rest →
     (b : ℕ) × (bs : List ℕ) × (text ≡ b ∷ bs) × (p b ≡ true)
-run_begins p text rest r = go text r.some r.all
+run_begins {p} {text} r = go text r.some r.all
   where
     go : (text : List ℕ) → 0 < length text → AllOf p text → (b : ℕ) × (bs : List ℕ) × (text ≡ b ∷ bs) × (p b ≡ true)
     go [] s a = absurd (omega (arith, s))
     go (b ∷ bs) s a = (b, bs, refl, a.0)
 
-run_taken : (p : ℕ → Bool) (text rest : List ℕ) → IsRun p text rest →
+run_taken : {p : ℕ → Bool} {text rest : List ℕ} → IsRun p text rest →
     (prefix_len p (text ++ rest) ≡ length text) × (take_while p (text ++ rest) ≡ text)
-run_taken p text rest r =
+run_taken {p} {text} {rest} r =
     let n : prefix_len p (text ++ rest) ≡ length text = run_len p text rest r.all r.longest in
     (n, ap (λ k. take k (text ++ rest)) n ∙ take-append_seam text rest)
 
-digits_are : (before text rest : List ℕ) → IsRun is_digit text rest →
+digits_are : (before : List ℕ) {text rest : List ℕ} → IsRun is_digit text rest →
     IsFound before (text ++ rest) (number_sign before (text ++ rest)) (length text)
-digits_are before text rest r =
-    let s = run_begins is_digit text rest r in
-    let p = at_digit before s.0 (s.1 ++ rest) (text ++ rest) (ap (λ z. z ++ rest) s.2) s.3 in
-    (p.0, p.1 ∙ (run_taken is_digit text rest r).0)
+digits_are before {text} {rest} r =
+    let s = run_begins r in
+    let p = at_digit before s.0 (s.1 ++ rest) (ap (λ z. z ++ rest) s.2) s.3 in
+    (p.0, p.1 ∙ (run_taken r).0)
 
-letters_are : (before text rest : List ℕ) → IsRun is_letter text rest →
+letters_are : (before : List ℕ) {text rest : List ℕ} → IsRun is_letter text rest →
     IsFound before (text ++ rest) (word_sign before (text ++ rest)) (length text)
-letters_are before text rest r =
-    let s = run_begins is_letter text rest r in
-    let p = at_letter before s.0 (s.1 ++ rest) (text ++ rest) (ap (λ z. z ++ rest) s.2) (letter_no_digit s.0 s.3) s.3 in
-    (p.0, p.1 ∙ (run_taken is_letter text rest r).0)
+letters_are before {text} {rest} r =
+    let s = run_begins r in
+    let p = at_letter before s.0 (s.1 ++ rest) (ap (λ z. z ++ rest) s.2) (letter_no_digit s.0 s.3) s.3 in
+    (p.0, p.1 ∙ (run_taken r).0)
 
 closed_name : (inner rest : List ℕ) → AllOf is_inner inner →
     (name_sign ((inner ++ 34 ∷ []) ++ rest) ≡ Name inner) × (name_size ((inner ++ 34 ∷ []) ++ rest) ≡ length
@@ -216,9 +210,9 @@ closed_name inner rest a =
           (let x : length (inner ++ 34 ∷ []) ≡ length inner + 1 = length-append inner (34 ∷ []) in omega (arith, n, x)),
     )
 
-open_name_is : (inner rest : List ℕ) → AllOf is_inner inner → rest ≡ [] →
+open_name_is : (inner : List ℕ) {rest : List ℕ} → AllOf is_inner inner → rest ≡ [] →
     (name_sign (inner ++ rest) ≡ OpenName) × (name_size (inner ++ rest) ≡ length (34 ∷ inner))
-open_name_is inner rest a e =
+open_name_is inner a e =
     subst (λ r. (name_sign (inner ++ r) ≡ OpenName) × (name_size (inner ++ r) ≡ length (34 ∷ inner))) (sym e) both
   where
     n : prefix_len is_inner (inner ++ []) ≡ length inner
@@ -241,41 +235,40 @@ not_both b f t = let x : false ≡ true = sym f ∙ t in cc
 token_is : (before text rest : List ℕ) (t : Sign) → IsToken before t text rest →
     IsFound before (text ++ rest) t (length text)
 token_is before text rest (Number n) h =
-    let p = digits_are before text rest h.0 in (
+    let p = digits_are before h.0 in (
       p.0 ∙ ap (λ e. cond e Wrong (Number (decimal_value (take_while is_digit (text ++ rest))))) h.2
-          ∙ ap (λ z. Number (decimal_value z)) (run_taken is_digit text rest h.0).1 ∙ ap Number (sym h.1),
+          ∙ ap (λ z. Number (decimal_value z)) (run_taken h.0).1 ∙ ap Number (sym h.1),
       p.1,
     )
 token_is before text rest (Word letters) h =
-    let p = letters_are before text rest h.0 in (
+    let p = letters_are before h.0 in (
       p.0 ∙ ap (λ e. cond e Wrong (Word (take_while is_letter (text ++ rest)))) h.2
-          ∙ ap Word (run_taken is_letter text rest h.0).1 ∙ ap Word (sym h.1),
+          ∙ ap Word (run_taken h.0).1 ∙ ap Word (sym h.1),
       p.1,
     )
 token_is before text rest (Name inner) h =
     let bs : List ℕ = (inner ++ 34 ∷ []) ++ rest in
-    let p = at_quote before 34 bs (text ++ rest) (ap (λ z. z ++ rest) h.0) refl in
+    let p = at_quote before bs (ap (λ z. z ++ rest) h.0) refl in
     let q = closed_name inner rest h.1 in
     (p.0 ∙ q.0, p.1 ∙ q.1 ∙ ap length (sym h.0))
 token_is before text rest Comma h =
-    let p = at_mark before 44 rest (text ++ rest) (ap (λ z. z ++ rest) h) refl refl refl in
+    let p = at_mark before 44 rest (ap (λ z. z ++ rest) h) refl refl refl in
     (p.0, p.1 ∙ ap length (sym h))
 token_is before text rest Semicolon h =
-    let p = at_mark before 59 rest (text ++ rest) (ap (λ z. z ++ rest) h) refl refl refl in
+    let p = at_mark before 59 rest (ap (λ z. z ++ rest) h) refl refl refl in
     (p.0, p.1 ∙ ap length (sym h))
 token_is before text rest OpenName h =
-    let p = at_quote before 34 (h.0 ++ rest) (text ++ rest) (ap (λ z. z ++ rest) h.1) refl in
-    let q = open_name_is h.0 rest h.2 h.3 in
+    let p = at_quote before (h.0 ++ rest) (ap (λ z. z ++ rest) h.1) refl in
+    let q = open_name_is h.0 h.2 h.3 in
     (p.0 ∙ q.0, p.1 ∙ q.1 ∙ ap length (sym h.1))
 token_is before text rest Wrong (number_behind_word r e) =
-    let p = digits_are before text rest r in
+    let p = digits_are before r in
     (p.0 ∙ ap (λ e. cond e Wrong (Number (decimal_value (take_while is_digit (text ++ rest))))) e, p.1)
 token_is before text rest Wrong (word_behind_number r e) =
-    let p = letters_are before text rest r in
+    let p = letters_are before r in
     (p.0 ∙ ap (λ e. cond e Wrong (Word (take_while is_letter (text ++ rest)))) e, p.1)
 token_is before text rest Wrong (stray b x s) =
-    let p =
-    at_mark before b rest (text ++ rest) (ap (λ z. z ++ rest) x) s.no_digit s.no_letter (ne_eqb b 34 s.no_quote) in (
+    let p = at_mark before b rest (ap (λ z. z ++ rest) x) s.no_digit s.no_letter (ne_eqb b 34 s.no_quote) in (
       p.0 ∙ ap (λ e. cond e Comma (cond (eqb b 59) Semicolon Wrong)) (ne_eqb b 44 s.no_comma)
           ∙ ap (λ e. cond e Semicolon Wrong) (ne_eqb b 59 s.no_semicolon),
       p.1 ∙ ap length (sym x),
@@ -286,17 +279,17 @@ token_is before text rest Wrong (stray b x s) =
 token_begins : (before text rest : List ℕ) (t : Sign) → IsToken before t text rest →
     (b : ℕ) × (bs : List ℕ) × (text ≡ b ∷ bs) × (is_blank b ≡ true → ⊥)
 token_begins before text rest (Number n) h =
-    let s = run_begins is_digit text rest h.0 in (s.0, s.1, s.2, not_both s.0 (digit_no_blank s.0 s.3))
+    let s = run_begins h.0 in (s.0, s.1, s.2, not_both s.0 (digit_no_blank s.0 s.3))
 token_begins before text rest (Word letters) h =
-    let s = run_begins is_letter text rest h.0 in (s.0, s.1, s.2, not_both s.0 (letter_no_blank s.0 s.3))
+    let s = run_begins h.0 in (s.0, s.1, s.2, not_both s.0 (letter_no_blank s.0 s.3))
 token_begins before text rest (Name inner) h = (34, inner ++ 34 ∷ [], h.0, not_both 34 refl)
 token_begins before text rest Comma h = (44, [], h, not_both 44 refl)
 token_begins before text rest Semicolon h = (59, [], h, not_both 59 refl)
 token_begins before text rest OpenName h = (34, h.0, h.1, not_both 34 refl)
 token_begins before text rest Wrong (number_behind_word r e) =
-    let s = run_begins is_digit text rest r in (s.0, s.1, s.2, not_both s.0 (digit_no_blank s.0 s.3))
+    let s = run_begins r in (s.0, s.1, s.2, not_both s.0 (digit_no_blank s.0 s.3))
 token_begins before text rest Wrong (word_behind_number r e) =
-    let s = run_begins is_letter text rest r in (s.0, s.1, s.2, not_both s.0 (letter_no_blank s.0 s.3))
+    let s = run_begins r in (s.0, s.1, s.2, not_both s.0 (letter_no_blank s.0 s.3))
 token_begins before text rest Wrong (stray b x s) = (b, [], x, not_both b s.no_blank)
 
 pub tokens_differ : TokensDiffer (λ b. is_blank b ≡ true) IsToken
@@ -308,8 +301,7 @@ tokens_differ = record { begins = token_begins; one = one }
         let p = token_is before text rest t h in
         let q = token_is before text' rest' u k in (
           sym p.0 ∙ ap (first_sign before) e ∙ q.0,
-          (same_split text rest text' rest' e
-              (sym p.1 ∙ ap first_size e ∙ q.1)).0,
+          (same_split text rest text' rest' e (sym p.1 ∙ ap first_size e ∙ q.1)).0,
         )
 
 all_blank : (w : List ℕ) → drop (prefix_len is_blank w) w ≡ [] → AllOf is_blank w

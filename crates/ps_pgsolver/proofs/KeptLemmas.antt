@@ -19,8 +19,7 @@ use Rattle.ps_pgsolver.specs.Nodes.{names_of}
 use Rattle.ps_pgsolver.proofs.NodeLemmas.{AreNodes-push}
 
 kept_ids : (ids : List ℕ) (vertices : ParityGame) (names : List (Option (List ℕ))) → length ids ≡ length vertices →
-    length names ≡ length ids →
-    ids_of (nodes_kept ids vertices names) ≡ ids
+    length names ≡ length ids → ids_of (nodes_kept ids vertices names) ≡ ids
 unfolding nodes_kept
 kept_ids [] vertices names i n = refl
 kept_ids (id ∷ ids) [] names i n = absurd (omega (arith, i))
@@ -29,8 +28,7 @@ kept_ids (id ∷ ids) (v ∷ vertices) (name ∷ names) i n =
     ap (λ xs. id ∷ xs) (kept_ids ids vertices names (omega (arith, i)) (omega (arith, n)))
 
 kept_names : (ids : List ℕ) (vertices : ParityGame) (names : List (Option (List ℕ))) → length ids ≡ length vertices →
-    length names ≡ length ids →
-    names_of (nodes_kept ids vertices names) ≡ names
+    length names ≡ length ids → names_of (nodes_kept ids vertices names) ≡ names
 unfolding nodes_kept
 kept_names [] vertices [] i n = refl
 kept_names [] vertices (name ∷ names) i n = absurd (omega (arith, n))
@@ -40,8 +38,7 @@ kept_names (id ∷ ids) (v ∷ vertices) (name ∷ names) i n =
     ap (λ xs. name ∷ xs) (kept_names ids vertices names (omega (arith, i)) (omega (arith, n)))
 
 kept_vertices : (ids : List ℕ) (vertices : ParityGame) (names : List (Option (List ℕ))) → length ids ≡ length vertices →
-    length names ≡ length ids →
-    map vertex_kept (nodes_kept ids vertices names) ≡ vertices
+    length names ≡ length ids → map vertex_kept (nodes_kept ids vertices names) ≡ vertices
 unfolding nodes_kept
 kept_vertices [] [] names i n = refl
 kept_vertices [] (v ∷ vertices) names i n = absurd (omega (arith, i))
@@ -52,8 +49,7 @@ kept_vertices (id ∷ ids) (v ∷ vertices) (name ∷ names) i n =
 
 -- one more node
 kept_push : (ids : List ℕ) (vertices : ParityGame) (names : List (Option (List ℕ))) (id : ℕ) (v : VertexData)
-    (name : Option (List ℕ)) →
-    length ids ≡ length vertices → length names ≡ length ids →
+    (name : Option (List ℕ)) → length ids ≡ length vertices → length names ≡ length ids →
     nodes_kept (ids ++ id ∷ []) (vertices ++ v ∷ []) (names ++ name ∷ []) ≡ nodes_kept ids vertices names ++
     node_kept id v name ∷ []
 unfolding nodes_kept
@@ -73,8 +69,7 @@ placed ids (n ∷ nodes) = ap (λ vs. vertex_of ids n ∷ vs) (placed ids nodes)
 -- ## What is kept, as the nodes that it stands for
 
 module _ (ids : List ℕ) (vertices : ParityGame) (names : List (Option (List ℕ))) (kept : AreKept ids vertices names)
-    (nodes : List NodeData)
-    (e : nodes_kept ids vertices names ≡ nodes) where
+    (nodes : List NodeData) (e : nodes_kept ids vertices names ≡ nodes) where
   pub ids_are : ids ≡ ids_of nodes
   ids_are = sym (kept_ids ids vertices names kept.id_each kept.name_each) ∙ ap ids_of e
 
@@ -128,34 +123,32 @@ module _ (ids : List ℕ) (vertices : ParityGame) (names : List (Option (List �
             length-append ids (id ∷ []),
             kept.name_each,
           );
-      well_formed =
-          subst AreNodes (sym pushed_is) (AreNodes-push nodes (node_kept id v name)
-          (subst AreNodes e kept.well_formed) new is);
+      well_formed = subst AreNodes (sym pushed_is) (AreNodes-push (subst AreNodes e kept.well_formed) new is);
     }
 
-pub AreKept-none : (ids : List ℕ) (vertices : ParityGame) (names : List (Option (List ℕ))) → ids ≡ [] → vertices ≡ [] →
+pub AreKept-none : {ids : List ℕ} {vertices : ParityGame} {names : List (Option (List ℕ))} → ids ≡ [] → vertices ≡ [] →
     names ≡ [] → AreKept ids vertices names
 unfolding nodes_kept
-AreKept-none ids vertices names i v n = record {
+AreKept-none {vertices} {names} i v n = record {
   id_each = ap length i ∙ sym (ap length v);
   name_each = ap length n ∙ sym (ap length i);
   well_formed = subst (λ xs. AreNodes (nodes_kept xs vertices names)) (sym i)
       (record { distinct = λ k j d l m. absurd (omega (arith, m)); each = λ k d l. absurd (omega (arith, l)) });
 }
 
-pub nodes_kept-none : (ids : List ℕ) (vertices : ParityGame) (names : List (Option (List ℕ))) → ids ≡ [] →
+pub nodes_kept-none : {ids : List ℕ} (vertices : ParityGame) (names : List (Option (List ℕ))) → ids ≡ [] →
     nodes_kept ids vertices names ≡ []
 unfolding nodes_kept
-nodes_kept-none ids vertices names i = ap (λ xs. nodes_kept xs vertices names) i
+nodes_kept-none vertices names i = ap (λ xs. nodes_kept xs vertices names) i
 
 -- ## Names up to the last node that has one
 
 abbrev no_name : Option (List ℕ)
 no_name = None
 
-pub few_names : (count : ℕ) (names : List (Option (List ℕ))) → length (with_none count names) ≡ count →
+pub few_names : {count : ℕ} (names : List (Option (List ℕ))) → length (with_none count names) ≡ count →
     length names ≤ count
-few_names count names e =
+few_names {count} names e =
     omega (
       arith,
       e,
@@ -185,22 +178,21 @@ with_none-more count names few =
     ap (λ n. names ++ replicate n no_name) more ∙ ap (λ xs. names ++ xs) (none_more (count - length names))
     ∙ sym (append_assoc names (replicate (count - length names) no_name) (no_name ∷ []))
 
-pub names_pushed : (count : ℕ) (padded old : List (Option (Vec ℕ Global))) (name : Option (Vec ℕ Global)) →
+pub names_pushed : {count : ℕ} (padded old : List (Option (Vec ℕ Global))) (name : Option (Vec ℕ Global)) →
     length padded ≤ count →
     (is_some name ≡ true → length padded ≡ count) → with_none count (map name_bytes padded) ≡ with_none count
     (map name_bytes old) →
     with_none (count + 1) (map name_bytes (names_with padded name)) ≡ with_none count (map name_bytes old) ++
     name_bytes name ∷ []
-names_pushed count padded old None few full same =
+names_pushed {count} padded old None few full same =
     with_none-more count (map name_bytes padded) (omega (arith, length-map padded name_bytes))
     ∙ ap (λ xs. xs ++ no_name ∷ []) same
-names_pushed count padded old (Some name) few full same =
+names_pushed {count} padded old (Some name) few full same =
     let whole : length padded ≡ count = full refl in
     let last = name_bytes (Some name) in
     let e : map name_bytes (padded ++ Some name ∷ []) ≡ map name_bytes padded ++ last ∷ [] =
     map-append name_bytes padded (Some name ∷ []) in
-    ap (with_none (count + 1)) e
-    ∙ with_none-all (count + 1) (map name_bytes padded ++ last ∷ [])
+    ap (with_none (count + 1)) e ∙ with_none-all (count + 1) (map name_bytes padded ++ last ∷ [])
     (omega (arith, length-append (map name_bytes padded) (last ∷ []), length-map padded name_bytes))
     ∙ ap (λ xs. xs ++ last ∷ []) (sym (with_none-all count (map name_bytes padded)
     (omega (arith, length-map padded name_bytes))) ∙ same)

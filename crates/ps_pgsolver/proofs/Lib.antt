@@ -9,6 +9,7 @@ pub mod GameTokens
 pub mod SingleSigns
 pub mod ValueLemmas
 pub mod PartLaws
+pub mod GameLaws
 pub mod Exits
 pub mod Choices
 pub mod Wholes

@@ -23,9 +23,10 @@ first_of_lex : (before rest : List ℕ) → prefix_len is_blank rest ≡ 0 →
 first_of_lex before [] none = ap (λ ps. first_of (signs ps)) (lex-end before)
 first_of_lex before (b ∷ bs) none = ap (λ ps. first_of (signs ps)) (lex-first before (b ∷ bs) none (omega arith))
 
-pub next_sign : (text before rest : List ℕ) (at start : ℕ) → start ≡ at + prefix_len is_blank (drop at text) →
+pub next_sign : (text : List ℕ) {before rest : List ℕ} (at : ℕ) {start : ℕ} →
+    start ≡ at + prefix_len is_blank (drop at text) →
     before ≡ take start text → rest ≡ drop start text → next_of (stream_from text at) ≡ head_sign before rest
-next_sign text before rest at start begins front back =
+next_sign text {before} at {start} begins front back =
     let none : prefix_len is_blank (drop start text) ≡ 0 =
     rw (begins, ← drop-drop (prefix_len is_blank (drop at text)) at text) (prefix_len-behind is_blank (drop at text)) in
     ap next_of (stream_from-blanks text at ∙ ap (stream_from text) (sym begins))
@@ -61,15 +62,11 @@ by_class : (P : Sign → Type 0) (before : List ℕ) (b : ℕ) (bs : List ℕ) �
     (is_digit b ≡ false → eqb b 34 ≡ true → P (name_sign bs)) →
     (is_digit b ≡ false → eqb b 34 ≡ false → P (mark_sign b)) → P (first_sign before (b ∷ bs))
 by_class P before b bs number word name mark = ⊎_elim
-    (λ (d : is_digit b ≡ true). rw (sign_digit before b bs d) (number d))
-    (λ (d : is_digit b ≡ false). ⊎_elim
-    (λ (l : is_letter b ≡ true). rw (sign_letter before b bs d l) (word d l))
-    (λ (l : is_letter b ≡ false). ⊎_elim
+    (λ (d : is_digit b ≡ true). rw (sign_digit before b bs d) (number d)) (λ (d : is_digit b ≡ false). ⊎_elim
+    (λ (l : is_letter b ≡ true). rw (sign_letter before b bs d l) (word d l)) (λ (l : is_letter b ≡ false). ⊎_elim
     (λ (q : eqb b 34 ≡ true). rw (sign_quote before b bs d l q) (name d q))
-    (λ (q : eqb b 34 ≡ false). rw (sign_mark before b bs d l q) (mark d q))
-    (cases_Bool (eqb b 34)))
-    (cases_Bool (is_letter b)))
-    (cases_Bool (is_digit b))
+    (λ (q : eqb b 34 ≡ false). rw (sign_mark before b bs d l q) (mark d q)) (cases_Bool (eqb b 34)))
+    (cases_Bool (is_letter b))) (cases_Bool (is_digit b))
 
 -- what holds of both signs holds of the one that a test chooses
 of_both : {X : Type 0} {x : X} {a b : Sign} (f : Sign → X) (t : Bool) → f a ≡ x → f b ≡ x → f (cond t a b) ≡ x
@@ -93,11 +90,9 @@ pub at_number : (before rest : List ℕ) →
     is_number (head_sign before rest) ≡ begins_in is_digit rest && not (ends_in is_letter before)
 at_number before [] = refl
 at_number before (b ∷ bs) = by_class (λ sign. is_number (Some sign) ≡ is_digit b && not (ends_in is_letter before))
-    before b bs
-    (λ d. number_number (ends_in is_letter before) _ ∙ other d)
+    before b bs (λ d. number_number (ends_in is_letter before) _ ∙ other d)
     (λ d l. of_both is (ends_in is_digit before) refl refl ∙ other d)
-    (λ d q. of_both is (is_closed bs) refl refl ∙ other d)
-    (λ d q. of_marks is b refl refl refl ∙ other d)
+    (λ d q. of_both is (is_closed bs) refl refl ∙ other d) (λ d q. of_marks is b refl refl refl ∙ other d)
   where
     is : Sign → Bool
     is sign = is_number (Some sign)
@@ -109,8 +104,7 @@ at_number before (b ∷ bs) = by_class (λ sign. is_number (Some sign) ≡ is_di
 no_comma_where : (b : ℕ) (p : ℕ → Bool) → p 44 ≡ false → p b ≡ true → eqb b 44 ≡ false
 no_comma_where b p fails passes = ⊎_elim
     (λ (e : eqb b 44 ≡ true). let x : true ≡ false = sym passes ∙ ap p (eqb-true b 44 e) ∙ fails in cc)
-    (λ (e : eqb b 44 ≡ false). e)
-    (cases_Bool (eqb b 44))
+    (λ (e : eqb b 44 ≡ false). e) (cases_Bool (eqb b 44))
 
 -- a comma comes next where its byte does
 pub at_comma : (before rest : List ℕ) → is_comma (head_sign before rest) ≡ begins_in (λ b. eqb b 44) rest
@@ -131,5 +125,4 @@ at_no_name before [] none = refl
 at_no_name before (b ∷ bs) none = by_class (λ sign. name_of (Some sign) ≡ None) before b bs
     (λ d. of_both (λ sign. name_of (Some sign)) (ends_in is_letter before) refl refl)
     (λ d l. of_both (λ sign. name_of (Some sign)) (ends_in is_digit before) refl refl)
-    (λ d q. let x : true ≡ false = sym q ∙ none in cc)
-    (λ d q. of_marks (λ sign. name_of (Some sign)) b refl refl refl)
+    (λ d q. let x : true ≡ false = sym q ∙ none in cc) (λ d q. of_marks (λ sign. name_of (Some sign)) b refl refl refl)

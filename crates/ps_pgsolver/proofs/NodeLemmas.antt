@@ -1,11 +1,10 @@
 -- Nodes with a table of their ids.
 use Rattle.std.proofs.Common.{◌≡◌, ◌≢◌, ℕ, List, [], ◌∷◌, ◌++◌, Option, true, length, arith, length-append, sym, subst}
-use Rattle.std.proofs.lemmas.List.{get_or_append_left}
+use Rattle.std.proofs.lemmas.List.{get_or_append_left, map-append}
 use Rattle.std.proofs.lemmas.List.Sums.{AllPass-from_list_all, list_all-from_AllPass}
 use Rattle.std.proofs.Math.Seq.{get_or-append_seam}
 use Rattle.ps_ids.proofs.Members.{Contains-any, any-from_Contains}
 use Rattle.std.specs.List.{All, AllPairs, Contains}
-use Rattle.std.proofs.lemmas.List.{map-append}
 use Rattle.std.proofs.lemmas.List.Elements.{All-push, All-map, Contains-get_or}
 use Rattle.std.proofs.lemmas.List.Quantifiers.{all_pairs_push}
 use Rattle.ps_game.specs.Games.{HasNoQuote}
@@ -15,18 +14,18 @@ use Rattle.ps_pgsolver.specs.Nodes.{ids_of, names_of}
 pub ids_of-push : (nodes : List NodeData) (node : NodeData) → ids_of (nodes ++ node ∷ []) ≡ ids_of nodes ++ node.id ∷ []
 ids_of-push nodes node = map-append (λ n. n.id) nodes (node ∷ [])
 
-pub AreNodes-push : (nodes : List NodeData) (node : NodeData) → AreNodes nodes → ¬ Contains (ids_of nodes) node.id →
+pub AreNodes-push : {nodes : List NodeData} {node : NodeData} → AreNodes nodes → ¬ Contains (ids_of nodes) node.id →
     IsNode node → AreNodes (nodes ++ node ∷ [])
-AreNodes-push nodes node are new is = record {
+AreNodes-push {nodes} {node} are new is = record {
   distinct = subst (λ ids. AllPairs (λ x y. x ≢ y) ids) (sym (ids_of-push nodes node))
       (all_pairs_push (λ x y. x ≢ y) (ids_of nodes) node.id are.distinct
       (λ k d l e. new (subst (λ id. Contains (ids_of nodes) id) e (Contains-get_or (ids_of nodes) k d l))));
   each = All-push IsNode nodes node are.each is;
 }
 
-pub names_plain : (nodes : List NodeData) (names : List (Option (List ℕ))) → names ≡ names_of nodes → AreNodes nodes →
+pub names_plain : {nodes : List NodeData} {names : List (Option (List ℕ))} → names ≡ names_of nodes → AreNodes nodes →
     All HasNoQuote names
-names_plain nodes names e are =
+names_plain {nodes} e are =
     subst (λ ns. All HasNoQuote ns) (sym e) (All-map HasNoQuote (λ n. n.name) nodes (λ k d l. (are.each k d l).name))
 
 -- ## All of a list with one more at its end

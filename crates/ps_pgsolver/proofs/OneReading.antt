@@ -15,7 +15,7 @@ use Rattle.ps_pgsolver.specs.Signs.{Sign}
 use Rattle.ps_pgsolver.specs.declared.fault.PgCause.{PgCause}
 use Rattle.ps_pgsolver.specs.declared.fault.PgCause.TheVariants as causes
 use Rattle.ps_pgsolver.proofs.GameTokens.{only_tokens}
-use Rattle.ps_pgsolver.proofs.PartLaws.{laws_game}
+use Rattle.ps_pgsolver.proofs.GameLaws.{laws_game}
 
 abbrev of_number : ℕ → PgCause
 of_number n =
@@ -100,24 +100,23 @@ over text a (meaning s ns h p q e) =
 not_both : (ns : List NodeData) (f : Found PgCause) → nodes_ok ns ≡ nodes_err f → ⊥
 not_both ns f e = let x : IsOkNodes (nodes_err f) = subst IsOkNodes e tt in x
 
-same_over : (text : List ℕ) (a b : GameAnswer) → Over text a → Over text b → a ≡ b
-same_over text a b (long l e) (long m k) = e ∙ sym k
-same_over text a b (long l e) (first m g q k) = absurd (omega (arith, l, m))
-same_over text a b (long l e) (both m ns r p q k) = absurd (omega (arith, l, m))
-same_over text a b (first l f p e) (long m k) = absurd (omega (arith, l, m))
-same_over text a b (first l f p e) (first m g q k) =
+same_over : {text : List ℕ} {a b : GameAnswer} → Over text a → Over text b → a ≡ b
+same_over (long l e) (long m k) = e ∙ sym k
+same_over (long l e) (first m g q k) = absurd (omega (arith, l, m))
+same_over (long l e) (both m ns r p q k) = absurd (omega (arith, l, m))
+same_over (first l f p e) (long m k) = absurd (omega (arith, l, m))
+same_over {text} (first l f p e) (first m g q k) =
     e ∙ ap refusal (ap (found_in f) (same_answer None (stream_of text) (nodes_err f) (nodes_err g) p q)) ∙ sym k
-same_over text a b (first l f p e) (both m ns r q s k) =
+same_over {text} (first l f p e) (both m ns r q s k) =
     absurd (not_both ns f (same_answer None (stream_of text) (nodes_ok ns) (nodes_err f) q p))
-same_over text a b (both l ns r p q e) (long m k) = absurd (omega (arith, l, m))
-same_over text a b (both l ns r p q e) (first m f s k) =
+same_over (both l ns r p q e) (long m k) = absurd (omega (arith, l, m))
+same_over {text} (both l ns r p q e) (first m f s k) =
     absurd (not_both ns f (same_answer None (stream_of text) (nodes_ok ns) (nodes_err f) p s))
-same_over text a b (both l ns r p q e) (both m ms t s u k) =
+same_over {text} (both l ns r p q e) (both m ms t s u k) =
     let x : ns ≡ ms = ap (nodes_of ns) (same_answer None (stream_of text) (nodes_ok ns) (nodes_ok ms) p s) in
-    let y : r ≡ t =
-    same_answer (Some (ids_of ms)) (stream_of text) r t (subst
+    let y : r ≡ t = same_answer (Some (ids_of ms)) (stream_of text) r t (subst
     (λ z. PartAnswers pg_causes (game (Some (ids_of z))) (stream_of text) r) x q) u in
     e ∙ ap (λ z. result_of z r) x ∙ ap (result_of ms) y ∙ sym k
 
 pub one_reading : (text : List ℕ) (a b : GameAnswer) → Answer text a → Answer text b → a ≡ b
-one_reading text a b h k = same_over text a b (over text a h) (over text b k)
+one_reading text a b h k = same_over (over text a h) (over text b k)

@@ -11,7 +11,7 @@ use Rattle.ps_text.proofs.Meeting.{meets_next, meets_bad_next, meets_refusal}
 use Rattle.ps_ids.proofs.Members.{any-from_Contains, Contains-any}
 use Rattle.ps_pgsolver.specs.Answered.{ReadsAs, found_of, ReadsKnown, is_known, number_answer, id_answer, owner_answer}
 use Rattle.ps_pgsolver.specs.Answered.{successor_answer, first_answer, semicolon_answer, comma_answer}
-use Rattle.ps_pgsolver.specs.Causes.{cause_number}
+use Rattle.ps_pgsolver.specs.Causes.{cause_number, PgFault}
 use Rattle.ps_pgsolver.specs.GameTexts.{pg_causes, too_large, number_in, comma_in, semicolon_in, BadNumber, BadId}
 use Rattle.ps_pgsolver.specs.GameTexts.{BadOwner, BadSuccessor, BadFirst, IsUnknown, number, new_id, owner, successor}
 use Rattle.ps_pgsolver.specs.GameTexts.{first_successor, comma, semicolon}
@@ -19,7 +19,6 @@ use Rattle.ps_pgsolver.specs.Nodes.{is_member}
 use Rattle.ps_pgsolver.specs.Signs.{Sign, Number, Name, Comma, Semicolon, OpenName}
 use Rattle.ps_pgsolver.specs.declared.fault.PgCause.{PgCause}
 use Rattle.ps_pgsolver.specs.declared.fault.PgCause.TheVariants as causes
-use Rattle.ps_pgsolver.specs.Causes.{PgFault}
 use Rattle.ps_text.specs.declared.faults.Fault.TheVariants as faults
 
 -- the answer to a sign at an offset
@@ -31,11 +30,12 @@ pub data Fits {V : Type 0} (take : Sign → Option V) (Bad : Sign → PgCause �
   refused : take t ≡ None → ((f : PgCause) → Bad t f → ⊥) → r ≡ Err (faults.Text causes.Syntax at) →
       Fits take Bad t at r
 
-one_reads : {V : Type 0} (take : Sign → Option V) (Bad : Sign → PgCause → Type 0) (s : Sign) (w : V) → take s ≡ Some w →
+one_reads : {V : Type 0} {take : Sign → Option V} {Bad : Sign → PgCause → Type 0} (s : Sign) {w : V} → take s ≡ Some w →
     (answer : Option Sign → ℕ → Result V PgFault) → ((t : Sign) (at : ℕ) → Fits take Bad t at (answer (Some t) at)) →
-    ((at : ℕ) → answer None at ≡ Err (faults.Text causes.Syntax at)) → (old new : Stream Sign) (r : Result V PgFault) →
+    ((at : ℕ) → answer None at ≡ Err (faults.Text causes.Syntax at)) →
+    (old : Stream Sign) {new : Stream Sign} {r : Result V PgFault} →
     new ≡ tail old → r ≡ answer (next_of old) (offset_of old.pieces old.end) → ReadsAs (λ v. v) (one take Bad) old r new
-one_reads {V} take Bad s w sw answer fits none old new r n e = go (next_of old) refl
+one_reads {V} {take} {Bad} s {w} sw answer fits none old {new} {r} n e = go (next_of old) refl
   where
     at : ℕ
     at = offset_of old.pieces old.end
@@ -58,8 +58,7 @@ one_reads {V} take Bad s w sw answer fits none old new r n e = go (next_of old) 
     ended : next_of old ≡ None → Goal (Err (faults.Text causes.Syntax at))
     ended h = meets_refusal found_of pg_causes take Bad (λ z. z) old new s w sw
         (λ u g. absurd (none_is_some u (sym h ∙ g))) (λ u f g b. absurd (none_is_some u (sym h ∙ g)))
-        (faults.Text causes.Syntax at)
-        (sym (ap (λ o. Some (record { cause = refusal_of pg_causes o; offset = at })) h))
+        (faults.Text causes.Syntax at) (sym (ap (λ o. Some (record { cause = refusal_of pg_causes o; offset = at })) h))
 
     go : (o : Option Sign) → next_of old ≡ o → Goal r
     go None h = let x : r ≡ Err (faults.Text causes.Syntax at) = e ∙ ap (λ o. answer o at) h ∙ none at in
@@ -70,43 +69,36 @@ one_reads {V} take Bad s w sw answer fits none old new r n e = go (next_of old) 
 true_false : true ≡ false → ⊥
 true_false e = let x : true ≡ false = e in cc
 
-least_here : (f cause : PgCause) → cause ≡ f → cause_number f ≤ cause_number cause
-least_here f cause e = subst (λ z. cause_number f ≤ cause_number z) (sym e) (omega arith)
+least_here : {f cause : PgCause} → cause ≡ f → cause_number f ≤ cause_number cause
+least_here {f} e = subst (λ z. cause_number f ≤ cause_number z) (sym e) (omega arith)
 
 number_fits : (t : Sign) (at : ℕ) → Fits number_in BadNumber t at (number_answer (Some t) at)
 number_fits (Number n) at = ⊎_elim
     (λ (yes : ltb n too_large ≡ true). taken n refl (λ f b. omega (arith, ltb-true n too_large yes, b.0)) (rw yes refl))
     (λ (no : ltb n too_large ≡ false). bad causes.Number (ltb-false n too_large no, refl)
-    (λ g b. least_here causes.Number g b.1) (rw no refl))
-    (cases_Bool (ltb n too_large))
+    (λ g b. least_here b.1) (rw no refl)) (cases_Bool (ltb n too_large))
 number_fits _ at = refused refl (λ f b. b) refl
 
 id_fits : (ids : List ℕ) (t : Sign) (at : ℕ) → Fits number_in (BadId ids) t at (id_answer ids (Some t) at)
-id_fits ids (Number n) at = ⊎_elim
-    (λ (yes : ltb n too_large ≡ true). ⊎_elim
+id_fits ids (Number n) at = ⊎_elim (λ (yes : ltb n too_large ≡ true). ⊎_elim
     (λ (old : is_member ids n ≡ true). bad causes.NodeTwice (inr
     (ltb-true n too_large yes, Contains-any n ids old, refl))
-    (λ g b. ⊎_elim (λ h. absurd (omega (arith, ltb-true n too_large yes, h.0))) (λ h. least_here causes.NodeTwice g h.2)
-    b) (rw (yes, old) refl))
-    (λ (new : is_member ids n ≡ false). taken n refl
+    (λ g b. ⊎_elim (λ h. absurd (omega (arith, ltb-true n too_large yes, h.0))) (λ h. least_here h.2)
+    b) (rw (yes, old) refl)) (λ (new : is_member ids n ≡ false). taken n refl
     (λ f b. ⊎_elim (λ h. omega (arith, ltb-true n too_large yes, h.0))
-    (λ h. true_false (sym (any-from_Contains n ids h.1) ∙ new)) b) (rw (yes, new) refl))
-    (cases_Bool (is_member ids n)))
+    (λ h. true_false (sym (any-from_Contains n ids h.1) ∙ new)) b) (rw (yes, new) refl)) (cases_Bool (is_member ids n)))
     (λ (no : ltb n too_large ≡ false). bad causes.Number (inl (ltb-false n too_large no, refl))
-    (λ g b. ⊎_elim (λ h. least_here causes.Number g h.1) (λ h. absurd (omega (arith, ltb-false n too_large no, h.0))) b)
-    (rw no refl))
+    (λ g b. ⊎_elim (λ h. least_here h.1) (λ h. absurd (omega (arith, ltb-false n too_large no, h.0))) b) (rw no refl))
     (cases_Bool (ltb n too_large))
 id_fits ids _ at = refused refl (λ f b. b) refl
 
 owner_fits : (t : Sign) (at : ℕ) → Fits number_in BadOwner t at (owner_answer (Some t) at)
-owner_fits (Number n) at = ⊎_elim
-    (λ (yes : ltb n 2 ≡ true).
+owner_fits (Number n) at = ⊎_elim (λ (yes : ltb n 2 ≡ true).
     let small : ltb n too_large ≡ true = lt-ltb n too_large (omega (arith, ltb-true n 2 yes)) in
     taken n refl (λ f b. omega (arith, ltb-true n 2 yes, b.0)) (rw (small, yes) refl))
-    (λ (no : ltb n 2 ≡ false). bad causes.Number (ltb-false n 2 no, refl) (λ g b. least_here causes.Number g b.1)
+    (λ (no : ltb n 2 ≡ false). bad causes.Number (ltb-false n 2 no, refl) (λ g b. least_here b.1)
     (⊎_elim (λ (small : ltb n too_large ≡ true). rw (small, no) refl)
-    (λ (large : ltb n too_large ≡ false). rw large refl) (cases_Bool (ltb n too_large))))
-    (cases_Bool (ltb n 2))
+    (λ (large : ltb n too_large ≡ false). rw large refl) (cases_Bool (ltb n too_large)))) (cases_Bool (ltb n 2))
 owner_fits _ at = refused refl (λ f b. b) refl
 
 known_yes : (known : Option (List ℕ)) (n : ℕ) → is_known known n ≡ true → IsUnknown known n → ⊥
@@ -119,38 +111,32 @@ known_no (Some ids) n e = λ h. true_false (sym (any-from_Contains n ids h) ∙ 
 
 successor_fits : (known : Option (List ℕ)) (t : Sign) (at : ℕ) →
     Fits number_in (BadSuccessor known) t at (successor_answer known (Some t) at)
-successor_fits known (Number n) at = ⊎_elim
-    (λ (yes : ltb n too_large ≡ true). ⊎_elim
+successor_fits known (Number n) at = ⊎_elim (λ (yes : ltb n too_large ≡ true). ⊎_elim
     (λ (is : is_known known n ≡ true). taken n refl
     (λ f b. ⊎_elim (λ h. omega (arith, ltb-true n too_large yes, h.0)) (λ h. known_yes known n is h.1) b)
-    (rw (yes, is) refl))
-    (λ (not_known : is_known known n ≡ false). bad causes.UnknownSuccessor
+    (rw (yes, is) refl)) (λ (not_known : is_known known n ≡ false). bad causes.UnknownSuccessor
     (inr (ltb-true n too_large yes, known_no known n not_known, refl))
     (λ g b. ⊎_elim (λ h. absurd (omega (arith, ltb-true n too_large yes, h.0)))
-    (λ h. least_here causes.UnknownSuccessor g h.2) b) (rw (yes, not_known) refl))
-    (cases_Bool (is_known known n)))
+    (λ h. least_here h.2) b) (rw (yes, not_known) refl)) (cases_Bool (is_known known n)))
     (λ (no : ltb n too_large ≡ false). bad causes.Number (inl (ltb-false n too_large no, refl))
-    (λ g b. ⊎_elim (λ h. least_here causes.Number g h.1) (λ h. absurd (omega (arith, ltb-false n too_large no, h.0))) b)
-    (rw no refl))
+    (λ g b. ⊎_elim (λ h. least_here h.1) (λ h. absurd (omega (arith, ltb-false n too_large no, h.0))) b) (rw no refl))
     (cases_Bool (ltb n too_large))
 successor_fits known _ at = refused refl (λ f b. b) refl
 
-same_fits : {V : Type 0} (take : Sign → Option V) (Bad Bad' : Sign → PgCause → Type 0) (t : Sign) (at : ℕ)
-    (r : Result V PgFault) →
+same_fits : {V : Type 0} {take : Sign → Option V} {Bad Bad' : Sign → PgCause → Type 0} {t : Sign} {at : ℕ}
+    {r : Result V PgFault} →
     ((f : PgCause) → Bad' t f → Bad t f) → ((f : PgCause) → Bad t f → Bad' t f) → Fits take Bad t at r →
     Fits take Bad' t at r
-same_fits take Bad Bad' t at r back on (taken v e good y) = taken v e (λ f b. good f (back f b)) y
-same_fits take Bad Bad' t at r back on (bad f b least y) = bad f (on f b) (λ g c. least g (back g c)) y
-same_fits take Bad Bad' t at r back on (refused e good y) = refused e (λ f b. good f (back f b)) y
+same_fits back on (taken v e good y) = taken v e (λ f b. good f (back f b)) y
+same_fits back on (bad f b least y) = bad f (on f b) (λ g c. least g (back g c)) y
+same_fits back on (refused e good y) = refused e (λ f b. good f (back f b)) y
 
 first_fits : (known : Option (List ℕ)) (t : Sign) (at : ℕ) →
     Fits number_in (BadFirst known) t at (first_answer known (Some t) at)
-first_fits known (Number n) at =
-    same_fits number_in (BadSuccessor known) (BadFirst known) (Number n) at _ (λ f b. b) (λ f b. b)
-    (successor_fits known (Number n) at)
-first_fits known Semicolon at = bad causes.NoSuccessor refl (λ g b. least_here causes.NoSuccessor g b) refl
-first_fits known (Name x) at = bad causes.NoSuccessor refl (λ g b. least_here causes.NoSuccessor g b) refl
-first_fits known OpenName at = bad causes.NoSuccessor refl (λ g b. least_here causes.NoSuccessor g b) refl
+first_fits known (Number n) at = same_fits (λ f b. b) (λ f b. b) (successor_fits known (Number n) at)
+first_fits known Semicolon at = bad causes.NoSuccessor refl (λ g b. least_here b) refl
+first_fits known (Name x) at = bad causes.NoSuccessor refl (λ g b. least_here b) refl
+first_fits known OpenName at = bad causes.NoSuccessor refl (λ g b. least_here b) refl
 first_fits known _ at = refused refl (λ f b. b) refl
 
 semicolon_fits : (t : Sign) (at : ℕ) → Fits semicolon_in NoBad t at (semicolon_answer (Some t) at)
@@ -163,49 +149,44 @@ comma_fits _ at = refused refl (λ f b. b) refl
 
 -- ## What each reading function of a single sign says
 
-pub reads_number : (old new : Stream Sign) (r : Result ℕ PgFault) → new ≡ tail old →
+pub reads_number : (old : Stream Sign) {new : Stream Sign} {r : Result ℕ PgFault} → new ≡ tail old →
     r ≡ number_answer (next_of old) (offset_of old.pieces old.end) → ReadsAs (λ n. n) number old r new
 unfolding number
-reads_number old new r =
-    one_reads number_in BadNumber (Number 0) 0 refl number_answer number_fits (λ at. refl) old new r
+reads_number old = one_reads (Number 0) refl number_answer number_fits (λ at. refl) old
 
-pub reads_id : (ids : List ℕ) (old new : Stream Sign) (r : Result ℕ PgFault) → new ≡ tail old →
+pub reads_id : (ids : List ℕ) (old : Stream Sign) {new : Stream Sign} {r : Result ℕ PgFault} → new ≡ tail old →
     r ≡ id_answer ids (next_of old) (offset_of old.pieces old.end) → ReadsAs (λ n. n) (new_id ids) old r new
 unfolding new_id
-reads_id ids old new r =
-    one_reads number_in (BadId ids) (Number 0) 0 refl (id_answer ids) (id_fits ids) (λ at. refl) old new r
+reads_id ids old = one_reads (Number 0) refl (id_answer ids) (id_fits ids) (λ at. refl) old
 
-pub reads_owner : (old new : Stream Sign) (r : Result ℕ PgFault) → new ≡ tail old →
+pub reads_owner : (old : Stream Sign) {new : Stream Sign} {r : Result ℕ PgFault} → new ≡ tail old →
     r ≡ owner_answer (next_of old) (offset_of old.pieces old.end) → ReadsAs (λ n. n) owner old r new
 unfolding owner
-reads_owner old new r = one_reads number_in BadOwner (Number 0) 0 refl owner_answer owner_fits (λ at. refl) old new r
+reads_owner old = one_reads (Number 0) refl owner_answer owner_fits (λ at. refl) old
 
-pub reads_successor : (known : Option (List ℕ)) (old new : Stream Sign) (r : Result ℕ PgFault) → new ≡ tail old →
+pub reads_successor : (known : Option (List ℕ)) (old : Stream Sign) {new : Stream Sign} {r : Result ℕ PgFault} →
+    new ≡ tail old →
     r ≡ successor_answer known (next_of old) (offset_of old.pieces old.end) →
     ReadsAs (λ n. n) (successor known) old r new
 unfolding successor
-reads_successor known old new r =
-    one_reads number_in (BadSuccessor known) (Number 0) 0 refl (successor_answer known) (successor_fits known)
-    (λ at. refl) old new r
+reads_successor known old = one_reads (Number 0) refl (successor_answer known) (successor_fits known) (λ at. refl) old
 
-pub reads_first : (known : Option (List ℕ)) (old new : Stream Sign) (r : Result ℕ PgFault) → new ≡ tail old →
+pub reads_first : (known : Option (List ℕ)) (old : Stream Sign) {new : Stream Sign} {r : Result ℕ PgFault} →
+    new ≡ tail old →
     r ≡ first_answer known (next_of old) (offset_of old.pieces old.end) →
     ReadsAs (λ n. n) (first_successor known) old r new
 unfolding first_successor
-reads_first known old new r =
-    one_reads number_in (BadFirst known) (Number 0) 0 refl (first_answer known) (first_fits known)
-    (λ at. refl) old new r
+reads_first known old = one_reads (Number 0) refl (first_answer known) (first_fits known) (λ at. refl) old
 
-pub reads_semicolon : (old new : Stream Sign) (r : Result (Unit {0}) PgFault) → new ≡ tail old →
+pub reads_semicolon : (old : Stream Sign) {new : Stream Sign} {r : Result (Unit {0}) PgFault} → new ≡ tail old →
     r ≡ semicolon_answer (next_of old) (offset_of old.pieces old.end) → ReadsAs (λ u. u) semicolon old r new
 unfolding semicolon
-reads_semicolon old new r =
-    one_reads semicolon_in NoBad Semicolon tt refl semicolon_answer semicolon_fits (λ at. refl) old new r
+reads_semicolon old = one_reads Semicolon refl semicolon_answer semicolon_fits (λ at. refl) old
 
-pub reads_comma : (old new : Stream Sign) (r : Result (Unit {0}) PgFault) → new ≡ tail old →
+pub reads_comma : (old : Stream Sign) {new : Stream Sign} {r : Result (Unit {0}) PgFault} → new ≡ tail old →
     r ≡ comma_answer (next_of old) (offset_of old.pieces old.end) → ReadsAs (λ u. u) comma old r new
 unfolding comma
-reads_comma old new r = one_reads comma_in NoBad Comma tt refl comma_answer comma_fits (λ at. refl) old new r
+reads_comma old = one_reads Comma refl comma_answer comma_fits (λ at. refl) old
 
 -- ## The same with other ids known
 
@@ -218,19 +199,17 @@ not_found e = Err e
 no_fault : (n : ℕ) (e : PgFault) → found_number n ≡ not_found e → ⊥
 no_fault n e h = let x : found_number n ≡ not_found e = h in cc
 
-same_number : (n m : ℕ) → found_number n ≡ found_number m → n ≡ m
-same_number n m h = let x : found_number n ≡ found_number m = h in cc
+same_number : {n m : ℕ} → found_number n ≡ found_number m → n ≡ m
+same_number {n} {m} h = let x : found_number n ≡ found_number m = h in cc
 
 successor_known : (known : Option (List ℕ)) (ids : List ℕ) (o : Option Sign) (at n : ℕ) → Contains ids n →
     found_number n ≡ successor_answer known o at → found_number n ≡ successor_answer (Some ids) o at
-successor_known known ids (Some (Number m)) at n h e = ⊎_elim
-    (λ (small : ltb m too_large ≡ true). ⊎_elim
+successor_known known ids (Some (Number m)) at n h e = ⊎_elim (λ (small : ltb m too_large ≡ true). ⊎_elim
     (λ (yes : is_known known m ≡ true).
-    let is : n ≡ m = same_number n m (e ∙ rw (small, yes) refl) in
+    let is : n ≡ m = same_number (e ∙ rw (small, yes) refl) in
     rw (small, any-from_Contains m ids (subst (λ x. Contains ids x) is h)) (ap found_number is))
     (λ (no : is_known known m ≡ false). absurd (no_fault n (faults.Text causes.UnknownSuccessor at)
-    (e ∙ rw (small, no) refl)))
-    (cases_Bool (is_known known m)))
+    (e ∙ rw (small, no) refl))) (cases_Bool (is_known known m)))
     (λ (large : ltb m too_large ≡ false). absurd (no_fault n (faults.Text causes.Number at) (e ∙ rw large refl)))
     (cases_Bool (ltb m too_large))
 successor_known known ids _ at n h e = absurd (no_fault n (faults.Text causes.Syntax at) e)
@@ -243,16 +222,17 @@ first_known known ids (Some (Name x)) at n h e = absurd (no_fault n (faults.Text
 first_known known ids (Some OpenName) at n h e = absurd (no_fault n (faults.Text causes.NoSuccessor at) e)
 first_known known ids _ at n h e = absurd (no_fault n (faults.Text causes.Syntax at) e)
 
-pub later_successor : (known : Option (List ℕ)) (old new : Stream Sign) (r : Result ℕ PgFault) → new ≡ tail old →
+pub later_successor : (known : Option (List ℕ)) (old : Stream Sign) {new : Stream Sign} (r : Result ℕ PgFault) →
+    new ≡ tail old →
     r ≡ successor_answer known (next_of old) (offset_of old.pieces old.end) →
     ReadsKnown Contains (λ n. n) successor old r new
-later_successor known old new (Ok n) t e =
-    λ ids h. reads_successor (Some ids) old new (Ok n) t (successor_known known ids (next_of old) _ n h e)
-later_successor known old new (Err f) t e = tt
+later_successor known old (Ok n) t e =
+    λ ids h. reads_successor (Some ids) old t (successor_known known ids (next_of old) _ n h e)
+later_successor known old (Err f) t e = tt
 
-pub later_first : (known : Option (List ℕ)) (old new : Stream Sign) (r : Result ℕ PgFault) → new ≡ tail old →
+pub later_first : (known : Option (List ℕ)) (old : Stream Sign) {new : Stream Sign} (r : Result ℕ PgFault) →
+    new ≡ tail old →
     r ≡ first_answer known (next_of old) (offset_of old.pieces old.end) →
     ReadsKnown Contains (λ n. n) first_successor old r new
-later_first known old new (Ok n) t e =
-    λ ids h. reads_first (Some ids) old new (Ok n) t (first_known known ids (next_of old) _ n h e)
-later_first known old new (Err f) t e = tt
+later_first known old (Ok n) t e = λ ids h. reads_first (Some ids) old t (first_known known ids (next_of old) _ n h e)
+later_first known old (Err f) t e = tt

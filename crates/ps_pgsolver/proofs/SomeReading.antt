@@ -24,10 +24,10 @@ use Rattle.ps_pgsolver.specs.Signs.{Sign, Number, Word, Name, Comma, Semicolon, 
 use Rattle.ps_pgsolver.specs.declared.fault.PgCause.{PgCause}
 use Rattle.ps_pgsolver.specs.declared.fault.PgCause.TheVariants as causes
 use Rattle.ps_pgsolver.proofs.GameTokens.{tokens_found}
-use Rattle.ps_pgsolver.proofs.PartLaws.{laws_one_name, laws_no_name, laws_more, laws_entry, laws_line, laws_no_line}
-use Rattle.ps_pgsolver.proofs.PartLaws.{laws_game, takes_word, joint_more, joint_successors, joint_name, joint_list}
-use Rattle.ps_pgsolver.proofs.PartLaws.{joint_owner, joint_priority, joint_id, joint_entries, joint_value, joint_line}
-use Rattle.ps_pgsolver.proofs.PartLaws.{joint_start, joint_parity}
+use Rattle.ps_pgsolver.proofs.PartLaws.{laws_one_name, laws_no_name, laws_more, joint_more, joint_successors}
+use Rattle.ps_pgsolver.proofs.PartLaws.{joint_name, joint_list, joint_owner, joint_priority, joint_id}
+use Rattle.ps_pgsolver.proofs.GameLaws.{laws_entry, laws_line, laws_no_line, laws_game, takes_word, joint_entries}
+use Rattle.ps_pgsolver.proofs.GameLaws.{joint_value, joint_line, joint_start, joint_parity}
 use Rattle.ps_pgsolver.proofs.Sound.{same_nodes}
 
 abbrev Judges : (Sign → PgCause → Type 0) → Type 0
@@ -40,8 +40,7 @@ no_bad t = good (λ f b. b)
 
 module _ (ids : List ℕ) (n : ℕ) where
   member : Contains ids n ⊎ ¬ Contains ids n
-  member = ⊎_elim
-      (λ (yes : is_member ids n ≡ true). inl (Contains-any n ids yes))
+  member = ⊎_elim (λ (yes : is_member ids n ≡ true). inl (Contains-any n ids yes))
       (λ (no : is_member ids n ≡ false). inr (λ h. true_false (sym (any-from_Contains n ids h) ∙ no)))
       (cases_Bool (is_member ids n))
     where
@@ -220,9 +219,8 @@ module _ (text : List ℕ) (short : length text ≤ text_limit) where
       (answer : Result NamedGameData (Found PgCause)) × Answer text answer
   again nodes p (Ok others) q = (
     Ok (named_game_of nodes),
-    meaning stream nodes has_tokens p
-        (subst (λ z. PartAnswers pg_causes (game (Some (ids_of nodes))) stream (Ok z))
-        (sym (same_nodes (Some (ids_of nodes)) (signs stream.pieces) nodes others p.0 q.0)) q) refl,
+    meaning stream nodes has_tokens p (subst (λ z. PartAnswers pg_causes (game (Some (ids_of nodes))) stream (Ok z))
+        (sym (same_nodes (Some (ids_of nodes)) (signs stream.pieces) p.0 q.0)) q) refl,
   )
   again nodes p (Err found) q = (Err found, unknown stream nodes found has_tokens p q refl)
 

@@ -9,14 +9,15 @@ use Rattle.std.specs.Prelude.{codes}
 use Rattle.ps_text.specs.Answers.{IsClean}
 use Rattle.ps_text.specs.Parts.{Part, IsWrong, by_part, one, then_by, times, many, mapped}
 use Rattle.ps_pgsolver.specs.GameTexts.{pg_causes, too_large, number_in, BadFirst, BadSuccessor, number, new_id, owner}
-use Rattle.ps_pgsolver.specs.GameTexts.{successor, first_successor, more_successor, successors, name, node, entry}
-use Rattle.ps_pgsolver.specs.GameTexts.{entries, setting, game, semicolon, comma}
+use Rattle.ps_pgsolver.specs.GameTexts.{successor, first_successor, more_successor, successors, node, entry, entries}
+use Rattle.ps_pgsolver.specs.GameTexts.{setting, game, comma}
 use Rattle.ps_pgsolver.specs.Nodes.{NodeData, ids_of, is_member, KnowsAll}
 use Rattle.ps_pgsolver.specs.Signs.{Sign, Number}
 use Rattle.ps_pgsolver.specs.declared.fault.PgCause.{PgCause}
 use Rattle.ps_pgsolver.specs.declared.fault.PgCause.TheVariants as causes
 use Rattle.ps_ids.proofs.Members.{Contains-any, any-from_Contains}
-use Rattle.ps_pgsolver.proofs.PartLaws.{laws_game, from_priority, from_owner, from_successors, from_name, from_start}
+use Rattle.ps_pgsolver.proofs.PartLaws.{from_priority, from_owner, from_successors, from_name}
+use Rattle.ps_pgsolver.proofs.GameLaws.{laws_game, from_start}
 use Rattle.ps_text.proofs.Simple.{none_is_some, same_some}
 
 abbrev pub Quiet : {V : Type 0} → Part Sign V PgCause → List Sign → Type 0
@@ -30,16 +31,16 @@ pub record Sound {V : Type 0} (part : Part Sign V PgCause) (Good : V → Type 0)
 abbrev Always : {V : Type 0} → V → Type 0
 Always _ = Unit {0}
 
-sound_any : {V : Type 0} (part : Part Sign V PgCause) → Sound part (λ _. Unit {0})
-sound_any part = record { good = λ text v h q. tt }
+sound_any : {V : Type 0} {part : Part Sign V PgCause} → Sound part (λ _. Unit {0})
+sound_any = record { good = λ text v h q. tt }
 
-sound_one : {V : Type 0} (take : Sign → Option V) (Bad : Sign → PgCause → Type 0) (Good : V → Type 0) →
+sound_one : {V : Type 0} (take : Sign → Option V) (Bad : Sign → PgCause → Type 0) {Good : V → Type 0} →
     ((t : Sign) (v : V) → take t ≡ Some v → ((f : PgCause) → Bad t f → ⊥) → Good v) → Sound (one take Bad) Good
-sound_one take Bad Good g = record { good = λ text v h q. g h.0 v h.2 (λ f b. q [] [] h.0 f h.1 (refl, b)) }
+sound_one take Bad g = record { good = λ text v h q. g h.0 v h.2 (λ f b. q [] [] h.0 f h.1 (refl, b)) }
 
-sound_then : {A B : Type 0} (P : Part Sign A PgCause) (Q : A → Part Sign B PgCause) (G : A → Type 0) (H : B → Type 0) →
+sound_then : {A B : Type 0} {P : Part Sign A PgCause} (Q : A → Part Sign B PgCause) {G : A → Type 0} {H : B → Type 0} →
     Sound P G → ((a : A) → G a → Sound (Q a) H) → Sound (then_by P Q) H
-sound_then P Q G H l r = record {
+sound_then {P} Q l r = record {
   good = λ text v h q.
       let left_quiet : Quiet P h.left = λ front rest t f e c. q front (rest ++ h.right) t f
       (h.split ∙ ap (λ x. x ++ h.right) e ∙ append_assoc front (t ∷ rest) h.right) (inl c) in
@@ -50,21 +51,20 @@ sound_then P Q G H l r = record {
       (r h.value (l.good h.left h.value h.is_left left_quiet)).good h.right v h.is_right right_quiet;
 }
 
-sound_mapped : {A B : Type 0} (h : A → B) (P : Part Sign A PgCause) (G : A → Type 0) (H : B → Type 0) →
+sound_mapped : {A B : Type 0} (h : A → B) {P : Part Sign A PgCause} {G : A → Type 0} {H : B → Type 0} →
     ((a : A) → G a → H (h a)) → Sound P G → Sound (mapped h P) H
-sound_mapped h P G H on s = record { good = λ text v i q. subst H (sym i.2) (on i.0 (s.good text i.0 i.1 q)) }
+sound_mapped h {H} on s = record { good = λ text v i q. subst H (sym i.2) (on i.0 (s.good text i.0 i.1 q)) }
 
-sound_times : {C : Type 0} (item : C → Part Sign C PgCause) (G : C → Type 0) → ((c : C) → G c → Sound (item c) G) →
+sound_times : {C : Type 0} (item : C → Part Sign C PgCause) {G : C → Type 0} → ((c : C) → G c → Sound (item c) G) →
     (n : ℕ) (c : C) → G c → Sound (times n item c) G
-sound_times item G s zero c g = record { good = λ text v h q. subst G (sym h.1) g }
-sound_times item G s (suc n) c g =
-    sound_then (item c) (λ d. times n item d) G G (s c g) (λ d h. sound_times item G s n d h)
+sound_times item {G} s zero c g = record { good = λ text v h q. subst G (sym h.1) g }
+sound_times item {G} s (suc n) c g = sound_then (λ d. times n item d) (s c g) (λ d h. sound_times item s n d h)
 
-sound_many : {C : Type 0} (item : C → Part Sign C PgCause) (G : C → Type 0) → ((c : C) → G c → Sound (item c) G) →
+sound_many : {C : Type 0} (item : C → Part Sign C PgCause) {G : C → Type 0} → ((c : C) → G c → Sound (item c) G) →
     (c : C) → G c → Sound (many item c) G
-sound_many item G s c g =
+sound_many item s c g =
     record {
-      good = λ text v h q. (sound_times item G s h.0 c g).good text v h.1
+      good = λ text v h q. (sound_times item s h.0 c g).good text v h.1
           (λ front rest t f e k. q front rest t f e (h.0, k));
     }
 
@@ -73,14 +73,11 @@ module _ (ids : List ℕ) where
   Known list = All (λ n. Contains ids n) list
 
   good_number : (n : ℕ) → ((f : PgCause) → BadSuccessor (Some ids) (Number n) f → ⊥) → Contains ids n
-  good_number n q = ⊎_elim
-      (λ (yes : is_member ids n ≡ true). Contains-any n ids yes)
-      (λ (new : is_member ids n ≡ false). absurd (⊎_elim
-      (λ (small : ltb n too_large ≡ true). q causes.UnknownSuccessor
+  good_number n q = ⊎_elim (λ (yes : is_member ids n ≡ true). Contains-any n ids yes)
+      (λ (new : is_member ids n ≡ false). absurd (⊎_elim (λ (small : ltb n too_large ≡ true). q causes.UnknownSuccessor
       (inr (ltb-true n too_large small, (λ h. true_false (sym (any-from_Contains n ids h) ∙ new)), refl)))
       (λ (large : ltb n too_large ≡ false). q causes.Number (inl (ltb-false n too_large large, refl)))
-      (cases_Bool (ltb n too_large))))
-      (cases_Bool (is_member ids n))
+      (cases_Bool (ltb n too_large)))) (cases_Bool (is_member ids n))
     where
       true_false : true ≡ false → ⊥
       true_false e = let x : true ≡ false = e in cc
@@ -97,19 +94,17 @@ module _ (ids : List ℕ) where
 
   sound_successor : Sound (successor (Some ids)) (λ n. Contains ids n)
   unfolding successor
-  sound_successor = sound_one number_in (BadSuccessor (Some ids)) (λ n. Contains ids n) good_successor
+  sound_successor = sound_one number_in (BadSuccessor (Some ids)) good_successor
 
   sound_first : Sound (first_successor (Some ids)) (λ n. Contains ids n)
   unfolding first_successor
-  sound_first = sound_one number_in (BadFirst (Some ids)) (λ n. Contains ids n) good_first
+  sound_first = sound_one number_in (BadFirst (Some ids)) good_first
 
   sound_more : (list : List ℕ) → Known list → Sound (more_successor (Some ids) list) Known
   unfolding more_successor
   sound_more list k =
-      sound_then comma (λ _. mapped (λ n. list ++ n ∷ []) (successor (Some ids))) (λ _. Unit {0}) Known
-      (sound_any comma)
-      (λ _ _. sound_mapped (λ n. list ++ n ∷ []) (successor (Some ids)) (λ n. Contains ids n) Known
-      (λ n h. All-push (λ n. Contains ids n) list n k h) sound_successor)
+      sound_then (λ _. mapped (λ n. list ++ n ∷ []) (successor (Some ids))) (sound_any)
+      (λ _ _. sound_mapped (λ n. list ++ n ∷ []) (λ n h. All-push (λ n. Contains ids n) list n k h) sound_successor)
 
   one_known : (n : ℕ) → Contains ids n → Known (n ∷ [])
   one_known n h = All-push (λ m. Contains ids m) [] n (λ k d l. absurd (omega (arith, l))) h
@@ -117,9 +112,8 @@ module _ (ids : List ℕ) where
   sound_successors : Sound (successors (Some ids)) Known
   unfolding successors
   sound_successors =
-      sound_then (first_successor (Some ids)) (λ n. many (more_successor (Some ids)) (n ∷ [])) (λ n. Contains ids n)
-      Known sound_first
-      (λ n h. sound_many (more_successor (Some ids)) Known sound_more (n ∷ []) (one_known n h))
+      sound_then (λ n. many (more_successor (Some ids)) (n ∷ [])) sound_first
+      (λ n h. sound_many (more_successor (Some ids)) sound_more (n ∷ []) (one_known n h))
 
   abbrev KnownNode : NodeData → Type 0
   KnownNode n = Known n.successors
@@ -127,30 +121,24 @@ module _ (ids : List ℕ) where
   sound_node : (earlier : List ℕ) → Sound (node (Some ids) earlier) KnownNode
   unfolding node
   sound_node earlier =
-      sound_then _ _ (λ _. Unit {0}) KnownNode (sound_any (new_id earlier)) (λ id _.
-      sound_then _ _ (λ _. Unit {0}) KnownNode (sound_any number) (λ priority _.
-      sound_then _ _ (λ _. Unit {0}) KnownNode (sound_any owner) (λ owner' _.
-      sound_then _ _ Known KnownNode sound_successors (λ list known.
-      sound_then _ _ (λ _. Unit {0}) KnownNode (sound_any name) (λ name' _.
-      sound_mapped _ semicolon (λ _. Unit {0}) KnownNode (λ _ _. known) (sound_any semicolon))))))
+      sound_then _ (sound_any) (λ id _. sound_then _ (sound_any) (λ priority _. sound_then _ (sound_any) (λ owner' _.
+      sound_then _ sound_successors (λ list known. sound_then _ (sound_any) (λ name' _.
+      sound_mapped _ (λ _ _. known) (sound_any))))))
 
   sound_entry : (nodes : List NodeData) → KnowsAll ids nodes → Sound (entry (Some ids) nodes) (KnowsAll ids)
   unfolding entry
   sound_entry nodes k =
-      sound_mapped (λ n. nodes ++ n ∷ []) (node (Some ids) (ids_of nodes)) KnownNode (KnowsAll ids)
-      (λ n h. All-push KnownNode nodes n k h) (sound_node (ids_of nodes))
+      sound_mapped (λ n. nodes ++ n ∷ []) (λ n h. All-push KnownNode nodes n k h) (sound_node (ids_of nodes))
 
   sound_entries : Sound (entries (Some ids)) (KnowsAll ids)
   unfolding entries
   sound_entries =
-      sound_then (entry (Some ids) []) (λ nodes. many (entry (Some ids)) nodes) (KnowsAll ids) (KnowsAll ids)
-      (sound_entry [] (λ k d l. absurd (omega (arith, l))))
-      (λ nodes k. sound_many (entry (Some ids)) (KnowsAll ids) sound_entry nodes k)
+      sound_then (λ nodes. many (entry (Some ids)) nodes) (sound_entry [] (λ k d l. absurd (omega (arith, l))))
+      (λ nodes k. sound_many (entry (Some ids)) sound_entry nodes k)
 
   sound_game : Sound (game (Some ids)) (KnowsAll ids)
   unfolding game
-  sound_game = sound_then _ _ (λ _. Unit {0}) (KnowsAll ids) (sound_any (setting _)) (λ _ _.
-      sound_then _ _ (λ _. Unit {0}) (KnowsAll ids) (sound_any (setting _)) (λ _ _. sound_entries))
+  sound_game = sound_then _ (sound_any) (λ _ _. sound_then _ (sound_any) (λ _ _. sound_entries))
 
   pub knows_all : (text : List Sign) (nodes : List NodeData) → (game (Some ids)).IsText text nodes →
       IsClean (IsWrong pg_causes (game (Some ids))) text → KnowsAll ids nodes
@@ -217,8 +205,7 @@ module _ (k : Option (List ℕ)) where
       same_then (new_id ids) (new_id ids) (from_priority k ids) (from_priority None ids) (λ text v h. h) (λ id.
       same_then number number (from_owner k ids id) (from_owner None ids id) (λ text v h. h) (λ priority.
       same_then owner owner (from_successors k ids id priority) (from_successors None ids id priority)
-      (λ text v h. h) (λ owner'.
-      same_then (successors k) (successors None) (from_name k ids id priority owner')
+      (λ text v h. h) (λ owner'. same_then (successors k) (successors None) (from_name k ids id priority owner')
       (from_name None ids id priority owner') same_successors (λ list. λ text v h. h))))
 
   same_entry : (nodes : List NodeData) → Same (entry k nodes) (entry None nodes)
@@ -240,6 +227,6 @@ module _ (k : Option (List ℕ)) where
       (λ _. same_then (setting (codes "start")) (setting (codes "start")) (λ _. entries k) (λ _. entries None)
       (λ text v h. h) (λ _. same_entries))
 
-  pub same_nodes : (text : List Sign) (nodes other : List NodeData) → (game None).IsText text nodes →
+  pub same_nodes : (text : List Sign) {nodes other : List NodeData} → (game None).IsText text nodes →
       (game k).IsText text other → nodes ≡ other
-  same_nodes text nodes other h g = (laws_game None).one_value text nodes other h (same_game text other g)
+  same_nodes text {nodes} {other} h g = (laws_game None).one_value text nodes other h (same_game text other g)

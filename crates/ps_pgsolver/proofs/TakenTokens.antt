@@ -19,29 +19,30 @@ pub record Begins (before rest : List ℕ) (sign : Sign) (size : ℕ) : Type 0 w
   pub is : sign ≡ first_sign before rest
   pub sized : size ≡ first_size rest
 
-pub begins_number : (before rest : List ℕ) (value digits : ℕ) → value ≡ decimal_value (take_while is_digit rest) →
+pub begins_number : {before : List ℕ} (rest : List ℕ) {value digits : ℕ} →
+    value ≡ decimal_value (take_while is_digit rest) →
     digits ≡ prefix_len is_digit rest → 0 < digits → ends_in is_letter before ≡ false →
     Begins before rest (Number value) digits
-begins_number before [] value digits v d some apart = absurd (omega (arith, d))
-begins_number before (b ∷ bs) value digits v d some apart = ⊎_elim
-    (λ (yes : is_digit b ≡ true).
-    let both = at_digit before b bs (b ∷ bs) refl yes in
+begins_number [] v d some apart = absurd (omega (arith, d))
+begins_number {before} (b ∷ bs) v d some apart = ⊎_elim (λ (yes : is_digit b ≡ true).
+    let both = at_digit before b bs refl yes in
     record { some = omega arith; is = sym (both.0 ∙ rw apart (ap Number (sym v))); sized = d ∙ sym both.1 })
     (λ (other : is_digit b ≡ false). let none : prefix_len is_digit (b ∷ bs) ≡ 0 = rw other refl in
-    absurd (omega (arith, d, none)))
-    (cases_Bool (is_digit b))
+    absurd (omega (arith, d, none))) (cases_Bool (is_digit b))
 
-pub begins_comma : (before rest : List ℕ) → begins_in (λ b. eqb b 44) rest ≡ true → Begins before rest Comma 1
-begins_comma before [] e = let x : false ≡ true = e in cc
-begins_comma before (b ∷ bs) e =
-    let both = at_mark before 44 bs (44 ∷ bs) refl refl refl refl in
+pub begins_comma : {before : List ℕ} (rest : List ℕ) → begins_in (λ b. eqb b 44) rest ≡ true →
+    Begins before rest Comma 1
+begins_comma [] e = let x : false ≡ true = e in cc
+begins_comma {before} (b ∷ bs) e =
+    let both = at_mark before 44 bs refl refl refl refl in
     let P : ℕ → Type 0 = λ n. Begins before (n ∷ bs) Comma 1 in
     subst P (sym (eqb-true b 44 e)) (record { some = omega arith; is = sym both.0; sized = sym both.1 })
 
-pub begins_semicolon : (before rest : List ℕ) → begins_in (λ b. eqb b 59) rest ≡ true → Begins before rest Semicolon 1
-begins_semicolon before [] e = let x : false ≡ true = e in cc
-begins_semicolon before (b ∷ bs) e =
-    let both = at_mark before 59 bs (59 ∷ bs) refl refl refl refl in
+pub begins_semicolon : {before : List ℕ} (rest : List ℕ) → begins_in (λ b. eqb b 59) rest ≡ true →
+    Begins before rest Semicolon 1
+begins_semicolon [] e = let x : false ≡ true = e in cc
+begins_semicolon {before} (b ∷ bs) e =
+    let both = at_mark before 59 bs refl refl refl refl in
     let P : ℕ → Type 0 = λ n. Begins before (n ∷ bs) Semicolon 1 in
     subst P (sym (eqb-true b 59 e)) (record { some = omega arith; is = sym both.0; sized = sym both.1 })
 
@@ -52,10 +53,9 @@ pub record Leaves (text : List ℕ) (behind : ℕ) (sign : Sign) (stream : Strea
 
 pub leaves : (text before rest : List ℕ) (at start size : ℕ) (kind : Kind) (sign : Sign) (stream : Stream Sign) →
     start ≡ at + prefix_len is_blank (drop at text) → start ≤ length text → before ≡ take start text →
-    rest ≡ drop start text →
-    sign_of kind ≡ Some sign → Begins before rest sign size → stream_from text at ≡ stream →
+    rest ≡ drop start text → sign_of kind ≡ Some sign → Begins before rest sign size → stream_from text at ≡ stream →
     Leaves text (start + size) sign stream
 leaves text before rest at start size kind sign stream begins within front back of begun is =
-    let read = reads_split text before rest at start size kind stream begins within front back
+    let read = reads_split at begins within front back
     (λ empty. absurd (omega (arith, begun.some, ap length empty))) (λ _. of ∙ ap Some begun.is) begun.sized is in
     record { sign_is = sym read.head.sign ∙ of; rest = read.rest }

@@ -29,26 +29,27 @@ ends_in-last p (b ∷ c ∷ cs) h =
     let e' : suc (length cs) - 1 ≡ length cs = omega arith in
     ends_in-last p (c ∷ cs) (omega arith) ∙ rw (e, e') refl
 
-pub at_digit : (before : List ℕ) (b : ℕ) (bs rest : List ℕ) → rest ≡ b ∷ bs → is_digit b ≡ true →
+pub at_digit : (before : List ℕ) (b : ℕ) (bs : List ℕ) {rest : List ℕ} → rest ≡ b ∷ bs → is_digit b ≡ true →
     (first_sign before rest ≡ number_sign before rest) × (first_size rest ≡ prefix_len is_digit rest)
 unfolding first_sign first_size
-at_digit before b bs rest e d = rw e (rw d refl, rw d refl)
+at_digit before b bs e d = rw e (rw d refl, rw d refl)
 
-pub at_letter : (before : List ℕ) (b : ℕ) (bs rest : List ℕ) → rest ≡ b ∷ bs → is_digit b ≡ false → is_letter b ≡ true →
+pub at_letter : (before : List ℕ) (b : ℕ) (bs : List ℕ) {rest : List ℕ} → rest ≡ b ∷ bs → is_digit b ≡ false →
+    is_letter b ≡ true →
     (first_sign before rest ≡ word_sign before rest) × (first_size rest ≡ prefix_len is_letter rest)
 unfolding first_sign first_size
-at_letter before b bs rest e d l = rw e (rw (d, l) refl, rw (d, l) refl)
+at_letter before b bs e d l = rw e (rw (d, l) refl, rw (d, l) refl)
 
-pub at_quote : (before : List ℕ) (b : ℕ) (bs rest : List ℕ) → rest ≡ b ∷ bs → b ≡ 34 →
+pub at_quote : (before : List ℕ) {b : ℕ} (bs : List ℕ) {rest : List ℕ} → rest ≡ b ∷ bs → b ≡ 34 →
     (first_sign before rest ≡ name_sign bs) × (first_size rest ≡ name_size bs)
 unfolding first_sign first_size
-at_quote before b bs rest e q = rw (e, q) (refl, refl)
+at_quote before bs e q = rw (e, q) (refl, refl)
 
-pub at_mark : (before : List ℕ) (b : ℕ) (bs rest : List ℕ) → rest ≡ b ∷ bs → is_digit b ≡ false → is_letter b ≡ false →
-    eqb b 34 ≡ false →
-    (first_sign before rest ≡ mark_sign b) × (first_size rest ≡ 1)
+pub at_mark : (before : List ℕ) (b : ℕ) (bs : List ℕ) {rest : List ℕ} → rest ≡ b ∷ bs → is_digit b ≡ false →
+    is_letter b ≡ false →
+    eqb b 34 ≡ false → (first_sign before rest ≡ mark_sign b) × (first_size rest ≡ 1)
 unfolding first_sign first_size
-at_mark before b bs rest e d l q = rw e (rw (d, l, q) refl, rw (d, l, q) refl)
+at_mark before b bs e d l q = rw e (rw (d, l, q) refl, rw (d, l, q) refl)
 
 -- the bytes of a token that was read are passed over
 pub lex-skip : (skip : ℕ) (before bs : List ℕ) → lex skip before bs ≡ lex 0 (before ++ take skip bs) (drop skip bs)
@@ -74,16 +75,13 @@ lex-token before b bs h = rw h refl
 pub lex-blanks : (before bs : List ℕ) → lex 0 before bs ≡ lex 0 (before ++ take (prefix_len is_blank bs) bs)
     (drop (prefix_len is_blank bs) bs)
 lex-blanks before [] = ap (λ front. lex 0 front []) (sym (append-nil before))
-lex-blanks before (b ∷ bs) = ⊎_elim
-    (λ yes.
+lex-blanks before (b ∷ bs) = ⊎_elim (λ yes.
     let size : prefix_len is_blank (b ∷ bs) ≡ suc (prefix_len is_blank bs) = rw yes (omega arith) in
     rw size (lex-blank before b bs yes ∙ lex-blanks (before ++ b ∷ []) bs
     ∙ ap (λ front. lex 0 front (drop (prefix_len is_blank bs) bs))
-    (append_assoc before (b ∷ []) (take (prefix_len is_blank bs) bs))))
-    (λ no.
+    (append_assoc before (b ∷ []) (take (prefix_len is_blank bs) bs)))) (λ no.
     let size : prefix_len is_blank (b ∷ bs) ≡ 0 = rw no refl in
-    rw size (ap (λ front. lex 0 front (b ∷ bs)) (sym (append-nil before))))
-    (cases_Bool (is_blank b))
+    rw size (ap (λ front. lex 0 front (b ∷ bs)) (sym (append-nil before)))) (cases_Bool (is_blank b))
 
 -- behind the longest front that passes, none passes
 pub prefix_len-behind : (p : ℕ → Bool) (xs : List ℕ) → prefix_len p (drop (prefix_len p xs) xs) ≡ 0
@@ -98,23 +96,17 @@ stream_from-blanks text at =
     ap (λ ps. record { pieces = ps; end = length text }) e
 
 name_size-positive : (bs : List ℕ) → 0 < name_size bs
-name_size-positive bs = ⊎_elim
-    (λ (yes : is_closed bs ≡ true). rw yes (omega arith))
-    (λ (no : is_closed bs ≡ false). rw no (omega arith))
-    (cases_Bool (is_closed bs))
+name_size-positive bs = ⊎_elim (λ (yes : is_closed bs ≡ true). rw yes (omega arith))
+    (λ (no : is_closed bs ≡ false). rw no (omega arith)) (cases_Bool (is_closed bs))
 
 pub first_size-positive : (b : ℕ) (bs : List ℕ) → 0 < first_size (b ∷ bs)
 unfolding first_size
-first_size-positive b bs = ⊎_elim
-    (λ (digit : is_digit b ≡ true). rw digit (omega arith))
-    (λ (no_digit : is_digit b ≡ false). ⊎_elim
-    (λ (letter : is_letter b ≡ true). rw (no_digit, letter) (omega arith))
+first_size-positive b bs = ⊎_elim (λ (digit : is_digit b ≡ true). rw digit (omega arith))
+    (λ (no_digit : is_digit b ≡ false). ⊎_elim (λ (letter : is_letter b ≡ true). rw (no_digit, letter) (omega arith))
     (λ (no_letter : is_letter b ≡ false). ⊎_elim
     (λ (quote : eqb b 34 ≡ true). rw (no_digit, no_letter, quote) (name_size-positive bs))
-    (λ (no_quote : eqb b 34 ≡ false). rw (no_digit, no_letter, no_quote) (omega arith))
-    (cases_Bool (eqb b 34)))
-    (cases_Bool (is_letter b)))
-    (cases_Bool (is_digit b))
+    (λ (no_quote : eqb b 34 ≡ false). rw (no_digit, no_letter, no_quote) (omega arith)) (cases_Bool (eqb b 34)))
+    (cases_Bool (is_letter b))) (cases_Bool (is_digit b))
 
 pub first_size-none : (rest : List ℕ) → length rest ≡ 0 → first_size rest ≡ 0
 unfolding first_size
@@ -128,8 +120,7 @@ pub lex-first : (before rest : List ℕ) → prefix_len is_blank rest ≡ 0 → 
 lex-first before [] none some = absurd (omega arith)
 lex-first before (b ∷ bs) none some = ⊎_elim
     (λ yes. let size : prefix_len is_blank (b ∷ bs) ≡ suc (prefix_len is_blank bs) = rw yes (omega arith) in
-    absurd (omega (arith, size, none)))
-    (λ no.
+    absurd (omega (arith, size, none))) (λ no.
     let one : first_size (b ∷ bs) ≡ suc (first_size (b ∷ bs) - 1) = omega (arith, first_size-positive b bs) in
     let more : lex (first_size (b ∷ bs) - 1) (before ++ b ∷ []) bs ≡ lex 0
     (before ++ take (suc (first_size (b ∷ bs) - 1)) (b ∷ bs)) (drop (suc (first_size (b ∷ bs) - 1)) (b ∷ bs)) =
@@ -140,8 +131,7 @@ lex-first before (b ∷ bs) none some = ⊎_elim
     λ n. lex 0 before (b ∷ bs) ≡ (record { sign = first_sign before (b ∷ bs); start = length before }) ∷ lex 0
     (before ++ take n (b ∷ bs)) (drop n (b ∷ bs)) in
     subst P (sym one) (lex-token before b bs no ∙ ap (λ ps. (record
-    { sign = first_sign before (b ∷ bs); start = length before }) ∷ ps) more))
-    (cases_Bool (is_blank b))
+    { sign = first_sign before (b ∷ bs); start = length before }) ∷ ps) more)) (cases_Bool (is_blank b))
 
 -- at the end of a text no token is left
 pub lex-end : (before : List ℕ) → lex 0 before [] ≡ []
@@ -153,9 +143,9 @@ pub record Reads (text : List ℕ) (start size : ℕ) (kind : Kind) (stream : St
   pub head : IsHead (record { kind = kind; start = start }) stream
   pub rest : stream_from text (start + size) ≡ tail stream
 
-reads_end : (text : List ℕ) (start size : ℕ) (kind : Kind) → start ≤ length text → drop start text ≡ [] →
+reads_end : {text : List ℕ} {start size : ℕ} {kind : Kind} → start ≤ length text → drop start text ≡ [] →
     sign_of kind ≡ None → size ≡ first_size (drop start text) → Reads text start size kind (stream_from text start)
-reads_end text start size kind within ended none sized =
+reads_end {text} {start} {size} {kind} within ended none sized =
     let left : lex 0 (take start text) (drop start text) ≡ [] = ap (λ rest. lex 0 (take start text) rest) ended
     ∙ lex-end (take start text) in
     let nothing : length (drop start text) ≡ 0 = ap length ended in
@@ -170,18 +160,17 @@ reads_end text start size kind within ended none sized =
       rest = ap (stream_from text) same ∙ whole;
     })
 
-reads_token : (text : List ℕ) (start size : ℕ) (kind : Kind) → start ≤ length text → 0 < length (drop start text) →
+reads_token : {text : List ℕ} {start size : ℕ} {kind : Kind} → start ≤ length text → 0 < length (drop start text) →
     prefix_len is_blank (drop start text) ≡ 0 → sign_of kind ≡ Some (first_sign (take start text) (drop start text)) →
     size ≡ first_size (drop start text) → Reads text start size kind (stream_from text start)
-reads_token text start size kind within some no_blank is_sign sized =
+reads_token {text} {start} {size} {kind} within some no_blank is_sign sized =
     let before = take start text in
     let rest = drop start text in
     let more : lex 0 (before ++ take (first_size rest) rest) (drop (first_size rest) rest) ≡ lex 0
     (take (start + size) text) (drop (start + size) text) =
     rw (← sized, take-add start size text, drop-drop size start text) refl in
     let whole : stream_from text start ≡ (record {
-      pieces = (record
-          { sign = first_sign before rest; start = length before }) ∷ lex 0 (take (start + size) text)
+      pieces = (record { sign = first_sign before rest; start = length before }) ∷ lex 0 (take (start + size) text)
           (drop (start + size) text);
       end = length text;
     }) =
@@ -194,8 +183,7 @@ reads_token text start size kind within some no_blank is_sign sized =
     })
 
 pub reads : (text : List ℕ) (at start size : ℕ) (kind : Kind) → start ≡ at + prefix_len is_blank (drop at text) →
-    start ≤ length text →
-    (drop start text ≡ [] → sign_of kind ≡ None) →
+    start ≤ length text → (drop start text ≡ [] → sign_of kind ≡ None) →
     (0 < length (drop start text) → sign_of kind ≡ Some (first_sign (take start text) (drop start text))) →
     size ≡ first_size (drop start text) → Reads text start size kind (stream_from text at)
 reads text at start size kind begins within ended some sized =
@@ -204,34 +192,28 @@ reads text at start size kind begins within ended some sized =
     let none : prefix_len is_blank (drop start text) ≡ 0 =
     rw (begins, ← drop-drop (prefix_len is_blank (drop at text)) at text) (prefix_len-behind is_blank (drop at text)) in
     let P : Stream Sign → Type 0 = λ stream. Reads text start size kind stream in
-    subst P (sym e) (⊎_elim
-    (λ (some_left : 0 < length (drop start text)). reads_token text start size kind within some_left none
-    (some some_left) sized)
-    (λ (none_left : length (drop start text) ≤ 0).
+    subst P (sym e) (⊎_elim (λ (some_left : 0 < length (drop start text)). reads_token within some_left none
+    (some some_left) sized) (λ (none_left : length (drop start text) ≤ 0).
     let empty : drop start text ≡ [] = nil_of (drop start text) none_left in
-    reads_end text start size kind within empty (ended empty) sized)
-    (cases_lt 0 (length (drop start text))))
+    reads_end within empty (ended empty) sized) (cases_lt 0 (length (drop start text))))
 
 -- the same, of a text that was cut where the token begins
-pub reads_split : (text before rest : List ℕ) (at start size : ℕ) (kind : Kind) (stream : Stream Sign) →
+pub reads_split : {text before rest : List ℕ} (at : ℕ) {start size : ℕ} {kind : Kind} {stream : Stream Sign} →
     start ≡ at + prefix_len is_blank (drop at text) → start ≤ length text → before ≡ take start text →
     rest ≡ drop start text →
     (rest ≡ [] → sign_of kind ≡ None) → (0 < length rest → sign_of kind ≡ Some (first_sign before rest)) →
-    size ≡ first_size rest →
-    stream_from text at ≡ stream → Reads text start size kind stream
-reads_split text before rest at start size kind stream begins within front back ended some sized is =
+    size ≡ first_size rest → stream_from text at ≡ stream → Reads text start size kind stream
+reads_split {text} {rest} at {start} {size} {kind} begins within front back ended some sized is =
     let P : Stream Sign → Type 0 = λ s. Reads text start size kind s in
-    subst P is (reads text at start size kind begins within
-    (λ empty. ended (back ∙ empty))
+    subst P is (reads text at start size kind begins within (λ empty. ended (back ∙ empty))
     (λ left. let long : 0 < length rest = omega (arith, ap length back) in
     some long ∙ ap (λ b. Some (first_sign b rest)) front ∙ ap (λ r. Some (first_sign (take start text) r)) back)
     (sized ∙ ap first_size back))
 
 -- where the next token begins is the offset of what is left
-pub offset_ahead : (text : List ℕ) (at start : ℕ) → start ≡ at + prefix_len is_blank (drop at text) →
-    start ≤ length text →
-    start ≡ offset_of (stream_from text at).pieces (length text)
-offset_ahead text at start begins within =
+pub offset_ahead : (text : List ℕ) (at : ℕ) {start : ℕ} → start ≡ at + prefix_len is_blank (drop at text) →
+    start ≤ length text → start ≡ offset_of (stream_from text at).pieces (length text)
+offset_ahead text at {start} begins within =
     let e : stream_from text at ≡ stream_from text start = stream_from-blanks text at
     ∙ ap (stream_from text) (sym begins) in
     let none : prefix_len is_blank (drop start text) ≡ 0 =
@@ -239,8 +221,7 @@ offset_ahead text at start begins within =
     let here : offset_of (lex 0 (take start text) (drop start text)) (length text) ≡ start = ⊎_elim
     (λ (some : 0 < length (drop start text)).
     ap (λ ps. offset_of ps (length text)) (lex-first (take start text) (drop start text) none some)
-    ∙ length-take-le start text within)
-    (λ (none_left : length (drop start text) ≤ 0).
+    ∙ length-take-le start text within) (λ (none_left : length (drop start text) ≤ 0).
     let at_end : length text ≡ start = omega (arith, length-drop start text) in
     ap (λ rest. offset_of (lex 0 (take start text) rest) (length text)) (nil_of (drop start text) none_left)
     ∙ ap (λ ps. offset_of ps (length text)) (lex-end (take start text)) ∙ at_end)

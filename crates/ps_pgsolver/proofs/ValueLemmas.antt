@@ -7,8 +7,8 @@ use Rattle.ps_pgsolver.specs.Answered.{number_answer}
 use Rattle.ps_pgsolver.specs.GameTexts.{too_large}
 use Rattle.ps_pgsolver.specs.Signs.{Number}
 
-pub number_small : (n at : ℕ) → n < too_large → Ok n ≡ number_answer (Some (Number n)) at
-number_small n at small = rw (lt-ltb n too_large small) refl
+pub number_small : {n : ℕ} (at : ℕ) → n < too_large → Ok n ≡ number_answer (Some (Number n)) at
+number_small {n} at small = rw (lt-ltb n too_large small) refl
 
 pub number_large : (n at : ℕ) → too_large ≤ n → Err (faults.Text causes.Number at) ≡ number_answer (Some (Number n)) at
 number_large n at large = rw (le-ltb n too_large large) refl

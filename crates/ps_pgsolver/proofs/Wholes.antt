@@ -12,7 +12,7 @@ use Rattle.ps_pgsolver.specs.declared.fault.PgCause.TheVariants as causes
 use Rattle.ps_pgsolver.specs.Causes.{PgFault}
 use Rattle.ps_text.specs.declared.faults.Fault.TheVariants as faults
 use Rattle.ps_pgsolver.proofs.Exits.{Done, Halts}
-use Rattle.ps_pgsolver.proofs.PartLaws.{laws_game}
+use Rattle.ps_pgsolver.proofs.GameLaws.{laws_game}
 
 halts_answers : (known : Option (List ℕ)) (stream : Stream Sign) (e : PgFault) → Halts (game known) stream e →
     FaultAnswers known stream (found_of e)
@@ -47,8 +47,8 @@ ended known old new nodes u m e = go new.pieces refl e
         m.1)
     go (p ∷ ps) x e = absurd (ok_is_err u (faults.Text causes.Syntax p.start) e)
 
-same_err : (e f : PgFault) → fails_as e ≡ fails_as f → e ≡ f
-same_err e f h = let x : fails_as e ≡ fails_as f = h in cc
+same_err : {e f : PgFault} → fails_as e ≡ fails_as f → e ≡ f
+same_err {e} {f} h = let x : fails_as e ≡ fails_as f = h in cc
 
 pub not_ended : (known : Option (List ℕ)) (old new : Stream Sign) (nodes : List NodeData) (e : PgFault)
     (r : Result (List NodeData) PgFault) → Done (game known) old nodes new →
@@ -62,5 +62,5 @@ not_ended known old new nodes e r m h i =
         (offset_of ps new.end) → FaultAnswers known old (found_of e)
     go [] x h = absurd (ok_is_err tt e (sym h))
     go (p ∷ ps) x h =
-        subst (λ f. FaultAnswers known old (found_of f)) (sym (same_err e (faults.Text causes.Syntax p.start) h))
+        subst (λ f. FaultAnswers known old (found_of f)) (sym (same_err h))
         (answers_trailing (laws_game known) old new nodes p ps m.0 m.1 x)

@@ -75,11 +75,10 @@ record IsKept (count : ℕ) (vertex : VertexData) : Type 0 where
   different : IsDistinct vertex.successors
 
 module _ (ids : List ℕ) (differ : IsDistinct ids) where
-  found_at : (w : ℕ) → w < length ids → place_of ids (id_at ids w) ≡ w
-  found_at w within =
+  found_at : {w : ℕ} → w < length ids → place_of ids (id_at ids w) ≡ w
+  found_at {w} within =
       let id = id_at ids w in
-      let e =
-      position_or_len_is (λ other. eqb id other) ids w 0 (omega (arith, within))
+      let e = position_or_len_is (λ other. eqb id other) ids w 0 (omega (arith, within))
       (λ k lt. ne_eqb id (get_or ids k 0) (λ x. differ k w 0 lt within (sym x))) (λ _. eq-eqb id id refl) in
       ap (λ i. unwrap_or (cond (ltb i (length ids)) (Some i) None) 0) e
       ∙ ap (λ (b : Bool). unwrap_or (cond b (Some w) None) 0) (lt-ltb w (length ids) within)
@@ -87,7 +86,7 @@ module _ (ids : List ℕ) (differ : IsDistinct ids) where
   places : (ws : List ℕ) → All (λ w. w < length ids) ws → map (place_of ids) (map (id_at ids) ws) ≡ ws
   places [] h = refl
   places (w ∷ ws) h =
-      ap₂ (λ x xs. x ∷ xs) (found_at w (All-head (λ z. z < length ids) w ws h))
+      ap₂ (λ x xs. x ∷ xs) (found_at (All-head (λ z. z < length ids) w ws h))
       (places ws (All-tail (λ z. z < length ids) w ws h))
 
   game_kept : (names : List (Option (List ℕ))) (v : ℕ) (vertices : ParityGame) → All (IsKept (length ids)) vertices →
@@ -198,7 +197,7 @@ module _ (named : NamedGameData) (is : IsNamedGame named) (some : 0 < vertex_cou
   unfolding nodes
   game_is =
       let kept = game_kept named.ids is.ids_differ named.names 0 named.game vertices_kept in
-      same_named named nodes (sym (ap (λ ids. without_repeats (draft_of ids nodes)) ids_are ∙ kept)) (sym ids_are)
+      same_named nodes (sym (ap (λ ids. without_repeats (draft_of ids nodes)) ids_are ∙ kept)) (sym ids_are)
       (sym names_are)
 
   nodes_readable : (known : Option (List ℕ)) → ((w : ℕ) → w < length named.ids → IsUnknown known (id_at named.ids w) →
@@ -213,8 +212,7 @@ module _ (named : NamedGameData) (is : IsNamedGame named) (some : 0 < vertex_cou
   reads_again short =
       let t = written_tokens named.ids named.names small plain (greatest named.ids) named.game word vertices_plain in
       let count : 0 < length nodes = omega (arith, some, made_count named.ids named.names 0 named.game) in
-      let first =
-      written_answers None t.0 (greatest named.ids) nodes t.2 (omega (arith, word)) count
+      let first = written_answers None t.0 (greatest named.ids) nodes t.2 (omega (arith, word)) count
       (nodes_readable None (λ w lt u. u)) in
       let second = written_answers (Some (ids_of nodes)) t.0 (greatest named.ids) nodes t.2 (omega (arith, word)) count
       (nodes_readable (Some (ids_of nodes)) (λ w lt u. u (subst (λ ids. Contains ids (id_at named.ids w)) (sym ids_are)

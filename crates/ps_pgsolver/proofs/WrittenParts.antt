@@ -20,12 +20,12 @@ use Rattle.ps_pgsolver.specs.GameTexts.{owner, successor, first_successor, comma
 use Rattle.ps_pgsolver.specs.GameTexts.{name, node, entry, entries, keyword, value_line, setting, game}
 use Rattle.ps_pgsolver.specs.Nodes.{NodeData, ids_of}
 use Rattle.ps_pgsolver.specs.Signs.{Sign, Number, Word, Name, Comma, Semicolon}
-use Rattle.ps_pgsolver.proofs.PartLaws.{IsKind, IsWord, kind_of, another, all_more, joint_more, laws_more}
-use Rattle.ps_pgsolver.proofs.PartLaws.{joint_successors, laws_one_name, laws_no_name, node_end, from_name}
-use Rattle.ps_pgsolver.proofs.PartLaws.{from_successors, from_owner, from_priority, joint_name, joint_list, joint_owner}
-use Rattle.ps_pgsolver.proofs.PartLaws.{joint_priority, joint_id, laws_entry, more_entries, joint_entries, joint_value}
-use Rattle.ps_pgsolver.proofs.PartLaws.{takes_word, joint_line, line, laws_line, laws_no_line, from_start, joint_start}
-use Rattle.ps_pgsolver.proofs.PartLaws.{joint_parity, laws_game}
+use Rattle.ps_pgsolver.proofs.PartLaws.{IsKind, kind_of, another, all_more, joint_more, laws_more, joint_successors}
+use Rattle.ps_pgsolver.proofs.PartLaws.{laws_one_name, laws_no_name, node_end, from_name, from_successors, from_owner}
+use Rattle.ps_pgsolver.proofs.PartLaws.{from_priority, joint_name, joint_list, joint_owner, joint_priority, joint_id}
+use Rattle.ps_pgsolver.proofs.GameLaws.{IsWord, laws_entry, more_entries, joint_entries, joint_value, takes_word}
+use Rattle.ps_pgsolver.proofs.GameLaws.{joint_line, line, laws_line, laws_no_line, from_start, joint_start}
+use Rattle.ps_pgsolver.proofs.GameLaws.{joint_parity, laws_game}
 use Rattle.ps_pgsolver.proofs.WrittenSigns.{comma_signs, list_signs, name_signs, node_signs, nodes_signs, written_signs}
 
 abbrev pub IsKnown : Option (List ℕ) → ℕ → Type 0
@@ -33,42 +33,42 @@ IsKnown known n = (n < too_large) × (IsUnknown known n → ⊥)
 
 -- ## Single signs
 
-read_number : (n : ℕ) (rest : List Sign) → n < too_large → IsRead number (Number n ∷ rest) n rest
+read_number : {n : ℕ} {rest : List Sign} → n < too_large → IsRead number (Number n ∷ rest) n rest
 unfolding number
-read_number n rest small = read_one number_in BadNumber (Number n) rest n refl (λ f b. omega (arith, small, b.0))
+read_number {n} {rest} small = read_one number_in BadNumber (Number n) rest n refl (λ f b. omega (arith, small, b.0))
 
-read_id : (ids : List ℕ) (n : ℕ) (rest : List Sign) → n < too_large → (Contains ids n → ⊥) →
+read_id : (ids : List ℕ) {n : ℕ} {rest : List Sign} → n < too_large → (Contains ids n → ⊥) →
     IsRead (new_id ids) (Number n ∷ rest) n rest
 unfolding new_id
-read_id ids n rest small new =
+read_id ids {n} {rest} small new =
     read_one number_in (BadId ids) (Number n) rest n refl (λ f b.
     ⊎_elim (λ h. omega (arith, small, h.0)) (λ h. new h.1) b)
 
-read_owner : (n : ℕ) (rest : List Sign) → n < 2 → IsRead owner (Number n ∷ rest) n rest
+read_owner : {n : ℕ} {rest : List Sign} → n < 2 → IsRead owner (Number n ∷ rest) n rest
 unfolding owner
-read_owner n rest small = read_one number_in BadOwner (Number n) rest n refl (λ f b. omega (arith, small, b.0))
+read_owner {n} {rest} small = read_one number_in BadOwner (Number n) rest n refl (λ f b. omega (arith, small, b.0))
 
-read_successor : (known : Option (List ℕ)) (n : ℕ) (rest : List Sign) → IsKnown known n →
+read_successor : (known : Option (List ℕ)) {n : ℕ} {rest : List Sign} → IsKnown known n →
     IsRead (successor known) (Number n ∷ rest) n rest
 unfolding successor
-read_successor known n rest is =
+read_successor known {n} {rest} is =
     read_one number_in (BadSuccessor known) (Number n) rest n refl
     (λ f b. ⊎_elim (λ h. omega (arith, is.0, h.0)) (λ h. is.1 h.1) b)
 
-read_first : (known : Option (List ℕ)) (n : ℕ) (rest : List Sign) → IsKnown known n →
+read_first : (known : Option (List ℕ)) {n : ℕ} {rest : List Sign} → IsKnown known n →
     IsRead (first_successor known) (Number n ∷ rest) n rest
 unfolding first_successor
-read_first known n rest is =
+read_first known {n} {rest} is =
     read_one number_in (BadFirst known) (Number n) rest n refl
     (λ f b. ⊎_elim (λ h. omega (arith, is.0, h.0)) (λ h. is.1 h.1) b)
 
-read_comma : (rest : List Sign) → IsRead comma (Comma ∷ rest) tt rest
+read_comma : {rest : List Sign} → IsRead comma (Comma ∷ rest) tt rest
 unfolding comma
-read_comma rest = read_one comma_in NoBad Comma rest tt refl (λ f b. b)
+read_comma {rest} = read_one comma_in NoBad Comma rest tt refl (λ f b. b)
 
-read_semicolon : (rest : List Sign) → IsRead semicolon (Semicolon ∷ rest) tt rest
+read_semicolon : {rest : List Sign} → IsRead semicolon (Semicolon ∷ rest) tt rest
 unfolding semicolon
-read_semicolon rest = read_one semicolon_in NoBad Semicolon rest tt refl (λ f b. b)
+read_semicolon {rest} = read_one semicolon_in NoBad Semicolon rest tt refl (λ f b. b)
 
 -- the next sign is of another kind
 kind_avoided : (k : ℕ) (t : Sign) → (kind_of t ≡ k → ⊥) → Avoids (IsKind k) (Some t)
@@ -81,41 +81,38 @@ semicolon_avoids k differs = kind_avoided k Semicolon (λ e. differs (sym e))
 -- ## Successors and names
 
 module _ (known : Option (List ℕ)) where
-  read_another : (list : List ℕ) (n : ℕ) (rest : List Sign) → IsKnown known n →
+  read_another : (list : List ℕ) {n : ℕ} {rest : List Sign} → IsKnown known n →
       IsRead (more_successor known list) (Comma ∷ Number n ∷ rest) (list ++ n ∷ []) rest
   unfolding more_successor
-  read_another list n rest is =
+  read_another list {n} {rest} is =
       read_then comma (λ _. another known list) (joint_more known list) (Comma ∷ Number n ∷ rest) (Number n ∷ rest) rest
-      tt (list ++ n ∷ []) (read_comma (Number n ∷ rest))
-      (read_mapped (λ m. list ++ m ∷ []) (successor known) (Number n ∷ rest) rest n (read_successor known n rest is))
+      tt (list ++ n ∷ []) (read_comma)
+      (read_mapped (λ m. list ++ m ∷ []) (successor known) (Number n ∷ rest) rest n (read_successor known is))
 
-  read_commas : (ns list : List ℕ) (rest : List Sign) → All (IsKnown known) ns → Avoids (IsKind 3) (first_of rest) →
+  read_commas : (ns list : List ℕ) {rest : List Sign} → All (IsKnown known) ns → Avoids (IsKind 3) (first_of rest) →
       IsRead (many (more_successor known) list) (comma_signs ns rest) (list ++ ns) rest
-  read_commas [] list rest are avoids =
+  read_commas [] list {rest} are avoids =
       subst (λ v. IsRead (many (more_successor known) list) rest v rest) (sym (append-nil list))
       (read_none (more_successor known) (laws_more known) (λ t h k. h) list rest avoids)
-  read_commas (n ∷ ns) list rest are avoids =
+  read_commas (n ∷ ns) list {rest} are avoids =
       let all = Comma ∷ Number n ∷ comma_signs ns rest in
-      let first = read_another list n (comma_signs ns rest) (All-head (IsKnown known) n ns are) in
-      let later =
-      subst (λ v. IsRead (many (more_successor known) (list ++ n ∷ [])) (comma_signs ns rest) v rest)
-      (append_assoc list (n ∷ []) ns)
-      (read_commas ns (list ++ n ∷ []) rest (All-tail (IsKnown known) n ns are) avoids) in
+      let first = read_another list (All-head (IsKnown known) n ns are) in
+      let later = subst (λ v. IsRead (many (more_successor known) (list ++ n ∷ [])) (comma_signs ns rest) v rest)
+      (append_assoc list (n ∷ []) ns) (read_commas ns (list ++ n ∷ []) (All-tail (IsKnown known) n ns are) avoids) in
       read_as (more_items (more_successor known) list) (many (more_successor known) list) all rest (list ++ n ∷ ns)
       (covers_item (more_successor known) list (first_of all))
       (read_then (more_successor known list) (λ d. many (more_successor known) d)
       (joint_many (more_successor known) (laws_more known) (λ t h k. h) list) all (comma_signs ns rest) rest
       (list ++ n ∷ []) (list ++ n ∷ ns) first later)
 
-  read_list : (ns : List ℕ) (rest : List Sign) → 0 < length ns → All (IsKnown known) ns →
+  read_list : (ns : List ℕ) {rest : List Sign} → 0 < length ns → All (IsKnown known) ns →
       Avoids (IsKind 3) (first_of rest) → IsRead (successors known) (list_signs ns rest) ns rest
   unfolding successors
-  read_list [] rest some are avoids = absurd (omega (arith, some))
-  read_list (n ∷ ns) rest some are avoids =
+  read_list [] some are avoids = absurd (omega (arith, some))
+  read_list (n ∷ ns) {rest} some are avoids =
       read_then (first_successor known) (all_more known) (joint_successors known) (Number n ∷ comma_signs ns rest)
-      (comma_signs ns rest) rest n (n ∷ ns)
-      (read_first known n (comma_signs ns rest) (All-head (IsKnown known) n ns are))
-      (read_commas ns (n ∷ []) rest (All-tail (IsKnown known) n ns are) avoids)
+      (comma_signs ns rest) rest n (n ∷ ns) (read_first known (All-head (IsKnown known) n ns are))
+      (read_commas ns (n ∷ []) (All-tail (IsKnown known) n ns are) avoids)
 
 read_name : (name' : Option (List ℕ)) (rest : List Sign) → IsRead name (name_signs name' (Semicolon ∷ rest)) name'
     (Semicolon ∷ rest)
@@ -150,34 +147,32 @@ AreReadable known before [] = Unit {0}
 AreReadable known before (n ∷ nodes) = IsReadable known (ids_of before) n × AreReadable known (before ++ n ∷ []) nodes
 
 module _ (known : Option (List ℕ)) where
-  read_node : (ids : List ℕ) (n : NodeData) (rest : List Sign) → IsReadable known ids n →
+  read_node : {ids : List ℕ} {n : NodeData} {rest : List Sign} → IsReadable known ids n →
       IsRead (node known ids) (node_signs n rest) n rest
   unfolding node
-  read_node ids n rest is =
+  read_node {ids} {n} {rest} is =
       let s5 = Semicolon ∷ rest in
       let s4 = name_signs n.name s5 in
       let s3 = list_signs n.successors s4 in
       let s2 = Number n.owner ∷ s3 in
       let s1 = Number n.priority ∷ s2 in
       read_then (new_id ids) (from_priority known ids) (joint_id known ids) (Number n.id ∷ s1) s1 rest n.id n
-      (read_id ids n.id s1 is.id is.new)
+      (read_id ids is.id is.new)
       (read_then number (from_owner known ids n.id) (joint_priority known ids n.id) s1 s2 rest n.priority n
-      (read_number n.priority s2 is.priority)
+      (read_number is.priority)
       (read_then owner (from_successors known ids n.id n.priority) (joint_owner known ids n.id n.priority) s2 s3 rest
-      n.owner n (read_owner n.owner s3 is.owner)
-      (read_then (successors known) (from_name known ids n.id n.priority n.owner)
+      n.owner n (read_owner is.owner) (read_then (successors known) (from_name known ids n.id n.priority n.owner)
       (joint_list known ids n.id n.priority n.owner) s3 s4 rest n.successors n
-      (read_list known n.successors s4 is.some is.successors (name_avoids n.name rest))
+      (read_list known n.successors is.some is.successors (name_avoids n.name rest))
       (read_then name (node_end known ids n.id n.priority n.owner n.successors)
       (joint_name known ids n.id n.priority n.owner n.successors) s4 s5 rest n.name n (read_name n.name rest)
-      (read_mapped (λ _. n) semicolon s5 rest tt (read_semicolon rest))))))
+      (read_mapped (λ _. n) semicolon s5 rest tt (read_semicolon))))))
 
-  read_entry : (before : List NodeData) (n : NodeData) (rest : List Sign) → IsReadable known (ids_of before) n →
+  read_entry : (before : List NodeData) {n : NodeData} {rest : List Sign} → IsReadable known (ids_of before) n →
       IsRead (entry known before) (node_signs n rest) (before ++ n ∷ []) rest
   unfolding entry
-  read_entry before n rest is =
-      read_mapped (λ m. before ++ m ∷ []) (node known (ids_of before)) (node_signs n rest) rest n
-      (read_node (ids_of before) n rest is)
+  read_entry before {n} {rest} is =
+      read_mapped (λ m. before ++ m ∷ []) (node known (ids_of before)) (node_signs n rest) rest n (read_node is)
 
   read_more : (nodes before : List NodeData) → AreReadable known before nodes →
       IsRead (many (entry known) before) (nodes_signs nodes) (before ++ nodes) []
@@ -186,13 +181,11 @@ module _ (known : Option (List ℕ)) where
       (read_none (entry known) (laws_entry known) (λ t h k. h) before [] (λ t e h. none_is_some t e))
   read_more (n ∷ nodes) before are =
       let all = node_signs n (nodes_signs nodes) in
-      let first = read_entry before n (nodes_signs nodes) are.0 in
-      let later =
-      subst (λ v. IsRead (many (entry known) (before ++ n ∷ [])) (nodes_signs nodes) v [])
+      let first = read_entry before are.0 in
+      let later = subst (λ v. IsRead (many (entry known) (before ++ n ∷ [])) (nodes_signs nodes) v [])
       (append_assoc before (n ∷ []) nodes) (read_more nodes (before ++ n ∷ []) are.1) in
       read_as (more_items (entry known) before) (many (entry known) before) all [] (before ++ n ∷ nodes)
-      (covers_item (entry known) before (first_of all))
-      (read_then (entry known before) (λ d. many (entry known) d)
+      (covers_item (entry known) before (first_of all)) (read_then (entry known before) (λ d. many (entry known) d)
       (joint_many (entry known) (laws_entry known) (λ t h k. h) before) all (nodes_signs nodes) []
       (before ++ n ∷ []) (before ++ n ∷ nodes) first later)
 
@@ -201,15 +194,14 @@ module _ (known : Option (List ℕ)) where
   unfolding entries
   read_entries n nodes are =
       read_then (entry known []) (more_entries known) (joint_entries known) (node_signs n (nodes_signs nodes))
-      (nodes_signs nodes) [] (n ∷ []) (n ∷ nodes)
-      (read_entry [] n (nodes_signs nodes) are.0) (read_more nodes (n ∷ []) are.1)
+      (nodes_signs nodes) [] (n ∷ []) (n ∷ nodes) (read_entry [] are.0) (read_more nodes (n ∷ []) are.1)
 
   -- ## The whole text
 
-  read_parity : (id : ℕ) (rest : List Sign) → id < too_large →
+  read_parity : (id : ℕ) {rest : List Sign} → id < too_large →
       IsRead (setting (codes "parity")) (Word (codes "parity") ∷ Number id ∷ Semicolon ∷ rest) tt rest
   unfolding setting keyword value_line
-  read_parity id rest small =
+  read_parity id {rest} small =
       let word = codes "parity" in
       let all = Word word ∷ Number id ∷ Semicolon ∷ rest in
       read_as (line word) (setting word) all rest tt (covers_left (line word) (give tt) (laws_no_line word)
@@ -217,7 +209,7 @@ module _ (known : Option (List ℕ)) where
       (read_then (keyword word) (λ _. value_line) (joint_line word) all (Number id ∷ Semicolon ∷ rest) rest tt tt
       (read_one (keyword_in word) NoBad (Word word) (Number id ∷ Semicolon ∷ rest) tt (takes_word word) (λ f b. b))
       (read_then number (λ _. semicolon) joint_value (Number id ∷ Semicolon ∷ rest) (Semicolon ∷ rest) rest id tt
-      (read_number id (Semicolon ∷ rest) small) (read_semicolon rest)))
+      (read_number small) (read_semicolon)))
 
   no_start : (id : ℕ) → Avoids (IsWord (codes "start")) (Some (Number id))
   unfolding kind_of
@@ -239,7 +231,7 @@ module _ (known : Option (List ℕ)) where
   read_game id (n ∷ nodes) small some are =
       let all = nodes_signs (n ∷ nodes) in
       read_then (setting (codes "parity")) (λ _. from_start known) (joint_parity known) (written_signs id (n ∷ nodes))
-      all [] tt (n ∷ nodes) (read_parity id all small)
+      all [] tt (n ∷ nodes) (read_parity id small)
       (read_then (setting (codes "start")) (λ _. entries known) (joint_start known) all all [] tt (n ∷ nodes)
       (read_start n.id _) (read_entries n nodes are))
 

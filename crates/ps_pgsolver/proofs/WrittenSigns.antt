@@ -4,9 +4,8 @@
 --               behind it
 --     node_made, nodes_made      the nodes that the lines write
 --     written_tokens      the tokens of the whole text
-use Rattle.std.proofs.Common.{◌≡◌, ℕ, suc, ◌+◌, ◌^◌, ◌<◌, Bool, true, false, List, [], ◌∷◌}
-use Rattle.std.proofs.Common.{◌++◌, length, get_or, map, Option, Some, None, refl, sym, ap, subst, ◌∙◌, arith}
-use Rattle.std.proofs.Common.{append_assoc, append-nil}
+use Rattle.std.proofs.Common.{◌≡◌, ℕ, suc, ◌+◌, ◌^◌, ◌<◌, Bool, true, false, List, [], ◌∷◌, ◌++◌, length, get_or, map}
+use Rattle.std.proofs.Common.{Option, Some, None, refl, sym, ap, subst, ◌∙◌, arith, append_assoc, append-nil}
 use Rattle.std.specs.Prelude.{decimal, codes}
 use Rattle.std.specs.List.{All, AllByRecursion, Contains}
 use Rattle.std.proofs.lemmas.Bool.{ne_eqb}
@@ -59,8 +58,7 @@ number_token before n rest small e stops =
     let t = number_text n small in (record { some = t.some; all = t.pass; longest = stops }, sym t.value, e)
 
 blank_number : (b n : ℕ) (rest : List ℕ) (ss : List Sign) → is_blank b ≡ true → is_letter b ≡ false → n < 2 ^ 64 →
-    StopsBefore is_digit rest → Lexes rest ss →
-    Lexes (b ∷ (decimal n ++ rest)) (Number n ∷ ss)
+    StopsBefore is_digit rest → Lexes rest ss → Lexes (b ∷ (decimal n ++ rest)) (Number n ∷ ss)
 blank_number b n rest ss k l small stops more before =
     token before (b ∷ []) (decimal n) rest (Number n) ss (k, tt)
     (number_token (before ++ b ∷ []) n rest small (ends_after is_letter before b ∙ l) stops) (more _)
@@ -123,8 +121,7 @@ commas_stop ids [] rest stops = stops
 commas_stop ids (w ∷ ws) rest stops = refl
 
 lexes_commas : (ids ws rest : List ℕ) (ss : List Sign) → ((w : ℕ) → IsWord (id_at ids w)) → StopsBefore is_digit rest →
-    Lexes rest ss →
-    Lexes (commas ids ws ++ rest) (comma_signs (map (id_at ids) ws) ss)
+    Lexes rest ss → Lexes (commas ids ws ++ rest) (comma_signs (map (id_at ids) ws) ss)
 lexes_commas ids [] rest ss small stops more = more
 lexes_commas ids (w ∷ ws) rest ss small stops more =
     subst (λ z. Lexes (44 ∷ z) (comma_signs (map (id_at ids) (w ∷ ws)) ss))
@@ -191,11 +188,10 @@ line_groups a b c d e f r s = simp (append_assoc)
 
 module _ (ids : List ℕ) (names : List (Option (List ℕ))) (small : (w : ℕ) → IsWord (id_at ids w))
     (plain : (v : ℕ) → HasNoQuote (get_or names v None)) where
-  lexes_line : (v : ℕ) (vertex : VertexData) (rest : List ℕ) (ss : List Sign) → IsPlainVertex vertex →
-      Lexes (10 ∷ rest) ss →
-      Lexes (10 ∷ (vertex_line ids (id_at ids v) vertex (get_or names v None) ++ rest))
+  lexes_line : (v : ℕ) {vertex : VertexData} (rest : List ℕ) (ss : List Sign) → IsPlainVertex vertex →
+      Lexes (10 ∷ rest) ss → Lexes (10 ∷ (vertex_line ids (id_at ids v) vertex (get_or names v None) ++ rest))
       (node_signs (node_made ids names v vertex) ss)
-  lexes_line v vertex rest ss is more =
+  lexes_line v {vertex} rest ss is more =
       let name = get_or names v None in
       let ns = map (id_at ids) vertex.successors in
       let end = name_text name ++ 59 ∷ 10 ∷ rest in
@@ -205,11 +201,9 @@ module _ (ids : List ℕ) (names : List (Option (List ℕ))) (small : (w : ℕ) 
       let l2 : Lexes (32 ∷ list) (list_signs ns (name_signs name (Semicolon ∷ ss))) =
       lexes_list ids vertex.successors end (name_signs name (Semicolon ∷ ss)) small is.some
       (name_stops name (10 ∷ rest)) l1 in
-      let l3 =
-      blank_number 32 vertex.owner (32 ∷ list) (list_signs ns (name_signs name (Semicolon ∷ ss))) refl refl
+      let l3 = blank_number 32 vertex.owner (32 ∷ list) (list_signs ns (name_signs name (Semicolon ∷ ss))) refl refl
       (omega (arith, is.owner)) refl l2 in
-      let l4 =
-      blank_number 32 vertex.priority (32 ∷ (decimal vertex.owner ++ 32 ∷ list))
+      let l4 = blank_number 32 vertex.priority (32 ∷ (decimal vertex.owner ++ 32 ∷ list))
       (Number vertex.owner ∷ list_signs ns (name_signs name (Semicolon ∷ ss))) refl refl is.priority refl l3 in
       let l5 =
       blank_number 10 (id_at ids v) (32 ∷ (decimal vertex.priority ++ 32 ∷ (decimal vertex.owner ++ 32 ∷ list)))
@@ -223,8 +217,7 @@ module _ (ids : List ℕ) (names : List (Option (List ℕ))) (small : (w : ℕ) 
       Lexes (10 ∷ vertex_lines ids names v vertices) (nodes_signs (nodes_made ids names v vertices))
   lexes_lines v [] are = λ before. record { pieces = []; are = refl; tokens = (refl, tt) }
   lexes_lines v (vertex ∷ vertices) are =
-      lexes_line v vertex (vertex_lines ids names (v + 1) vertices)
-      (nodes_signs (nodes_made ids names (v + 1) vertices))
+      lexes_line v (vertex_lines ids names (v + 1) vertices) (nodes_signs (nodes_made ids names (v + 1) vertices))
       (All-head IsPlainVertex vertex vertices are) (lexes_lines (v + 1) vertices
       (All-tail IsPlainVertex vertex vertices are))
 

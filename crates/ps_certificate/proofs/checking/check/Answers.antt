@@ -9,14 +9,11 @@ use Rattle.ps_certificate.proofs.checking.check.Goals as goal
 pub returns-in-Some-clause-exact : goal.returns-in-Some-clause-exact
 returns-in-Some-clause-exact g c = (
   (λ no. absurd (cc)),
-  λ valid. absurd (valid_has_no_flaw (g.A.Arena.game c.args.arena.now) c.args.certificate.now
-      c.in-Some.flaw valid c.in-Some.ensures.some.is_flaw),
+  λ valid. absurd (valid_has_no_flaw c.in-Some.flaw valid c.in-Some.ensures.some.is_flaw),
 )
 
 pub returns-in-Some-clause-flaw : goal.returns-in-Some-clause-flaw
-returns-in-Some-clause-flaw g c =
-    first_unsound (g.A.Arena.game c.args.arena.now) c.args.certificate.now c.loop-vertex.vertex c.in-Some.flaw
-    c.loop-vertex.invariant.sound c.in-Some.ensures.some
+returns-in-Some-clause-flaw g c = first_unsound c.loop-vertex.invariant.sound c.in-Some.ensures.some
 
 pub loop-vertex-preserved : goal.loop-vertex-preserved
 loop-vertex-preserved g c = record {
@@ -29,16 +26,14 @@ pub returns-in-Some-unranked-clause-flaw : goal.returns-in-Some-unranked-clause-
 returns-in-Some-unranked-clause-flaw g c =
     let game = g.A.Arena.game c.args.arena.now in
     let closed : IsClosed game c.args.certificate.now =
-    IsClosed-from_sound game c.args.certificate.now (λ v below. c.loop-vertex.invariant.sound v (omega (arith, below)))
-    in
+    IsClosed-from_sound (λ v below. c.loop-vertex.invariant.sound v (omega (arith, below))) in
     let found : IsFirstUnranked game c.args.certificate.now c.in-Some-unranked.flaw =
     rw c.in-Some-unranked.is at c.loop-vertex.invariant.some in
-    first_unranked game c.args.certificate.now found.vertex c.in-Some-unranked.flaw closed found.before found.at_vertex
+    first_unranked closed found.before found.at_vertex
 
 pub returns-in-None-clause-exact : goal.returns-in-None-clause-exact
 returns-in-None-clause-exact g c = (
-  (λ _. valid_in_the_end (g.A.Arena.game c.args.arena.now) c.args.certificate.now c.loop-vertex.vertex
-      c.loop-vertex.unranked
+  (λ _. valid_in_the_end c.loop-vertex.vertex
       (omega (arith, c.loop-vertex-test.false, c.count-vertex-end.ensures.vertices)) c.loop-vertex.invariant.sound
       c.loop-vertex.invariant.none c.in-None.is),
   λ _. refl,
@@ -47,15 +42,13 @@ returns-in-None-clause-exact g c = (
 pub returns-in-None-clause-regions : goal.returns-in-None-clause-regions
 returns-in-None-clause-regions g c =
     BothHold-from_valid (g.A.Arena.game c.args.arena.now) c.args.certificate.now c.requires
-    (valid_in_the_end (g.A.Arena.game c.args.arena.now) c.args.certificate.now c.loop-vertex.vertex
-    c.loop-vertex.unranked
+    (valid_in_the_end c.loop-vertex.vertex
     (omega (arith, c.loop-vertex-test.false, c.count-vertex-end.ensures.vertices)) c.loop-vertex.invariant.sound
     c.loop-vertex.invariant.none c.in-None.is)
 
 pub returns-in-None-clause-best : goal.returns-in-None-clause-best
 returns-in-None-clause-best g c =
     NoneWinsOutside-from_valid (g.A.Arena.game c.args.arena.now) c.args.certificate.now
-    c.count-vertex-end.ensures.well_formed c.requires (valid_in_the_end (g.A.Arena.game c.args.arena.now)
-    c.args.certificate.now c.loop-vertex.vertex c.loop-vertex.unranked
+    c.count-vertex-end.ensures.well_formed c.requires (valid_in_the_end c.loop-vertex.vertex
     (omega (arith, c.loop-vertex-test.false, c.count-vertex-end.ensures.vertices)) c.loop-vertex.invariant.sound
     c.loop-vertex.invariant.none c.in-None.is)

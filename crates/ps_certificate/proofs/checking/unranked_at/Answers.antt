@@ -10,8 +10,8 @@ pub broken_priority-requires-clause-same_winner : goal.broken_priority-requires-
 broken_priority-requires-clause-same_winner g c =
     let own : owner_of (g.A.Arena.game c.args.arena.now) c.args.vertex ≡ winner_of c.args.certificate.now c.args.vertex
     = sym c.owner.ensures ∙ c.if-owner-winner.true ∙ c.winner.ensures in
-    c.requires.sound.inside c.in-Some.successor (own_edge (g.A.Arena.game c.args.arena.now) c.args.certificate.now
-    c.args.vertex c.in-Some.successor c.requires.sound.right_move own (sym c.choice.ensures ∙ c.in-Some.is))
+    c.requires.sound.inside c.in-Some.successor (own_edge c.requires.sound.right_move own
+    (sym c.choice.ensures ∙ c.in-Some.is))
 
 pub returns-in-Some-broken_priority-clause-some : goal.returns-in-Some-broken_priority-clause-some
 returns-in-Some-broken_priority-clause-some g c =
@@ -20,18 +20,16 @@ returns-in-Some-broken_priority-clause-some g c =
     let is : choice_of c.args.certificate.now c.args.vertex ≡ Some c.in-Some.successor = sym c.choice.ensures
     ∙ c.in-Some.is in
     let remains : Remains (g.A.Arena.game c.args.arena.now) c.args.certificate.now c.args.vertex c.in-Some.successor =
-    own_edge (g.A.Arena.game c.args.arena.now) c.args.certificate.now c.args.vertex c.in-Some.successor
-    c.requires.sound.right_move own is in
-    IsFirstFlawAt-rank (g.A.Arena.game c.args.arena.now) c.args.certificate.now c.args.vertex c.in-Some.successor
-    c.in-Some-broken_priority.priority c.requires.fits remains (c.requires.sound.inside c.in-Some.successor remains)
+    own_edge c.requires.sound.right_move own is in
+    IsFirstFlawAt-rank c.requires.fits remains (c.requires.sound.inside c.in-Some.successor remains)
     c.in-Some-broken_priority.ensures.some (λ w other. inl (own_edges (g.A.Arena.game c.args.arena.now)
-    c.args.certificate.now c.args.vertex c.in-Some.successor own is w other))
+    c.args.certificate.now c.args.vertex own is other))
 
 pub broken_priority-requires-in-loop-number-clause-successor :
     goal.broken_priority-requires-in-loop-number-clause-successor
 broken_priority-requires-in-loop-number-clause-successor g c =
     c.count-vertices.ensures.well_formed.within c.args.vertex c.successor-successor.result
-    (HasEdge-at (g.A.Arena.game c.args.arena.now) c.args.vertex c.loop-number.number c.successor-successor.result
+    (HasEdge-at (g.A.Arena.game c.args.arena.now) c.args.vertex c.loop-number.number
     c.requires.vertex (omega arith) c.successor-successor.ensures)
 
 pub returns-in-Some-broken_priority-2-clause-some : goal.returns-in-Some-broken_priority-2-clause-some
@@ -42,10 +40,8 @@ returns-in-Some-broken_priority-2-clause-some g c =
     c.successor-successor.result =
     Remains-other (g.A.Arena.game c.args.arena.now) c.args.certificate.now c.args.vertex
     c.successor-successor.result other (HasEdge-at (g.A.Arena.game c.args.arena.now) c.args.vertex
-    c.loop-number.number c.successor-successor.result c.requires.vertex (omega arith) c.successor-successor.ensures)
-    in
-    IsFirstFlawAt-rank (g.A.Arena.game c.args.arena.now) c.args.certificate.now c.args.vertex
-    c.successor-successor.result c.in-Some-broken_priority-2.priority c.requires.fits remains
+    c.loop-number.number c.requires.vertex (omega arith) c.successor-successor.ensures) in
+    IsFirstFlawAt-rank c.requires.fits remains
     (c.requires.sound.inside c.successor-successor.result remains) c.in-Some-broken_priority-2.ensures.some
     (other_edges (g.A.Arena.game c.args.arena.now) c.args.certificate.now c.args.vertex c.successor-successor.result
     c.loop-number.number (omega arith) c.successor-successor.ensures c.loop-number.invariant)

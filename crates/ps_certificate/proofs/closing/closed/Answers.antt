@@ -6,27 +6,23 @@ use Rattle.ps_certificate.proofs.closing.closed.Goals as goal
 pub returns-in-Some-clause-exact : goal.returns-in-Some-clause-exact
 returns-in-Some-clause-exact g c = (
   (λ no. absurd (cc)),
-  λ closed. absurd (closed_has_no_flaw (g.A.Arena.game c.args.arena.now) c.args.certificate.now
+  λ closed. absurd (closed_has_no_flaw
       closed c.in-Some.flaw c.in-Some.ensures.some.is_flaw c.in-Some.ensures.some.at_stage),
 )
 
 pub returns-in-Some-clause-flaw : goal.returns-in-Some-clause-flaw
-returns-in-Some-clause-flaw g c =
-    first_unsound (g.A.Arena.game c.args.arena.now) c.args.certificate.now c.loop-vertex.vertex c.in-Some.flaw
-    c.loop-vertex.invariant c.in-Some.ensures.some
+returns-in-Some-clause-flaw g c = first_unsound c.loop-vertex.invariant c.in-Some.ensures.some
 
 pub loop-vertex-preserved : goal.loop-vertex-preserved
 loop-vertex-preserved g c = below_more _ _ c.loop-vertex.invariant c.in_default.ensures.none
 
 pub returns-clause-exact : goal.returns-clause-exact
 returns-clause-exact g c = (
-  (λ _. IsClosed-from_sound (g.A.Arena.game c.args.arena.now) c.args.certificate.now
-      (λ v below. c.loop-vertex.invariant v (omega arith))),
+  (λ _. IsClosed-from_sound (λ v below. c.loop-vertex.invariant v (omega arith))),
   λ _. refl,
 )
 
 pub returns-clause-regions : goal.returns-clause-regions
 returns-clause-regions g c =
-    BothKeep-from_closed (g.A.Arena.game c.args.arena.now) c.args.certificate.now
-    (IsClosed-from_sound (g.A.Arena.game c.args.arena.now) c.args.certificate.now
+    BothKeep-from_closed (g.A.Arena.game c.args.arena.now) c.args.certificate.now (IsClosed-from_sound
     (λ v below. c.loop-vertex.invariant v (omega arith)))

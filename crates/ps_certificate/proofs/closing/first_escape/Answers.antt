@@ -6,16 +6,14 @@ use Rattle.ps_certificate.proofs.closing.first_escape.Goals as goal
 
 pub winner-requires-in-loop-number : goal.winner-requires-in-loop-number
 winner-requires-in-loop-number g c =
-    has_entry (g.A.Arena.game c.args.arena.now) c.args.certificate.now c.count-vertices.ensures.well_formed
-    c.requires.fits c.args.vertex c.loop-number.number c.successor-successor.result c.requires.vertex (omega arith)
-    c.successor-successor.ensures
+    has_entry c.count-vertices.ensures.well_formed
+    c.requires.fits c.args.vertex c.loop-number.number c.requires.vertex (omega arith) c.successor-successor.ensures
 
 pub returns-then-winner-2-clause-some : goal.returns-then-winner-2-clause-some
 returns-then-winner-2-clause-some g c =
     let other : owner_of (g.A.Arena.game c.args.arena.now) c.args.vertex ≢ winner_of c.args.certificate.now
     c.args.vertex = λ own. c.if-owner-winner.false (c.owner.ensures ∙ own ∙ sym c.winner-winner.ensures) in
-    IsFirstEscape-at (g.A.Arena.game c.args.arena.now) c.args.certificate.now c.args.vertex c.loop-number.number
-    c.successor-successor.result c.requires.vertex other (omega arith) c.successor-successor.ensures
+    IsFirstEscape-at c.loop-number.number c.requires.vertex other (omega arith) c.successor-successor.ensures
     (λ j below. c.loop-number.invariant j below ∙ c.winner-winner.ensures)
     (λ same. c.if-winner-2.true (c.winner-in-loop-number.ensures ∙ same ∙ sym c.winner-winner.ensures))
 

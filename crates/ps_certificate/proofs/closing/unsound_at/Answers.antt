@@ -7,5 +7,4 @@ pub returns-then-not-has_right_move-clause-some : goal.returns-then-not-has_righ
 returns-then-not-has_right_move-clause-some g c =
     let not_right : ¬ HasRightMove (g.A.Arena.game c.args.arena.now) c.args.certificate.now c.args.vertex =
     λ right. search rules in
-    first_move (g.A.Arena.game c.args.arena.now) c.args.certificate.now c.args.vertex c.choice-choice.result
-    c.requires.vertex c.choice-choice.ensures not_right
+    first_move c.requires.vertex c.choice-choice.ensures not_right

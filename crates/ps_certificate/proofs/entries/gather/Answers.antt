@@ -29,8 +29,7 @@ loop-place-preserved c =
             kept = ap (λ (v : _). take (length old) v.items) w.placed-is ∙ c.loop-place.invariant.kept;
             all =
                 ap (λ (v : _). v.items ++ gathered (c.if-count-eq0.place + 1) (drop (c.if-count-eq0.place + 1) counts))
-                w.placed-is
-                ∙ ap (λ k. placed ++ gathered (k + 1) (drop (k + 1) counts)) w.place-is
+                w.placed-is ∙ ap (λ k. placed ++ gathered (k + 1) (drop (k + 1) counts)) w.place-is
                 ∙ ap (λ rest. placed ++ rest)
                 (sym (gathered_run counts place n c.loop-place-test.true w.if-count-eq0.true run))
                 ∙ c.loop-place.invariant.all;

@@ -22,7 +22,5 @@ returns-clause-stand c =
     let start = c.args.start in
     let many = length placed - start in
     OnTrue_from c.eq.result (slice_range placed c.args.before (c.args.before + many) ≡ drop start placed) (λ is.
-    sym c.part.ensures
-    ∙ (slice_eq-Decides same c.part.result.now c.part-2.result.now c.eq.result c.eq.ensures).0 is
-    ∙ c.part-2.ensures
-    ∙ grind (arith, common_steps))
+    sym c.part.ensures ∙ (slice_eq-Decides same c.part.result.now c.part-2.result.now c.eq.result c.eq.ensures).0 is
+    ∙ c.part-2.ensures ∙ grind (arith, common_steps))

@@ -8,8 +8,7 @@ use Rattle.ps_certificate.proofs.fitted.all_present.Goals as goal
 pub returns-then-not-window_present : goal.returns-then-not-window_present
 returns-then-not-window_present g c = (
   (λ no. absurd (both_ways false refl no)),
-  λ all. absurd (both_ways c.window_present.result
-      c.if-not-window_present.true (c.window_present.ensures.1
+  λ all. absurd (both_ways c.window_present.result c.if-not-window_present.true (c.window_present.ensures.1
       (All-take (HasPriority (g.A.Arena.game c.args.arena.now)) (c.min-end.result - c.loop-start.start)
       (drop c.loop-start.start c.args.list.now) (All-drop (HasPriority (g.A.Arena.game c.args.arena.now))
       c.loop-start.start c.args.list.now all)))),

@@ -18,9 +18,7 @@ loop-vertex-init g c = record {
 
 pub loop-vertex-preserved : goal.loop-vertex-preserved
 loop-vertex-preserved g c =
-    AreJust-found (g.A.Arena.game c.args.arena.now) c.args.parity c.args.list.now c.loop-vertex.seen
-    c.loop-vertex.vertex c.in-Some.place
-    c.priority-priority.result c.requires.rising (omega arith) c.priority-priority.ensures c.in-Some.ensures.some
+    AreJust-found c.requires.rising (omega arith) c.priority-priority.ensures c.in-Some.ensures.some
     c.loop-vertex.invariant
 
 pub returns-then-not-seen-place : goal.returns-then-not-seen-place
@@ -32,7 +30,7 @@ returns-then-not-seen-place g c =
     subst P done c.loop-vertex.invariant.marks in (
       (λ no. absurd (both_ways false refl no)),
       λ both. absurd (both_ways _ c.if-not-seen-place.true
-          (marked_in_the_end game c.args.list.now c.loop-vertex.seen c.loop-place.place marks both.1 (omega arith))),
+          (marked_in_the_end c.loop-place.place marks both.1 (omega arith))),
     )
 
 pub returns : goal.returns
@@ -40,8 +38,7 @@ returns g c =
     let game = g.A.Arena.game c.args.arena.now in (
       (λ _. (
         (λ v below. c.loop-vertex.invariant.complete v (omega (arith, below))),
-        All-from_marks game c.args.list.now c.loop-vertex.seen c.loop-vertex.vertex c.loop-vertex.invariant.marks
-            (λ k within. c.loop-place.invariant k (omega (arith, within))),
+        All-from_marks c.loop-vertex.invariant.marks (λ k within. c.loop-place.invariant k (omega (arith, within))),
       )),
       λ _. refl,
     )

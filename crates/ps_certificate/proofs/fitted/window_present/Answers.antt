@@ -18,13 +18,11 @@ pub loop-vertex-preserved : goal.loop-vertex-preserved
 loop-vertex-preserved g c = elim c.match-place_of.branch [
   | in-Some w ↦ (let P : List Bool → Type 0 = λ s. AreMarks (g.A.Arena.game c.args.arena.now) c.args.window.now s
       (c.loop-vertex.vertex + 1) in
-      subst P (sym w.seen-is) (AreMarks-found (g.A.Arena.game c.args.arena.now) c.args.window.now c.loop-vertex.seen
-      c.loop-vertex.vertex w.in-Some.place c.priority.result c.requires.rising (omega arith) c.priority.ensures
+      subst P (sym w.seen-is) (AreMarks-found c.requires.rising (omega arith) c.priority.ensures
       w.in-Some.ensures.some c.loop-vertex.invariant))
   | in_default w ↦ (let P : List Bool → Type 0 = λ s. AreMarks (g.A.Arena.game c.args.arena.now) c.args.window.now s
       (c.loop-vertex.vertex + 1) in
-      subst P (sym w.seen-is) (AreMarks-missing (g.A.Arena.game c.args.arena.now) c.args.window.now c.loop-vertex.seen
-      c.loop-vertex.vertex c.priority.result c.priority.ensures w.in_default.ensures.none c.loop-vertex.invariant))
+      subst P (sym w.seen-is) (AreMarks-missing c.priority.ensures w.in_default.ensures.none c.loop-vertex.invariant))
 ]
 
 pub returns-then-not-seen-place : goal.returns-then-not-seen-place
@@ -35,14 +33,12 @@ returns-then-not-seen-place g c =
     let done : c.loop-vertex.vertex ≡ vertex_count (g.A.Arena.game c.args.arena.now) = omega arith in
     subst P done c.loop-vertex.invariant) in (
       (λ no. absurd (both_ways false refl no)),
-      λ all. absurd (both_ways _ c.if-not-seen-place.true
-          (marked_in_the_end (g.A.Arena.game c.args.arena.now) c.args.window.now c.loop-vertex.seen c.loop-place.place
+      λ all. absurd (both_ways _ c.if-not-seen-place.true (marked_in_the_end c.loop-place.place
           marks all (omega arith))),
     )
 
 pub returns : goal.returns
 returns g c = (
-  (λ _. All-from_marks (g.A.Arena.game c.args.arena.now) c.args.window.now c.loop-vertex.seen c.loop-vertex.vertex
-      c.loop-vertex.invariant (λ k within. c.loop-place.invariant k (omega arith))),
+  (λ _. All-from_marks c.loop-vertex.invariant (λ k within. c.loop-place.invariant k (omega arith))),
   λ _. refl,
 )

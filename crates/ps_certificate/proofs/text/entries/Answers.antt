@@ -11,38 +11,32 @@ returns-in_err-won c =
     c.args.game.now.ids) c.args.cursor.now _ _ _
     (entry_fails c.args.compact c.args.known.now.odd.items c.args.known.now.even.items c.args.known.now.ids
     c.args.game.now.ids c.loop-vertex.vertex (at_place c.args.cursor.now)
-    (at_place c.loop-vertex.cursor) c.loop-vertex.entries c.loop-vertex.invariant
-    (omega (
+    (at_place c.loop-vertex.cursor) c.loop-vertex.entries c.loop-vertex.invariant (omega (
       arith,
       c.count-vertices.ensures.vertices,
       ap vertex_count c.game.ensures.game,
       c.game.ensures.well_formed.id_each,
-    )) c.id.result c.id.ensures _ c.in_err-won.ensures)
+    )) c.id.ensures _ c.in_err-won.ensures)
     c.from_residual-in_err-won.ensures.1
 
 pub loop-vertex-preserved : goal.loop-vertex-preserved
 loop-vertex-preserved c =
     entry_next c.args.compact c.args.known.now.odd.items c.args.known.now.even.items c.args.known.now.ids
     c.args.game.now.ids c.loop-vertex.vertex (at_place c.args.cursor.now)
-    (at_place c.loop-vertex.cursor) c.loop-vertex.entries c.loop-vertex.invariant
-    (omega (
+    (at_place c.loop-vertex.cursor) c.loop-vertex.entries c.loop-vertex.invariant (omega (
       arith,
       c.count-vertices.ensures.vertices,
       ap vertex_count c.game.ensures.game,
       c.game.ensures.well_formed.id_each,
-    )) c.id.result c.id.ensures
-    (at_place c.entry.new.cursor) _ c.in_ok-won.ensures _
-    (c.in_ok-push.ensures.ok
-    ∙ ap (λ (counts : List ℕ). c.loop-vertex.entries ++ record
-    { winner = c.in_ok-won.won.winner; choice = c.in_ok-won.won.choice; counts = counts } ∷ [])
-    c.deref.ensures.value)
+    )) c.id.ensures c.in_ok-won.ensures
+    (c.in_ok-push.ensures.ok ∙ ap (λ (counts : List ℕ). c.loop-vertex.entries ++ record
+    { winner = c.in_ok-won.won.winner; choice = c.in_ok-won.won.choice; counts = counts } ∷ []) c.deref.ensures.value)
 
 pub returns : goal.returns
 returns c =
     entries_end c.args.compact c.args.known.now.odd.items c.args.known.now.even.items c.args.known.now.ids
     c.args.game.now.ids c.loop-vertex.vertex (at_place c.args.cursor.now)
-    (at_place c.loop-vertex.cursor) c.loop-vertex.entries c.loop-vertex.invariant
-    (omega (
+    (at_place c.loop-vertex.cursor) c.loop-vertex.entries c.loop-vertex.invariant (omega (
       arith,
       c.count-vertices.ensures.vertices,
       ap vertex_count c.game.ensures.game,

@@ -8,8 +8,7 @@ use Rattle.ps_certificate.proofs.text.entries_of.Goals as goal
 pub returns-in_err-compact : goal.returns-in_err-compact
 returns-in_err-compact c =
     text_fails c.args.known.now.odd.items c.args.known.now.even.items c.args.game.now.ids c.args.text.now
-    c.new-cursor.result c.new-cursor.ensures _ _
-    (c.in_err-compact.ensures c.args.game.now.ids
+    c.new-cursor.result c.new-cursor.ensures _ _ (c.in_err-compact.ensures c.args.game.now.ids
     (c.count.ensures.vertices ∙ ap vertex_count c.game.ensures.game ∙ sym c.game.ensures.well_formed.id_each))
     c.from_residual.ensures.1
 
@@ -30,9 +29,8 @@ returns-then-is_at_end c =
     (lines_read c.args.known.now.odd.items c.args.known.now.even.items c.args.game.now.ids c.in_ok-compact.compact
     c.args.known.now.ids c.requires.ids (at_place c.new-cursor.result) (at_place c.head.new.cursor)
     (c.in_ok-compact.ensures c.args.game.now.ids
-    (c.count.ensures.vertices ∙ ap vertex_count c.game.ensures.game ∙ sym c.game.ensures.well_formed.id_each)) _ _
-    c.in_ok-entries.ensures)
-    (eqb-true (length c.entries.new.cursor.rest) 0 (sym c.if-is_at_end.ensures))
+    (c.count.ensures.vertices ∙ ap vertex_count c.game.ensures.game ∙ sym c.game.ensures.well_formed.id_each))
+    c.in_ok-entries.ensures) (eqb-true (length c.entries.new.cursor.rest) 0 (sym c.if-is_at_end.ensures))
 
 pub returns-else-is_at_end : goal.returns-else-is_at_end
 returns-else-is_at_end c =
@@ -41,6 +39,6 @@ returns-else-is_at_end c =
     (lines_read c.args.known.now.odd.items c.args.known.now.even.items c.args.game.now.ids c.in_ok-compact.compact
     c.args.known.now.ids c.requires.ids (at_place c.new-cursor.result) (at_place c.head.new.cursor)
     (c.in_ok-compact.ensures c.args.game.now.ids
-    (c.count.ensures.vertices ∙ ap vertex_count c.game.ensures.game ∙ sym c.game.ensures.well_formed.id_each)) _ _
-    c.in_ok-entries.ensures) _
+    (c.count.ensures.vertices ∙ ap vertex_count c.game.ensures.game ∙ sym c.game.ensures.well_formed.id_each))
+    c.in_ok-entries.ensures)
     (eqb-false (length c.entries.new.cursor.rest) 0 (sym c.if-is_at_end.ensures)) c.fault.ensures

@@ -34,8 +34,7 @@ returns-in_err-byte-2 c =
     c.args.id) c.args.cursor.now _ _ _
     (at_second_space c.args.compact c.args.known.now.odd.items c.args.known.now.even.items c.args.known.now.ids
     c.args.id (at_place c.args.cursor.now) _ _ c.in_ok-exactly.ensures _ c.in_ok-byte.ensures _ _
-    c.in_ok-winner.ensures _ c.in_err-byte-2.ensures)
-    c.from_residual-in_err-byte-2.ensures.1
+    c.in_ok-winner.ensures _ c.in_err-byte-2.ensures) c.from_residual-in_err-byte-2.ensures.1
 
 pub returns-in_err-choice : goal.returns-in_err-choice
 returns-in_err-choice c =
@@ -43,8 +42,7 @@ returns-in_err-choice c =
     c.args.id) c.args.cursor.now _ _ _
     (at_choice c.args.compact c.args.known.now.odd.items c.args.known.now.even.items c.args.known.now.ids c.args.id
     (at_place c.args.cursor.now) _ _ c.in_ok-exactly.ensures _ c.in_ok-byte.ensures _ _ c.in_ok-winner.ensures _
-    c.in_ok-byte-2.ensures
-    _ c.in_err-choice.ensures) c.from_residual-in_err-choice.ensures.1
+    c.in_ok-byte-2.ensures _ c.in_err-choice.ensures) c.from_residual-in_err-choice.ensures.1
 
 pub returns-in_err-counts_for : goal.returns-in_err-counts_for
 returns-in_err-counts_for c =
@@ -52,13 +50,11 @@ returns-in_err-counts_for c =
     c.args.id) c.args.cursor.now _ _ _
     (at_counts c.args.compact c.args.known.now.odd.items c.args.known.now.even.items c.args.known.now.ids c.args.id
     (at_place c.args.cursor.now) _ _ c.in_ok-exactly.ensures _ c.in_ok-byte.ensures _ _ c.in_ok-winner.ensures _
-    c.in_ok-byte-2.ensures
-    _ _ c.in_ok-choice.ensures _ c.lost_by-priorities.ensures _ c.in_err-counts_for.ensures)
+    c.in_ok-byte-2.ensures _ _ c.in_ok-choice.ensures _ c.lost_by-priorities.ensures _ c.in_err-counts_for.ensures)
     c.from_residual-in_err-counts_for.ensures.1
 
 pub returns : goal.returns
 returns c =
     entry_reads c.args.compact c.args.known.now.odd.items c.args.known.now.even.items c.args.known.now.ids c.args.id
     (at_place c.args.cursor.now) _ _ c.in_ok-exactly.ensures _ c.in_ok-byte.ensures _ _ c.in_ok-winner.ensures _
-    c.in_ok-byte-2.ensures
-    _ _ c.in_ok-choice.ensures _ c.lost_by-priorities.ensures _ _ c.in_ok-counts_for.ensures
+    c.in_ok-byte-2.ensures _ _ c.in_ok-choice.ensures _ c.lost_by-priorities.ensures c.in_ok-counts_for.ensures

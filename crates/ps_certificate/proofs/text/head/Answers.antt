@@ -27,8 +27,8 @@ pub returns-in_err-exactly : goal.returns-in_err-exactly
 returns-in_err-exactly c = λ ids size.
     head_fails c.args.known.now.odd.items c.args.known.now.even.items ids c.args.cursor.now _ _ _
     (at_number c.args.known.now.odd.items c.args.known.now.even.items ids
-    (at_place c.args.cursor.now) _ c.in_ok-word.ensures _ _ c.in_ok-compact.ensures _ c.in_ok-word-2.ensures
-    c.args.count size _ c.in_err-exactly.ensures) c.from_residual-in_err-exactly.ensures.1
+    (at_place c.args.cursor.now) _ c.in_ok-word.ensures _ _ c.in_ok-compact.ensures _ c.in_ok-word-2.ensures size _
+    c.in_err-exactly.ensures) c.from_residual-in_err-exactly.ensures.1
 
 pub returns-in_err-word-3 : goal.returns-in_err-word-3
 returns-in_err-word-3 c = λ ids size.
@@ -42,9 +42,8 @@ returns-in_err-priorities c = λ ids size.
     head_fails c.args.known.now.odd.items c.args.known.now.even.items ids c.args.cursor.now _ _ _
     (at_odd c.args.known.now.odd.items c.args.known.now.even.items ids
     (at_place c.args.cursor.now) _ c.in_ok-word.ensures _ _ c.in_ok-compact.ensures _ c.in_ok-word-2.ensures
-    c.args.count size _ _ c.in_ok-exactly.ensures _ c.in_ok-word-3.ensures c.deref.result.now
-    c.deref.ensures.value _ c.in_err-priorities.ensures)
-    c.from_residual-in_err-priorities.ensures.1
+    c.args.count size _ _ c.in_ok-exactly.ensures _ c.in_ok-word-3.ensures
+    c.deref.ensures.value _ c.in_err-priorities.ensures) c.from_residual-in_err-priorities.ensures.1
 
 pub returns-in_err-word-4 : goal.returns-in_err-word-4
 returns-in_err-word-4 c = λ ids size.
@@ -70,4 +69,4 @@ returns c = λ ids size. head_read c.args.known.now.odd.items c.args.known.now.e
     (at_place c.args.cursor.now) _ c.in_ok-word.ensures _ _ c.in_ok-compact.ensures _ c.in_ok-word-2.ensures
     c.args.count size _ _ c.in_ok-exactly.ensures _ c.in_ok-word-3.ensures c.deref.result.now c.deref.ensures.value _
     c.in_ok-priorities.ensures _
-    c.in_ok-word-4.ensures c.deref-2.result.now c.deref-2.ensures.value _ c.in_ok-priorities-2.ensures
+    c.in_ok-word-4.ensures c.deref-2.result.now c.deref-2.ensures.value c.in_ok-priorities-2.ensures

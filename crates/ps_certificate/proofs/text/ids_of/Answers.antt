@@ -21,8 +21,7 @@ push-requires c = λ has. absent_before c.args.game.now.ids c.loop-vertex.vertex
 pub loop-vertex-preserved : goal.loop-vertex-preserved
 loop-vertex-preserved c =
     c.in_ok-push.ensures.ok ∙ ap₂ (λ (xs : List ℕ) (x : ℕ). xs ++ x ∷ []) c.loop-vertex.invariant c.id.ensures
-    ∙ sym (take_more c.args.game.now.ids c.loop-vertex.vertex 0
-    (omega (
+    ∙ sym (take_more c.args.game.now.ids c.loop-vertex.vertex 0 (omega (
       arith,
       c.loop-vertex-test.true,
       c.count-vertex-end.ensures.vertices,

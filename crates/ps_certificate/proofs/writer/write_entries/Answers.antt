@@ -12,8 +12,7 @@ loop-vertex-preserved c =
     let row = c.deref.result.now in
     let winner : c.winner.result ≡ is.winner = c.winner.ensures in
     let choice : c.choice.result ≡ is.choice = c.choice.ensures in
-    let counts : row ≡ is.counts =
-    c.deref.ensures.value ∙ c.in_ok-copy_into.ensures ∙ c.counts.ensures in
+    let counts : row ≡ is.counts = c.deref.ensures.value ∙ c.in_ok-copy_into.ensures ∙ c.counts.ensures in
     let made : EntryData = record { winner = c.winner.result; choice = c.choice.result; counts = row } in
     let entry : made ≡ is =
     ap (λ w. record { winner = w; choice = c.choice.result; counts = row }) winner

@@ -21,7 +21,7 @@ loop-place-preserved-then-zeros-gt0 c =
       );
       bytes =
           ap (λ xs. xs ++ fields (drop (place + zeros) numbers)) c.in_ok-write_zeros.ensures
-          ∙ zeros_written c.loop-place.out.items numbers _ place zeros (ap (λ xs. take zeros xs) (sym rest)
+          ∙ zeros_written c.loop-place.out.items numbers place zeros (ap (λ xs. take zeros xs) (sym rest)
           ∙ c.leading_zeros-zeros.ensures.zeros) c.loop-place.invariant.bytes;
     }
 

@@ -9,8 +9,7 @@ use Rattle.ps_certificate.proofs.writer.write_head.Goals as goal
 pub returns-clause-bytes : goal.returns-clause-bytes
 returns-clause-bytes c =
     let digit = version_digit c.args.compact in
-    let o =
-    head_joined c.args.out.now.items first_word digit vertices_word (decimal c.args.count) odd_word
+    let o = head_joined c.args.out.now.items first_word digit vertices_word (decimal c.args.count) odd_word
     (fields c.args.certificate.now.odd) even_word (fields c.args.certificate.now.even) in
     let z : c.extend_from_slice.new.self.items ≡ c.args.out.now.items ++ first_word = grind (arith, common_steps) in
     let y : c.push.new.self.items ≡ c.extend_from_slice.new.self.items ++ digit ∷ [] = grind (arith, common_steps) in

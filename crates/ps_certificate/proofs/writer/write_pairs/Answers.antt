@@ -13,11 +13,10 @@ loop-place-preserved c =
     elim c.if-count-ne0.branch [
       | then-count-ne0+in_ok-write_pair w ↦
           ap (λ (xs : List ℕ). xs ++ more) (ap (λ (v : Vec ℕ Global). v.items) w.out-is ∙ w.in_ok-write_pair.ensures)
-          ∙ pair_written c.loop-place.out.items c.args.priorities.now c.args.counts.now _ i c.loop-place-test.true
+          ∙ pair_written c.loop-place.out.items c.args.priorities.now c.args.counts.now i c.loop-place-test.true
           c.requires w.if-count-ne0.true c.loop-place.invariant
-      | else-count-ne0 w ↦
-          ap (λ (xs : List ℕ). xs ++ more) (ap (λ (v : Vec ℕ Global). v.items) w.out-is)
-          ∙ pair_skipped c.loop-place.out.items c.args.priorities.now c.args.counts.now _ i c.loop-place-test.true
+      | else-count-ne0 w ↦ ap (λ (xs : List ℕ). xs ++ more) (ap (λ (v : Vec ℕ Global). v.items) w.out-is)
+          ∙ pair_skipped c.loop-place.out.items c.args.priorities.now c.args.counts.now i c.loop-place-test.true
           c.requires w.if-count-ne0.false c.loop-place.invariant
     ]
 

@@ -9,7 +9,7 @@ use Rattle.ps_pgsolver.proofs.reader.any_number.Goals as goal
 pub returns-in-Some-clause-answer : goal.returns-in-Some-clause-answer
 returns-in-Some-clause-answer c =
     let old = c.args.tokens.now in
-    number_small _ (offset_of old.pieces old.end) c.in-Some.ensures.some.small
+    number_small (offset_of old.pieces old.end) c.in-Some.ensures.some.small
     ∙ ap (λ o. number_answer o (offset_of old.pieces old.end)) (sym c.in-Some.ensures.some.sign)
 
 pub returns-in-None-clause-answer : goal.returns-in-None-clause-answer

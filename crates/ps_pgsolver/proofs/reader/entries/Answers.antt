@@ -4,7 +4,7 @@ use Rattle.ps_pgsolver.specs.GameTexts.{entry, entries}
 use Rattle.ps_pgsolver.proofs.Choices.{number_entered, number_avoided, entry_shrinks}
 use Rattle.ps_pgsolver.proofs.Exits.{Done, Halts, exit, stops_left, continues_start, continues_then, continues_many}
 use Rattle.ps_pgsolver.proofs.Exits.{many_halts, many_done}
-use Rattle.ps_pgsolver.proofs.PartLaws.{joint_entries, laws_entry}
+use Rattle.ps_pgsolver.proofs.GameLaws.{joint_entries, laws_entry}
 use Rattle.ps_pgsolver.proofs.reader.entries.Goals as goal
 
 pub returns-in_err-entry-clause-part : goal.returns-in_err-entry-clause-part
@@ -20,11 +20,10 @@ unfolding entries
 more-init c =
     let known = option_copied c.args.known in
     let from_none = c.in_ok-nodes.ensures in (
-      continues_then (joint_entries known) (entries known) _ _ _ _ (continues_start (entries known) c.args.tokens.now)
+      continues_then (joint_entries known) _ (continues_start)
           (subst (λ nodes. Done (entry known nodes) c.args.tokens.now c.entry.new.nodes c.entry.new.tokens) from_none
           c.in_ok-entry.ensures.part),
-      λ ids each. continues_then (joint_entries (Some ids)) (entries (Some ids)) _ _ _ _
-          (continues_start (entries (Some ids)) c.args.tokens.now)
+      λ ids each. continues_then (joint_entries (Some ids)) _ (continues_start)
           (subst (λ nodes. Done (entry (Some ids) nodes) c.args.tokens.now c.entry.new.nodes c.entry.new.tokens)
           from_none (c.in_ok-entry.ensures.later ids each).1),
     )
@@ -35,11 +34,10 @@ more-smaller c = entry_shrinks _ _ _ _ _ c.in_ok-entry-2.ensures.part
 pub more-preserved : goal.more-preserved
 more-preserved c =
     let known = option_copied c.args.known in (
-      continues_many (entry known) (laws_entry known) (λ t h k. h) (entries known) _ _ _ _ _ c.more.invariant.0
-          c.in_ok-entry-2.ensures.part,
+      continues_many (entry known) (laws_entry known) (λ t h k. h) _ _ c.more.invariant.0 c.in_ok-entry-2.ensures.part,
       λ ids each.
           let added = c.in_ok-entry-2.ensures.later ids each in
-          continues_many (entry (Some ids)) (laws_entry (Some ids)) (λ t h k. h) (entries (Some ids)) _ _ _ _ _
+          continues_many (entry (Some ids)) (laws_entry (Some ids)) (λ t h k. h) _ _
           (c.more.invariant.1 ids added.0) added.1,
     )
 

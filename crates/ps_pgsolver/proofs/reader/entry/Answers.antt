@@ -9,8 +9,7 @@ use Rattle.ps_pgsolver.proofs.reader.entry.Goals as goal
 
 pub returns-in_err-node-clause-part : goal.returns-in_err-node-clause-part
 unfolding entry
-returns-in_err-node-clause-part c = exit _ _ _ _ _ _
-    (stops_mapped (λ (n : NodeData). c.args.nodes.now ++ n ∷ [])
+returns-in_err-node-clause-part c = exit _ _ _ _ _ _ (stops_mapped (λ (n : NodeData). c.args.nodes.now ++ n ∷ [])
     (node (option_copied c.args.known) (ids_of c.args.nodes.now)) _ _ c.in_err-node.ensures.part)
     c.from_residual.ensures.1
 
@@ -21,7 +20,7 @@ returns-clause-part c =
     let made : c.push.new.self ≡ nodes ++ node_with c.in_ok-node.node c.node.new.list.items ∷ [] =
     c.in_ok-push.ensures ∙ ap (λ (list : List ℕ). nodes ++ node_with c.in_ok-node.node list ∷ [])
     c.deref.ensures.value in
-    done_value (entry (option_copied c.args.known) nodes) _ _ _ _ (sym made)
+    done_value (entry (option_copied c.args.known) nodes) _ _ (sym made)
     (done_mapped (λ (n : NodeData). nodes ++ n ∷ []) (node (option_copied c.args.known) (ids_of nodes)) _ _
     (node_with c.in_ok-node.node c.node.new.list.items) c.in_ok-node.ensures.part)
 
@@ -35,7 +34,7 @@ returns-clause-later c = λ ids each.
     c.deref.ensures.value in
     let all : KnowsAll ids (nodes ++ read ∷ []) = subst (KnowsAll ids) made each in (
       all_before (KnowsNode ids) nodes read all,
-      done_value (entry (Some ids) nodes) _ _ _ _ (sym made)
+      done_value (entry (Some ids) nodes) _ _ (sym made)
           (done_mapped (λ (n : NodeData). nodes ++ n ∷ []) (node (Some ids) (ids_of nodes)) _ _ read
           (c.in_ok-node.ensures.later ids (all_last (KnowsNode ids) nodes read all))),
     )

@@ -3,7 +3,7 @@ use Rattle.std.specs.Option.{option_copied}
 use Rattle.ps_pgsolver.specs.Answered.{TextAnswers}
 use Rattle.ps_pgsolver.specs.GameTexts.{game}
 use Rattle.ps_pgsolver.proofs.Exits.{stops_left, stops_right, done_then}
-use Rattle.ps_pgsolver.proofs.PartLaws.{joint_parity, joint_start}
+use Rattle.ps_pgsolver.proofs.GameLaws.{joint_parity, joint_start}
 use Rattle.ps_pgsolver.proofs.Wholes.{answer_exit, ended, not_ended}
 use Rattle.ps_pgsolver.proofs.reader.game_text.Goals as goal
 
@@ -51,8 +51,7 @@ returns-clause-answer c =
 
 pub returns-clause-later : goal.returns-clause-later
 unfolding game
-returns-clause-later c = λ ids each.
-    subst (λ s. TextAnswers (Some ids) s (Ok c.in_ok-nodes.nodes)) c.new-tokens.ensures
+returns-clause-later c = λ ids each. subst (λ s. TextAnswers (Some ids) s (Ok c.in_ok-nodes.nodes)) c.new-tokens.ensures
     (ended (Some ids) c.new-tokens.result _ _ _ (done_then (joint_parity (Some ids)) _ _ _ _ _ c.in_ok-_parity.ensures
     (done_then (joint_start (Some ids)) _ _ _ _ _ c.in_ok-_start.ensures (c.in_ok-nodes.ensures.later ids each)))
     c.in_ok-finish.ensures)

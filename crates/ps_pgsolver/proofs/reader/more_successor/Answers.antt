@@ -13,7 +13,7 @@ unfolding more_successor
 returns-clause-part c =
     let known = option_copied c.args.known in
     let list = c.args.list.now.items in
-    done_value (more_successor known list) _ _ _ _ (sym c.in_ok-push.ensures.items)
+    done_value (more_successor known list) _ _ (sym c.in_ok-push.ensures.items)
     (done_then (joint_more known list) _ _ _ _ _ c.in_ok-comma.ensures
     (done_mapped (λ (n : ℕ). list ++ n ∷ []) (successor known) _ _ c.in_ok-id.id c.in_ok-id.ensures.part))
 
@@ -38,7 +38,7 @@ returns-clause-later c = λ ids known.
     let list = c.args.list.now.items in
     let all : KnowsEach ids (list ++ c.in_ok-id.id ∷ []) = subst (KnowsEach ids) c.in_ok-push.ensures.items known in (
       all_before (λ id. Contains ids id) list c.in_ok-id.id all,
-      done_value (more_successor (Some ids) list) _ _ _ _ (sym c.in_ok-push.ensures.items)
+      done_value (more_successor (Some ids) list) _ _ (sym c.in_ok-push.ensures.items)
           (done_then (joint_more (Some ids) list) _ _ _ _ _ c.in_ok-comma.ensures
           (done_mapped (λ (n : ℕ). list ++ n ∷ []) (successor (Some ids)) _ _ c.in_ok-id.id
           (c.in_ok-id.ensures.later ids (all_last (λ id. Contains ids id) list c.in_ok-id.id all)))),

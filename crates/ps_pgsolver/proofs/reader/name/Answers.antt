@@ -9,5 +9,5 @@ returns-in_default-clause-part c = name_none _ (sym c.in_default.ensures.name)
 
 pub returns-clause-part : goal.returns-clause-part
 returns-clause-part c =
-    done_value name _ _ _ _ (ap Some (sym (c.in_ok-to_vec.ensures.items_if_clones_equal (λ x y e. e))))
-    (name_done _ _ c.in-Some.bytes.now (sym c.in-Some.ensures.name) c.next.ensures.rest)
+    done_value name _ _ (ap Some (sym (c.in_ok-to_vec.ensures.items_if_clones_equal (λ x y e. e))))
+    (name_done _ (sym c.in-Some.ensures.name) c.next.ensures.rest)

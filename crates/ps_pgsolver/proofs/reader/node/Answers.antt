@@ -19,19 +19,19 @@ Known = Option (List ℕ)
 behind_id : (k : Known) (c : After-number) → let ids = ids_of c.args.nodes.now in
     Continues (node k ids) (from_priority k ids c.in_ok-id.id) c.args.tokens.now c.new_id.new.tokens
 unfolding node
-behind_id k c = continues_then (joint_id k (ids_of c.args.nodes.now)) _ _ _ _ _ (continues_start _ _)
-    c.in_ok-id.ensures.part
+behind_id k c = continues_then (joint_id k (ids_of c.args.nodes.now)) _ (continues_start) c.in_ok-id.ensures.part
 
 behind_priority : (k : Known) (c : After-owner) → let ids = ids_of c.args.nodes.now in Continues (node k ids)
     (from_owner k ids c.in_ok-id.id c.in_ok-priority.priority) c.args.tokens.now c.number.new.tokens
-behind_priority k c = continues_then (joint_priority k (ids_of c.args.nodes.now) c.in_ok-id.id) _ _ _ _ _
+behind_priority k c = continues_then (joint_priority k (ids_of c.args.nodes.now) c.in_ok-id.id) _
     (behind_id k (goal.at.After-owner c).After-number) c.in_ok-priority.ensures
 
 behind_owner : (k : Known) (c : After-successors) → let ids = ids_of c.args.nodes.now in Continues (node k ids)
     (from_successors k ids c.in_ok-id.id c.in_ok-priority.priority c.in_ok-owner.owner) c.args.tokens.now
     c.owner.new.tokens
-behind_owner k c = continues_then (joint_owner k (ids_of c.args.nodes.now) c.in_ok-id.id c.in_ok-priority.priority)
-    _ _ _ _ _ (behind_priority k (goal.at.After-successors c).After-owner) c.in_ok-owner.ensures.part
+behind_owner k c =
+    continues_then (joint_owner k (ids_of c.args.nodes.now) c.in_ok-id.id c.in_ok-priority.priority) _
+    (behind_priority k (goal.at.After-successors c).After-owner) c.in_ok-owner.ensures.part
 
 behind_list : (k : Known) (c : After-name) → let list = c.successors.new.list.items in
     Done (successors k) c.owner.new.tokens list c.successors.new.tokens → Continues (node k (ids_of c.args.nodes.now))
@@ -39,7 +39,7 @@ behind_list : (k : Known) (c : After-name) → let list = c.successors.new.list.
     c.args.tokens.now c.successors.new.tokens
 behind_list k c done =
     continues_then (joint_list k (ids_of c.args.nodes.now) c.in_ok-id.id c.in_ok-priority.priority c.in_ok-owner.owner)
-    _ _ _ _ _ (behind_owner k (goal.at.After-name c).After-successors) done
+    _ (behind_owner k (goal.at.After-name c).After-successors) done
 
 abbrev made : After-semicolon → NodeData
 made c = record {
@@ -56,7 +56,7 @@ behind_name : (k : Known) (c : After-semicolon) →
     n.successors n.name) c.args.tokens.now c.name.new.tokens
 behind_name k c done =
     let n = made c in
-    continues_then (joint_name k (ids_of c.args.nodes.now) n.id n.priority n.owner n.successors) _ _ _ _ _
+    continues_then (joint_name k (ids_of c.args.nodes.now) n.id n.priority n.owner n.successors) _
     (behind_list k (goal.at.After-semicolon c).After-name done) c.in_ok-name.ensures.part
 
 -- ## The exits

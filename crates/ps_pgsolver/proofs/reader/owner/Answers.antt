@@ -1,4 +1,4 @@
-use Rattle.std.proofs.Common.{Err, ap, ◌∙◌}
+use Rattle.std.proofs.Common.{ap, ◌∙◌}
 use Rattle.ps_text.specs.Answers.{offset_of}
 use Rattle.ps_pgsolver.specs.Answered.{◌>>=◌, owner_of_number}
 use Rattle.ps_pgsolver.proofs.Exits.{exit}
@@ -9,8 +9,7 @@ pub returns-in_err-owner-clause-part : goal.returns-in_err-owner-clause-part
 returns-in_err-owner-clause-part c =
     let old = c.args.tokens.now in
     let at = offset_of old.pieces old.end in
-    let stops =
-    reads_owner old c.any_number.new.tokens (Err c.in_err-owner.field-0.0) c.any_number.ensures.rest
+    let stops = reads_owner old c.any_number.ensures.rest
     (ap (λ r. r >>= owner_of_number at) c.in_err-owner.ensures.answer) in
     exit _ _ _ _ _ _ stops c.from_residual.ensures.1
 
@@ -18,6 +17,6 @@ pub returns-clause-part : goal.returns-clause-part
 returns-clause-part c =
     let old = c.args.tokens.now in
     let at = offset_of old.pieces old.end in
-    reads_owner old _ _ c.any_number.ensures.rest
+    reads_owner old c.any_number.ensures.rest
     (c.one_of_two.ensures.answer ∙ ap (λ a. owner_of_number a c.in_ok-owner.owner) c.start-start.ensures
     ∙ ap (λ r. r >>= owner_of_number at) c.in_ok-owner.ensures.answer)

@@ -1,4 +1,4 @@
-use Rattle.std.proofs.Common.{Ok, sym, ap, ap₂, subst, ◌∙◌}
+use Rattle.std.proofs.Common.{sym, ap, ap₂, subst, ◌∙◌}
 use Rattle.ps_text.specs.Answers.{Stream, offset_of}
 use Rattle.ps_pgsolver.specs.Answered.{ReadsAs, semicolon_answer}
 use Rattle.ps_pgsolver.specs.GameTexts.{semicolon}
@@ -10,17 +10,14 @@ use Rattle.ps_pgsolver.proofs.reader.semicolon.Goals as goal
 pub returns-then-take_semicolon : goal.returns-then-take_semicolon
 returns-then-take_semicolon c =
     let old = c.args.tokens.now in
-    let taken =
-    subst (λ b. IsTaken Semicolon old b c.take_semicolon.new.self) c.if-take_semicolon.true
+    let taken = subst (λ b. IsTaken Semicolon old b c.take_semicolon.new.self) c.if-take_semicolon.true
     c.take_semicolon.ensures in
-    reads_semicolon old c.take_semicolon.new.self (Ok tt) taken.1
-    (ap (λ o. semicolon_answer o (offset_of old.pieces old.end)) (sym taken.0))
+    reads_semicolon old taken.1 (ap (λ o. semicolon_answer o (offset_of old.pieces old.end)) (sym taken.0))
 
 pub returns : goal.returns
 returns c =
-    let same =
-    subst (λ b. IsTaken Semicolon c.args.tokens.now b c.take_semicolon.new.self) c.if-take_semicolon.false
+    let same = subst (λ b. IsTaken Semicolon c.args.tokens.now b c.take_semicolon.new.self) c.if-take_semicolon.false
     c.take_semicolon.ensures in
     subst (λ (s : Stream Sign). ReadsAs (λ u. u) semicolon s c.semicolon_of.result c.next.new.self) same
-    (reads_semicolon c.take_semicolon.new.self c.next.new.self c.semicolon_of.result c.next.ensures.rest
+    (reads_semicolon c.take_semicolon.new.self c.next.ensures.rest
     (c.semicolon_of.ensures ∙ ap₂ semicolon_answer c.next.ensures.token.sign c.next.ensures.token.start))

@@ -1,4 +1,4 @@
-use Rattle.std.proofs.Common.{Err, ap, ◌∙◌}
+use Rattle.std.proofs.Common.{ap, ◌∙◌}
 use Rattle.std.specs.Option.{option_copied}
 use Rattle.ps_text.specs.Answers.{offset_of}
 use Rattle.ps_pgsolver.specs.Answered.{◌>>=◌, successor_of_number}
@@ -11,8 +11,7 @@ returns-in_err-id-clause-part c =
     let old = c.args.tokens.now in
     let known = option_copied c.args.known in
     let at = offset_of old.pieces old.end in
-    let stops =
-    reads_successor known old c.any_number.new.tokens (Err c.in_err-id.field-0.0) c.any_number.ensures.rest
+    let stops = reads_successor known old c.any_number.ensures.rest
     (ap (λ r. r >>= successor_of_number known at) c.in_err-id.ensures.answer) in
     exit _ _ _ _ _ _ stops c.from_residual.ensures.1
 
@@ -21,7 +20,7 @@ returns-clause-part c =
     let old = c.args.tokens.now in
     let known = option_copied c.args.known in
     let at = offset_of old.pieces old.end in
-    reads_successor known old _ _ c.any_number.ensures.rest
+    reads_successor known old c.any_number.ensures.rest
     (c.if_known.ensures ∙ ap (λ a. successor_of_number known a c.in_ok-id.id) c.start-start.ensures
     ∙ ap (λ r. r >>= successor_of_number known at) c.in_ok-id.ensures.answer)
 
@@ -30,6 +29,6 @@ returns-clause-later c =
     let old = c.args.tokens.now in
     let known = option_copied c.args.known in
     let at = offset_of old.pieces old.end in
-    later_successor known old _ _ c.any_number.ensures.rest
+    later_successor known old _ c.any_number.ensures.rest
     (c.if_known.ensures ∙ ap (λ a. successor_of_number known a c.in_ok-id.id) c.start-start.ensures
     ∙ ap (λ r. r >>= successor_of_number known at) c.in_ok-id.ensures.answer)

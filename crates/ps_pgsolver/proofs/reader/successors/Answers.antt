@@ -25,13 +25,10 @@ more-init c =
     ∙ ap (λ xs. xs ++ c.in_ok-first_successor.field-0 ∷ []) c.clear.ensures.items in (
       omega (arith, c.in_ok-push.ensures.len),
       subst (λ xs. Continues (successors known) (many (more_successor known) xs) c.args.tokens.now
-          c.first_successor.new.tokens) (sym one)
-          (continues_then (joint_successors known) (successors known) _ _ _ _
-          (continues_start (successors known) c.args.tokens.now) c.in_ok-first_successor.ensures.part),
+          c.first_successor.new.tokens) (sym one) (continues_then (joint_successors known) _
+          (continues_start) c.in_ok-first_successor.ensures.part),
       λ ids each. subst (λ xs. Continues (successors (Some ids)) (many (more_successor (Some ids)) xs) c.args.tokens.now
-          c.first_successor.new.tokens) (sym one)
-          (continues_then (joint_successors (Some ids)) (successors (Some ids)) _ _ _ _
-          (continues_start (successors (Some ids)) c.args.tokens.now)
+          c.first_successor.new.tokens) (sym one) (continues_then (joint_successors (Some ids)) _ (continues_start)
           (c.in_ok-first_successor.ensures.later ids (all_last (λ id. Contains ids id) []
           c.in_ok-first_successor.field-0 (subst (KnowsEach ids) one each)))),
     )
@@ -43,11 +40,11 @@ pub more-preserved : goal.more-preserved
 more-preserved c =
     let known = option_copied c.args.known in (
       omega (arith, c.more.invariant.0, c.in_ok-more_successor.ensures.longer),
-      continues_many (more_successor known) (laws_more known) (λ t h k. h) (successors known) _ _ _ _ _
+      continues_many (more_successor known) (laws_more known) (λ t h k. h) _ _
           c.more.invariant.1 c.in_ok-more_successor.ensures.part,
       λ ids each.
           let added = c.in_ok-more_successor.ensures.later ids each in
-          continues_many (more_successor (Some ids)) (laws_more (Some ids)) (λ t h k. h) (successors (Some ids)) _ _ _ _
+          continues_many (more_successor (Some ids)) (laws_more (Some ids)) (λ t h k. h) _
           _ (c.more.invariant.2 ids added.0) added.1,
     )
 

@@ -2,7 +2,7 @@ use Rattle.ps_text.proofs.Meeting.{then_meets}
 use Rattle.ps_pgsolver.specs.Answered.{found_of}
 use Rattle.ps_pgsolver.specs.GameTexts.{pg_causes, value_line}
 use Rattle.ps_pgsolver.proofs.Exits.{exit, stops_left}
-use Rattle.ps_pgsolver.proofs.PartLaws.{joint_value}
+use Rattle.ps_pgsolver.proofs.GameLaws.{joint_value}
 use Rattle.ps_pgsolver.proofs.reader.value_line.Goals as goal
 
 pub returns-in_err-number : goal.returns-in_err-number

@@ -9,9 +9,7 @@ returns-clause-blanks c = stream_from-blanks c.args.text.now c.args.at
 
 pub returns-clause-ahead : goal.returns-clause-ahead
 returns-clause-ahead c =
-    let read =
-    reads_split c.args.text.now c.split_at.result.0.now c.split_at.result.1.now _ _ _ _ _
-    c.next_start-start.ensures.start c.next_start-start.ensures.within
+    let read = reads_split _ c.next_start-start.ensures.start c.next_start-start.ensures.within
     c.split_at.ensures.front c.split_at.ensures.back c.token_at-size.ensures.end c.token_at-size.ensures.sign
     c.token_at-size.ensures.size (returns-clause-blanks c) in
     record {

@@ -23,4 +23,4 @@ returns c =
     let v = c.loop-vertex.vertex in
     let count = c.count-vertex-end.ensures.vertices ∙ ap vertex_count c.game.ensures.game in
     let within : length ids ≤ v = omega (arith, c.loop-vertex-test.false, count, c.game.ensures.well_formed.id_each) in
-    sym (greatest_end ids v c.loop-vertex.most within) ∙ c.loop-vertex.invariant
+    sym (greatest_end ids v within) ∙ c.loop-vertex.invariant

@@ -1,15 +1,14 @@
 use Rattle.std.proofs.Common.{arith, ap, sym, ◌≡◌, ◌+◌, ◌++◌, ◌∷◌, [], ◌∙◌, drop, length, get_or, append-nil}
 use Rattle.std.specs.Prelude.{decimal}
 use Rattle.ps_game.specs.Games.{successors_of}
-use Rattle.ps_pgsolver.specs.Written.{commas, list_text}
+use Rattle.ps_pgsolver.specs.Written.{commas}
 use Rattle.ps_pgsolver.proofs.WriterLemmas.{commas_step, commas_end, list_first, successor_within}
 use Rattle.ps_pgsolver.proofs.writer.write_successors.Goals as goal
 
 pub id-requires : goal.id-requires
 id-requires c =
-    let game = c.args.named.now.game in
     let is = c.game-game.ensures.well_formed.is_game in
-    successor_within game c.game-game.result.now c.game-game.ensures.game is c.args.vertex 0 c.successor.result
+    successor_within c.game-game.ensures.game is c.args.vertex 0
     c.requires (is.has_successor c.args.vertex c.requires) c.successor.ensures
 
 pub loop-number-init : goal.loop-number-init
@@ -26,11 +25,10 @@ loop-number-init c =
 
 pub id-requires-in-loop-number : goal.id-requires-in-loop-number
 id-requires-in-loop-number c =
-    let game = c.args.named.now.game in
     let degree =
     c.degree-number-end.ensures ∙ ap (λ g. length (successors_of g c.args.vertex)) c.game-game.ensures.game in
-    successor_within game c.game-game.result.now c.game-game.ensures.game c.game-game.ensures.well_formed.is_game
-    c.args.vertex c.loop-number.number c.successor-in-loop-number.result c.requires
+    successor_within c.game-game.ensures.game c.game-game.ensures.well_formed.is_game
+    c.args.vertex c.loop-number.number c.requires
     (omega (arith, c.loop-number-test.true, degree)) c.successor-in-loop-number.ensures
 
 pub loop-number-preserved : goal.loop-number-preserved
@@ -45,8 +43,7 @@ loop-number-preserved c =
     ∙ ap (λ g. get_or (successors_of g v) k 0) c.game-game.ensures.game) in
     ap (λ o. o ++ commas ids (drop (k + 1) ws))
     (c.in_ok-write_number-2.ensures ∙ ap (λ o. o ++ decimal c.id-in-loop-number.result) c.in_ok-push.ensures.items
-    ∙ ap (λ n. (c.loop-number.out.items ++ 44 ∷ []) ++ decimal n) id)
-    ∙ commas_step ids ws c.loop-number.out.items (c.args.out.now.items ++ list_text ids ws) k
+    ∙ ap (λ n. (c.loop-number.out.items ++ 44 ∷ []) ++ decimal n) id) ∙ commas_step ids ws c.loop-number.out.items k
     (omega (arith, c.loop-number-test.true, degree)) c.loop-number.invariant
 
 pub returns : goal.returns
@@ -55,6 +52,5 @@ returns c =
     let v = c.args.vertex in
     let ws = successors_of c.args.named.now.game v in
     let degree = c.degree-number-end.ensures ∙ ap (λ g. length (successors_of g v)) c.game-game.ensures.game in
-    sym (append-nil c.loop-number.out.items)
-    ∙ commas_end ids ws c.loop-number.out.items (c.args.out.now.items ++ list_text ids ws) c.loop-number.number
+    sym (append-nil c.loop-number.out.items) ∙ commas_end ids ws c.loop-number.out.items c.loop-number.number
     (omega (arith, c.loop-number-test.false, degree)) c.loop-number.invariant

@@ -1,7 +1,7 @@
-use Rattle.std.proofs.Common.{arith, ap, sym, ◌≡◌, ◌<◌, ◌++◌, ◌∙◌, length, append-nil}
+use Rattle.std.proofs.Common.{arith, ap, sym, ◌≡◌, ◌<◌, ◌∙◌, length, append-nil}
 use Rattle.std.proofs.lemmas.List.Elements.{All-more}
 use Rattle.ps_game.specs.Games.{VertexData, vertex_count, priority_of, no_vertex}
-use Rattle.ps_pgsolver.specs.Written.{vertex_lines, IsWord}
+use Rattle.ps_pgsolver.specs.Written.{IsWord}
 use Rattle.ps_pgsolver.proofs.WriterLemmas.{all_taken_all, lines_step, lines_end}
 use Rattle.ps_pgsolver.proofs.writer.write_vertices.Goals as goal
 
@@ -15,8 +15,7 @@ loop-vertex-preserved c =
     let within : v < length game.game = omega (arith, c.loop-vertex-test.true, count) in
     record {
       bytes =
-          lines_step game.ids game.names game.game v c.loop-vertex.out.items c.write_vertex.new.out.items
-          (c.args.out.now.items ++ vertex_lines game.ids game.names 0 game.game) within
+          lines_step game.ids game.names game.game v c.loop-vertex.out.items within
           c.in_ok-write_vertex.ensures.bytes c.loop-vertex.invariant.bytes;
       ids =
           All-more IsWord game.ids v 0 (omega (arith, within, c.game.ensures.well_formed.id_each))
@@ -34,7 +33,6 @@ returns-clause-bytes c =
     ∙ ap length c.game.ensures.game in
     sym (append-nil c.loop-vertex.out.items)
     ∙ lines_end game.ids game.names game.game c.loop-vertex.vertex c.loop-vertex.out.items
-    (c.args.out.now.items ++ vertex_lines game.ids game.names 0 game.game)
     (omega (arith, c.loop-vertex-test.false, count)) c.loop-vertex.invariant.bytes
 
 pub returns-clause-ids : goal.returns-clause-ids

@@ -11,8 +11,7 @@ use Rattle.ps_certificate.proofs.cursor.Cursor.choice.Goals.{else-is_none-via-th
 use Rattle.ps_certificate.proofs.cursor.Cursor.choice.Goals.{else-is_none-via-else-is_none}
 
 pub returns-then-comes : goal.returns-then-comes
-returns-then-comes c = choice_dash c.args.ids.now c.args.self.now
-    (sym c.if-comes.ensures) c.step.new.self c.step.ensures
+returns-then-comes c = choice_dash c.args.ids.now c.args.self.now (sym c.if-comes.ensures) c.step.ensures
 
 pub returns-in_err-id : goal.returns-in_err-id
 returns-in_err-id c =
@@ -25,16 +24,15 @@ pub returns-then-ends : goal.returns-then-ends
 returns-then-ends c =
     choice_fails c.args.ids.now c.args.self.now (sym c.if-comes.ensures) _
     (number_wrong (λ id. ¬ Contains c.args.ids.now id) c.args.self.now c.number.new.self c.in_ok-id.id
-    c.in_ok-id.ensures c.fault-other_game.result (ends_true c.number.new.self.rest (sym c.if-ends.ensures))
+    c.in_ok-id.ensures (ends_true c.number.new.self.rest (sym c.if-ends.ensures))
     (Contains-none c.in_ok-id.id c.args.ids.now (sym c.place-vertex.ensures.member ∙ c.if-is_none.ensures))
     c.fault-other_game.ensures)
 
 pub returns : goal.returns
 returns c =
-    choice_reads c.args.ids.now c.args.self.now (sym c.if-comes.ensures) c.in_ok-id.id c.number.new.self _
+    choice_reads c.args.ids.now c.args.self.now (sym c.if-comes.ensures) c.number.new.self
     (number_reads (λ id. ¬ Contains c.args.ids.now id) c.args.self.now c.number.new.self c.in_ok-id.id
-    c.in_ok-id.ensures
-    (elim c.else-is_none.branch [
+    c.in_ok-id.ensures (elim c.else-is_none.branch [
       | else-is_none-via-then-is_none+else-ends w ↦ λ ended _. ends_false c.number.new.self.rest
           (sym w.if-ends.ensures) ended
       | else-is_none-via-else-is_none w ↦ λ _ none. none

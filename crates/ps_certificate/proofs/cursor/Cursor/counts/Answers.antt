@@ -15,18 +15,16 @@ pub returns-in_err-number : goal.returns-in_err-number
 returns-in_err-number c =
     fails _ (counts c.args.count) c.args.self.now _ _ _
     (count_fails c.args.count c.loop.counter (at_place c.args.self.now)
-    (at_place c.loop.self) c.loop.counts.items c.loop.invariant c.loop-test.true
-    (at_place c.byte.new.self) c.in_ok-byte.ensures _
+    (at_place c.loop.self) c.loop.counts.items c.loop.invariant c.loop-test.true c.in_ok-byte.ensures _
     (judged_fails (OfOtherGame Never) c.byte.new.self c.number.new.self _ c.in_err-number.ensures))
     c.from_residual-in_err-number.ensures.1
 
 pub loop-preserved : goal.loop-preserved
 loop-preserved c =
     count_next c.args.count c.loop.counter (at_place c.args.self.now)
-    (at_place c.loop.self) c.loop.counts.items c.loop.invariant c.loop-test.true (at_place c.byte.new.self)
-    (at_place c.number.new.self) _ c.in_ok-byte.ensures
+    (at_place c.loop.self) c.loop.counts.items c.loop.invariant c.loop-test.true c.in_ok-byte.ensures
     (number_reads Never c.byte.new.self c.number.new.self _ c.in_ok-number.ensures
-    (λ _ never. never)) _ c.in_ok-push.ensures.items
+    (λ _ never. never)) c.in_ok-push.ensures.items
 
 pub returns-in_err-byte-2 : goal.returns-in_err-byte-2
 returns-in_err-byte-2 c =
@@ -37,5 +35,4 @@ returns-in_err-byte-2 c =
 
 pub returns : goal.returns
 returns c = counts_end c.args.count c.loop.counter (at_place c.args.self.now)
-    (at_place c.loop.self) c.loop.counts.items c.loop.invariant c.loop-test.false
-    (at_place c.byte-2.new.self) c.in_ok-byte-2.ensures
+    (at_place c.loop.self) c.loop.counts.items c.loop.invariant c.loop-test.false c.in_ok-byte-2.ensures

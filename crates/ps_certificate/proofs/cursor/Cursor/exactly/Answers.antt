@@ -16,7 +16,7 @@ returns-in_err-found c =
 pub returns-then-ends : goal.returns-then-ends
 returns-then-ends c =
     number_wrong (λ n. n ≢ c.args.number) c.args.self.now c.number.new.self c.in_ok-found.found c.in_ok-found.ensures
-    c.fault-other_game.result (ends_true c.number.new.self.rest (sym c.if-ends.ensures)) c.if-found-number.true
+    (ends_true c.number.new.self.rest (sym c.if-ends.ensures)) c.if-found-number.true
     c.fault-other_game.ensures
 
 pub returns : goal.returns

@@ -4,13 +4,13 @@ use Rattle.ps_certificate.proofs.Steps.{end_reads, end_fails, end_missing}
 use Rattle.ps_certificate.proofs.cursor.Cursor.line_end.Goals as goal
 
 pub returns-then-not-comes : goal.returns-then-not-comes
-returns-then-not-comes c = end_fails c.args.left.now c.args.self.now c.args.self.now c.fault.result
+returns-then-not-comes c = end_fails c.args.left.now c.args.self.now c.args.self.now
     (sym c.if-not-comes.ensures) c.fault.ensures
 
 pub returns-then-not-is_empty : goal.returns-then-not-is_empty
 returns-then-not-is_empty c =
     let some : length c.args.left.now ≡ 0 → ⊥ = eqb-false (length c.args.left.now) 0 (sym c.if-not-is_empty.ensures) in
-    end_missing c.args.left.now c.args.self.now c.args.self.now c.fault-then-not-is_empty.result
+    end_missing c.args.left.now c.args.self.now c.args.self.now
     (sym c.if-not-comes.ensures) (omega (arith, some)) c.fault-then-not-is_empty.ensures
 
 pub returns : goal.returns

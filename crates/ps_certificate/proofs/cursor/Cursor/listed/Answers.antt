@@ -28,19 +28,16 @@ returns-then-ends c =
     (stops_mapped causes (λ _. drop 1 c.args.priorities.now) (number (NotNext c.args.priorities.now))
     (at_place c.byte.new.self) _
     (number_wrong (NotNext c.args.priorities.now) c.byte.new.self c.number.new.self c.in_ok-number.number
-    c.in_ok-number.ensures c.fault-other_game.result (ends_true c.number.new.self.rest (sym c.if-ends.ensures))
-    (is_not_next c.args.priorities.now c.in_ok-number.number c.copied.result
+    c.in_ok-number.ensures (ends_true c.number.new.self.rest (sym c.if-ends.ensures))
+    (is_not_next c.args.priorities.now c.in_ok-number.number
     (c.copied.ensures ∙ c.first.ensures.value) c.if-ne.ensures) c.fault-other_game.ensures))
 
 pub returns : goal.returns
 returns c =
-    listed_reads c.args.priorities.now (at_place c.args.self.now) (at_place c.byte.new.self)
-    (at_place c.number.new.self) c.in_ok-byte.ensures c.in_ok-number.number
+    listed_reads c.args.priorities.now c.in_ok-byte.ensures
     (number_reads (NotNext c.args.priorities.now) c.byte.new.self c.number.new.self c.in_ok-number.number
-    c.in_ok-number.ensures
-    (elim c.else-ne.branch [
+    c.in_ok-number.ensures (elim c.else-ne.branch [
       | else-ne-via-then-ne+else-ends w ↦ λ ended _. ends_false c.number.new.self.rest (sym w.if-ends.ensures) ended
-      | else-ne-via-else-ne w ↦ λ _ other. other
-          (is_next c.args.priorities.now c.in_ok-number.number c.copied.result
+      | else-ne-via-else-ne w ↦ λ _ other. other (is_next c.args.priorities.now
           (c.copied.ensures ∙ c.first.ensures.value) w.if-ne.ensures)
-    ])) _ c.without_first.ensures
+    ])) c.without_first.ensures

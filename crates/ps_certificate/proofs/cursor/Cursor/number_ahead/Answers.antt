@@ -10,7 +10,7 @@ returns-in-Some-clause-value c =
     let same : bytes ≡ c.args.self.now.rest = ap (λ place. place.rest) c.self.view_is in
     let no_zero : comes 48 bytes ≡ false = ap (comes 48) same ∙ sym c.if-comes.ensures in
     subst (λ rest. c.in-Some.number.value ≡ decimal_value (numeral rest)) same
-    (value_ahead bytes c.in-Some.number.value no_zero c.in-Some.ensures.value)
+    (value_ahead bytes no_zero c.in-Some.ensures.value)
 
 pub returns-in_default-2-clause-none : goal.returns-in_default-2-clause-none
 returns-in_default-2-clause-none c =

@@ -8,20 +8,17 @@ returns-in_err-byte-clause-read c = λ pairs same. fails _ (pair c.args.prioriti
     (pair_space c.args.priorities.now pairs c.args.self.now _ c.in_err-byte.ensures) c.from_residual.ensures.1
 
 pub returns-in_err-place-clause-read : goal.returns-in_err-place-clause-read
-returns-in_err-place-clause-read c = λ pairs same.
-    fails _ (pair c.args.priorities.now pairs) c.args.self.now _ _ _
+returns-in_err-place-clause-read c = λ pairs same. fails _ (pair c.args.priorities.now pairs) c.args.self.now _ _ _
     (pair_priority c.args.priorities.now pairs c.args.self.now c.byte.new.self c.in_ok-byte.ensures _
     c.priority.new.self (c.in_err-place.ensures.read pairs same)) c.from_residual-in_err-place.ensures.1
 
 pub returns-in_err-byte-2-clause-read : goal.returns-in_err-byte-2-clause-read
-returns-in_err-byte-2-clause-read c = λ pairs same.
-    fails _ (pair c.args.priorities.now pairs) c.args.self.now _ _ _
+returns-in_err-byte-2-clause-read c = λ pairs same. fails _ (pair c.args.priorities.now pairs) c.args.self.now _ _ _
     (pair_colon c.args.priorities.now pairs c.args.self.now c.byte.new.self c.in_ok-byte.ensures _ c.priority.new.self
     (c.in_ok-place.ensures.read pairs same) _ c.in_err-byte-2.ensures) c.from_residual-in_err-byte-2.ensures.1
 
 pub returns-in_err-count-clause-read : goal.returns-in_err-count-clause-read
-returns-in_err-count-clause-read c = λ pairs same.
-    fails _ (pair c.args.priorities.now pairs) c.args.self.now _ _ _
+returns-in_err-count-clause-read c = λ pairs same. fails _ (pair c.args.priorities.now pairs) c.args.self.now _ _ _
     (pair_count c.args.priorities.now pairs c.args.self.now c.byte.new.self c.in_ok-byte.ensures _ c.priority.new.self
     (c.in_ok-place.ensures.read pairs same) c.byte-2.new.self c.in_ok-byte-2.ensures _ c.in_err-count.ensures)
     c.from_residual-in_err-count.ensures.1
@@ -29,5 +26,4 @@ returns-in_err-count-clause-read c = λ pairs same.
 pub returns-clause-read : goal.returns-clause-read
 returns-clause-read c = λ pairs same.
     pair_reads c.args.priorities.now pairs c.args.self.now c.byte.new.self c.in_ok-byte.ensures _ c.priority.new.self
-    (c.in_ok-place.ensures.read pairs same) c.byte-2.new.self c.in_ok-byte-2.ensures c.in_ok-count.count _
-    c.in_ok-count.ensures
+    (c.in_ok-place.ensures.read pairs same) c.byte-2.new.self c.in_ok-byte-2.ensures _ c.in_ok-count.ensures

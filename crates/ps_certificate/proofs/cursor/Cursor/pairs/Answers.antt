@@ -1,4 +1,4 @@
-use Rattle.std.proofs.Common.{◌≡◌, [], None, true, length, replicate, refl, sym, subst, arith}
+use Rattle.std.proofs.Common.{◌≡◌, None, true, length, replicate, refl, sym, subst, arith}
 use Rattle.std.proofs.lemmas.Grind.{common_steps}
 use Rattle.ps_certificate.specs.Reading.{at_place}
 use Rattle.ps_certificate.specs.Texts.{counts_in}
@@ -9,11 +9,10 @@ use Rattle.ps_certificate.proofs.cursor.Cursor.pairs.Goals as goal
 
 pub more-init : goal.more-init
 more-init c =
-    let none : c.clear.new.self.items ≡ [] = c.clear.ensures.items in
     let zeros : c.resize.new.self.items ≡ replicate (length c.args.priorities.now) 0 =
     grind (arith, common_steps, c.in_ok-resize.ensures.items, c.clear.ensures.len) in
     subst (PairsSoFar c.args.priorities.now (at_place c.args.self.now) c.args.self.now None) (sym zeros)
-    (no_pairs_yet c.args.priorities.now c.args.self.now (length c.args.priorities.now) refl)
+    (no_pairs_yet refl)
 
 pub returns-in_err-place : goal.returns-in_err-place
 returns-in_err-place c =
@@ -28,7 +27,7 @@ more-smaller c = pair_shrinks c.args.priorities.now c.more.last c.more.self c.pa
 pub more-preserved : goal.more-preserved
 more-preserved c =
     pair_more c.args.priorities.now (at_place c.args.self.now) c.more.self c.more.last c.more.counts.items
-    c.more.invariant c.requires c.pair.new.self c.in_ok-place.place c.in_ok-place.count
+    c.more.invariant c.requires c.in_ok-place.place c.in_ok-place.count
     c.in_ok-place.ensures.within c.in_ok-place.ensures.read
 
 pub returns-in_err-byte : goal.returns-in_err-byte

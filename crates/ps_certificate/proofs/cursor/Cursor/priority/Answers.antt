@@ -4,32 +4,28 @@ use Rattle.ps_certificate.proofs.PairSteps.{priority_unknown, priority_reads}
 use Rattle.ps_certificate.proofs.cursor.Cursor.priority.Goals as goal
 
 pub returns-in_err-priority-clause-read : goal.returns-in_err-priority-clause-read
-returns-in_err-priority-clause-read c = λ pairs same.
-    priority_exits c.args.priorities.now pairs c.args.self.now _ _ _
+returns-in_err-priority-clause-read c = λ pairs same. priority_exits c.args.priorities.now pairs c.args.self.now _ _ _
     (priority_fails c.args.priorities.now c.args.last pairs same c.args.self.now c.number.new.self _
     c.in_err-priority.ensures) c.from_residual.ensures.1
 
 pub returns-then-not-ends-clause-read : goal.returns-then-not-ends-clause-read
 returns-then-not-ends-clause-read c = λ pairs same.
     priority_open c.args.priorities.now c.args.last pairs same c.args.self.now c.number.new.self
-    c.in_ok-priority.priority c.in_ok-priority.ensures c.number.new.self _
-    (sym c.if-not-ends.ensures) c.fault.ensures
+    c.in_ok-priority.priority c.in_ok-priority.ensures c.number.new.self (sym c.if-not-ends.ensures) c.fault.ensures
 
 pub returns-then-not-is_above-clause-read : goal.returns-then-not-is_above-clause-read
 returns-then-not-is_above-clause-read c = λ pairs same.
     priority_low c.args.priorities.now c.args.last pairs same c.args.self.now c.number.new.self
-    c.in_ok-priority.priority c.in_ok-priority.ensures c.number.new.self _ (sym c.if-not-ends.ensures)
+    c.in_ok-priority.priority c.in_ok-priority.ensures c.number.new.self (sym c.if-not-ends.ensures)
     (sym c.if-not-is_above.ensures) c.fault-refused.ensures
 
 pub returns-in-Some-clause-read : goal.returns-in-Some-clause-read
 returns-in-Some-clause-read c = λ pairs same.
     priority_reads c.args.priorities.now c.args.last pairs same c.args.self.now c.number.new.self
-    c.in_ok-priority.priority c.in_ok-priority.ensures c.in-Some.place
-    (sym c.if-not-is_above.ensures) c.in-Some.ensures.some
+    c.in_ok-priority.priority c.in_ok-priority.ensures (sym c.if-not-is_above.ensures) c.in-Some.ensures.some
 
 pub returns-in-None-clause-read : goal.returns-in-None-clause-read
 returns-in-None-clause-read c = λ pairs same.
     priority_unknown c.args.priorities.now c.args.last pairs same c.args.self.now c.number.new.self
-    c.in_ok-priority.priority c.in_ok-priority.ensures c.number.new.self _ (sym c.if-not-ends.ensures)
-    (sym c.if-not-is_above.ensures)
-    c.in-None.ensures.none c.fault-other_game.ensures
+    c.in_ok-priority.priority c.in_ok-priority.ensures c.number.new.self (sym c.if-not-ends.ensures)
+    (sym c.if-not-is_above.ensures) c.in-None.ensures.none c.fault-other_game.ensures

@@ -11,5 +11,5 @@ returns-then-comes-2 c = two_second 49 50 false true c.args.self.now c.step-then
     (λ e. omega (arith, e)) (sym c.if-comes-2.ensures) c.step-then-comes-2.ensures
 
 pub returns : goal.returns
-returns c = two_fails 49 50 false true c.args.self.now c.args.self.now c.fault.result (sym c.if-comes.ensures)
+returns c = two_fails 49 50 false true c.args.self.now c.args.self.now (sym c.if-comes.ensures)
     (sym c.if-comes-2.ensures) c.fault.ensures

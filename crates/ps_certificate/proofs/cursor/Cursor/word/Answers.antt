@@ -9,7 +9,7 @@ loop-byte-init c = carries_start causes (word c.args.word.now) (at_place c.args.
 
 pub loop-byte-preserved : goal.loop-byte-preserved
 loop-byte-preserved c = word_next c.args.word.now c.loop-byte.byte-index (at_place c.args.self.now)
-    (at_place c.loop-byte.self) c.loop-byte.invariant c.loop-byte-test.true _ c.in_ok-byte.ensures
+    (at_place c.loop-byte.self) c.loop-byte.invariant c.loop-byte-test.true c.in_ok-byte.ensures
 
 pub returns-in_err-byte : goal.returns-in_err-byte
 returns-in_err-byte c =

@@ -11,8 +11,7 @@ index-line-requires c =
     let is : entries_in c.self.inside.winners.items c.self.inside.lines.items c.self.inside.placed.items ≡
     c.args.self.now = c.self.view_is in
     let within : c.args.vertex < length (entries_in c.self.inside.winners.items c.self.inside.lines.items
-    c.self.inside.placed.items) =
-    subst (λ es. c.args.vertex < length es) (sym is) c.requires in
+    c.self.inside.placed.items) = subst (λ es. c.args.vertex < length es) (sym is) c.requires in
     omega (
       arith,
       has_line c.self.inside.winners.items c.self.inside.lines.items c.self.inside.placed.items
@@ -24,8 +23,7 @@ part-requires-clause-rises c =
     let is : entries_in c.self.inside.winners.items c.self.inside.lines.items c.self.inside.placed.items ≡
     c.args.self.now = c.self.view_is in
     let within : c.args.vertex < length (entries_in c.self.inside.winners.items c.self.inside.lines.items
-    c.self.inside.placed.items) =
-    subst (λ es. c.args.vertex < length es) (sym is) c.requires in
+    c.self.inside.placed.items) = subst (λ es. c.args.vertex < length es) (sym is) c.requires in
     (line_within c.self.inside.winners.items c.self.inside.lines.items c.self.inside.placed.items c.args.vertex
     c.self.invariant within c.index-line.result.now c.index-line.ensures).rises
 
@@ -34,8 +32,7 @@ part-requires-clause-ends c =
     let is : entries_in c.self.inside.winners.items c.self.inside.lines.items c.self.inside.placed.items ≡
     c.args.self.now = c.self.view_is in
     let within : c.args.vertex < length (entries_in c.self.inside.winners.items c.self.inside.lines.items
-    c.self.inside.placed.items) =
-    subst (λ es. c.args.vertex < length es) (sym is) c.requires in
+    c.self.inside.placed.items) = subst (λ es. c.args.vertex < length es) (sym is) c.requires in
     let inside =
     line_within c.self.inside.winners.items c.self.inside.lines.items c.self.inside.placed.items c.args.vertex
     c.self.invariant within c.index-line.result.now c.index-line.ensures in
@@ -46,8 +43,7 @@ invariant_of-result c =
     let is : entries_in c.self.inside.winners.items c.self.inside.lines.items c.self.inside.placed.items ≡
     c.args.self.now = c.self.view_is in
     let within : c.args.vertex < length (entries_in c.self.inside.winners.items c.self.inside.lines.items
-    c.self.inside.placed.items) =
-    subst (λ es. c.args.vertex < length es) (sym is) c.requires in
+    c.self.inside.placed.items) = subst (λ es. c.args.vertex < length es) (sym is) c.requires in
     let inside =
     line_within c.self.inside.winners.items c.self.inside.lines.items c.self.inside.placed.items c.args.vertex
     c.self.invariant within c.index-line.result.now c.index-line.ensures in
@@ -60,8 +56,7 @@ returns c =
     let is : entries_in c.self.inside.winners.items c.self.inside.lines.items c.self.inside.placed.items ≡
     c.args.self.now = c.self.view_is in
     let within : c.args.vertex < length (entries_in c.self.inside.winners.items c.self.inside.lines.items
-    c.self.inside.placed.items) =
-    subst (λ es. c.args.vertex < length es) (sym is) c.requires in
+    c.self.inside.placed.items) = subst (λ es. c.args.vertex < length es) (sym is) c.requires in
     let part : c.part.result.now ≡ slice_range c.self.inside.placed.items c.index-line.result.now.start
     c.index-line.result.now.end =
     c.part.ensures ∙ ap (λ xs. slice_range xs c.index-line.result.now.start c.index-line.result.now.end)

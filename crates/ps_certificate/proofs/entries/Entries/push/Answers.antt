@@ -28,8 +28,7 @@ pub returns-in_err-start-clause-err : goal.returns-in_err-start-clause-err
 returns-in_err-start-clause-err c =
     let ws : c.reserve.new.self.items ≡ c.self.inside.winners.items = search rules in
     let ls : c.reserve-2.new.self.items ≡ c.self.inside.lines.items = search rules in
-    let same =
-    entries_same c.self.inside.winners.items c.self.inside.lines.items c.self.inside.placed.items
+    let same = entries_same c.self.inside.winners.items c.self.inside.lines.items c.self.inside.placed.items
     c.put.new.placed.items c.self.invariant c.put.ensures.kept in
     let goal_is : entries_in c.reserve.new.self.items c.reserve-2.new.self.items c.put.new.placed.items
     ≡ c.args.self.now =
@@ -77,13 +76,11 @@ returns-clause-ok c =
     let winners : c.push.new.self.items ≡ ws ++ c.entry.inside.winner ∷ [] = search rules in
     let lines : c.push-2.new.self.items ≡ ls ++ line ∷ [] = search rules in
     let stands : part_of new line ≡ gathered 0 row = search rules in
-    let pushed =
-    entries_push ws ls cs new c.self.invariant c.put.ensures.kept c.entry.inside.winner line row
-    (ap (row_of (length row)) stands ∙ row_gathered row) in
+    let pushed = entries_push ws ls cs new c.self.invariant c.put.ensures.kept c.entry.inside.winner line
+    (ap (row_of (length row)) stands ∙ row_gathered) in
     let view : entries_in c.push.new.self.items c.push-2.new.self.items new
     ≡ entries_in ws ls cs ++ record { winner = c.entry.inside.winner; choice = c.entry.inside.choice; counts = row } ∷
-    [] =
-    rw (winners, lines) pushed in
+    [] = rw (winners, lines) pushed in
     let before : entries_in ws ls cs ≡ c.args.self.now = c.self.view_is in
     let entry : EntryData = record { winner = c.entry.inside.winner; choice = c.entry.inside.choice; counts = row } in
     let is : entry ≡ c.args.entry.now = c.entry.view_is in

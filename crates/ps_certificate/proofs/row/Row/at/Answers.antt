@@ -17,6 +17,5 @@ returns c =
       ap length c.self.view_is,
       length-counts_from c.self.inside.placed.now c.self.inside.width 0,
     ) in
-    c.count_in.ensures
-    ∙ sym (row_at c.self.inside.placed.now c.self.inside.width c.args.place within)
+    c.count_in.ensures ∙ sym (row_at c.self.inside.placed.now c.self.inside.width c.args.place within)
     ∙ ap (λ row. slice_index row c.args.place) c.self.view_is

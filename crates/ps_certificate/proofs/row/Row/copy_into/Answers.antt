@@ -24,8 +24,6 @@ pub returns : goal.returns
 returns c =
     let width = c.self.inside.width in
     let list = c.loop-number.list.items in
-    c.in_ok-resize-2.ensures.items
-    ∙ resized list width _ c.loop-number.list.ok.0 c.loop-number.invariant.long
+    c.in_ok-resize-2.ensures.items ∙ resized list width _ c.loop-number.list.ok.0 c.loop-number.invariant.long
     ∙ filled_end width c.self.inside.placed.now list c.loop-number.number c.loop-number.invariant
-    c.loop-number-test.false
-    ∙ c.self.view_is
+    c.loop-number-test.false ∙ c.self.view_is

@@ -22,8 +22,7 @@ pub returns-then-count-count_in-clause-some : goal.returns-then-count-count_in-c
 returns-then-count-count_in-clause-some c =
     let own = c.self.inside.placed.now in
     let other = c.other.inside.placed.now in
-    let width : c.other.inside.width ≡ c.self.inside.width =
-    omega (
+    let width : c.other.inside.width ≡ c.self.inside.width = omega (
       arith,
       ap length c.self.view_is,
       ap length c.other.view_is,

@@ -26,7 +26,7 @@ into_game-requires-clause-bare c =
 pub into_game-requires-clause-known : goal.into_game-requires-clause-known
 into_game-requires-clause-known c =
     subst (λ (g : ParityGame). NoneUnknown g) (sym (draft (goal.at.into_game-requires-clause-known c).After-resolve))
-    (draft_known (ids_of c.args.self) c.args.self refl c.requires)
+    (draft_known c.args.self refl c.requires)
 
 ids : (c : In_ok-game) → c.self.inside.ids ≡ ids_of c.args.self
 ids c = ids_are _ _ _ c.self.invariant c.args.self c.self.view_is
@@ -35,7 +35,7 @@ game : (c : In_ok-game) → c.in_ok-game.game ≡ game_of c.args.self
 game c = c.in_ok-game.ensures ∙ ap (λ (g : ParityGame). without_repeats g) (draft (goal.at.In_ok-game c).After-resolve)
 
 count : (c : In_ok-game) → vertex_count c.in_ok-game.game ≡ length c.self.inside.ids
-count c = named_count c.in_ok-game.game c.args.self (game c)
+count c = named_count c.args.self (game c)
     ∙ sym (length-map c.args.self (λ (n : NodeData). n.id)) ∙ sym (ap length (ids c))
 
 pub with_first_names-requires-clause-id_each : goal.with_first_names-requires-clause-id_each
@@ -50,7 +50,7 @@ with_first_names-requires-clause-names_of_vertices c =
       arith,
       c.self.inside.names.ok.0,
       length-map names name_bytes,
-      few_names (length c.self.inside.ids) (map name_bytes names) c.self.invariant.name_each,
+      few_names (map name_bytes names) c.self.invariant.name_each,
       count (goal.at.with_first_names-requires-clause-names_of_vertices c).In_ok-game,
     )
 
@@ -58,12 +58,12 @@ pub with_first_names-requires-clause-names_plain : goal.with_first_names-require
 with_first_names-requires-clause-names_plain c =
     let are = subst AreNodes c.self.view_is c.self.invariant.well_formed in
     plain_kept (length c.self.inside.ids) (map name_bytes c.self.inside.names.items)
-    (names_plain c.args.self _ (names_are _ _ _ c.self.invariant c.args.self c.self.view_is) are)
+    (names_plain (names_are _ _ _ c.self.invariant c.args.self c.self.view_is) are)
 
 pub returns : goal.returns
 returns c =
     let a = (goal.at.returns c).In_ok-game in
-    same_named c.with_first_names.result c.args.self (c.with_first_names.ensures.game ∙ game a)
+    same_named c.args.self (c.with_first_names.ensures.game ∙ game a)
     (c.with_first_names.ensures.ids ∙ c.into_list.ensures.list ∙ ids a)
     (c.with_first_names.ensures.names ∙ ap (λ k. with_none k (map name_bytes c.self.inside.names.items)) (count a)
     ∙ names_are _ _ _ c.self.invariant c.args.self c.self.view_is)

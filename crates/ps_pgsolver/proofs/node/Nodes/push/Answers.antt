@@ -25,7 +25,7 @@ names_kept c =
     let count : c.len-count.result ≡ length s.ids = c.len-count.ensures ∙ sym c.self.invariant.id_each in
     let longer : length c.push-2.new.self ≡ c.len-count.result + 1 =
     omega (arith, ap length c.in_default.ensures.ok, length-append s.ids (c.args.node.id ∷ []), count) in
-    let pushed = names_pushed c.len-count.result c.make_room.new.names.items s.names.items name
+    let pushed = names_pushed c.make_room.new.names.items s.names.items name
     (omega (arith, c.make_room.ensures.few, c.make_room.new.names.ok.0))
     (λ named. omega (arith, c.in_ok-make_room.ensures.full (c.is_some.ensures ∙ named), c.make_room.new.names.ok.0))
     c.make_room.ensures.same in
