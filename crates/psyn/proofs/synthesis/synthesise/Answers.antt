@@ -2,12 +2,12 @@ use Rattle.psyn.proofs.synthesis.synthesise.Goals as goal
 
 pub returns-clause-report : goal.returns-clause-report
 returns-clause-report g c =
-    c.report_by.ensures.report c.args.order c.args.text.now c.in_ok-problem.ensures.problem
+    c.report_by-report.ensures.report c.args.order c.args.text.now c.in_ok-problem.ensures.problem
 
 pub returns-clause-refused : goal.returns-clause-refused
 returns-clause-refused g c =
-    c.report_by.ensures.refused c.args.order c.args.text.now c.in_ok-problem.ensures.problem
+    c.report_by-report.ensures.refused c.args.order c.args.text.now c.in_ok-problem.ensures.problem
 
 pub returns-clause-sure : goal.returns-clause-sure
 returns-clause-sure g c = λ sure file accepted.
-    c.report_by.ensures.sure sure c.args.order c.args.text.now c.in_ok-problem.ensures.problem
+    c.report_by-report.ensures.sure sure c.args.order c.args.text.now c.in_ok-problem.ensures.problem
