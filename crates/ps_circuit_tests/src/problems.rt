@@ -12,6 +12,13 @@ const GRANTS: &[u8] =
 /// Who wins, and the texts that show it: the problem is read, its game is solved, and the certificate answers it.
 fn answer(alloc: Global, text: &[u8]) -> Result<Report, Fail> {
     let problem = Problem::read(alloc, text, Order::Mealy)?;
+    let report = answer_to(alloc, &problem);
+    problem.close();
+    report
+}
+
+/// The report of a problem, by a certificate that psyn's own solver gives.
+fn answer_to(alloc: Global, problem: &Problem) -> Result<Report, Fail> {
     let certificate = BuiltIn::new(alloc).solve(problem.game())?;
     Ok(problem.report(alloc, &certificate, false)?)
 }
