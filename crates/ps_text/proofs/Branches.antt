@@ -19,8 +19,8 @@ use Rattle.ps_text.specs.Parts.{Part, Causes, IsRead, IsBroken, either, times, m
 use Rattle.ps_text.specs.Readers.{Stops, Reads, Meets, Carries}
 use Rattle.ps_text.proofs.Laws.{Laws, Apart}
 use Rattle.ps_text.proofs.Exits.{stops_as, reads_then, reads_give, stops_first, stops_behind, suffix_refl}
-use Rattle.ps_text.proofs.Covered.{Covers, Enters, Avoids, enters_broken, enters_read, enters_then, read_as, fault_as}
-use Rattle.ps_text.proofs.Covered.{covers_left, covers_right}
+use Rattle.ps_text.proofs.InPlace.{Covers, read_as, fault_as}
+use Rattle.ps_text.proofs.Covered.{Enters, Avoids, enters_broken, enters_read, enters_then, covers_left, covers_right}
 use Rattle.ps_text.proofs.Repeated.{more_items, covers_item, joint_many, joint_times, read_none}
 
 pub enters_first : {T V F : Type 0} {odd : T → Type 0} {P : Part T V F} {First More : T → Type 0} {Null : Type 0} →
@@ -57,13 +57,12 @@ pub record Stands {T V F : Type 0} (there : Option T) (P Q : Part T V F) : Type 
 
 pub reads_as : {T V F : Type 0} {P Q : Part T V F} {old new : Stream T} {v : V} → Stands (next_of old) P Q →
     Reads P old v new → Reads Q old v new
-reads_as {P = P} {Q = Q} {old = old} {new = new} {v = v} w m =
-    (m.0, read_as P Q (signs old.pieces) (signs new.pieces) v w.covers m.1)
+reads_as {P = P} {Q = Q} w m = (m.0, read_as P Q w.covers m.1)
 
 pub stops_as_well : {T V F : Type 0} (causes : Causes T F) {P Q : Part T V F} (old : Stream T) (o : Option (Found F)) →
     Stands (next_of old) P Q → Stops causes P old o → Stops causes Q old o
 stops_as_well causes {P = P} {Q = Q} old o w s =
-    stops_as causes P Q old (λ f rest p. fault_as P Q causes (signs old.pieces) rest f w.covers w.starts p) o s
+    stops_as causes P Q old (λ f rest p. fault_as P Q w.covers w.starts p) o s
 
 pub meets_as : {T V F X E : Type 0} (found : E → Option (Found F)) (causes : Causes T F) (view : X → V)
     {P Q : Part T V F} (old new : Stream T) (r : Result X E) →
