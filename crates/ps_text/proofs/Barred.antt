@@ -2,9 +2,9 @@
 --     laws_barred; read_barred      P is read, and Bad says nothing of the sign behind it
 --     fault_barred      P's own fault; fault_bar      Bad says what is wrong with the sign behind P
 --     reads_barred, stops_barred, stops_bar      the same at the exits of a reading function
-use Rattle.std.proofs.Common.{◌≡◌, suc, ◌+◌, ◌<◌, ◌≤◌, ◌⊎◌, List, [], ◌∷◌, ◌++◌, length, Option, Some, refl, sym, ap}
-use Rattle.std.proofs.Common.{subst, inl, inr, ⊎_elim, ◌∙◌, append_assoc, append-nil, arith}
-use Rattle.ps_text.specs.Answers.{Begins, Stream, Found, first_of, next_of, offset_of, signs}
+use Rattle.std.proofs.Common.{◌≡◌, ◌+◌, ◌<◌, ◌≤◌, ◌⊎◌, List, [], ◌∷◌, ◌++◌, length, Option, Some, sym, ap}
+use Rattle.std.proofs.Common.{subst, inl, inr, ⊎_elim, ◌∙◌, append_assoc, arith, rules}
+use Rattle.ps_text.specs.Answers.{Begins, Stream, Found, first_of, next_of, offset_of}
 use Rattle.ps_text.specs.Parts.{Part, Causes, IsRead, IsBroken, IsFault, is_cause, CleanUpTo, barred}
 use Rattle.ps_text.specs.Readers.{Stops, Reads}
 use Rattle.ps_text.proofs.Splits.{Placed, inside, behind, placed, length_more, inside_of}
@@ -32,8 +32,7 @@ module _ {T V F : Type 0} {odd : T → Type 0} {P : Part T V F} (Bad : V → T �
     null = l.null;
     behind = λ front t f. ⊎_elim (λ c. l.behind front t f c) (λ c. text_begins P.IsText c.1);
     plain_text = l.plain_text;
-    plain_cause = λ front t f c o.
-        ⊎_elim (λ d. l.plain_cause front t f d o) (λ d. plain t (d.0, f, d.2) o) c;
+    plain_cause = search rules;
   }
 
   module _ (apart : Apart More (Bar Bad)) where
@@ -65,8 +64,7 @@ module _ {T V F : Type 0} {odd : T → Type 0} {P : Part T V F} (Bad : V → T �
           where
             go : Placed p.text rest front r t → ⊥
             go (inside m x) = no_bar front m t c.0 f (rw x at (text_begins P.IsText p.is_text)) c.1 c.2
-            go (behind [] x y) = good t f (ap first_of y) (bar_value p.text t v c.0 f p.is_text
-                (subst (λ z. P.IsText z c.0) (x ∙ append-nil p.text) c.1) c.2)
+            go (behind [] x y) = search (rules, bar_value)
             go (behind (s ∷ m) x y) = omega (arith, n, length_more p.text m s, ap length x)
 
     pub fault_barred : {causes : Causes T F} {all rest : List T} {f : F} → IsFault causes P all f rest →

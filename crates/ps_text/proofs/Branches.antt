@@ -12,7 +12,7 @@
 --     carries_many, carries_times      the invariant of a loop behind an item
 --     reads_shrinks      a part that takes a sign leaves fewer pieces: the measure of a loop
 use Rattle.std.proofs.Common.{◌≡◌, ℕ, zero, suc, ◌+◌, ◌-◌, ◌<◌, List, [], ◌∷◌, ◌++◌, length, Option, Some, Result, Ok}
-use Rattle.std.proofs.Common.{Err, ap, subst, inl, inr, ◌∙◌, arith, length-append}
+use Rattle.std.proofs.Common.{Err, ap, subst, inl, inr, ◌∙◌, arith, length-append, rules}
 use Rattle.std.proofs.lemmas.List.{length-map}
 use Rattle.ps_text.specs.Answers.{Stream, Found, signs, next_of}
 use Rattle.ps_text.specs.Parts.{Part, Causes, IsRead, IsBroken, either, times, many}
@@ -26,11 +26,7 @@ use Rattle.ps_text.proofs.Repeated.{more_items, covers_item, joint_many, joint_t
 pub enters_first : {T V F : Type 0} {odd : T → Type 0} {P : Part T V F} {First More : T → Type 0} {Null : Type 0} →
     Laws odd P First More Null →
     (there : Option T) → Enters P there → (t : T) → there ≡ Some t → First t
-enters_first {P = P} {First = First} l there e t x = go (subst (Enters P) x e)
-  where
-    go : Enters P (Some t) → First t
-    go (inl b) = l.first_text t b.more b.value b.is_text
-    go (inr c) = l.first_cause t c.0 c.1
+enters_first {P = P} {First = First} l there e t x = search (rules, Enters)
 
 pub shrinks : {T V F : Type 0} (P : Part T V F) (all rest : List T) (v : V) → ((w : V) → P.IsText [] w → ⊥) →
     IsRead P all v rest → length rest < length all
@@ -61,8 +57,7 @@ reads_as {P = P} {Q = Q} w m = (m.0, read_as P Q w.covers m.1)
 
 pub stops_as_well : {T V F : Type 0} (causes : Causes T F) {P Q : Part T V F} (old : Stream T) (o : Option (Found F)) →
     Stands (next_of old) P Q → Stops causes P old o → Stops causes Q old o
-stops_as_well causes {P = P} {Q = Q} old o w s =
-    stops_as causes P Q old (λ f rest p. fault_as P Q w.covers w.starts p) o s
+stops_as_well causes {P = P} {Q = Q} old o w s = search (rules, stops_as, fault_as)
 
 pub meets_as : {T V F X E : Type 0} (found : E → Option (Found F)) (causes : Causes T F) (view : X → V)
     {P Q : Part T V F} (old new : Stream T) (r : Result X E) →

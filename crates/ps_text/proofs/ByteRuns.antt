@@ -3,8 +3,8 @@
 --     run_len, run_all, run_ends      the longest run that a text begins with
 --     run_whole      a text that is one run
 --     same_run      there is only one longest run
-use Rattle.std.proofs.Common.{◌≡◌, ℕ, suc, Bool, true, false, List, [], ◌∷◌, ◌++◌, length, take}
-use Rattle.std.proofs.Common.{drop, refl, ap, ap₂, sym, subst, ⊎_elim, ◌∙◌, append-nil, arith}
+use Rattle.std.proofs.Common.{◌≡◌, ℕ, suc, Bool, List, [], ◌∷◌, ◌++◌, length, take, rules}
+use Rattle.std.proofs.Common.{drop, refl, ap, ap₂, sym, ⊎_elim, ◌∙◌, append-nil, arith}
 use Rattle.std.specs.List.{prefix_len, take_while}
 use Rattle.std.proofs.Math.Seq.{take-length}
 use Rattle.std.proofs.lemmas.Bool.{cases_Bool}
@@ -55,10 +55,8 @@ module _ (p : ℕ → Bool) where
   pub same_run : (a b x y : List ℕ) → a ++ x ≡ b ++ y → AllOf p a → AllOf p b → StopsBefore p x → StopsBefore p y →
       a ≡ b
   same_run [] [] x y e h k s t = refl
-  same_run [] (c ∷ b) x y e h k s t =
-      absurd (let f : p c ≡ false = subst (StopsBefore p) e s in let g : p c ≡ true = k.0 in cc)
-  same_run (c ∷ a) [] x y e h k s t =
-      absurd (let f : p c ≡ false = subst (StopsBefore p) (sym e) t in let g : p c ≡ true = h.0 in cc)
+  same_run [] (c ∷ b) x y e h k s t = search rules
+  same_run (c ∷ a) [] x y e h k s t = search rules
   same_run (c ∷ a) (d ∷ b) x y e h k s t =
       let head : c ≡ d = same_head c d (a ++ x) (b ++ y) e in
       ap₂ (λ z zs. z ∷ zs) head (same_run a b x y (same_tail c d (a ++ x) (b ++ y) e) h.1 k.1 s t)

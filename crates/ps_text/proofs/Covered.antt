@@ -4,7 +4,7 @@
 --     Avoids A there      the next sign is none of these
 --     covers_left, covers_right      `either` is read as one of its two, where the other does not begin
 --     laws_either
-use Rattle.std.proofs.Common.{◌≡◌, ◌⊎◌, List, [], ◌∷◌, ◌++◌, Option, None, Some, refl, sym, subst, inl, inr, ◌∙◌}
+use Rattle.std.proofs.Common.{◌≡◌, ◌⊎◌, List, [], ◌∷◌, ◌++◌, Option, None, Some, refl, sym, subst, inl, inr, ◌∙◌, rules}
 use Rattle.std.proofs.Common.{⊎_elim}
 use Rattle.ps_text.specs.Answers.{Begins, first_of}
 use Rattle.ps_text.specs.Parts.{Part, IsRead, IsBroken, one, then_by, mapped, either}
@@ -61,9 +61,7 @@ pub first_of_cause : {T V F : Type 0} {odd : T → Type 0} {P : Part T V F} {Fir
     Laws odd P First More Null →
     (front rest : List T) (t u : T) (f : F) → P.IsCause front t f → first_of (front ++ t ∷ rest) ≡ Some u → First u
 first_of_cause {First = First} l [] rest t u f c e = subst First (same_some t u e) (l.first_cause t f c)
-first_of_cause {First = First} l (s ∷ front) rest t u f c e =
-    let b = l.behind (s ∷ front) t f c in
-    subst First (same_some s u e) (l.first_text s (front ++ b.more) b.value b.is_text)
+first_of_cause {First = First} l (s ∷ front) rest t u f c e = search (rules, same_some)
 
 some_sign : {T : Type 0} (front : List T) (t : T) → (u : T) × (first_of (front ++ t ∷ []) ≡ Some u)
 some_sign [] t = (t, refl)
@@ -113,13 +111,11 @@ module _ {T V F : Type 0} {odd : T → Type 0} {P Q : Part T V F} {F1 M1 F2 M2 :
     (l : Laws odd P F1 M1 N1) (r : Laws odd Q F2 M2 N2) (apart : Apart F1 F2) where
   text_across : (text more : List T) (t : T) (v w : V) → P.IsText text v → Q.IsText (text ++ t ∷ more) w → When N1 F2 t
   text_across [] more t v w h k = (l.null v h, r.first_text t more w k)
-  text_across (s ∷ text) more t v w h k =
-      absurd (apart s (l.first_text s text v h) (r.first_text s (text ++ t ∷ more) w k))
+  text_across (s ∷ text) more t v w h k = search rules
 
   cause_across : (text : List T) (t : T) (v : V) (f : F) → P.IsText text v → Q.IsCause text t f → When N1 F2 t
   cause_across [] t v f h k = (l.null v h, r.first_cause t f k)
-  cause_across (s ∷ text) t v f h k =
-      absurd (apart s (l.first_text s text v h) (first_of_cause r (s ∷ text) [] t s f k refl))
+  cause_across (s ∷ text) t v f h k = search (rules, first_of_cause)
 
 module _ {T V F : Type 0} {odd : T → Type 0} {P Q : Part T V F} {F1 M1 F2 M2 : T → Type 0} {N1 N2 : Type 0} where
   -- the two begin with different signs, and at most one of them may be empty
@@ -128,17 +124,13 @@ module _ {T V F : Type 0} {odd : T → Type 0} {P Q : Part T V F} {F1 M1 F2 M2 :
   laws_either l r apart nulls = record {
     some = record { more = l.some.more; value = l.some.value; is_text = inl l.some.is_text };
     one_value = values;
-    first_text = λ t text v.
-        ⊎_elim (λ h. inl (l.first_text t text v h)) (λ h. inr (r.first_text t text v h));
+    first_text = search rules;
     first_cause = λ t f. ⊎_elim (λ c. inl (l.first_cause t f c)) (λ c. inr (r.first_cause t f c));
     more_text = mores;
     more_cause = more_causes;
     null = λ v. ⊎_elim (λ h. inl (l.null v h)) (λ h. inr (r.null v h));
-    behind = λ front t f. ⊎_elim
-        (λ c. let b = l.behind front t f c in record { more = b.more; value = b.value; is_text = inl b.is_text })
-        (λ c. let b = r.behind front t f c in record { more = b.more; value = b.value; is_text = inr b.is_text });
-    plain_text = λ front rest t v h o.
-        ⊎_elim (λ i. l.plain_text front rest t v i o) (λ i. r.plain_text front rest t v i o) h;
+    behind = search rules;
+    plain_text = search rules;
     plain_cause = λ front t f c o. ⊎_elim (λ d. l.plain_cause front t f d o) (λ d. r.plain_cause front t f d o) c;
   }
     where

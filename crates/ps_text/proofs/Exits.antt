@@ -19,10 +19,10 @@
 --     carries_start, carries_then, carries_reads, carries_stops      the invariant of a loop: before it, behind a call,
 --               and at its exits
 use Rattle.std.proofs.Common.{◌≡◌, ◌≤◌, List, [], ◌∷◌, ◌++◌, Option, None, Some, Result, Ok, Err, IsErrAnd, refl, sym}
-use Rattle.std.proofs.Common.{ap, subst, ◌∙◌, append_assoc}
+use Rattle.std.proofs.Common.{ap, subst, ◌∙◌, append_assoc, rules}
 use Rattle.std.proofs.lemmas.Result.{err_from_is_err_and}
 use Rattle.ps_text.specs.Answers.{Piece, Stream, Found, first_of, next_of, signs, offset_of}
-use Rattle.ps_text.specs.Parts.{Part, Causes, IsRead, IsFault, give, one, then_by, mapped, refusal_of}
+use Rattle.ps_text.specs.Parts.{Part, Causes, IsRead, IsFault, give, one, then_by, mapped}
 use Rattle.ps_text.specs.Readers.{refusal_at, tail, tail_of, IsSuffix, StopsWith, Stops, Reads, Meets, Carries}
 use Rattle.ps_text.proofs.Laws.{Joint}
 use Rattle.ps_text.proofs.Joined.{read_then, fault_left, fault_right}
@@ -54,14 +54,7 @@ pub stops_as : {T A B F : Type 0} (causes : Causes T F) (P : Part T A F) (Q : Pa
     →
     (o : Option (Found F)) → Stops causes P old o → Stops causes Q old o
 stops_as causes P Q old h None s = tt
-stops_as causes P Q old h (Some g) s =
-    record {
-      front = s.front;
-      rest = s.rest;
-      split = s.split;
-      fault = h g.cause (signs s.rest) s.fault;
-      offset = s.offset;
-    }
+stops_as causes P Q old h (Some g) s = search rules
 
 -- and so from an earlier place on
 pub stops_later : {T A B F : Type 0} (causes : Causes T F) (P : Part T A F) (Q : Part T B F) (old mid : Stream T) →
@@ -114,14 +107,12 @@ module _ {T F : Type 0} (causes : Causes T F) where
 
   pub stops_first : {A B : Type 0} {P : Part T A F} {Q : A → Part T B F} → Joint P Q →
       (old : Stream T) (o : Option (Found F)) → Stops causes P old o → Stops causes (then_by P Q) old o
-  stops_first {P = P} {Q = Q} j old o s =
-      stops_as causes P (then_by P Q) old (λ f rest p. fault_left j p) o s
+  stops_first {P = P} {Q = Q} j old o s = search (rules, stops_as, fault_left)
 
   pub stops_behind : {A B : Type 0} {P : Part T A F} {Q : A → Part T B F} {old mid : Stream T} {a : A} → Joint P Q →
       Reads P old a mid → (o : Option (Found F)) →
       Stops causes (Q a) mid o → Stops causes (then_by P Q) old o
-  stops_behind {P = P} {Q = Q} {old = old} {mid = mid} {a = a} j m o s =
-      stops_later causes (Q a) (then_by P Q) old mid m.0 (λ f rest p. fault_right j m.1 p) o s
+  stops_behind {P = P} {Q = Q} {old = old} {mid = mid} {a = a} j m o s = search (rules, stops_later, fault_right)
 
   module _ {V : Type 0} (take : T → Option V) (Bad : T → F → Type 0) (old : Stream T) where
     stops_there : (f : F) → IsFault causes (one take Bad) (signs old.pieces) f (signs old.pieces) →
@@ -146,8 +137,7 @@ module _ {T F : Type 0} (causes : Causes T F) where
 pub exits : {T V F X E : Type 0} (found : E → Option (Found F)) (causes : Causes T F) (view : X → V) (P : Part T V F)
     (old new : Stream T) (e : E) (r : Result X E) →
     Stops causes P old (found e) → IsErrAnd r (λ y. y ≡ e) → Meets found causes view P old r new
-exits found causes view P old new e r s i = let y = err_from_is_err_and r i in
-    subst (λ z. Meets found causes view P old z new) (sym (y.1 ∙ ap Err y.2)) s
+exits found causes view P old new e r s i = search (rules, err_from_is_err_and)
 
 pub then_meets : {T F E A B Y : Type 0} (found : E → Option (Found F)) (causes : Causes T F) (view : Y → B)
     {P : Part T A F} {Q : A → Part T B F} {old mid : Stream T} {a : A} (new : Stream T) (r : Result Y E) →

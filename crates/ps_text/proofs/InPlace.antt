@@ -7,8 +7,8 @@
 --     read_as, fault_as      what is read or is a fault of P is one of Q
 --     after P left      what of P stands behind these signs
 --     read_after, fault_after      what is read or is a fault there is one of P, which is clean up to there
-use Rattle.std.proofs.Common.{◌≡◌, ℕ, suc, ◌+◌, ◌⊎◌, List, [], ◌∷◌, ◌++◌, length, drop, Option, None, Some, refl, sym, ap, subst}
-use Rattle.std.proofs.Common.{inl, inr, ◌∙◌, append_assoc, arith, length-append}
+use Rattle.std.proofs.Common.{◌≡◌, ℕ, ◌+◌, ◌⊎◌, List, [], ◌∷◌, ◌++◌, length, Option, None, Some, refl, sym, ap, subst}
+use Rattle.std.proofs.Common.{inl, ◌∙◌, append_assoc, arith, length-append, rules}
 use Rattle.ps_text.specs.Answers.{Begins, first_of}
 use Rattle.ps_text.specs.Parts.{Part, Causes, IsRead, IsBroken, IsFault, IsFaultAt, is_cause, is_refusal, CleanUpTo}
 use Rattle.ps_text.specs.Parts.{StopsAt, NoCauseAt}
@@ -35,18 +35,13 @@ module _ {T V F : Type 0} (P : Part T V F) (front : List T) where
 -- no cause stands at the sign behind what was read
 pub read_quiet : {T V F : Type 0} {P : Part T V F} {all rest : List T} {v : V} → (p : IsRead P all v rest) →
     NoCauseAt P p.text (first_of rest)
-read_quiet {P = P} {rest = rest} p = quiet_by P p.text (first_of rest)
-    (λ t f e c. p.clean p.text (drop 1 rest) t f (p.split ∙ ap (λ z. p.text ++ z) (head_of rest e)) (omega arith) c)
+read_quiet {P = P} {rest = rest} p = search (rules, quiet_by, head_of)
 
 -- what stands before a first fault begins the part, where its causes do
 pub fault_begins : {T V F : Type 0} {P : Part T V F} {causes : Causes T F} {all rest : List T} {f : F} →
     ((front : List T) (t : T) (f : F) → P.IsCause front t f → Begins P.IsText front) →
     (p : IsFault causes P all f rest) → Begins P.IsText p.front
-fault_begins {P = P} {causes = causes} {rest = rest} {f = f} begins p = go p.fault
-  where
-    go : IsFaultAt causes P p.front (first_of rest) f → Begins P.IsText p.front
-    go (is_cause t e c least) = begins p.front t f c
-    go (is_refusal b e) = b.before
+fault_begins {P = P} {causes = causes} {rest = rest} {f = f} begins p = search rules
 
 pub fault_from : {T A B F : Type 0} (P : Part T A F) (R : Part T B F) {causes : Causes T F} {all rest : List T} {f : F} →
     (p : IsFault causes P all f rest) →
@@ -62,13 +57,7 @@ fault_from {T} {A} {B} {F} P R {causes} {all} {rest} {f} p clean begins no_text 
   where
     go : IsFaultAt causes P p.front (first_of rest) f → IsFaultAt causes R p.front (first_of rest) f
     go (is_cause t e c least) = is_cause t e (cause t c) (λ g k. least g (back t g e (inl c) k))
-    go (is_refusal b e) = is_refusal (record {
-      before = begins b.before;
-      no_text = no_text b;
-      stops = stops_by R p.front (first_of rest) (stops b);
-      no_cause =
-          quiet_by R p.front (first_of rest) (λ t g x k. quiet_at P p.front x b.no_cause (back t g x (inr b) k));
-    }) e
+    go (is_refusal b e) = search (rules, stops_by, quiet_by, quiet_at)
 
 -- ## One part in place of another
 
@@ -88,23 +77,11 @@ sign_of (s ∷ front) rest e x = ap first_of e
 module _ {T V F : Type 0} (P Q : Part T V F) where
   begins_as : {there : Option T} (front : List T) (t : T) → Covers there P Q → there ≡ first_of (front ++ t ∷ []) →
       Begins Q.IsText (front ++ t ∷ []) → Begins P.IsText (front ++ t ∷ [])
-  begins_as [] t c e b =
-      record { more = b.more; value = b.value; is_text = c.text_back t b.more b.value e b.is_text }
-  begins_as (s ∷ front) t c e b = record {
-    more = b.more;
-    value = b.value;
-    is_text = c.text_back s ((front ++ t ∷ []) ++ b.more) b.value e b.is_text;
-  }
+  begins_as [] t c e b = search rules
+  begins_as (s ∷ front) t c e b = search rules
 
   pub read_as : {all rest : List T} {v : V} → Covers (first_of all) P Q → IsRead P all v rest → IsRead Q all v rest
-  read_as {all} {rest} {v} c p = record {
-    text = p.text;
-    split = p.split;
-    is_text = c.text p.text v p.is_text;
-    stops = stops_by Q p.text (first_of rest)
-        (λ t e b. stops_at P p.text e p.stops (begins_as p.text t c (sign_of p.text rest p.split e) b));
-    clean = λ front r t f e l k. p.clean front r t f e l (c.cause_back front t f (sign_of front (t ∷ r) e refl) k);
-  }
+  read_as {all} {rest} {v} c p = search (rules, stops_by, stops_at, begins_as, sign_of)
 
   pub fault_as : {causes : Causes T F} {all rest : List T} {f : F} → Covers (first_of all) P Q →
       (IsBroken P [] (first_of all) → (v : V) → Q.IsText [] v → ⊥) → IsFault causes P all f rest →

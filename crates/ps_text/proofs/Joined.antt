@@ -3,11 +3,11 @@
 --     text_behind, cause_behind      behind a text of P, a text or a cause of the two is one of Q, unless P goes on there
 --     begins_left, begins_right      what begins P begins the two, and so does what begins Q, behind a text of P
 --     read_then, fault_left, fault_right      for IsRead and IsFault
-use Rattle.std.proofs.Common.{◌≡◌, ℕ, suc, ◌+◌, ◌≤◌, ◌⊎◌, List, [], ◌∷◌, ◌++◌, length, Option, None, Some, refl, sym, ap}
-use Rattle.std.proofs.Common.{subst, inl, inr, ◌∙◌, append_assoc, append-nil, arith}
+use Rattle.std.proofs.Common.{◌≡◌, ◌+◌, ◌≤◌, ◌⊎◌, List, [], ◌∷◌, ◌++◌, length, Option, None, Some, refl, sym, ap}
+use Rattle.std.proofs.Common.{subst, inl, inr, ◌∙◌, append_assoc, append-nil, arith, rules}
 use Rattle.ps_text.specs.Answers.{Begins, first_of}
-use Rattle.ps_text.specs.Parts.{Part, Causes, IsRead, IsBroken, IsFault, IsFaultAt, is_cause, is_refusal, CleanUpTo}
-use Rattle.ps_text.specs.Parts.{StopsAt, NoCauseAt, IsJoined, IsBehind, then_by}
+use Rattle.ps_text.specs.Parts.{Part, Causes, IsRead, IsBroken, IsFault, is_cause, CleanUpTo}
+use Rattle.ps_text.specs.Parts.{StopsAt, IsBehind, then_by}
 use Rattle.ps_text.proofs.Splits.{Compared, shorter, same, longer, compared, inside_of}
 use Rattle.ps_text.proofs.Laws.{Laws, Joint, Apart}
 use Rattle.ps_text.proofs.InPlace.{stops_at, quiet_at, read_quiet, fault_begins, fault_from, Covers, read_as, fault_as, after, read_after}
@@ -60,16 +60,14 @@ module _ {T A B F : Type 0} {P : Part T A F} {Q : A → Part T B F} (j : Joint P
       go : Compared left y k.left k.right → (Q a).IsText y b ⊎ GoesOn P left (first_of y)
       go (same e f) = inl (rw (f, j.one_value left a k.value h (rw (← e) at k.is_left)) k.is_right)
       go (shorter t m e f) = inr (t, ap first_of f, begins_on P.IsText left m t (rw e at (text_begins P.IsText k.is_left)))
-      go (longer t m e f) =
-          absurd (not_inside m k.is_left (text_begins P.IsText h) e (text_begins (Q k.value).IsText k.is_right) f)
+      go (longer t m e f) = search (rules, not_inside, text_begins)
 
   -- and so is a cause, unless P goes on, or it is one of P right there
   pub cause_behind : (left y : List T) (t : T) (a : A) (f : F) → P.IsText left a →
       (then_by P Q).IsCause (left ++ y) t f →
       (Q a).IsCause y t f ⊎ (GoesOn P left (first_of (y ++ t ∷ [])) ⊎ ((y ≡ []) × P.IsCause left t f))
   cause_behind left [] t a f h (inl c) = inr (inr (refl, rw append-nil at c))
-  cause_behind left (s ∷ y) t a f h (inl c) =
-      inr (inl (s, refl, begins_on P.IsText left y s (j.behind_left (left ++ s ∷ y) t f c)))
+  cause_behind left (s ∷ y) t a f h (inl c) = search (rules, begins_on)
   cause_behind left y t a f h (inr k) = go (compared left y k.left k.right k.split)
     where
       go : Compared left y k.left k.right →
@@ -159,10 +157,8 @@ module _ {T A B F : Type 0} {P : Part T A F} {Q : A → Part T B F} (j : Joint P
 
     covers_behind : Covers (first_of mid) (Q a) (after (then_by P Q) p.text)
     covers_behind = record {
-      text = λ text v h.
-          record { left = p.text; right = text; value = a; split = refl; is_left = p.is_text; is_right = h };
-      cause = λ front t f c.
-          inr (record { left = p.text; right = front; value = a; split = refl; is_left = p.is_text; is_cause = c });
+      text = search rules;
+      cause = search rules;
       text_back = λ t text v e k. text_of t text v e (text_behind p.text (t ∷ text) a v p.is_text k);
       cause_back = λ front t f e k. cause_of front t f e (cause_behind p.text front t a f p.is_text k);
     }

@@ -9,8 +9,7 @@ use Rattle.ps_text.proofs.Exits as steps
 use Rattle.ps_text.proofs.Exits.{reads_give, reads_mapped, reads_then, reads_next, stops_mapped, stops_first}
 use Rattle.ps_text.proofs.Exits.{stops_behind, stops_bad, stops_refusal}
 use Rattle.ps_text.proofs.Branches as branches
-use Rattle.ps_text.proofs.Branches.{reads_shrinks, meets_as, many_reads, many_fails_later, times_reads}
-use Rattle.ps_text.proofs.Branches.{times_fails_later}
+use Rattle.ps_text.proofs.Branches.{reads_shrinks, meets_as, many_reads, many_fails_later}
 
 module _ {T F E : Type 0} (found : E → Option (Found F)) (causes : Causes T F) where
   pub meets_give : {V X : Type 0} (view : X → V) (s : Stream T) (x : X) (v : V) → view x ≡ v →

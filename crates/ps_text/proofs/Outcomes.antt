@@ -5,10 +5,10 @@
 --     has_refusal      where no sign comes with which it begins
 --     some_answer      each text that is one such part has an answer; some_answer_of is the law of ps_text
 use Rattle.std.proofs.Common.{◌≡◌, ℕ, zero, suc, ◌<◌, ◌≤◌, ◌⊎◌, List, [], ◌∷◌, ◌++◌, length, Option, None, Some, Result}
-use Rattle.std.proofs.Common.{Ok, Err, refl, sym, ap, subst, inl, inr, ◌∙◌, arith}
+use Rattle.std.proofs.Common.{Ok, Err, refl, sym, ap, subst, inl, inr, ◌∙◌, arith, rules}
 use Rattle.ps_text.specs.Answers.{Begins, Piece, Stream, Found, HasOneMeaning, first_of, signs, offset_of}
 use Rattle.ps_text.specs.Parts.{Part, Causes, PartAnswers, IsRead, IsBroken, IsFault, IsFaultAt, is_cause, is_refusal}
-use Rattle.ps_text.specs.Parts.{StopsAt, NoCauseAt, CleanUpTo, refusal_of, give, one, mapped, then_by, either, times}
+use Rattle.ps_text.specs.Parts.{refusal_of, give, one, mapped, then_by, either, times}
 use Rattle.ps_text.specs.Parts.{many, barred}
 use Rattle.ps_text.specs.Outcomes.{Outcome, was_read, has_fault, HasOutcomes, IsOrderly}
 use Rattle.ps_text.proofs.Splits.{same_tail}
@@ -36,18 +36,7 @@ bad_only number Bad f b only = bad f b (λ g c. subst (λ h. number f ≤ number
 -- a part with the signs that enter it as its first ones
 pub exact : {T V F : Type 0} {odd : T → Type 0} {P : Part T V F} {First More : T → Type 0} {Null : Type 0} →
     Laws odd P First More Null → Laws odd P (λ t. Enters P (Some t)) More Null
-exact l = record {
-  some = l.some;
-  one_value = l.one_value;
-  first_text = λ t text v h. inl (record { more = text; value = v; is_text = h });
-  first_cause = λ t f c. inr (f, c);
-  more_text = l.more_text;
-  more_cause = l.more_cause;
-  null = l.null;
-  behind = l.behind;
-  plain_text = l.plain_text;
-  plain_cause = l.plain_cause;
-}
+exact l = search rules
 
 module _ {T F : Type 0} (causes : Causes T F) where
   pub has_give : {V : Type 0} (v : V) → HasOutcomes causes (give {T = T} {V = V} {F = F} v)
@@ -113,10 +102,8 @@ module _ {T F : Type 0} (causes : Causes T F) where
         IsFaultAt causes P front (first_of rest) f → Enters P there ⊎ IsBroken P [] there
     entered [] rest there f e (is_cause t x c m) = inl (subst (Enters P) (sym x ∙ e) (inr (f, c)))
     entered [] rest there f e (is_refusal b x) = inr (subst (IsBroken P []) e b)
-    entered (t ∷ front) rest there f e (is_cause u x c m) = inl
-        (subst (Enters P) e (inl (begins_on P.IsText [] front t (l.behind (t ∷ front) u f c))))
-    entered (t ∷ front) rest there f e (is_refusal b x) = inl
-        (subst (Enters P) e (inl (begins_on P.IsText [] front t b.before)))
+    entered (t ∷ front) rest there f e (is_cause u x c m) = search (rules, Enters, begins_on)
+    entered (t ∷ front) rest there f e (is_refusal b x) = search (rules, Enters, begins_on)
 
     -- the next sign begins P, or P has no text and no cause there
     pub entered_or_broken : (Null → ⊥) → (all : List T) → Outcome causes P all →
@@ -248,8 +235,7 @@ module _ {T V F : Type 0} {causes : Causes T F} {part : Part T V F} where
   some_text (was_read v rest r) = record {
     more = [];
     value = v;
-    is_text = subst (λ z. part.IsText z v) (append_nil_left r.text rest (sym r.split))
-        r.is_text;
+    is_text = search (rules, append_nil_left);
   }
   some_text (has_fault f rest r) = go r.front rest r.split r.fault
     where

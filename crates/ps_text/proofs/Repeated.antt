@@ -4,8 +4,9 @@
 --     read_nothing, read_none      where none begins, `many` is read as nothing
 --     joint_many, joint_times      the joint of an item and the rest
 -- The laws of `many` are those of `upto n`, n items or fewer: its texts and causes are among those for a large n.
+use Rattle.std.proofs.Common.{rules}
 use Rattle.std.proofs.Common.{◌≡◌, ℕ, zero, suc, ◌+◌, ◌<◌, ◌≤◌, List, [], ◌∷◌, ◌++◌, length, Option, Some, refl, sym, ap, inl, inr, ⊎_elim, arith}
-use Rattle.ps_text.specs.Answers.{Begins, first_of}
+use Rattle.ps_text.specs.Answers.{first_of}
 use Rattle.ps_text.specs.Parts.{Part, IsRead, IsJoined, IsBehind, give, either, then_by, times, many}
 use Rattle.ps_text.proofs.Laws.{Laws, Nothing, Or, When, Apart, weaker, Joint}
 use Rattle.ps_text.proofs.InPlace.{Covers, stops_by}
@@ -16,13 +17,11 @@ use Rattle.ps_text.proofs.Covered.{Avoids, Enters, laws_either}
 -- the same text and the same cause, with another part on the right
 joined_as : {T A B : Type 0} {P : List T → A → Type 0} {Q R : A → List T → B → Type 0} {text : List T} {b : B} →
     (j : IsJoined P Q text b) → R j.value j.right b → IsJoined P R text b
-joined_as j r = record
-    { left = j.left; right = j.right; value = j.value; split = j.split; is_left = j.is_left; is_right = r }
+joined_as j r = search rules
 
 behind_as : {T A F : Type 0} {P : List T → A → Type 0} {Q R : A → List T → T → F → Type 0} {front : List T} {t : T}
     {f : F} → (j : IsBehind P Q front t f) → R j.value j.right t f → IsBehind P R front t f
-behind_as j c = record
-    { left = j.left; right = j.right; value = j.value; split = j.split; is_left = j.is_left; is_cause = c }
+behind_as j c = search rules
 
 module _ {T C F : Type 0} (item : C → Part T C F) where
   abbrev pub more_items : C → Part T C F

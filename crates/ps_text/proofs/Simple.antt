@@ -4,10 +4,10 @@
 --     read_give      nothing is taken
 --     read_one, bad_one, refused_one      one sign is taken; it is bad; it is none that may stand there, or there is none
 --     read_mapped, fault_mapped
-use Rattle.std.proofs.Common.{◌≡◌, zero, suc, ◌+◌, ◌≤◌, List, [], ◌∷◌, ◌++◌, length, Option, None, Some, refl, sym, ap}
-use Rattle.std.proofs.Common.{subst, inl, inr, ◌⊎◌, ◌∙◌, append_assoc, append-nil, arith}
+use Rattle.std.proofs.Common.{◌≡◌, ◌+◌, ◌≤◌, List, [], ◌∷◌, ◌++◌, Option, None, Some, refl, sym, ap}
+use Rattle.std.proofs.Common.{subst, inl, inr, ◌⊎◌, ◌∙◌, append_assoc, arith, rules}
 use Rattle.ps_text.specs.Answers.{Begins, first_of}
-use Rattle.ps_text.specs.Parts.{Part, Causes, IsRead, IsFault, is_cause, is_refusal, CleanUpTo, give, one, then_by}
+use Rattle.ps_text.specs.Parts.{Part, Causes, IsRead, IsFault, is_cause, give, one, then_by}
 use Rattle.ps_text.specs.Parts.{mapped, refusal_of}
 use Rattle.ps_text.proofs.Splits.{Placed, inside, behind, placed, same_head, same_tail}
 use Rattle.ps_text.proofs.Laws.{Laws, Nothing, Or, When, Apart}
@@ -41,43 +41,16 @@ single_split (u ∷ front) rest t s e = absurd (nil_is_cons t rest (sym (append_
 pub refused : {T V F : Type 0} {odd : T → Type 0} {P : Part T V F} {First More : T → Type 0} →
     Laws odd P First More ⊥ → (causes : Causes T F) (all : List T) →
     ((t : T) → first_of all ≡ Some t → First t → ⊥) → IsFault causes P all (refusal_of causes (first_of all)) all
-refused {P = P} l causes all avoided = record {
-  front = [];
-  split = refl;
-  clean = λ front rest t f e n c. absurd (omega (arith, n));
-  fault = is_refusal (record {
-    before = l.some;
-    no_text = l.null;
-    stops = stops_by P [] (first_of all) (λ t e b. avoided t e (l.first_text t b.more b.value b.is_text));
-    no_cause = quiet_by P [] (first_of all) (λ t f e c. avoided t e (l.first_cause t f c));
-  }) refl;
-}
+refused {P = P} l causes all avoided = search (rules, stops_by, quiet_by)
 
 -- ## give
 
 pub laws_give : {T V F : Type 0} (odd : T → Type 0) (v : V) →
     Laws odd (give {T = T} {V = V} {F = F} v) Nothing Nothing (Unit {0})
-laws_give odd v = record {
-  some = record { more = []; value = v; is_text = (refl, refl) };
-  one_value = λ text x y h k. h.1 ∙ sym k.1;
-  first_text = λ t text x h. nil_is_cons t text (sym h.0);
-  first_cause = λ t f c. c;
-  more_text = λ text more t x y h k. nil_is_cons t more (sym (append_nil_right text (t ∷ more) k.0));
-  more_cause = λ text t x f h c. c;
-  null = λ x h. tt;
-  behind = λ front t f c. absurd c;
-  plain_text = λ front rest t x h o. nil_is_cons t rest (sym (append_nil_right front (t ∷ rest) h.0));
-  plain_cause = λ front t f c o. c;
-}
+laws_give odd v = search (rules, nil_is_cons, append_nil_right, behind)
 
 pub read_give : {T V F : Type 0} (all : List T) (v : V) → IsRead (give {T = T} {V = V} {F = F} v) all v all
-read_give {T} {V} {F} all v = record {
-  text = [];
-  split = refl;
-  is_text = (refl, refl);
-  stops = stops_by (give {T = T} {V = V} {F = F} v) [] (first_of all) (λ t e b. nil_is_cons t b.more (sym b.is_text.0));
-  clean = λ front rest t f e l c. c;
-}
+read_give {T} {V} {F} all v = search (rules, stops_by, nil_is_cons)
 
 -- ## one
 
@@ -111,10 +84,8 @@ module _ {T V F : Type 0} (take : T → Option V) (Bad : T → F → Type 0) whe
     text = t ∷ [];
     split = refl;
     is_text = (t, refl, e);
-    stops = stops_by (one take Bad) (t ∷ []) (first_of rest)
-        (λ u x b. nil_is_cons u b.more (sym (same_tail t b.is_text.0 (u ∷ b.more) [] b.is_text.1)));
-    clean = λ front more s f x l c.
-        good f (subst (λ z. Bad z f) (sym (same_head t s rest more (x ∙ ap (λ z. z ++ s ∷ more) c.0))) c.1);
+    stops = search (rules, stops_by, nil_is_cons, same_tail);
+    clean = search (rules, same_head);
   }
 
   pub bad_one : (causes : Causes T F) (all : List T) (t : T) (f : F) → first_of all ≡ Some t → Bad t f →
@@ -148,29 +119,10 @@ module _ {T A B F : Type 0} (h : A → B) (P : Part T A F) where
 
   pub laws_mapped : {odd : T → Type 0} {First More : T → Type 0} {Null : Type 0} → Laws odd P First More Null →
       Laws odd (mapped h P) First More Null
-  laws_mapped l = record {
-    some = mapped_begins [] l.some;
-    one_value = λ text x y a b. a.2 ∙ ap h (l.one_value text a.0 b.0 a.1 b.1) ∙ sym b.2;
-    first_text = λ t text x a. l.first_text t text a.0 a.1;
-    first_cause = l.first_cause;
-    more_text = λ text more t x y a b. l.more_text text more t a.0 b.0 a.1 b.1;
-    more_cause = λ text t x f a c. l.more_cause text t a.0 f a.1 c;
-    null = λ x a. l.null a.0 a.1;
-    behind = λ front t f c. mapped_begins front (l.behind front t f c);
-    plain_text = λ front rest t x a o. l.plain_text front rest t a.0 a.1 o;
-    plain_cause = l.plain_cause;
-  }
+  laws_mapped l = search (rules, mapped_begins, behind)
 
   pub read_mapped : {all rest : List T} {a : A} → IsRead P all a rest → IsRead (mapped h P) all (h a) rest
-  read_mapped {rest = rest} {a = a} p = record {
-    text = p.text;
-    split = p.split;
-    is_text = (a, p.is_text, refl);
-    stops =
-        stops_by (mapped h P) p.text (first_of rest)
-        (λ t e b. stops_at P p.text e p.stops (unmapped (p.text ++ t ∷ []) b));
-    clean = p.clean;
-  }
+  read_mapped {rest = rest} {a = a} p = search (rules, stops_by, stops_at, unmapped)
 
   pub fault_mapped : {causes : Causes T F} {all rest : List T} {f : F} → IsFault causes P all f rest →
       IsFault causes (mapped h P) all f rest
@@ -203,16 +155,11 @@ module _ {T A B F : Type 0} {odd : T → Type 0} {P : Part T A F} {Q : A → Par
   first_then : (left right text : List T) (t : T) (a : A) (b : B) → t ∷ text ≡ left ++ right → P.IsText left a →
       (Q a).IsText right b → Or F1 (When N1 F2) t
   first_then [] right text t a b e h k = inr (l.null a h, (r a).first_text t text b (rw e k))
-  first_then (s ∷ left) right text t a b e h k =
-      inl (subst F1 (sym (same_head t s text (left ++ right) e)) (l.first_text s left a h))
+  first_then (s ∷ left) right text t a b e h k = search (rules, same_head)
 
   first_cause_then : (t : T) (f : F) → (then_by P Q).IsCause [] t f → Or F1 (When N1 F2) t
   first_cause_then t f (inl c) = inl (l.first_cause t f c)
-  first_cause_then t f (inr k) = inr (
-    l.null k.value (subst (λ z. P.IsText z k.value) (append_nil_left k.left k.right (sym k.split)) k.is_left),
-    (r k.value).first_cause t f
-        (subst (λ z. (Q k.value).IsCause z t f) (append_nil_right k.left k.right (sym k.split)) k.is_cause),
-  )
+  first_cause_then t f (inr k) = search (rules, append_nil_left, append_nil_right)
 
   -- where P goes on behind a text of the two, Q is empty
   goes_then : (left right more : List T) (t : T) (a : A) (x : B) → P.IsText left a → (Q a).IsText right x →
@@ -240,17 +187,10 @@ module _ {T A B F : Type 0} {odd : T → Type 0} {P : Part T A F} {Q : A → Par
           ((i.right ≡ []) × P.IsCause i.left t f)) → Or M2 (When N2 M1) t
       go (inl c) = inl ((r i.value).more_cause i.right t x f i.is_right c)
       go (inr (inl g)) = inr (goes_then i.left i.right [] t i.value x i.is_left i.is_right g)
-      go (inr (inr c)) = inr (
-        (r i.value).null x (subst (λ z. (Q i.value).IsText z x) c.0 i.is_right),
-        l.more_cause i.left t i.value f i.is_left c.1,
-      )
+      go (inr (inr c)) = search rules
 
   plain_then : (front rest : List T) (t : T) (v : B) → (then_by P Q).IsText (front ++ t ∷ rest) v → odd t → ⊥
-  plain_then front rest t v i o = go (placed i.left i.right front rest t (sym i.split))
-    where
-      go : Placed i.left i.right front rest t → ⊥
-      go (inside m e) = l.plain_text front m t i.value (subst (λ z. P.IsText z i.value) e i.is_left) o
-      go (behind y e f) = (r i.value).plain_text y rest t v (subst (λ z. (Q i.value).IsText z v) f i.is_right) o
+  plain_then front rest t v i o = search (rules, placed, Placed, inside, behind)
 
   plain_cause_then : (front : List T) (t : T) (f : F) → (then_by P Q).IsCause front t f → odd t → ⊥
   plain_cause_then front t f (inl c) o = l.plain_cause front t f c o
@@ -269,11 +209,7 @@ module _ {T A B F : Type 0} {odd : T → Type 0} {P : Part T A F} {Q : A → Par
     first_cause = first_cause_then;
     more_text = more_then;
     more_cause = more_cause_then;
-    null = λ v i. (
-      l.null i.value (subst (λ z. P.IsText z i.value) (append_nil_left i.left i.right (sym i.split)) i.is_left),
-      (r i.value).null v
-          (subst (λ z. (Q i.value).IsText z v) (append_nil_right i.left i.right (sym i.split)) i.is_right),
-    );
+    null = search (rules, append_nil_left, append_nil_right);
     behind = behind_then;
     plain_text = plain_then;
     plain_cause = plain_cause_then;

@@ -2,8 +2,8 @@
 --     Compared, compared      the three cases
 --     Placed, placed      where one sign of the list stands: inside the front, or behind it
 --     inside_of      a sign that stands before the end of the front stands inside it
-use Rattle.std.proofs.Common.{◌≡◌, suc, ◌+◌, ◌<◌, List, [], ◌∷◌, ◌++◌, length, get_or, drop, refl, sym, ap, ap₂, ◌∙◌}
-use Rattle.std.proofs.Common.{arith, append-nil, length-append, Option, Some}
+use Rattle.std.proofs.Common.{◌≡◌, suc, ◌+◌, ◌<◌, List, [], ◌∷◌, ◌++◌, length, drop, refl, sym, ap, ◌∙◌}
+use Rattle.std.proofs.Common.{arith, append-nil, length-append, Some, rules}
 use Rattle.ps_text.specs.Answers.{first_of}
 
 pub data Compared {T : Type 0} (a b c d : List T) : Type 0 where
@@ -33,12 +33,7 @@ length_more a m t = length-append a (t ∷ m)
 
 -- two splits at one place are one
 pub same_split : {T : Type 0} (a b c d : List T) → a ++ b ≡ c ++ d → length a ≡ length c → (a ≡ c) × (b ≡ d)
-same_split {T} a b c d e l = go (compared a b c d e)
-  where
-    go : Compared a b c d → (a ≡ c) × (b ≡ d)
-    go (same f g) = (f, g)
-    go (shorter t m f g) = absurd (omega (arith, length_more a m t, ap length f))
-    go (longer t m f g) = absurd (omega (arith, length_more c m t, ap length f))
+same_split {T} a b c d e l = search (rules, compared, length_more)
 
 -- a sign of a list stands inside its front, or behind it
 pub data Placed {T : Type 0} (left mid front rest : List T) (t : T) : Type 0 where

@@ -4,11 +4,11 @@
 --     trailing      the part was read, and a sign stands behind it: the refusal of this sign is the first cause
 --     answers_ok, answers_fault, answers_trailing      the same from `Meets`
 -- The laws of the part are wanted with `Own causes` for odd: the signs that are a cause by themselves.
-use Rattle.std.proofs.Common.{◌≡◌, suc, ◌+◌, ◌<◌, ◌≤◌, ◌⊎◌, List, [], ◌∷◌, ◌++◌, length, Option, None, Some, Ok, Err}
+use Rattle.std.proofs.Common.{rules}
+use Rattle.std.proofs.Common.{◌≡◌, ◌+◌, ◌<◌, ◌≤◌, ◌⊎◌, List, [], ◌∷◌, ◌++◌, length, Option, None, Some, Ok, Err}
 use Rattle.std.proofs.Common.{refl, sym, ap, subst, inl, inr, ◌∙◌, append_assoc, append-nil, arith, length-append, drop}
-use Rattle.std.specs.Option.{unwrap_or}
 use Rattle.std.proofs.lemmas.List.{append_cancel_right}
-use Rattle.ps_text.specs.Answers.{Begins, Piece, Stream, Found, NoneGoesOn, IsRefused, IsClean, IsFirst, first_of}
+use Rattle.ps_text.specs.Answers.{Begins, Piece, Stream, Found, IsRefused, IsClean, IsFirst, first_of}
 use Rattle.ps_text.specs.Answers.{offset_of, signs}
 use Rattle.ps_text.specs.Parts.{Part, Causes, IsWrong, by_part, by_sign, by_grammar, PartAnswers, IsRead, IsBroken}
 use Rattle.ps_text.specs.Parts.{IsFault, IsFaultAt, is_cause, is_refusal, CleanUpTo, NoCauseAt, refusal_of}
@@ -43,17 +43,13 @@ module _ {T V F : Type 0} {causes : Causes T F} {part : Part T V F} {First More 
           (length front < length front') ⊎ ((front ≡ front') × (rest ≡ rest'))
       go (same x y) k = inr (x, y)
       go (shorter t m x y) k = inl (omega (arith, length_more front m t, ap length x))
-      go (longer t m x y) (by_part u q c) = absurd
-          (clean front' (drop 1 rest') u g (next q) (omega (arith, length_more front' m t, ap length x)) c)
+      go (longer t m x y) (by_part u q c) = search (rules, length_more)
       go (longer t m x y) (by_sign u q c) =
           let i = inside_of rest front' (drop 1 rest') u e (next q)
           (omega (arith, length_more front' m t, ap length x)) in
           absurd (l.plain_text front' (i.0 ++ b.more) u b.value
           (simp append_assoc at (subst (λ z. part.IsText (z ++ b.more) b.value) i.1 b.is_text)) (g, c))
-      go (longer t m x y) (by_grammar r _ _ _) =
-          let n : NoneGoesOn part.IsText front' (Some t) =
-          subst (NoneGoesOn part.IsText front') (ap first_of y) r.none in
-          absurd (n (begins_on part.IsText front' m t (rw x at b)))
+      go (longer t m x y) (by_grammar r _ _ _) = search (rules, begins_on)
 
   none_wrong : (front : List T) (v : V) (g : F) → part.IsText front v → IsWrong causes part front None g → ⊥
   none_wrong front v g h (by_part u q c) = none_is_some u q
@@ -76,8 +72,7 @@ module _ {T V F : Type 0} {causes : Causes T F} {part : Part T V F} {First More 
             ap length p.split,
             length-append p.text [],
           )
-          go (inr x) = none_wrong front v g (subst (λ z. part.IsText z v) x.0 p.is_text)
-              (subst (λ z. IsWrong causes part front (first_of z) g) (sym x.1) w)
+          go (inr x) = search (rules, none_wrong)
 
   -- f is the first cause if it is the least of those behind what begins a text of the part and is clean
   first_at : {all front rest : List T} {f : F} → all ≡ front ++ rest → Begins part.IsText front →
@@ -97,16 +92,9 @@ module _ {T V F : Type 0} {causes : Causes T F} {part : Part T V F} {First More 
   refusal_least : (there : Option T) (front : List T) (g : F) → NoCauseAt part front there →
       IsWrong causes part front there g → causes.number (refusal_of causes there) ≤ causes.number g
   refusal_least there front g n (by_part t e c) = absurd (quiet_at part front e n c)
-  refusal_least there front g n (by_sign t e c) = omega (
-    arith,
-    ap causes.number (ap (refusal_of causes) e ∙ ap (λ o. unwrap_or o causes.syntax) c),
-  )
+  refusal_least there front g n (by_sign t e c) = search rules
   refusal_least None front g n (by_grammar r _ o e) = omega (arith, ap causes.number e)
-  refusal_least (Some t) front g n (by_grammar r _ o e) = omega (
-    arith,
-    ap causes.number e,
-    ap (λ z. causes.number (unwrap_or z causes.syntax)) (o t refl),
-  )
+  refusal_least (Some t) front g n (by_grammar r _ o e) = search rules
 
   refusal_stands : (there : Option T) (front : List T) → IsRefused part.IsText front there →
       NoCauseAt part front there → IsWrong causes part front there (refusal_of causes there)
@@ -115,8 +103,7 @@ module _ {T V F : Type 0} {causes : Causes T F} {part : Part T V F} {First More 
     where
       go : (o : Option F) → causes.own t ≡ o → IsWrong causes part front (Some t) (refusal_of causes (Some t))
       go (Some f) e = rw e (by_sign t refl e)
-      go None e = by_grammar r (λ u g x c. quiet_at part front x n c)
-          (λ u x. ap causes.own (sym (same_some t u x)) ∙ e) (ap (λ o. unwrap_or o causes.syntax) e)
+      go None e = search (rules, quiet_at, same_some)
 
   pub first_fault : {all rest : List T} {f : F} → (p : IsFault causes part all f rest) →
       IsFirst causes.number (IsWrong causes part) p.front rest f
@@ -135,11 +122,7 @@ module _ {T V F : Type 0} {causes : Causes T F} {part : Part T V F} {First More 
       least g (is_cause t e c m) (by_sign u x d) =
           absurd (l.plain_cause p.front t f c (g, subst (λ z. causes.own z ≡ Some g) (same_some u t (sym x ∙ e)) d))
       least g (is_cause t e c m) (by_grammar r n o x) = absurd (n t f e c)
-      least g (is_refusal b e) w = omega (
-        arith,
-        refusal_least (first_of rest) p.front g b.no_cause w,
-        ap causes.number e,
-      )
+      least g (is_refusal b e) w = search (rules, refusal_least)
 
   pub trailing : {all rest : List T} {u : T} {v : V} → (p : IsRead part all v (u ∷ rest)) →
       IsFirst causes.number (IsWrong causes part) p.text (u ∷ rest) (refusal_of causes (Some u))
