@@ -2,8 +2,8 @@
 --     laws_barred; read_barred      P is read, and Bad says nothing of the sign behind it
 --     fault_barred      P's own fault; fault_bar      Bad says what is wrong with the sign behind P
 --     reads_barred, stops_barred, stops_bar      the same at the exits of a reading function
-use Rattle.std.proofs.Common.{◌≡◌, ◌+◌, ◌<◌, ◌≤◌, ◌⊎◌, List, [], ◌∷◌, ◌++◌, length, Option, Some, sym, ap}
-use Rattle.std.proofs.Common.{subst, inl, inr, ⊎_elim, ◌∙◌, append_assoc, arith, rules}
+use Rattle.std.proofs.Common.{◌≡◌, ◌+◌, ◌<◌, ◌≤◌, ◌⊎◌, List, [], ◌∷◌, ◌++◌, length, Option, Some, sym, ap, subst, inl}
+use Rattle.std.proofs.Common.{inr, ⊎_elim, ◌∙◌, append_assoc, arith, rules}
 use Rattle.ps_text.specs.Answers.{Begins, Stream, Found, first_of, next_of, offset_of}
 use Rattle.ps_text.specs.Parts.{Part, Causes, IsRead, IsBroken, IsFault, is_cause, CleanUpTo, barred}
 use Rattle.ps_text.specs.Readers.{Stops, Reads}
@@ -25,8 +25,7 @@ module _ {T V F : Type 0} {odd : T → Type 0} {P : Part T V F} (Bad : V → T �
     some = l.some;
     one_value = l.one_value;
     first_text = λ t text v h. inl (l.first_text t text v h);
-    first_cause =
-        λ t f. ⊎_elim (λ c. inl (l.first_cause t f c)) (λ c. inr (l.null c.0 c.1, (c.0, f, c.2)));
+    first_cause = λ t f. ⊎_elim (λ c. inl (l.first_cause t f c)) (λ c. inr (l.null c.0 c.1, (c.0, f, c.2)));
     more_text = λ text more t v w h k. inl (l.more_text text more t v w h k);
     more_cause = λ text t v f h. ⊎_elim (λ c. inl (l.more_cause text t v f h c)) (λ c. inr (c.0, f, c.2));
     null = l.null;
@@ -52,9 +51,8 @@ module _ {T V F : Type 0} {odd : T → Type 0} {P : Part T V F} (Bad : V → T �
     bar_value : (text : List T) (t : T) (v w : V) (f : F) → P.IsText text v → P.IsText text w → Bad w t f → Bad v t f
     bar_value text t v w f h k c = subst (λ z. Bad z t f) (l.one_value text w v k h) c
 
-    pub read_barred : {all rest : List T} {v : V} →
-        ((t : T) (f : F) → first_of rest ≡ Some t → Bad v t f → ⊥) → IsRead P all v rest →
-        IsRead (barred P Bad) all v rest
+    pub read_barred : {all rest : List T} {v : V} → ((t : T) (f : F) → first_of rest ≡ Some t → Bad v t f → ⊥) →
+        IsRead P all v rest → IsRead (barred P Bad) all v rest
     read_barred {all} {rest} {v} good p =
         record { text = p.text; split = p.split; is_text = p.is_text; stops = p.stops; clean = clean }
       where
@@ -102,9 +100,8 @@ module _ {T V F : Type 0} {odd : T → Type 0} {P : Part T V F} (Bad : V → T �
         Stops causes (barred P Bad) old o
     stops_barred causes old o s = stops_as causes P (barred P Bad) old (λ f rest p. fault_barred p) o s
 
-    pub stops_bar : (causes : Causes T F) {old mid : Stream T} {v : V} → Reads P old v mid → (t : T) (f : F)
-        (o : Option (Found F)) → next_of mid ≡ Some t → Bad v t f →
-        ((g : F) → Bad v t g → causes.number f ≤ causes.number g) →
+    pub stops_bar : (causes : Causes T F) {old mid : Stream T} {v : V} → Reads P old v mid → (t : T) (f : F) (o : Option
+        (Found F)) → next_of mid ≡ Some t → Bad v t f → ((g : F) → Bad v t g → causes.number f ≤ causes.number g) →
         o ≡ Some (record { cause = f; offset = offset_of mid.pieces mid.end }) → Stops causes (barred P Bad) old o
     stops_bar causes {old} {mid} m t f o n bad least k = rw k (record {
       front = m.0.taken;

@@ -29,9 +29,8 @@ module _ {K T V F : Type 0} {odd : T → Type 0} (form : K → Part T V F) (form
   text_form : (k : K) (t : T) (text : List T) (v : V) → (form k).IsText (t ∷ text) v → Begins form_at k t
   text_form k t text v h = (l k).first_text t text v h
 
-  cause_form : (k : K) (front : List T) (t u : T) (f : F) → (form k).IsCause front t f →
-      first_of (front ++ t ∷ []) ≡ Some u →
-      Begins form_at k u
+  cause_form : (k : K) (front : List T) (t u : T) (f : F) →
+      (form k).IsCause front t f → first_of (front ++ t ∷ []) ≡ Some u → Begins form_at k u
   cause_form k front t u f c e = first_of_cause (l k) front [] t u f c e
 
   values : (text : List T) (v w : V) → (choice form).IsText text v → (choice form).IsText text w → v ≡ w
@@ -41,9 +40,8 @@ module _ {K T V F : Type 0} {odd : T → Type 0} (form : K → Part T V F) (form
   mores : (text more : List T) (t : T) (v w : V) → (choice form).IsText text v →
       (choice form).IsText (text ++ t ∷ more) w → More t
   mores [] more t v w h i = absurd ((l h.0).null v h.1)
-  mores (s ∷ text) more t v w h i =
-      let e = same_form h.0 i.0 s (text_form h.0 s text v h.1) (text_form i.0 s (text ++ t ∷ more) w i.1) in
-      (l i.0).more_text (s ∷ text) more t v w (subst (λ k. (form k).IsText (s ∷ text) v) e h.1) i.1
+  mores (s ∷ text) more t v w h i = let e = same_form h.0 i.0 s (text_form h.0 s text v h.1) (text_form i.0 s (text ++
+      t ∷ more) w i.1) in (l i.0).more_text (s ∷ text) more t v w (subst (λ k. (form k).IsText (s ∷ text) v) e h.1) i.1
 
   more_causes : (text : List T) (t : T) (v : V) (f : F) → (choice form).IsText text v →
       (choice form).IsCause text t f → More t

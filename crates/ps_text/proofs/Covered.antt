@@ -69,12 +69,10 @@ some_sign (s ∷ front) t = (s, refl)
 
 -- a part W of which each text and each cause is one of P or one of Q, where Q does not begin
 covers_one : {T V F : Type 0} {odd : T → Type 0} {P Q : Part T V F} {First More : T → Type 0} {Null : Type 0}
-    (W : Part T V F) (l : Laws odd Q First More Null) (there : Option T) → Avoids First there →
-    ((text : List T) (v : V) → P.IsText text v → W.IsText text v) →
-    ((front : List T) (t : T) (f : F) → P.IsCause front t f → W.IsCause front t f) →
-    ((text : List T) (v : V) → W.IsText text v → P.IsText text v ⊎ Q.IsText text v) →
-    ((front : List T) (t : T) (f : F) → W.IsCause front t f → P.IsCause front t f ⊎ Q.IsCause front t f) →
-    Covers there P W
+    (W : Part T V F) (l : Laws odd Q First More Null) (there : Option T) → Avoids First there → ((text : List T)
+    (v : V) → P.IsText text v → W.IsText text v) → ((front : List T) (t : T) (f : F) → P.IsCause front t f → W.IsCause
+    front t f) → ((text : List T) (v : V) → W.IsText text v → P.IsText text v ⊎ Q.IsText text v) → ((front : List T)
+    (t : T) (f : F) → W.IsCause front t f → P.IsCause front t f ⊎ Q.IsCause front t f) → Covers there P W
 covers_one {T} {V} {F} {P = P} {Q = Q} W l there a text cause text_of cause_of = record {
   text = text;
   cause = cause;

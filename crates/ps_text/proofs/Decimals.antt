@@ -4,9 +4,8 @@
 --     value_grows, value_front      more digits write no smaller number
 --     IsNumberText n digits      digits without a leading zero that write the number
 --     number_text, plain      these are written
-use Rattle.std.proofs.Common.{◌≡◌, ℕ, zero, ◌+◌, ◌-◌, ◌*◌, ◌/◌, ◌%◌, ◌^◌, ◌<◌, ◌≤◌, true, List, [], ◌∷◌, ◌++◌}
-use Rattle.std.proofs.Common.{length, get_or, take, drop, refl, ap, subst, ◌∙◌, arith, length-append, rules}
-use Rattle.std.proofs.Common.{take-append-drop}
+use Rattle.std.proofs.Common.{◌≡◌, ℕ, zero, ◌+◌, ◌-◌, ◌*◌, ◌/◌, ◌%◌, ◌^◌, ◌<◌, ◌≤◌, true, List, [], ◌∷◌, ◌++◌, length}
+use Rattle.std.proofs.Common.{get_or, take, drop, refl, ap, subst, ◌∙◌, arith, length-append, rules, take-append-drop}
 use Rattle.std.specs.Prelude.{decimal}
 use Rattle.std.specs.Char.{is_ascii_digit}
 use Rattle.std.specs.List.{All}
@@ -43,9 +42,8 @@ pub value_grows : (a b : List ℕ) → decimal_value a ≤ decimal_value (a ++ b
 value_grows a b = search (rules, map-append, number_after_append, number_after_ge)
 
 pub value_front : (ds : List ℕ) (i : ℕ) → decimal_value (take i ds) ≤ decimal_value ds
-value_front ds i =
-    subst (λ xs. decimal_value (take i ds) ≤ decimal_value xs) (take-append-drop i ds)
-    (value_grows (take i ds) (drop i ds))
+value_front ds i = subst
+    (λ xs. decimal_value (take i ds) ≤ decimal_value xs) (take-append-drop i ds) (value_grows (take i ds) (drop i ds))
 
 -- ## Numbers that are written
 

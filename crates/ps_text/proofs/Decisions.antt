@@ -7,8 +7,7 @@
 --               set of the same causes
 --     judge_if, judge_also      of what a sign has, where it has it; of causes that stand where a fact holds
 use Rattle.std.proofs.Common.{◌≡◌, ℕ, zero, suc, ◌≤◌, ◌⊎◌, Bool, true, false, List, [], ◌∷◌, length, get_or, refl, sym}
-use Rattle.std.proofs.Common.{inl, rules}
-use Rattle.std.proofs.Common.{inr, Option, None, Some, arith}
+use Rattle.std.proofs.Common.{inl, rules, inr, Option, None, Some, arith}
 use Rattle.std.specs.Prelude.{IfSome}
 use Rattle.std.specs.List.{Contains}
 use Rattle.std.proofs.lemmas.Bool.{cases_eq, cases_lt}

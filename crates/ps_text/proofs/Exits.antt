@@ -26,8 +26,8 @@ use Rattle.ps_text.specs.Parts.{Part, Causes, IsRead, IsFault, give, one, then_b
 use Rattle.ps_text.specs.Readers.{refusal_at, tail, tail_of, IsSuffix, StopsWith, Stops, Reads, Meets, Carries}
 use Rattle.ps_text.proofs.Laws.{Joint}
 use Rattle.ps_text.proofs.Joined.{read_then, fault_left, fault_right}
-use Rattle.ps_text.proofs.Simple.{none_is_some, same_some, read_give, read_one, bad_one, refused_one}
-use Rattle.ps_text.proofs.Simple.{read_mapped, fault_mapped}
+use Rattle.ps_text.proofs.Simple.{none_is_some, same_some, read_give, read_one, bad_one, refused_one, read_mapped}
+use Rattle.ps_text.proofs.Simple.{fault_mapped}
 
 pub suffix_refl : {T : Type 0} (s : Stream T) → IsSuffix s s
 suffix_refl s = record { taken = []; split = refl; end = refl }
@@ -50,18 +50,15 @@ piece_next {T} s t e = go s.pieces e
 
 -- what is a fault of P is one of Q
 pub stops_as : {T A B F : Type 0} (causes : Causes T F) (P : Part T A F) (Q : Part T B F) (old : Stream T) →
-    ((f : F) (rest : List T) → IsFault causes P (signs old.pieces) f rest → IsFault causes Q (signs old.pieces) f rest)
-    →
-    (o : Option (Found F)) → Stops causes P old o → Stops causes Q old o
+    ((f : F) (rest : List T) → IsFault causes P (signs old.pieces) f rest →
+    IsFault causes Q (signs old.pieces) f rest) → (o : Option (Found F)) → Stops causes P old o → Stops causes Q old o
 stops_as causes P Q old h None s = tt
 stops_as causes P Q old h (Some g) s = search rules
 
 -- and so from an earlier place on
 pub stops_later : {T A B F : Type 0} (causes : Causes T F) (P : Part T A F) (Q : Part T B F) (old mid : Stream T) →
-    IsSuffix old mid →
-    ((f : F) (rest : List T) → IsFault causes P (signs mid.pieces) f rest → IsFault causes Q (signs old.pieces) f rest)
-    →
-    (o : Option (Found F)) → Stops causes P mid o → Stops causes Q old o
+    IsSuffix old mid → ((f : F) (rest : List T) → IsFault causes P (signs mid.pieces) f rest →
+    IsFault causes Q (signs old.pieces) f rest) → (o : Option (Found F)) → Stops causes P mid o → Stops causes Q old o
 stops_later causes P Q old mid x h None s = tt
 stops_later causes P Q old mid x h (Some g) s = record {
   front = x.taken ++ s.front;
@@ -81,13 +78,11 @@ pub reads_mapped : {T A B F : Type 0} (h : A → B) {P : Part T A F} {old new : 
 reads_mapped h {P} m = (m.0, read_mapped h P m.1)
 
 pub reads_then : {T A B F : Type 0} {P : Part T A F} {Q : A → Part T B F} {old mid new : Stream T} {a : A} {b : B} →
-    Joint P Q →
-    Reads P old a mid → Reads (Q a) mid b new → Reads (then_by P Q) old b new
+    Joint P Q → Reads P old a mid → Reads (Q a) mid b new → Reads (then_by P Q) old b new
 reads_then {old = old} {mid = mid} {new = new} j m n = (suffix_trans old mid new m.0 n.0, read_then j m.1 n.1)
 
 pub reads_next : {T V F : Type 0} (take : T → Option V) (Bad : T → F → Type 0) (old new : Stream T) (t : T) (v : V) →
-    next_of old ≡ Some t → new ≡ tail old → take t ≡ Some v →
-    ((f : F) → Bad t f → ⊥) → Reads (one take Bad) old v new
+    next_of old ≡ Some t → new ≡ tail old → take t ≡ Some v → ((f : F) → Bad t f → ⊥) → Reads (one take Bad) old v new
 reads_next {T} take Bad old new t v n z k good =
     let p = piece_next old t n in go p.0 (p.1 ∙ ap (λ s. p.0 ∷ s.pieces) (sym z)) (ap (λ s. s.end) z) p.2
   where
@@ -110,8 +105,7 @@ module _ {T F : Type 0} (causes : Causes T F) where
   stops_first {P = P} {Q = Q} j old o s = search (rules, stops_as, fault_left)
 
   pub stops_behind : {A B : Type 0} {P : Part T A F} {Q : A → Part T B F} {old mid : Stream T} {a : A} → Joint P Q →
-      Reads P old a mid → (o : Option (Found F)) →
-      Stops causes (Q a) mid o → Stops causes (then_by P Q) old o
+      Reads P old a mid → (o : Option (Found F)) → Stops causes (Q a) mid o → Stops causes (then_by P Q) old o
   stops_behind {P = P} {Q = Q} {old = old} {mid = mid} {a = a} j m o s = search (rules, stops_later, fault_right)
 
   module _ {V : Type 0} (take : T → Option V) (Bad : T → F → Type 0) (old : Stream T) where
@@ -122,8 +116,7 @@ module _ {T F : Type 0} (causes : Causes T F) where
     pub stops_bad : (t : T) (f : F) (o : Option (Found F)) → next_of old ≡ Some t → Bad t f →
         ((g : F) → Bad t g → causes.number f ≤ causes.number g) →
         o ≡ Some (record { cause = f; offset = offset_of old.pieces old.end }) → Stops causes (one take Bad) old o
-    stops_bad t f o n b least k =
-        rw k (stops_there f (bad_one take Bad causes (signs old.pieces) t f n b least))
+    stops_bad t f o n b least k = rw k (stops_there f (bad_one take Bad causes (signs old.pieces) t f n b least))
 
     -- s is any sign that may stand there
     pub stops_refusal : (s : T) (w : V) → take s ≡ Some w → ((t : T) → next_of old ≡ Some t → take t ≡ None) →
@@ -140,9 +133,8 @@ pub exits : {T V F X E : Type 0} (found : E → Option (Found F)) (causes : Caus
 exits found causes view P old new e r s i = search (rules, err_from_is_err_and)
 
 pub then_meets : {T F E A B Y : Type 0} (found : E → Option (Found F)) (causes : Causes T F) (view : Y → B)
-    {P : Part T A F} {Q : A → Part T B F} {old mid : Stream T} {a : A} (new : Stream T) (r : Result Y E) →
-    Joint P Q → Reads P old a mid → Meets found causes view (Q a) mid r new →
-    Meets found causes view (then_by P Q) old r new
+    {P : Part T A F} {Q : A → Part T B F} {old mid : Stream T} {a : A} (new : Stream T) (r : Result Y E) → Joint P Q →
+    Reads P old a mid → Meets found causes view (Q a) mid r new → Meets found causes view (then_by P Q) old r new
 then_meets found causes view new (Ok y) j m n = reads_then j m n
 then_meets found causes view new (Err e) j m n = stops_behind causes j m (found e) n
 

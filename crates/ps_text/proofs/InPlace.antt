@@ -43,15 +43,12 @@ pub fault_begins : {T V F : Type 0} {P : Part T V F} {causes : Causes T F} {all 
     (p : IsFault causes P all f rest) → Begins P.IsText p.front
 fault_begins {P = P} {causes = causes} {rest = rest} {f = f} begins p = search rules
 
-pub fault_from : {T A B F : Type 0} (P : Part T A F) (R : Part T B F) {causes : Causes T F} {all rest : List T} {f : F} →
-    (p : IsFault causes P all f rest) →
-    CleanUpTo R all (length p.front) → (Begins P.IsText p.front → Begins R.IsText p.front) →
-    (IsBroken P p.front (first_of rest) → (v : B) → R.IsText p.front v → ⊥) →
-    (IsBroken P p.front (first_of rest) → (t : T) → first_of rest ≡ Some t → Begins R.IsText (p.front ++ t ∷ []) → ⊥) →
-    ((t : T) → P.IsCause p.front t f → R.IsCause p.front t f) →
-    ((t : T) (g : F) → first_of rest ≡ Some t → P.IsCause p.front t f ⊎ IsBroken P p.front (first_of rest) →
-    R.IsCause p.front t g → P.IsCause p.front t g) →
-    IsFault causes R all f rest
+pub fault_from : {T A B F : Type 0} (P : Part T A F) (R : Part T B F) {causes : Causes T F} {all rest : List T}
+    {f : F} → (p : IsFault causes P all f rest) → CleanUpTo R all (length p.front) → (Begins P.IsText p.front →
+    Begins R.IsText p.front) → (IsBroken P p.front (first_of rest) → (v : B) → R.IsText p.front v → ⊥) → (IsBroken
+    P p.front (first_of rest) → (t : T) → first_of rest ≡ Some t → Begins R.IsText (p.front ++ t ∷ []) → ⊥) → ((t : T) →
+    P.IsCause p.front t f → R.IsCause p.front t f) → ((t : T) (g : F) → first_of rest ≡ Some t → P.IsCause p.front t f
+    ⊎ IsBroken P p.front (first_of rest) → R.IsCause p.front t g → P.IsCause p.front t g) → IsFault causes R all f rest
 fault_from {T} {A} {B} {F} P R {causes} {all} {rest} {f} p clean begins no_text stops cause back = record
     { front = p.front; split = p.split; clean = clean; fault = go p.fault }
   where
@@ -83,9 +80,8 @@ module _ {T V F : Type 0} (P Q : Part T V F) where
   pub read_as : {all rest : List T} {v : V} → Covers (first_of all) P Q → IsRead P all v rest → IsRead Q all v rest
   read_as {all} {rest} {v} c p = search (rules, stops_by, stops_at, begins_as, sign_of)
 
-  pub fault_as : {causes : Causes T F} {all rest : List T} {f : F} → Covers (first_of all) P Q →
-      (IsBroken P [] (first_of all) → (v : V) → Q.IsText [] v → ⊥) → IsFault causes P all f rest →
-      IsFault causes Q all f rest
+  pub fault_as : {causes : Causes T F} {all rest : List T} {f : F} → Covers (first_of all) P Q → (IsBroken P []
+      (first_of all) → (v : V) → Q.IsText [] v → ⊥) → IsFault causes P all f rest → IsFault causes Q all f rest
   fault_as {all = all} {rest = rest} {f = f} c starts p = fault_from P Q p
       (λ front r t g e l k. p.clean front r t g e l (c.cause_back front t g (sign_of front (t ∷ r) e refl) k))
       (λ b. record { more = b.more; value = b.value; is_text = c.text (p.front ++ b.more) b.value b.is_text })
@@ -102,7 +98,8 @@ module _ {T V F : Type 0} (P Q : Part T V F) where
 -- ## Behind some signs
 
 abbrev pub after : {T V F : Type 0} → Part T V F → List T → Part T V F
-after P left = record { IsText = λ text v. P.IsText (left ++ text) v; IsCause = λ front t f. P.IsCause (left ++ front) t f }
+after P left =
+    record { IsText = λ text v. P.IsText (left ++ text) v; IsCause = λ front t f. P.IsCause (left ++ front) t f }
 
 module _ {T V F : Type 0} (P : Part T V F) (left : List T) where
   stops_after : (front : List T) (there : Option T) → StopsAt (after P left) front there →
@@ -110,8 +107,8 @@ module _ {T V F : Type 0} (P : Part T V F) (left : List T) where
   stops_after front there s = stops_by P (left ++ front) there (λ t e b. stops_at (after P left) front e s
       (record { more = b.more; value = b.value; is_text = simp append_assoc (simp append_assoc at b.is_text) }))
 
-  clean_after : {all : List T} (mid : List T) (n : ℕ) → all ≡ left ++ mid → CleanUpTo P all (length left) → CleanUpTo (after P left) mid n →
-      CleanUpTo P all (length left + n)
+  clean_after : {all : List T} (mid : List T) (n : ℕ) → all ≡ left ++ mid →
+      CleanUpTo P all (length left) → CleanUpTo (after P left) mid n → CleanUpTo P all (length left + n)
   clean_after mid n split p q front r t f e l c = go (placed left mid front r t (sym split ∙ e))
     where
       go : Placed left mid front r t → ⊥
@@ -119,8 +116,8 @@ module _ {T V F : Type 0} (P : Part T V F) (left : List T) where
       go (behind y x d) = q y r t f d (omega (arith, l, length-append left y, ap length x))
           (subst (λ z. P.IsCause z t f) x c)
 
-  pub read_after : {all mid rest : List T} {v : V} → all ≡ left ++ mid → CleanUpTo P all (length left) → IsRead (after P left) mid v rest →
-      IsRead P all v rest
+  pub read_after : {all mid rest : List T} {v : V} →
+      all ≡ left ++ mid → CleanUpTo P all (length left) → IsRead (after P left) mid v rest → IsRead P all v rest
   read_after {mid = mid} {rest = rest} split c p = record {
     text = left ++ p.text;
     split = rw (append_assoc, ← p.split) split;
@@ -130,8 +127,8 @@ module _ {T V F : Type 0} (P : Part T V F) (left : List T) where
         (omega (arith, l, length-append left p.text));
   }
 
-  pub fault_after : {causes : Causes T F} {all mid rest : List T} {f : F} → all ≡ left ++ mid → CleanUpTo P all (length left) →
-      IsFault causes (after P left) mid f rest → IsFault causes P all f rest
+  pub fault_after : {causes : Causes T F} {all mid rest : List T} {f : F} → all ≡ left ++ mid →
+      CleanUpTo P all (length left) → IsFault causes (after P left) mid f rest → IsFault causes P all f rest
   fault_after {causes} {all} {mid} {rest} {f} split c p = record {
     front = left ++ p.front;
     split = rw (append_assoc, ← p.split) split;

@@ -1,17 +1,17 @@
 -- `then_by P Q` is read where P is read and then Q, and its first fault is P's, or Q's behind P.
 --     joint      the laws of two parts make them a joint
---     text_behind, cause_behind      behind a text of P, a text or a cause of the two is one of Q, unless P goes on there
+--     text_behind, cause_behind      behind a text of P, what the two have is of Q, unless P goes on there
 --     begins_left, begins_right      what begins P begins the two, and so does what begins Q, behind a text of P
 --     read_then, fault_left, fault_right      for IsRead and IsFault
-use Rattle.std.proofs.Common.{◌≡◌, ◌+◌, ◌≤◌, ◌⊎◌, List, [], ◌∷◌, ◌++◌, length, Option, None, Some, refl, sym, ap}
-use Rattle.std.proofs.Common.{subst, inl, inr, ◌∙◌, append_assoc, append-nil, arith, rules}
+use Rattle.std.proofs.Common.{◌≡◌, ◌+◌, ◌≤◌, ◌⊎◌, List, [], ◌∷◌, ◌++◌, length, Option, None, Some, refl, sym, ap, subst}
+use Rattle.std.proofs.Common.{inl, inr, ◌∙◌, append_assoc, append-nil, arith, rules}
 use Rattle.ps_text.specs.Answers.{Begins, first_of}
-use Rattle.ps_text.specs.Parts.{Part, Causes, IsRead, IsBroken, IsFault, is_cause, CleanUpTo}
-use Rattle.ps_text.specs.Parts.{StopsAt, IsBehind, then_by}
+use Rattle.ps_text.specs.Parts.{Part, Causes, IsRead, IsBroken, IsFault, is_cause, CleanUpTo, StopsAt, IsBehind}
+use Rattle.ps_text.specs.Parts.{then_by}
 use Rattle.ps_text.proofs.Splits.{Compared, shorter, same, longer, compared, inside_of}
 use Rattle.ps_text.proofs.Laws.{Laws, Joint, Apart}
-use Rattle.ps_text.proofs.InPlace.{stops_at, quiet_at, read_quiet, fault_begins, fault_from, Covers, read_as, fault_as, after, read_after}
-use Rattle.ps_text.proofs.InPlace.{fault_after}
+use Rattle.ps_text.proofs.InPlace.{stops_at, quiet_at, read_quiet, fault_begins, fault_from, Covers, read_as, fault_as}
+use Rattle.ps_text.proofs.InPlace.{after, read_after, fault_after}
 
 pub text_begins : {T V : Type 0} (IsText : List T → V → Type 0) {text : List T} {v : V} → IsText text v →
     Begins IsText text
@@ -29,16 +29,14 @@ GoesOn {T} P front there = (t : T) × (there ≡ Some t) × Begins P.IsText (fro
 
 -- the laws of two parts make them a joint
 pub joint : {T A B F : Type 0} {odd : T → Type 0} {P : Part T A F} {Q : A → Part T B F} {F1 M1 F2 M2 : T → Type 0}
-    {N1 N2 : Type 0} →
-    Laws odd P F1 M1 N1 → ((a : A) → Laws odd (Q a) F2 M2 N2) → Apart M1 F2 → Joint P Q
+    {N1 N2 : Type 0} → Laws odd P F1 M1 N1 → ((a : A) → Laws odd (Q a) F2 M2 N2) → Apart M1 F2 → Joint P Q
 joint {T} {A} {P = P} {M1 = M1} l r apart = record {
   one_value = l.one_value;
   behind_left = l.behind;
   behind_right = λ a. (r a).behind;
   some_right = λ a. (r a).some;
-  text_apart =
-      λ left more text t a h b c. apart t (goes left more t a h b)
-      ((r a).first_text t (text ++ c.more) c.value c.is_text);
+  text_apart = λ left more text t a h b c. apart t
+      (goes left more t a h b) ((r a).first_text t (text ++ c.more) c.value c.is_text);
   cause_apart = λ left more t a f h b c. apart t (goes left more t a h b) ((r a).first_cause t f c);
   causes_apart = λ left t a f g h b c. apart t (l.more_cause left t a f h b) ((r a).first_cause t g c);
 }
@@ -59,13 +57,13 @@ module _ {T A B F : Type 0} {P : Part T A F} {Q : A → Part T B F} (j : Joint P
     where
       go : Compared left y k.left k.right → (Q a).IsText y b ⊎ GoesOn P left (first_of y)
       go (same e f) = inl (rw (f, j.one_value left a k.value h (rw (← e) at k.is_left)) k.is_right)
-      go (shorter t m e f) = inr (t, ap first_of f, begins_on P.IsText left m t (rw e at (text_begins P.IsText k.is_left)))
+      go (shorter t m e f) =
+          inr (t, ap first_of f, begins_on P.IsText left m t (rw e at (text_begins P.IsText k.is_left)))
       go (longer t m e f) = search (rules, not_inside, text_begins)
 
   -- and so is a cause, unless P goes on, or it is one of P right there
-  pub cause_behind : (left y : List T) (t : T) (a : A) (f : F) → P.IsText left a →
-      (then_by P Q).IsCause (left ++ y) t f →
-      (Q a).IsCause y t f ⊎ (GoesOn P left (first_of (y ++ t ∷ [])) ⊎ ((y ≡ []) × P.IsCause left t f))
+  pub cause_behind : (left y : List T) (t : T) (a : A) (f : F) → P.IsText left a → (then_by P Q).IsCause
+      (left ++ y) t f → (Q a).IsCause y t f ⊎ (GoesOn P left (first_of (y ++ t ∷ [])) ⊎ ((y ≡ []) × P.IsCause left t f))
   cause_behind left [] t a f h (inl c) = inr (inr (refl, rw append-nil at c))
   cause_behind left (s ∷ y) t a f h (inl c) = search (rules, begins_on)
   cause_behind left y t a f h (inr k) = go (compared left y k.left k.right k.split)
@@ -94,8 +92,7 @@ module _ {T A B F : Type 0} {P : Part T A F} {Q : A → Part T B F} (j : Joint P
 
   -- no cause of Q stands where P has begun and has not ended
   no_behind : (front : List T) (t : T) (f : F) → Begins P.IsText front →
-      ((a : A) → P.IsText front a → (Q a).IsCause [] t f → ⊥) →
-      IsBehind P.IsText (λ a. (Q a).IsCause) front t f → ⊥
+      ((a : A) → P.IsText front a → (Q a).IsCause [] t f → ⊥) → IsBehind P.IsText (λ a. (Q a).IsCause) front t f → ⊥
   no_behind front t f begun none k = go k.right k.split k.is_cause
     where
       go : (right : List T) → front ≡ k.left ++ right → (Q k.value).IsCause right t f → ⊥
@@ -205,6 +202,5 @@ module _ {T A B F : Type 0} {P : Part T A F} {Q : A → Part T B F} (j : Joint P
       back : (t : T) (g : F) → P.IsCause p.front t f ⊎ IsBroken P p.front (first_of rest) →
           (then_by P Q).IsCause p.front t g → P.IsCause p.front t g
       back t g _ (inl c) = c
-      back t g (inl c) (inr k) =
-          absurd (no_behind p.front t g begun (λ a h d. j.causes_apart p.front t a f g h c d) k)
+      back t g (inl c) (inr k) = absurd (no_behind p.front t g begun (λ a h d. j.causes_apart p.front t a f g h c d) k)
       back t g (inr b) (inr k) = absurd (no_behind p.front t g begun (λ a h d. b.no_text a h) k)

@@ -37,19 +37,16 @@ same_first {T} {F} number IsCause numbered stream f g h k =
     all = sym (signs_split stream.pieces h.front h.rest h.split) ∙ signs_split stream.pieces k.front k.rest k.split
 
     ties : (length (signs h.front) ≡ length (signs k.front)) × (number f.cause ≡ number g.cause)
-    ties = tied (length (signs h.front)) (length (signs k.front)) (number f.cause) (number g.cause) _ _
-        (h.first.least (signs k.front) (signs k.rest) g.cause all k.first.stands)
-        (k.first.least (signs h.front) (signs h.rest) f.cause (sym all) h.first.stands)
-        (ap length) (ap length)
+    ties = tied (length (signs h.front)) (length (signs k.front))
+        (number f.cause) (number g.cause) _ _ (h.first.least (signs k.front) (signs k.rest) g.cause all k.first.stands)
+        (k.first.least (signs h.front) (signs h.rest) f.cause (sym all) h.first.stands) (ap length) (ap length)
 
     rests : h.rest ≡ k.rest
-    rests =
-        (same_split h.front h.rest k.front k.rest (sym h.split ∙ k.split)
-        (sym (lengths h.front) ∙ ties.0 ∙ lengths k.front)).1
+    rests = (same_split h.front h.rest k.front k.rest
+        (sym h.split ∙ k.split) (sym (lengths h.front) ∙ ties.0 ∙ lengths k.front)).1
 
 pub has_one_answer : {T V F : Type 0} (IsText : List T → V → Type 0) (IsCause : List T → Option T → F → Type 0)
-    (number : F → ℕ) →
-    HasOneMeaning IsText → AreNumbered number → HasOneAnswer IsText IsCause number
+    (number : F → ℕ) → HasOneMeaning IsText → AreNumbered number → HasOneAnswer IsText IsCause number
 has_one_answer IsText IsCause number m n stream (Ok v) (Ok w) a b = ap Ok (m (signs stream.pieces) v w a.0 b.0)
 has_one_answer IsText IsCause number m n stream (Ok v) (Err g) a b =
     absurd (not_both IsText IsCause number stream g a.1 b)

@@ -42,12 +42,10 @@ module _ {T : Type 0} (IsBlank : ℕ → Type 0) (IsToken : List ℕ → T → L
       go : (TokensFrom IsBlank IsToken (before ++ n.blanks ++ n.text) n.rest qs → ps ≡ qs) →
           Compared n.blanks (n.text ++ n.rest) m.blanks (m.text ++ m.rest) → p ∷ ps ≡ q ∷ qs
       go ih (same e f) = search (rules, same_pieces, append_cancel_left)
-      go ih (shorter t w e f) =
-          absurd (no_blank (before ++ n.blanks) n.text n.rest (w ++ (m.text ++ m.rest)) p.sign t n.is_token f
-          (all_at IsBlank n.blanks w t (subst (AllByRecursion IsBlank) e m.are_blanks)))
-      go ih (longer t w e f) =
-          absurd (no_blank (before ++ m.blanks) m.text m.rest (w ++ (n.text ++ n.rest)) q.sign t m.is_token f
-          (all_at IsBlank m.blanks w t (subst (AllByRecursion IsBlank) e n.are_blanks)))
+      go ih (shorter t w e f) = absurd (no_blank (before ++ n.blanks) n.text n.rest (w ++ (m.text ++ m.rest))
+          p.sign t n.is_token f (all_at IsBlank n.blanks w t (subst (AllByRecursion IsBlank) e m.are_blanks)))
+      go ih (longer t w e f) = absurd (no_blank (before ++ m.blanks) m.text m.rest (w ++ (n.text ++ n.rest))
+          q.sign t m.is_token f (all_at IsBlank m.blanks w t (subst (AllByRecursion IsBlank) e n.are_blanks)))
 
   pub has_one_tokenisation : HasOneTokenisation IsBlank IsToken
   has_one_tokenisation bytes a b h k = search (rules, only_from)

@@ -8,8 +8,7 @@ use Rattle.std.proofs.Common.{◌≡◌, ℕ, zero, suc, ◌<◌, ◌≤◌, ◌
 use Rattle.std.proofs.Common.{Ok, Err, refl, sym, ap, subst, inl, inr, ◌∙◌, arith, rules}
 use Rattle.ps_text.specs.Answers.{Begins, Piece, Stream, Found, HasOneMeaning, first_of, signs, offset_of}
 use Rattle.ps_text.specs.Parts.{Part, Causes, PartAnswers, IsRead, IsBroken, IsFault, IsFaultAt, is_cause, is_refusal}
-use Rattle.ps_text.specs.Parts.{refusal_of, give, one, mapped, then_by, either, times}
-use Rattle.ps_text.specs.Parts.{many, barred}
+use Rattle.ps_text.specs.Parts.{refusal_of, give, one, mapped, then_by, either, times, many, barred}
 use Rattle.ps_text.specs.Outcomes.{Outcome, was_read, has_fault, HasOutcomes, IsOrderly}
 use Rattle.ps_text.proofs.Splits.{same_tail}
 use Rattle.ps_text.proofs.Laws.{Laws, Or, When, Apart, Joint}
@@ -50,8 +49,8 @@ module _ {T F : Type 0} (causes : Causes T F) where
       taken : (t : T) (rest : List T) → ((f : F) → Bad t f → ⊥) → (o : Option V) → take t ≡ o →
           Outcome causes (one take Bad) (t ∷ rest)
       taken t rest b (Some v) x = was_read v rest (read_one take Bad x b)
-      taken t rest b None x = has_fault _ (t ∷ rest) (refused_one take Bad causes s w e (t ∷ rest)
-          (λ u y. ap take (sym (same_some t u y)) ∙ x) (λ u f y d. b f (subst (λ z. Bad z f) (sym (same_some t u y)) d)))
+      taken t rest b None x = has_fault _ (t ∷ rest) (refused_one take Bad causes s w e (t ∷ rest) (λ u y. ap take
+          (sym (same_some t u y)) ∙ x) (λ u f y d. b f (subst (λ z. Bad z f) (sym (same_some t u y)) d)))
 
       by : (t : T) (rest : List T) → Judged causes.number (Bad t) → Outcome causes (one take Bad) (t ∷ rest)
       by t rest (bad f b least) = has_fault f (t ∷ rest) (bad_one take Bad causes (t ∷ rest) t f refl b least)
@@ -70,9 +69,8 @@ module _ {T F : Type 0} (causes : Causes T F) where
       go all (has_fault f rest r) = has_fault f rest (fault_mapped h P r)
 
   -- what Q comes to behind the texts of P
-  outcome_then : {A B : Type 0} {P : Part T A F} {Q : A → Part T B F} → Joint P Q → (all : List T) →
-      ((mid : List T) (a : A) → IsRead P all a mid → Outcome causes (Q a) mid) → Outcome causes P all →
-      Outcome causes (then_by P Q) all
+  outcome_then : {A B : Type 0} {P : Part T A F} {Q : A → Part T B F} → Joint P Q → (all : List T) → ((mid : List T)
+      (a : A) → IsRead P all a mid → Outcome causes (Q a) mid) → Outcome causes P all → Outcome causes (then_by P Q) all
   outcome_then {A} {B} {P} {Q} j all q (has_fault f rest r) = has_fault f rest (fault_left j r)
   outcome_then {A} {B} {P} {Q} j all q (was_read a mid r) = behind (q mid a r)
     where
@@ -82,8 +80,7 @@ module _ {T F : Type 0} (causes : Causes T F) where
 
   pub has_then : {A B : Type 0} {P : Part T A F} {Q : A → Part T B F} → Joint P Q → HasOutcomes causes P →
       ((a : A) → HasOutcomes causes (Q a)) → HasOutcomes causes (then_by P Q)
-  has_then j p q = record
-      { outcome = λ all. outcome_then j all (λ mid a r. (q a).outcome mid) (p.outcome all) }
+  has_then j p q = record { outcome = λ all. outcome_then j all (λ mid a r. (q a).outcome mid) (p.outcome all) }
 
   -- no sign comes with which P begins
   pub has_refusal : {V : Type 0} {odd : T → Type 0} {P : Part T V F} {First More : T → Type 0} →
@@ -162,10 +159,9 @@ module _ {T F : Type 0} (causes : Causes T F) where
       where
         go : ((mid : List T) (d : C) → length mid < n → Outcome causes (many item d) mid) →
             Enters (item c) (first_of all) ⊎ IsBroken (item c) [] (first_of all) → Outcome causes (many item c) all
-        go fewer (inl e) = as_well (more_items item c) (many item c) all
-            (item_entered item l apart c (first_of all) e) (outcome_then (joint_many item l apart c) all
-            (λ mid d r. fewer mid d (omega (arith, less, shrinks (item c) all mid d (λ w h. (l c).null w h) r)))
-            ((p c).outcome all))
+        go fewer (inl e) = as_well (more_items item c) (many item c) all (item_entered item l apart c (first_of all) e)
+            (outcome_then (joint_many item l apart c) all (λ mid d r. fewer mid d
+            (omega (arith, less, shrinks (item c) all mid d (λ w h. (l c).null w h) r))) ((p c).outcome all))
         go fewer (inr b) = was_read c all (read_no_item c all b)
 
     pub has_many : (c : C) → HasOutcomes causes (many item c)
@@ -178,8 +174,7 @@ module _ {T F : Type 0} (causes : Causes T F) where
     where
       behind : (all rest : List T) (t : T) (v : V) → IsRead P all v (t ∷ rest) → Judged causes.number (Bad v t) →
           Outcome causes (barred P Bad) all
-      behind all rest t v r (bad f b least) = has_fault f (t ∷ rest)
-          (fault_bar Bad l apart causes r refl b least)
+      behind all rest t v r (bad f b least) = has_fault f (t ∷ rest) (fault_bar Bad l apart causes r refl b least)
       behind all rest t v r (good b) = was_read v (t ∷ rest)
           (read_barred Bad l apart (λ u f e c. b f (subst (λ z. Bad v z f) (sym (same_some t u e)) c)) r)
 
@@ -204,9 +199,8 @@ module _ {T V F : Type 0} {causes : Causes T F} {part : Part T V F} {First More 
       (answer : Result V (Found F)) × PartAnswers causes part stream answer
   some_answer h stream = go (h.outcome (signs stream.pieces))
     where
-      behind : (v : V) (rest : List T) (a b : List (Piece T)) → IsRead part (signs stream.pieces) v rest →
-          stream.pieces ≡ a ++ b → signs b ≡ rest →
-          (answer : Result V (Found F)) × PartAnswers causes part stream answer
+      behind : (v : V) (rest : List T) (a b : List (Piece T)) → IsRead part (signs stream.pieces) v rest → stream.pieces
+          ≡ a ++ b → signs b ≡ rest → (answer : Result V (Found F)) × PartAnswers causes part stream answer
       behind v rest a [] r s e = (Ok v, answers_ok l stream v (subst (IsRead part (signs stream.pieces) v) (sym e) r))
       behind v rest a (p ∷ ps) r s e = (
         Err (record { cause = refusal_of causes (Some p.sign); offset = p.start }),

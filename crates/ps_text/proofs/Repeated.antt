@@ -3,14 +3,15 @@
 --     covers_item      where an item begins, `many` is read as that item and then as many
 --     read_nothing, read_none      where none begins, `many` is read as nothing
 --     joint_many, joint_times      the joint of an item and the rest
+--     read_item      `many` is read where an item is read and then as many
 -- The laws of `many` are those of `upto n`, n items or fewer: its texts and causes are among those for a large n.
-use Rattle.std.proofs.Common.{rules}
-use Rattle.std.proofs.Common.{◌≡◌, ℕ, zero, suc, ◌+◌, ◌<◌, ◌≤◌, List, [], ◌∷◌, ◌++◌, length, Option, Some, refl, sym, ap, inl, inr, ⊎_elim, arith}
+use Rattle.std.proofs.Common.{rules, ◌≡◌, ℕ, zero, suc, ◌+◌, ◌<◌, ◌≤◌, List, [], ◌∷◌, ◌++◌, length, Option, Some, refl}
+use Rattle.std.proofs.Common.{sym, ap, inl, inr, ⊎_elim, arith}
 use Rattle.ps_text.specs.Answers.{first_of}
 use Rattle.ps_text.specs.Parts.{Part, IsRead, IsJoined, IsBehind, give, either, then_by, times, many}
 use Rattle.ps_text.proofs.Laws.{Laws, Nothing, Or, When, Apart, weaker, Joint}
-use Rattle.ps_text.proofs.InPlace.{Covers, stops_by}
-use Rattle.ps_text.proofs.Joined.{joint}
+use Rattle.ps_text.proofs.InPlace.{Covers, stops_by, read_as}
+use Rattle.ps_text.proofs.Joined.{joint, read_then}
 use Rattle.ps_text.proofs.Simple.{nil_is_cons, laws_give, laws_then}
 use Rattle.ps_text.proofs.Covered.{Avoids, Enters, laws_either}
 
@@ -139,3 +140,7 @@ module _ {T C F : Type 0} {odd : T → Type 0} (item : C → Part T C F) {First 
       none : (t : T) → first_of all ≡ Some t → Enters (many item c) (Some t) → ⊥
       none t e (inl b) = a t e ((laws_many c).first_text t b.more b.value b.is_text)
       none t e (inr k) = a t e ((laws_many c).first_cause t k.0 k.1)
+
+  pub read_item : {c d e : C} {all mid rest : List T} → IsRead (item c) all d mid → IsRead (many item d) mid e rest →
+      IsRead (many item c) all e rest
+  read_item {c} p q = read_as (more_items item c) (many item c) (covers_item item c _) (read_then (joint_many c) p q)

@@ -2,13 +2,12 @@
 --     laws_give, laws_one, laws_mapped, laws_then
 --     refused      a part that is not empty, where no sign comes with which it begins
 --     read_give      nothing is taken
---     read_one, bad_one, refused_one      one sign is taken; it is bad; it is none that may stand there, or there is none
+--     read_one, bad_one, refused_one      one sign is taken; it is bad; it can't stand there, or there is none
 --     read_mapped, fault_mapped
-use Rattle.std.proofs.Common.{◌≡◌, ◌+◌, ◌≤◌, List, [], ◌∷◌, ◌++◌, Option, None, Some, refl, sym, ap}
-use Rattle.std.proofs.Common.{subst, inl, inr, ◌⊎◌, ◌∙◌, append_assoc, arith, rules}
+use Rattle.std.proofs.Common.{◌≡◌, ◌+◌, ◌≤◌, List, [], ◌∷◌, ◌++◌, Option, None, Some, refl, sym, ap, subst, inl, inr}
+use Rattle.std.proofs.Common.{◌⊎◌, ◌∙◌, append_assoc, arith, rules}
 use Rattle.ps_text.specs.Answers.{Begins, first_of}
-use Rattle.ps_text.specs.Parts.{Part, Causes, IsRead, IsFault, is_cause, give, one, then_by}
-use Rattle.ps_text.specs.Parts.{mapped, refusal_of}
+use Rattle.ps_text.specs.Parts.{Part, Causes, IsRead, IsFault, is_cause, give, one, then_by, mapped, refusal_of}
 use Rattle.ps_text.proofs.Splits.{Placed, inside, behind, placed, same_head, same_tail}
 use Rattle.ps_text.proofs.Laws.{Laws, Nothing, Or, When, Apart}
 use Rattle.ps_text.proofs.InPlace.{stops_by, stops_at, quiet_by, fault_from}
@@ -63,8 +62,7 @@ BadSign {T} {F} Bad t = (f : F) × Bad t f
 
 module _ {T V F : Type 0} (take : T → Option V) (Bad : T → F → Type 0) where
   pub laws_one : (odd : T → Type 0) (t : T) (v : V) → take t ≡ Some v → Apart (Taken take) odd →
-      Apart (BadSign Bad) odd →
-      Laws odd (one take Bad) (Or (Taken take) (BadSign Bad)) Nothing ⊥
+      Apart (BadSign Bad) odd → Laws odd (one take Bad) (Or (Taken take) (BadSign Bad)) Nothing ⊥
   laws_one odd t v e plain plain_bad = record {
     some = record { more = t ∷ []; value = v; is_text = (t, refl, e) };
     one_value = λ text x y h k. same_some x y (sym h.2 ∙ ap take (same_head h.0 k.0 [] [] (sym h.1 ∙ k.1)) ∙ k.2);

@@ -2,8 +2,8 @@
 --     Compared, compared      the three cases
 --     Placed, placed      where one sign of the list stands: inside the front, or behind it
 --     inside_of      a sign that stands before the end of the front stands inside it
-use Rattle.std.proofs.Common.{◌≡◌, suc, ◌+◌, ◌<◌, List, [], ◌∷◌, ◌++◌, length, drop, refl, sym, ap, ◌∙◌}
-use Rattle.std.proofs.Common.{arith, append-nil, length-append, Some, rules}
+use Rattle.std.proofs.Common.{◌≡◌, suc, ◌+◌, ◌<◌, List, [], ◌∷◌, ◌++◌, length, drop, refl, sym, ap, ◌∙◌, arith}
+use Rattle.std.proofs.Common.{append-nil, length-append, Some, rules}
 use Rattle.ps_text.specs.Answers.{first_of}
 
 pub data Compared {T : Type 0} (a b c d : List T) : Type 0 where

@@ -4,12 +4,10 @@
 --     trailing      the part was read, and a sign stands behind it: the refusal of this sign is the first cause
 --     answers_ok, answers_fault, answers_trailing      the same from `Meets`
 -- The laws of the part are wanted with `Own causes` for odd: the signs that are a cause by themselves.
-use Rattle.std.proofs.Common.{rules}
-use Rattle.std.proofs.Common.{◌≡◌, ◌+◌, ◌<◌, ◌≤◌, ◌⊎◌, List, [], ◌∷◌, ◌++◌, length, Option, None, Some, Ok, Err}
+use Rattle.std.proofs.Common.{rules, ◌≡◌, ◌+◌, ◌<◌, ◌≤◌, ◌⊎◌, List, [], ◌∷◌, ◌++◌, length, Option, None, Some, Ok, Err}
 use Rattle.std.proofs.Common.{refl, sym, ap, subst, inl, inr, ◌∙◌, append_assoc, append-nil, arith, length-append, drop}
 use Rattle.std.proofs.lemmas.List.{append_cancel_right}
-use Rattle.ps_text.specs.Answers.{Begins, Piece, Stream, Found, IsRefused, IsClean, IsFirst, first_of}
-use Rattle.ps_text.specs.Answers.{offset_of, signs}
+use Rattle.ps_text.specs.Answers.{Begins, Piece, Stream, Found, IsRefused, IsClean, IsFirst, first_of, offset_of, signs}
 use Rattle.ps_text.specs.Parts.{Part, Causes, IsWrong, by_part, by_sign, by_grammar, PartAnswers, IsRead, IsBroken}
 use Rattle.ps_text.specs.Parts.{IsFault, IsFaultAt, is_cause, is_refusal, CleanUpTo, NoCauseAt, refusal_of}
 use Rattle.ps_text.specs.Readers.{IsSuffix, StopsWith}
@@ -44,10 +42,8 @@ module _ {T V F : Type 0} {causes : Causes T F} {part : Part T V F} {First More 
       go (same x y) k = inr (x, y)
       go (shorter t m x y) k = inl (omega (arith, length_more front m t, ap length x))
       go (longer t m x y) (by_part u q c) = search (rules, length_more)
-      go (longer t m x y) (by_sign u q c) =
-          let i = inside_of rest front' (drop 1 rest') u e (next q)
-          (omega (arith, length_more front' m t, ap length x)) in
-          absurd (l.plain_text front' (i.0 ++ b.more) u b.value
+      go (longer t m x y) (by_sign u q c) = let i = inside_of rest front' (drop 1 rest') u e (next q)
+          (omega (arith, length_more front' m t, ap length x)) in absurd (l.plain_text front' (i.0 ++ b.more) u b.value
           (simp append_assoc at (subst (λ z. part.IsText (z ++ b.more) b.value) i.1 b.is_text)) (g, c))
       go (longer t m x y) (by_grammar r _ _ _) = search (rules, begins_on)
 
@@ -75,10 +71,9 @@ module _ {T V F : Type 0} {causes : Causes T F} {part : Part T V F} {First More 
           go (inr x) = search (rules, none_wrong)
 
   -- f is the first cause if it is the least of those behind what begins a text of the part and is clean
-  first_at : {all front rest : List T} {f : F} → all ≡ front ++ rest → Begins part.IsText front →
-      CleanUpTo part all (length front) → IsWrong causes part front (first_of rest) f →
-      ((g : F) → IsWrong causes part front (first_of rest) g → causes.number f ≤ causes.number g) →
-      IsFirst causes.number (IsWrong causes part) front rest f
+  first_at : {all front rest : List T} {f : F} → all ≡ front ++ rest → Begins part.IsText front → CleanUpTo part all
+      (length front) → IsWrong causes part front (first_of rest) f → ((g : F) → IsWrong causes part front
+      (first_of rest) g → causes.number f ≤ causes.number g) → IsFirst causes.number (IsWrong causes part) front rest f
   first_at {front = front} {rest = rest} {f = f} e b clean stands least =
       record { stands = stands; least = λ front' rest' g x w. go front' rest' g w (later g e (e ∙ x) b clean w) }
     where
@@ -126,18 +121,18 @@ module _ {T V F : Type 0} {causes : Causes T F} {part : Part T V F} {First More 
 
   pub trailing : {all rest : List T} {u : T} {v : V} → (p : IsRead part all v (u ∷ rest)) →
       IsFirst causes.number (IsWrong causes part) p.text (u ∷ rest) (refusal_of causes (Some u))
-  trailing {u = u} p = first_at p.split (text_begins part.IsText p.is_text)
-      (λ front rest t f e l. p.clean front rest t f e (omega (arith, l)))
-      (refusal_stands (Some u) p.text (record { before = text_begins part.IsText p.is_text; none = p.stops })
-      (read_quiet p)) (λ g w. refusal_least (Some u) p.text g (read_quiet p) w)
+  trailing {u = u} p = first_at p.split (text_begins part.IsText p.is_text) (λ front rest t f e l. p.clean front rest
+      t f e (omega (arith, l))) (refusal_stands (Some u) p.text (record {
+        before = text_begins part.IsText p.is_text;
+        none = p.stops;
+      }) (read_quiet p)) (λ g w. refusal_least (Some u) p.text g (read_quiet p) w)
 
   -- ## With offsets
 
   -- the same cause in the pieces
   at_pieces : (old : Stream T) (found : Found F) {text : List T} (front rest : List (Piece T)) →
-      old.pieces ≡ front ++ rest → signs old.pieces ≡ text ++ signs rest →
-      IsFirst causes.number (IsWrong causes part) text (signs rest) found.cause →
-      found.offset ≡ offset_of rest old.end → PartAnswers causes part old (Err found)
+      old.pieces ≡ front ++ rest → signs old.pieces ≡ text ++ signs rest → IsFirst causes.number (IsWrong causes part)
+      text (signs rest) found.cause → found.offset ≡ offset_of rest old.end → PartAnswers causes part old (Err found)
   at_pieces old found {text} front rest e f first offset = record {
     front = front;
     rest = rest;
@@ -156,7 +151,6 @@ module _ {T V F : Type 0} {causes : Causes T F} {part : Part T V F} {First More 
   pub answers_trailing : (old new : Stream T) (v : V) (p : Piece T) (ps : List (Piece T)) → IsSuffix old new →
       IsRead part (signs old.pieces) v (signs new.pieces) → new.pieces ≡ p ∷ ps →
       PartAnswers causes part old (Err (record { cause = refusal_of causes (Some p.sign); offset = p.start }))
-  answers_trailing old new v p ps x r e =
-      let read : IsRead part (signs old.pieces) v (p.sign ∷ signs ps) =
+  answers_trailing old new v p ps x r e = let read : IsRead part (signs old.pieces) v (p.sign ∷ signs ps) =
       subst (λ z. IsRead part (signs old.pieces) v (signs z)) e r in
       at_pieces old _ x.taken (p ∷ ps) (x.split ∙ ap (λ z. x.taken ++ z) e) read.split (trailing read) refl
