@@ -1,4 +1,5 @@
 pub mod Splits
+pub mod InPlace
 pub mod OneAnswer
 pub mod Laws
 pub mod Joined
