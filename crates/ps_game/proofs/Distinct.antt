@@ -65,8 +65,8 @@ marks_more before seen later stamp place number inside same long here elsewhere 
           (or-false _ ∙ marks u (omega arith))
     ]
 
-module _ {before numbers seen : List ℕ} {stamp place kept number : ℕ} (so_far : IsKept before numbers seen stamp place kept)
-    (within : place < length numbers) (as_long : length numbers ≡ length before) (is : get_or numbers place 0 ≡ number)
+module _ {before numbers seen : List ℕ} {stamp place kept number : ℕ}
+    (so_far : IsKept before numbers seen stamp place kept) (within : place < length numbers) (as_long : length numbers ≡ length before) (is : get_or numbers place 0 ≡ number)
     (known : number < length seen) where
   same : get_or before place 0 ≡ number
   same = sym (so_far.back place (le_refl place)) ∙ is

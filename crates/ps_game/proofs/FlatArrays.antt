@@ -83,7 +83,8 @@ pub successor_is : {game : ParityGame} {offsets successors owners priorities : L
     StandsAt game offsets successors owners priorities v → number < length (successors_of game v) →
     get_or successors (get_or offsets v 0 + number) 0 ≡ get_or (successors_of game v) number 0
 successor_is {successors = successors} {number = number} at less =
-    rw (← at.part_is) (sym (get_or-take _ (drop _ successors) number 0 (omega arith) ∙ get_or-drop _ successors number 0))
+    rw (← at.part_is)
+    (sym (get_or-take _ (drop _ successors) number 0 (omega arith) ∙ get_or-drop _ successors number 0))
 
 -- where the successors of a vertex begin and end
 pub record IsPart (successors : List ℕ) (start end : ℕ) (part : List ℕ) : Type 0 where
@@ -163,7 +164,8 @@ module _ {game : ParityGame} {offsets successors owners priorities : List ℕ}
 
   pub edges_count : {other : ParityGame} → game ≡ other → length successors ≡ edge_count other
   edges_count is =
-      ap length tell.successors_are ∙ length-flat_map (λ (v : VertexData). v.successors) game ∙ ap (λ g. edge_count g) is
+      ap length tell.successors_are ∙ length-flat_map (λ (v : VertexData). v.successors) game
+      ∙ ap (λ g. edge_count g) is
 
   -- a limit that holds the number of edges holds each offset
   pub offsets_fit : {other : ParityGame} {limit : ℕ} → game ≡ other → FitsWithin other limit →

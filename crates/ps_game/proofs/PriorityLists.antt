@@ -1,6 +1,6 @@
 -- A game has a list of its priorities of one parity, rising: those numbers, below a bound, that some vertex has.
-use Rattle.std.proofs.Common.{◌≡◌, ℕ, ◌+◌, ◌%◌, ◌<◌, ◌∙◌, List, length, get_or, map, sym, ap, eqb, arith, Bool, true, ◌&&◌}
-use Rattle.std.proofs.Common.{filter}
+use Rattle.std.proofs.Common.{◌≡◌, ℕ, ◌+◌, ◌%◌, ◌<◌, ◌∙◌, List, length, get_or, map, sym, ap, eqb, arith, Bool, true}
+use Rattle.std.proofs.Common.{filter, ◌&&◌}
 use Rattle.std.specs.Prelude.{◌==◌}
 use Rattle.std.specs.List.{range_with_len, list_any}
 use Rattle.std.proofs.lemmas.Bool.{eqb-true, eq-eqb, and_parts, and_from}
@@ -32,8 +32,9 @@ priorities_there game parity = (
         let passes : test p ≡ true =
         and_from _ _ (any-from_Contains p priorities (v, omega (arith, count), at v p below))
         (eq-eqb (p % 2) parity right) in
-        Contains-any p (filter test all) (any-filter_same (eqb p) test true (λ k e. ap test (sym (eqb-true p k e)) ∙ passes)
-        all ∙ any-from_Contains p all (p, omega (arith, size), omega (arith, get_or-range_with_len 0 many p p low)));
+        Contains-any p (filter test all)
+        (any-filter_same (eqb p) test true (λ k e. ap test (sym (eqb-true p k e)) ∙ passes) all
+        ∙ any-from_Contains p all (p, omega (arith, size), omega (arith, get_or-range_with_len 0 many p p low)));
     right_parity = λ k d within. eqb-true _ parity (passed k d within).1;
     present = λ k d within.
         let (v, below, is) = Contains-any _ priorities (passed k d within).0 in

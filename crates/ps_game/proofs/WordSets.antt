@@ -118,8 +118,8 @@ one_word words v w b within is others = record {
   here = rw (get_or-set_at words (v / 64) (v / 64) w 0 refl within) is;
   elsewhere = λ u apart. elim (cases_eq (u / 64) (v / 64)) [
     | inl same ↦
-        rw (get_or-set_at words (v / 64) (u / 64) w 0 same within, same) (ap (λ n. n == 1) (others (u % 64) (omega arith)
-        (λ e. apart (omega arith))))
+        rw (get_or-set_at words (v / 64) (u / 64) w 0 same within, same)
+        (ap (λ n. n == 1) (others (u % 64) (omega arith) (λ e. apart (omega arith))))
     | inr other ↦ rw (get_or-set_other words (v / 64) (u / 64) w 0 other)
   ];
 }
@@ -220,7 +220,8 @@ module _ {places others_places : ℕ} {words others : List ℕ} {region other : 
         let lengths = ap length from in
         let past_others = λ (v : ℕ) (past : places ≤ v). other_packed.none_past v (omega
         (arith, places_are packed is, places_are other_packed other_is)) in
-        let bits : (v : ℕ) → bit_in new v ≡ rule (bit_in words v) (bit_in others v) = λ v. rw (← from, ← also) (each v) in
+        let bits : (v : ℕ) → bit_in new v ≡ rule (bit_in words v) (bit_in others v) =
+        λ v. rw (← from, ← also) (each v) in
         let whole : ArePacked places new = record {
           few = packed.few;
           enough = omega (arith, packed.enough);

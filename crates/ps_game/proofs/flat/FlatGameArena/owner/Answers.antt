@@ -10,4 +10,5 @@ index-requires g c =
 pub returns : goal.returns
 returns g c =
     let at = stands c.self.invariant.tell c.self.view_is c.requires in
-    c.index.ensures ∙ get_or_default_zero c.self.inside.owners.items c.args.vertex c.index.result.now at.owned ∙ at.owner_is
+    c.index.ensures ∙ get_or_default_zero c.self.inside.owners.items c.args.vertex c.index.result.now at.owned
+    ∙ at.owner_is

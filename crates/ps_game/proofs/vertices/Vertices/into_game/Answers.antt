@@ -7,7 +7,8 @@ use Rattle.ps_game.proofs.vertices.Vertices.into_game.Goals as goal
 pub as_game-requires : goal.as_game-requires
 as_game-requires c =
     subst IsGame (without_repeats-same c.args.self c.if-are_distinct.ensures)
-    (IsGame-without_repeats c.args.self (rw c.self.view_is at c.self.invariant.players) c.requires.bare c.requires.known)
+    (IsGame-without_repeats c.args.self (rw c.self.view_is at c.self.invariant.players) c.requires.bare
+    c.requires.known)
 
 pub returns-then-are_distinct : goal.returns-then-are_distinct
 returns-then-are_distinct c = c.as_game.ensures ∙ sym (without_repeats-same c.args.self c.if-are_distinct.ensures)
