@@ -6,9 +6,8 @@ pub returns-then-eq : goal.returns-then-eq
 returns-then-eq g c =
     let same : c.number-there.result ≡ c.number-here.result = search (rules, c.if-eq.ensures, c.eq.ensures) in
     let met = c.requires.met c.args.item c.requires.item in
-    let h = c.number-here.ensures in
-    let t = c.number-there.ensures in
-    let is : IsIn c.args.components.now c.in-Some.to met.0 = (let m = met.1 in cc) in (
+    let is : IsIn c.args.components.now c.in-Some.to met.0 =
+    cc (met.1, c.number-here.ensures, c.number-there.ensures) in (
       λ _. record {
         to = c.in-Some.to;
         link = record {
