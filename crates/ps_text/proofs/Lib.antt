@@ -6,6 +6,7 @@ pub mod Joined
 pub mod Simple
 pub mod Exits
 pub mod Following
+pub mod Combined
 pub mod Meeting
 pub mod Covered
 pub mod Repeated
