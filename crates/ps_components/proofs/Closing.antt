@@ -1,6 +1,6 @@
 -- The last segment, closed, keeps the lists sound.
 use Rattle.std.proofs.Common.{◌≡◌, ◌≢◌, ℕ, ◌+◌, ◌-◌, ◌<◌, ◌≤◌, ◌⊎◌, inl, inr, List, [], ◌∷◌, ◌++◌, length, take, drop}
-use Rattle.std.proofs.Common.{refl, sym, ap, ◌∙◌, arith, Some, slice_get, set, get_or, suc, zero}
+use Rattle.std.proofs.Common.{refl, sym, ◌∙◌, arith, Some, slice_get, set, get_or, suc, zero, rules}
 use Rattle.std.proofs.Common.{length-set, add-zero}
 use Rattle.std.proofs.lemmas.Option.{slice_get_within, slice_get-get_or}
 use Rattle.std.proofs.lemmas.Bool.{cases_lt}
@@ -26,10 +26,7 @@ pub close_all_cases : (marks : List Mark) (vs : List ℕ) (k v : ℕ) →
 close_all_cases marks [] k v = inr (λ j h. cc, refl)
 close_all_cases marks (w ∷ vs) k v = elim (close_all_cases (set marks w (Closed k)) vs k v) [
   | inl y ↦ inl (suc y.0, y.1, λ lt. y.2 (omega (arith, length-set marks w (Closed k))))
-  | inr n ↦ elim (slice_get-set_cases marks w v (Closed k)) [
-    | inl s ↦ inl (0, ap Some (sym s.0), λ lt. n.1 ∙ s.1 (omega (arith, s.0)))
-    | inr s ↦ inr (apart s.0 n.0, n.1 ∙ s.1)
-  ]
+  | inr n ↦ search (rules, slice_get-set_cases, apart)
 ]
   where
     apart : v ≢ w → ((j : ℕ) → slice_get vs j ≢ Some v) → (j : ℕ) → slice_get (w ∷ vs) j ≢ Some v
@@ -71,10 +68,7 @@ module _ {g : Digraph} {marks : List Mark} {active bounds : List ℕ} {pending :
   bound_cases k b h = slice_get-but_last bounds is_last k b h
 
   in_front : (k b : ℕ) → slice_get front k ≡ Some b → (slice_get bounds k ≡ Some b) × (b < bound)
-  in_front k b h =
-      let at = slice_get-take_back (length bounds - 1) bounds k b h in
-      let lt = slice_get_within front k b h in
-      (at, s.bounds_rise k _ b bound at is_last (omega (arith, lt, length-but_last bounds is_last)))
+  in_front k b h = search (rules, slice_get-take_back, slice_get_within, length-but_last)
 
   at_most : (k b : ℕ) → slice_get bounds k ≡ Some b → b ≤ bound
   at_most k b h = grind (arith, bound_cases k b h, in_front k b)
@@ -86,15 +80,13 @@ module _ {g : Digraph} {marks : List Mark} {active bounds : List ℕ} {pending :
   short = length-take-le bound active (omega (arith, bound_below))
 
   on_path : (p v : ℕ) → slice_get (take bound active) p ≡ Some v → (slice_get active p ≡ Some v) × (p < bound)
-  on_path p v h =
-      (slice_get-take_back bound active p v h, omega (arith, slice_get_within (take bound active) p v h, short))
+  on_path p v h = search (rules, slice_get-take_back, slice_get_within, short)
 
   from_segment : (j v : ℕ) → slice_get (drop bound active) j ≡ Some v → slice_get active (bound + j) ≡ Some v
   from_segment j v h = sym (slice_get-drop bound active j) ∙ h
 
   in_segment : (p v : ℕ) → bound ≤ p → slice_get active p ≡ Some v → slice_get (drop bound active) (p - bound) ≡ Some v
-  in_segment p v le h =
-      (let e : bound + (p - bound) ≡ p = omega arith in slice_get-drop bound active (p - bound) ∙ rw e h)
+  in_segment p v le h = search (rules, slice_get-drop)
 
   -- ---- marks
 
@@ -102,11 +94,7 @@ module _ {g : Digraph} {marks : List Mark} {active bounds : List ℕ} {pending :
   mark_cases : (v : ℕ) →
       ((p : ℕ) × (bound ≤ p) × (slice_get active p ≡ Some v) × (slice_get marks' v ≡ Some (Closed number)))
       ⊎ (((p : ℕ) → bound ≤ p → slice_get active p ≢ Some v) × (slice_get marks' v ≡ slice_get marks v))
-  mark_cases v = elim (close_all_cases marks (drop bound active) number v) [
-    | inl y ↦ (let at = from_segment y.0 v y.1 in
-        inl (bound + y.0, omega arith, at, y.2 (slice_get_within marks v _ (s.active_marked _ v at))))
-    | inr n ↦ inr (λ p le h. n.0 (p - bound) (in_segment p v le h), n.1)
-  ]
+  mark_cases v = search (rules, close_all_cases, from_segment, slice_get_within, in_segment)
 
   now_closed : (p v : ℕ) → bound ≤ p → slice_get active p ≡ Some v → slice_get marks' v ≡ Some (Closed number)
   now_closed p v le h = grind (arith, mark_cases v)
@@ -133,9 +121,7 @@ module _ {g : Digraph} {marks : List Mark} {active bounds : List ℕ} {pending :
   -- a place of the new order is one of the old order, or stands for one of the segment
   place_cases : (i v : ℕ) → slice_get order' i ≡ Some v → (slice_get order i ≡ Some v) ⊎
       ((j : ℕ) × (i ≡ number + j) × (slice_get active (bound + j) ≡ Some v))
-  place_cases i v h =
-      elim (slice_get-append_cases order (drop bound active) i v h)
-      [ inl k ↦ inl k | inr k ↦ inr (k.0, k.1, from_segment k.0 v k.2) ]
+  place_cases i v h = search (rules, slice_get-append_cases, from_segment)
 
   -- ---- the clauses
 
@@ -146,17 +132,11 @@ module _ {g : Digraph} {marks : List Mark} {active bounds : List ℕ} {pending :
   closed-marked_active p v h = grind (arith, mark_cases v, s.marked_active p v, slice_get-take bound active p)
 
   closed-bounds_start : 0 < length (take bound active) → slice_get front 0 ≡ Some 0
-  closed-bounds_start h = elim (bound_cases 0 0 (s.bounds_start (omega (arith, bound_below)))) [
-    | inl y ↦ y
-    | inr y ↦ absurd (omega (arith, y, h, short))
-  ]
+  closed-bounds_start h = search (rules, bound_cases, bound_below, short)
 
   closed-together : (p q v w : ℕ) → slice_get (take bound active) p ≡ Some v →
       slice_get (take bound active) q ≡ Some w → NoLater front p q → SameOrWay g v w
-  closed-together p q v w hp hq later =
-      let at = on_path p v hp in
-      s.together p q v w at.0 (on_path q w hq).0 (λ k b h le. elim (bound_cases k b h)
-      [ inl y ↦ later k b y le | inr y ↦ absurd (omega (arith, y, at.1, le)) ])
+  closed-together p q v w hp hq later = search (rules, on_path, bound_cases)
 
   still : (p w : ℕ) → IsSettled marks bounds p w → IsSettled marks' front p w
   still p w (closed k c) = closed k (closed_stays w k c)
@@ -185,16 +165,7 @@ module _ {g : Digraph} {marks : List Mark} {active bounds : List ℕ} {pending :
 
   closed-same : (v w k : ℕ) → slice_get marks' v ≡ Some (Closed k) → slice_get marks' w ≡ Some (Closed k) →
       SameOrWay g v w
-  closed-same v w k hv hw = elim (closed_cases v k hv) [
-    | inl yv ↦ elim (closed_cases w k hw) [
-      | inl yw ↦ s.same v w k yv yw
-      | inr yw ↦ absurd (omega (arith, s.numbered v k yv, yw.0))
-    ]
-    | inr yv ↦ elim (closed_cases w k hw) [
-      | inl yw ↦ absurd (omega (arith, s.numbered w k yw, yv.0))
-      | inr yw ↦ s.together yv.1.0 yw.1.0 v w yv.1.2 yw.1.2 (λ i b h le. omega (arith, at_most i b h, yw.1.1))
-    ]
-  ]
+  closed-same v w k hv hw = search (rules, closed_cases, at_most)
 
   closed-begins : (v k : ℕ) → slice_get marks' v ≡ Some (Closed k) →
       (u : ℕ) × (slice_get order' k ≡ Some u) × (slice_get marks' u ≡ Some (Closed k))
@@ -224,19 +195,7 @@ module _ {g : Digraph} {marks : List Mark} {active bounds : List ℕ} {pending :
 
   closed-rises : (i j v w k m : ℕ) → i < j → slice_get order' i ≡ Some v → slice_get order' j ≡ Some w →
       slice_get marks' v ≡ Some (Closed k) → slice_get marks' w ≡ Some (Closed m) → k ≤ m
-  closed-rises i j v w k m lt hi hj hv hw =
-      grind (
-        arith,
-        closed_cases w m hw,
-        closed_cases v k hv,
-        place_cases i v hi,
-        place_cases j w hj,
-        s.numbered v k,
-        apart,
-        s.ordered i v,
-        s.rises i j v w k m lt,
-        slice_get_within order j w,
-      )
+  closed-rises i j v w k m lt hi hj hv hw = search (rules, closed_cases, place_cases, apart, slice_get_within)
 
   closed-once : (i j v : ℕ) → slice_get order' i ≡ Some v → slice_get order' j ≡ Some v → i ≡ j
   closed-once i j v hi hj =
@@ -251,8 +210,7 @@ module _ {g : Digraph} {marks : List Mark} {active bounds : List ℕ} {pending :
     bounds_rise = λ i j b c hi hj. s.bounds_rise i j b c (in_front i b hi).0 (in_front j c hj).0;
     bounds_within = λ i b h. omega (arith, in_front i b h, short);
     bounds_start = closed-bounds_start;
-    pending_links = λ i e h.
-        (let l = s.pending_links i e h in (l.0, slice_get-take bound active e.from (done i e h) ∙ l.1, l.2));
+    pending_links = search (rules, slice_get-take);
     pending_rise = s.pending_rise;
     together = closed-together;
     looked_at = λ p v w h l.

@@ -1,6 +1,6 @@
 -- The codes of marks, one by one and in lists.
 use Rattle.std.proofs.Common.{◌≡◌, ℕ, ◌+◌, ◌-◌, ◌<◌, ◌^◌, List, ◌∷◌, ◌++◌, length, map, replicate, take, refl, ap}
-use Rattle.std.proofs.Common.{zero, suc, arith, Result, Ok, Err, OnOk, is_ok, if◌then◌else◌, set}
+use Rattle.std.proofs.Common.{zero, suc, arith, Result, OnOk, is_ok, if◌then◌else◌, set, rules}
 use Rattle.std.proofs.lemmas.List.{length-map, map-append, map-set, take-map}
 use Rattle.std.proofs.lemmas.Bool.Decides.{nat_tests}
 use Rattle.ps_components.specs.declared.marks.Mark.{Mark}
@@ -33,6 +33,4 @@ pub resized : {A E : Type 0} (r : Result A E) (mark_at : ℕ → Mark) → mark_
     {new : List ℕ} {now : List Mark} (count : ℕ) {len : ℕ} → len ≡ length old →
     new ≡ (if is_ok r then take count old ++ replicate (count - len) 0 else old) → map mark_at old ≡ now →
     OnOk r (map mark_at new ≡ take count now ++ replicate (count - length now) Unseen)
-resized (Err e) mark_at none old count same is view = tt
-resized (Ok x) mark_at none old count same is view =
-    rw (is, ← view) (simp (same, map-append, take-map, map-replicate, none, length-map))
+resized r mark_at h1 old count h2 h3 h4 = search (rules, map-append, take-map, map-replicate, length-map)

@@ -1,6 +1,6 @@
 -- An item put at the end of the path keeps the lists sound.
 use Rattle.std.proofs.Common.{◌≡◌, ◌≢◌, ℕ, ◌+◌, ◌<◌, ◌≤◌, ◌⊎◌, inl, inr, List, [], ◌∷◌, ◌++◌, length, refl, sym, ap}
-use Rattle.std.proofs.Common.{◌∙◌, arith, Some, None, Option, slice_get, set, suc, zero, add-zero, zero-add}
+use Rattle.std.proofs.Common.{◌∙◌, arith, Some, Option, slice_get, set, suc, zero, add-zero, zero-add, rules}
 use Rattle.std.proofs.Common.{length-append, length-set}
 use Rattle.std.proofs.lemmas.Option.{slice_get_within}
 use Rattle.std.proofs.lemmas.Bool.{cases_eq, cases_lt}
@@ -15,15 +15,11 @@ use Rattle.ps_components.proofs.Places.{slice_get-push, slice_get-push_cases, sl
 
 -- one more place of an item
 wait_of-length : (n : ℕ) (side : Option ℕ) → length (wait_of n side) ≤ 1
-wait_of-length n None = omega arith
-wait_of-length n (Some to) = omega arith
+wait_of-length n side = search rules
 
 wait_of-only : (n : ℕ) (side : Option ℕ) (i : ℕ) (e : Pending) → slice_get (wait_of n side) i ≡ Some e →
     (e.from ≡ n) × (side ≡ Some e.to)
-wait_of-only n None i e h = cc
-wait_of-only n (Some to) zero e h =
-    let same : record { from = n; to = to } ≡ e = cc in (ap (λ x. x.from) (sym same), ap (λ x. Some x.to) same)
-wait_of-only n (Some to) (suc i) e h = cc
+wait_of-only n side i e h1 = search rules
 
 wait_of-there : (n to : ℕ) (side : Option ℕ) → side ≡ Some to →
     slice_get (wait_of n side) 0 ≡ Some (record { from = n; to = to })
@@ -42,8 +38,7 @@ waits-link g p item zero lt le i e h = cc
 waits-link g p item (suc n) lt le i e h =
     elim (slice_get-append_cases (waits g p item n) (wait_of p (g.target item n)) i e h) [
       | inl k ↦ waits-link g p item n lt (omega arith) i e k
-      | inr k ↦ (let o = wait_of-only p (g.target item n) k.0 e k.2 in
-          (o.0, record { from = lt; place = n; at = omega arith; target = o.1 }))
+      | inr k ↦ search (rules, wait_of-only)
     ]
 
 -- each place with a target waits
@@ -99,10 +94,7 @@ module _ {g : Digraph} {marks : List Mark} {active bounds : List ℕ} {pending :
 
   mark_cases : (v : ℕ) → ((v ≡ item) × (slice_get marks' v ≡ Some (Active place))) ⊎
       ((v ≢ item) × (slice_get marks' v ≡ slice_get marks v))
-  mark_cases v = elim (slice_get-set_cases marks item v (Active place)) [
-    | inl e ↦ inl (e.0, e.1 (slice_get_within marks item Unseen unseen))
-    | inr n ↦ inr n
-  ]
+  mark_cases v = search (rules, slice_get-set_cases, slice_get_within)
 
   mark_on : (v : ℕ) (m : Mark) → (m ≡ Unseen → ⊥) → slice_get marks v ≡ Some m → slice_get marks' v ≡ Some m
   mark_on v m seen h = grind (arith, mark_cases v)
@@ -120,17 +112,11 @@ module _ {g : Digraph} {marks : List Mark} {active bounds : List ℕ} {pending :
 
   path_cases : (p v : ℕ) → slice_get active' p ≡ Some v → ((slice_get active p ≡ Some v) × (p < place)) ⊎
       ((p ≡ place) × (item ≡ v))
-  path_cases p v h = elim (slice_get-push_cases active item p v h) [
-    | inl k ↦ inl (k, slice_get_within active p v k)
-    | inr k ↦ inr k
-  ]
+  path_cases p v h = search (rules, slice_get-push_cases, slice_get_within)
 
   bound_cases : (i b : ℕ) → slice_get bounds' i ≡ Some b →
       ((slice_get bounds i ≡ Some b) × (i < length bounds) × (b < place)) ⊎ ((i ≡ length bounds) × (place ≡ b))
-  bound_cases i b h = elim (slice_get-push_cases bounds place i b h) [
-    | inl k ↦ inl (k, slice_get_within bounds i b k, s.bounds_within i b k)
-    | inr k ↦ inr k
-  ]
+  bound_cases i b h = search (rules, slice_get-push_cases, slice_get_within)
 
   entered-active_marked : (p v : ℕ) → slice_get active' p ≡ Some v → slice_get marks' v ≡ Some (Active p)
   entered-active_marked p v h = grind (arith, path_cases p v h, mark_cases v, s.active_marked p v)
@@ -185,17 +171,12 @@ module _ {g : Digraph} {marks : List Mark} {active bounds : List ℕ} {pending :
   entry_cases : (i : ℕ) (e : Pending) → slice_get pending' i ≡ Some e →
       ((slice_get pending i ≡ Some e) × (i < length pending) × (e.from < place))
       ⊎ ((length pending ≤ i) × (e.from ≡ place) × Link g item e.to)
-  entry_cases i e h = elim (slice_get-append_cases pending more i e h) [
-    | inl k ↦ (let l = s.pending_links i e (there_too i e k) in
-        inl (k, slice_get_within pending i e k, slice_get_within active _ _ l.1))
-    | inr k ↦ (let l = waits-link g place item (g.degree item) within (omega arith) k.0 e k.2 in
-        inr (omega (arith, k.1), l.0, l.1))
-  ]
+  entry_cases i e h = search (rules, slice_get-append_cases, there_too, slice_get_within, waits-link)
 
   entered-pending_links : (i : ℕ) (e : Pending) → slice_get pending' i ≡ Some e →
       (v : ℕ) × (slice_get active' e.from ≡ Some v) × Link g v e.to
   entered-pending_links i e h = elim (entry_cases i e h) [
-    | inl k ↦ (let l = s.pending_links i e (there_too i e k.0) in (l.0, slice_get-append_left active _ _ _ l.1, l.2))
+    | inl k ↦ search (rules, there_too, slice_get-append_left)
     | inr k ↦ (item, rw k.1 (slice_get-push active item), k.2)
   ]
 
@@ -267,7 +248,7 @@ module _ {g : Digraph} {marks : List Mark} {active bounds : List ℕ} {pending :
     starts = λ i v k h hv. s.starts i v k h (closed_back v k hv);
     listed = λ v k h. s.listed v k (closed_back v k h);
     ordered = λ i v h. (let c = s.ordered i v h in (c.0, closed_on v c.0 c.1));
-    rises = λ i j v w k m lt hi hj hv hw. s.rises i j v w k m lt hi hj (closed_back v k hv) (closed_back w m hw);
+    rises = search (rules, closed_back);
     once = s.once;
   }
 

@@ -1,5 +1,5 @@
 -- A vertex leads back to itself where a link leads into its own component.
-use Rattle.std.proofs.Common.{◌≡◌, ℕ, ◌<◌, ◌≤◌, inl, inr, refl, arith, Some, slice_get}
+use Rattle.std.proofs.Common.{◌≡◌, ℕ, ◌<◌, ◌≤◌, inl, inr, refl, arith, Some, slice_get, rules}
 use Rattle.std.proofs.lemmas.Option.{slice_get_within}
 use Rattle.std.proofs.lemmas.Bool.{cases_lt, cases_eq}
 use Rattle.ps_components.specs.Graphs.{Digraph, Link, Way, last, next}
@@ -38,10 +38,7 @@ module _ {g : Digraph} {c : ComponentsData} (a : AreComponents g c) (met : AreAl
   ]
 
   pub first-knot : (i : ℕ) → IsKnot g c i → ((j : ℕ) → j < i → IsKnot g c j → ⊥) → IsFirstOnCycle (Link g) i
-  first-knot i k none = record {
-    cyclic = cycle_of_knot i k;
-    first = λ j w. elim (cases_lt j i) [ inl lt ↦ absurd (none j lt (knot_of_cycle j w)) | inr le ↦ le ];
-  }
+  first-knot i k none = search (rules, cycle_of_knot, cases_lt, knot_of_cycle)
 
   pub no_cycle : ((i : ℕ) → i < g.count → IsKnot g c i → ⊥) → (i : ℕ) → Way (Link g) i i → ⊥
   no_cycle none i w = (let k = knot_of_cycle i w in none i k.link.from k)
@@ -56,11 +53,5 @@ module _ {g : Digraph} {c : ComponentsData} (a : AreComponents g c) (met : AreAl
     within = λ k i h. (let o = a.ordered k i h in omega (arith, a.counted, slice_get_within c.numbers i _ o.1));
     once = a.once;
     each = λ i lt. (let k = met i lt in a.listed i k.0 k.1);
-    behind = λ k l i j hk hl r.
-        (let o = a.ordered k i hk in
-        let m = a.falls i o.0 j o.1 r in
-        elim (cases_eq m.0 o.0) [
-          | inl e ↦ absurd (none i r.from (knot_at r o.1 m.1 e))
-          | inr ne ↦ lower_first k l i j o.0 m.0 hk hl o.1 m.1 (omega (arith, m.2, ne))
-        ]);
+    behind = search (rules, cases_eq, knot_at, lower_first);
   }

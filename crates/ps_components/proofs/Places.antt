@@ -1,6 +1,6 @@
 -- Lemmas on `slice_get`.
 use Rattle.std.proofs.Common.{◌≡◌, ◌≢◌, ℕ, ◌+◌, ◌-◌, ◌<◌, ◌⊎◌, inl, inr, List, [], ◌∷◌, ◌++◌, length, take, drop, refl}
-use Rattle.std.proofs.Common.{ap, arith, Some, slice_get, set, suc, zero, zero-add, suc-add}
+use Rattle.std.proofs.Common.{ap, arith, Some, slice_get, set, suc, zero, zero-add, suc-add, rules}
 use Rattle.std.proofs.lemmas.Option.{slice_get_within}
 use Rattle.std.proofs.lemmas.Bool.{cases_eq}
 use Rattle.std.proofs.lemmas.List.{length-take-le}
@@ -39,10 +39,7 @@ slice_get-set_other (x ∷ xs) (suc i) (suc j) y h = slice_get-set_other xs i j 
 pub slice_get-set_cases : {X : Type 0} (xs : List X) (i j : ℕ) (y : X) →
     ((j ≡ i) × (i < length xs → slice_get (set xs i y) j ≡ Some y)) ⊎
     ((j ≢ i) × (slice_get (set xs i y) j ≡ slice_get xs j))
-slice_get-set_cases xs i j y = elim (cases_eq j i) [
-  | inl e ↦ inl (e, λ lt. rw e (slice_get-set_same xs i y lt))
-  | inr ne ↦ inr (ne, slice_get-set_other xs i j y ne)
-]
+slice_get-set_cases xs i j y = search (rules, cases_eq, slice_get-set_same, slice_get-set_other)
 
 pub slice_get-take_back : {X : Type 0} (n : ℕ) (xs : List X) (i : ℕ) (x : X) → slice_get (take n xs) i ≡ Some x →
     slice_get xs i ≡ Some x

@@ -1,4 +1,5 @@
 -- Vertices reached one after another, and the trail back.
+use Rattle.std.proofs.Common.{rules}
 use Rattle.std.proofs.Common.{◌≡◌, ◌∙◌, ℕ, ◌+◌, ◌-◌, ◌<◌, ◌≤◌, ◌⊎◌, inl, inr, List, [], ◌∷◌, ◌++◌, length, refl, sym}
 use Rattle.std.proofs.Common.{ap, arith, Bool, true, false, Some, slice_get, set, suc, zero, length-append, length-set}
 use Rattle.std.proofs.lemmas.Option.{slice_get_within}
@@ -29,10 +30,7 @@ module _ {g : Digraph} {seen : List Bool} {steps : List Step} {place : ℕ} (s :
   steps' = steps ++ step ∷ []
 
   seen_cases : (v : ℕ) → (slice_get seen' v ≡ Some true) ⊎ (slice_get seen' v ≡ slice_get seen v)
-  seen_cases v = elim (slice_get-set_cases seen to v true) [
-    | inl e ↦ inl (e.1 (slice_get_within seen to false new))
-    | inr n ↦ inr n.1
-  ]
+  seen_cases v = search (rules, slice_get-set_cases, slice_get_within)
 
   there : slice_get seen' to ≡ Some true
   there = grind (arith, slice_get-set_cases seen to to true, slice_get_within seen to false new)
@@ -54,29 +52,13 @@ module _ {g : Digraph} {seen : List Bool} {steps : List Step} {place : ℕ} (s :
   reach-spread {r} at l = record {
     within = s.within;
     counted = length-set seen to true ∙ s.counted;
-    back = λ i t pos h. elim (slice_get-push_cases steps _ i t h) [
-      | inl k ↦ (let b = s.back i t pos k in (b.0, b.1, keeps-steps t.from b.0 b.2, b.3))
-      | inr k ↦
-          rw (← k.1) (r, omega (arith, slice_get_within steps place r at, k.0), keeps-steps place r at, l)
-    ];
-    apart = λ i j t u hi hj e. elim (slice_get-push_cases steps _ i t hi) [
-      | inl ki ↦ elim (slice_get-push_cases steps _ j u hj) [
-        | inl kj ↦ s.apart i j t u ki kj e
-        | inr kj ↦ absurd (fresh i t ki (e ∙ sym (ap (λ x. x.item) kj.1)))
-      ]
-      | inr ki ↦ elim (slice_get-push_cases steps _ j u hj) [
-        | inl kj ↦ absurd (fresh j u kj (sym e ∙ sym (ap (λ x. x.item) ki.1)))
-        | inr kj ↦ ki.0 ∙ sym kj.0
-      ]
-    ];
+    back = search (rules, slice_get-push_cases, keeps-steps, slice_get_within);
+    apart = search (rules, slice_get-push_cases, fresh);
     reached = λ v h. elim (slice_get-set_cases seen to v true) [
       | inl e ↦ (length steps, step, slice_get-push steps step, sym e.0)
       | inr n ↦ (let b = s.reached v (sym n.1 ∙ h) in (b.0, b.1, keeps-steps b.0 b.1 b.2, b.3))
     ];
-    seen_steps = λ i t h. elim (slice_get-push_cases steps _ i t h) [
-      | inl k ↦ keeps-seen t.item (s.seen_steps i t k)
-      | inr k ↦ rw (← k.1) there
-    ];
+    seen_steps = search (rules, slice_get-push_cases, keeps-seen, there);
     looked = λ i w t lt h m. elim (slice_get-push_cases steps _ i t h) [
       | inl k ↦ keeps-seen w (s.looked i w t lt k m)
       | inr k ↦ absurd (omega (arith, k.0, lt, slice_get_within steps place r at))
@@ -87,18 +69,7 @@ module _ {g : Digraph} {seen : List Bool} {steps : List Step} {place : ℕ} (s :
   -- once each link of the place was looked at, the next place is at hand
   pub next-spread : {r : Step} → slice_get steps place ≡ Some r →
       ((w : ℕ) → Link g r.item w → slice_get seen w ≡ Some true) → IsSpread g seen steps (place + 1)
-  next-spread {r} at all = record {
-    within = s.within;
-    counted = s.counted;
-    back = s.back;
-    apart = s.apart;
-    reached = s.reached;
-    seen_steps = s.seen_steps;
-    looked = λ i w t lt h m. elim (cases_lt i place) [
-      | inl less ↦ s.looked i w t less h m
-      | inr le ↦ (let e : i ≡ place = omega arith in let same : t ≡ r = cc in all w (rw same at m))
-    ];
-  }
+  next-spread {r} at all = search (rules, cases_lt)
 
   -- where all places were looked at, what the first leads to was seen
   pub way-seen : {v w : ℕ} → length steps ≤ place → slice_get seen v ≡ Some true → SameOrWay g v w →
@@ -120,12 +91,7 @@ module _ {g : Digraph} {seen : List Bool} {steps : List Step} {place : ℕ} (s :
   step-within i {r} h = omega (arith, s.counted, slice_get_within seen r.item true (s.seen_steps i r h))
 
 pub trail-one : {g : Digraph} (end : ℕ) → IsTrail g (end ∷ []) end end
-trail-one end = record {
-  first = refl;
-  last = refl;
-  links = λ i v w h k. absurd (omega (arith, slice_get_within (end ∷ []) (i + 1) w k));
-  once = λ i j v h k. omega (arith, slice_get_within (end ∷ []) i v h, slice_get_within (end ∷ []) j v k);
-}
+trail-one end = search (rules, slice_get_within)
 
 pub trail-more : {g : Digraph} {items : List ℕ} {end at to : ℕ} → IsTrail g items end at → Link g to at →
     ((i : ℕ) → slice_get items i ≡ Some to → ⊥) → IsTrail g (items ++ to ∷ []) end to
@@ -147,22 +113,11 @@ trail-more {g} {items} {end} {at} {to} t l new = record {
       length-append items (to ∷ []),
     ))
   ];
-  once = λ i j v h k. elim (slice_get-push_cases items to i v h) [
-    | inl a ↦ elim (slice_get-push_cases items to j v k) [
-      | inl b ↦ t.once i j v a b
-      | inr b ↦ absurd (new i (rw b.1 a))
-    ]
-    | inr a ↦ elim (slice_get-push_cases items to j v k) [
-      | inl b ↦ absurd (new j (rw a.1 b))
-      | inr b ↦ a.0 ∙ sym b.0
-    ]
-  ];
+  once = search (rules, slice_get-push_cases);
 }
 
 -- the vertices of a trail are those of steps from a place on; that of a step before it is none of them
 pub trail-new : (steps : List Step) (items : List ℕ) {at place : ℕ} {r : Step} → AreApart steps →
     ((k v : ℕ) → slice_get items k ≡ Some v → (i : ℕ) × (s : Step) × (at ≤ i) × (slice_get steps i ≡ Some s) ×
     (s.item ≡ v)) → place < at → slice_get steps place ≡ Some r → (k : ℕ) → slice_get items k ≡ Some r.item → ⊥
-trail-new steps items {place = place} {r} apart placed lt here k h =
-    let p = placed k r.item h in
-    omega (arith, lt, p.2, apart p.0 place p.1 r p.3 here p.4)
+trail-new steps items {place = place} {r} apart placed lt here k h = search rules

@@ -1,4 +1,4 @@
-use Rattle.std.proofs.Common.{◌≡◌, sym, arith, rules}
+use Rattle.std.proofs.Common.{◌≡◌, arith, rules}
 use Rattle.ps_components.specs.ComponentLists.{IsIn}
 use Rattle.ps_components.proofs.arranging.is_knot.Goals as goal
 
@@ -10,13 +10,7 @@ returns-then-eq g c =
     cc (met.1, c.number-here.ensures, c.number-there.ensures) in (
       λ _. record {
         to = c.in-Some.to;
-        link = record {
-          from = c.requires.item;
-          place = c.loop-place.place;
-          at = omega arith;
-          target =
-              sym c.in-Some.ensures.target;
-        };
+        link = search rules;
         number = met.0;
         here = met.1;
         there = is;

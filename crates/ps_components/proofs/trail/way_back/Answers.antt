@@ -1,4 +1,4 @@
-use Rattle.std.proofs.Common.{◌≡◌, ◌∙◌, get_or, ◌<◌, inl, inr, refl, sym, ap, arith, Some, length, slice_get}
+use Rattle.std.proofs.Common.{◌≡◌, get_or, ◌<◌, inl, inr, refl, arith, Some, length, slice_get, rules}
 use Rattle.std.proofs.lemmas.Option.{slice_get_read, slice_get_within, slice_get-get_or}
 use Rattle.std.proofs.lemmas.Bool.{cases_lt}
 use Rattle.ps_components.specs.declared.trail.Step.{Step}
@@ -30,9 +30,7 @@ loop-place-preserved g c =
           let was : slice_get steps k ≡ Some s = cc (slice_get-get_or steps k d within) in
           elim (cases_lt k c.loop-place.place) [
             | inl less ↦ i.passed k s less was e
-            | inr le ↦ (let same : k ≡ c.loop-place.place = omega arith in
-                let one : s ≡ c.index.result.now = cc in
-                c.if-index-end.false (sym (ap (λ x. x.item) one) ∙ e))
+            | inr le ↦ search rules
           ]);
     }
 

@@ -1,4 +1,4 @@
-use Rattle.std.proofs.Common.{◌≡◌, refl, arith, true, false}
+use Rattle.std.proofs.Common.{◌≡◌, refl, arith, true, false, rules}
 use Rattle.std.proofs.lemmas.Option.{slice_get_read}
 use Rattle.ps_components.proofs.Places.{slice_get-set_same}
 use Rattle.ps_components.proofs.Spreads.{keeps-seen, keeps-steps, fewer-unseen, reach-spread}
@@ -19,6 +19,4 @@ returns-in_ok-push g c =
     })
 
 pub returns-else-not-index-clause-reached : goal.returns-else-not-index-clause-reached
-returns-else-not-index-clause-reached g c =
-    slice_get_read c.args.self.now.seen.items _ c.args.to true refl c.requires.to
-    (let is : c.index.result.now ≡ true = cc in rw is at c.index.ensures)
+returns-else-not-index-clause-reached g c = search (rules, slice_get_read)
