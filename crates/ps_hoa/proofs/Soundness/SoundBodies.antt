@@ -1,10 +1,9 @@
 -- What the states and edges of a body that was read are.
 --     keeps_body      for each body
-use Rattle.std.proofs.Common.{◌≡◌, ℕ, suc, ◌+◌, ◌-◌, ◌<◌, ◌≤◌, ◌⊎◌, Bool, true, false, cond, List, [], ◌∷◌, ◌++◌}
-use Rattle.std.proofs.Common.{length, Option, None, Some, refl, sym, ap, subst, inl, inr, ◌∙◌, arith, length-append}
+use Rattle.std.proofs.Common.{◌≡◌, ℕ, suc, ◌+◌, ◌-◌, ◌<◌, ◌≤◌, ◌⊎◌, false, cond, List, [], ◌∷◌, ◌++◌, length, Option}
+use Rattle.std.proofs.Common.{None, Some, refl, sym, ap, subst, inl, inr, ◌∙◌, arith, length-append}
 use Rattle.std.specs.Option.{IfSome}
 use Rattle.std.specs.List.{AllByRecursion, slice_get}
-use Rattle.std.proofs.Math.Decide.{dec_lt}
 use Rattle.std.proofs.lemmas.List.Sums.{sum_by_push}
 use Rattle.ps_label.specs.Expression.{Expression}
 use Rattle.ps_text.specs.Parts.{one}
@@ -12,10 +11,10 @@ use Rattle.ps_text.proofs.Simple.{none_is_some}
 use Rattle.ps_hoa.specs.Body.{edge_limit, BodyData, no_rows, IsBadState, IsBadSet, BadIn, sets_of, is_left_brace}
 use Rattle.ps_hoa.specs.Body.{is_right_brace, set_number, marks, is_left_bracket, is_right_bracket, body_scope}
 use Rattle.ps_hoa.specs.Body.{some_label, label_in_brackets, state_label, first_labelling, labelling, MayHaveNoLabel}
-use Rattle.ps_hoa.specs.Body.{MayHaveLabel, IsBadBracket, is_bracket, labelled_target, IsBadPlainTarget, guard_of}
-use Rattle.ps_hoa.specs.Body.{with_edge, labelled_edge, plain_edge, edge, edges, IsWrongCount, last_row, has_row}
-use Rattle.ps_hoa.specs.Body.{IsBadRow, state_name, empty_row, with_row, state_value, IsBadNext, state_begins, state}
-use Rattle.ps_hoa.specs.Body.{is_end, IsBadClose, ended, body}
+use Rattle.ps_hoa.specs.Body.{MayHaveLabel, IsBadBracket, is_bracket, IsBadPlainTarget, guard_of, with_edge}
+use Rattle.ps_hoa.specs.Body.{labelled_edge, plain_edge, edge, edges, IsWrongCount, last_row, has_row, IsBadRow}
+use Rattle.ps_hoa.specs.Body.{state_name, empty_row, with_row, state_value, IsBadNext, state_begins, state, is_end}
+use Rattle.ps_hoa.specs.Body.{IsBadClose, ended, body}
 use Rattle.ps_hoa.specs.Files.{GuardData, EdgeData, RowData, stated, of_state, at_letter, once}
 use Rattle.ps_hoa.specs.Header.{HeaderData, int_in, state_limit, IsAlternating}
 use Rattle.ps_hoa.specs.Labels.{label}
@@ -29,12 +28,12 @@ use Rattle.ps_hoa.specs.declared.fault.HoaCause.TheVariants as causes
 use Rattle.ps_hoa.specs.declared.tokens.Kind.{Kind}
 use Rattle.ps_hoa.specs.declared.tokens.Kind.TheVariants.{LeftBracket}
 use Rattle.std.proofs.lemmas.Bool.{false_from_ne_true}
-use Rattle.ps_hoa.proofs.Reading.BodyReading.{test_left_bracket}
+use Rattle.ps_hoa.proofs.Reading.MarkReading.{tests_left_bracket}
 use Rattle.ps_hoa.proofs.Soundness.Keeping.{Keeps, keeps_less, keeps_give, keeps_one, keeps_then, keeps_behind}
 use Rattle.ps_hoa.proofs.Soundness.Keeping.{keeps_either, keeps_mapped, keeps_many, keeps_barred}
 use Rattle.ps_hoa.proofs.Soundness.SoundHeaders.{keeps_number}
 use Rattle.std.specs.Prelude.{nat_eq}
-use Rattle.ps_hoa.proofs.Grammar.OperandLaws.{false_true, taken_mark}
+use Rattle.ps_hoa.proofs.Grammar.OperandLaws.{taken_mark}
 use Rattle.ps_hoa.proofs.Soundness.SoundLabels.{InScope, below, keeps_label, all_push}
 
 -- ## Numbers
@@ -163,7 +162,7 @@ module _ (h : HeaderData) (before : ℕ) (n : ℕ) where
       },
       k.1,
       (let m : length (with_edge row label target ns).edges ≡ length row.edges + 1 = length-append row.edges _ in
-      let s : before + length row.edges < edge_limit = below r in omega arith),
+          let s : before + length row.edges < edge_limit = below r in omega arith),
     )
 
     abbrev MayBegin : Unit {0} → Type 0
@@ -171,7 +170,7 @@ module _ (h : HeaderData) (before : ℕ) (n : ℕ) where
 
     keeps_bracket : Keeps (one is_bracket (IsBadBracket before row)) MayBegin
     keeps_bracket = keeps_one is_bracket (IsBadBracket before row) (λ t v e good.
-        let at : t.kind ≡ LeftBracket = test_left_bracket.1 t.kind (taken_mark is_left_bracket t v e) in (
+        let at : t.kind ≡ LeftBracket = tests_left_bracket.is.1 t.kind (taken_mark is_left_bracket t v e) in (
           λ full. good causes.Limit (at, inl (full, refl)),
           λ no. good causes.Labels (at, inr (no, refl)),
         ))

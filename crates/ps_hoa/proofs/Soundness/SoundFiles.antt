@@ -1,9 +1,8 @@
 -- Each file that was read is sound.
-use Rattle.std.proofs.Common.{◌≡◌, ℕ, ◌^◌, ◌<◌, ◌≤◌, ◌⊎◌, ◌≢◌, max, eqb, true, false, List, [], ◌∷◌, length, Option}
-use Rattle.std.proofs.Common.{None, Some, Ok, refl, ap, subst, inl, inr, arith}
+use Rattle.std.proofs.Common.{◌≡◌, ℕ, ◌^◌, ◌<◌, ◌≤◌, ◌≢◌, max, true, List, [], ◌∷◌, length, Option, None, Some, Ok}
+use Rattle.std.proofs.Common.{refl, ap, subst, inl, inr, arith}
 use Rattle.std.specs.Option.{IfSome, unwrap_or}
 use Rattle.std.specs.List.{AllByRecursion}
-use Rattle.std.proofs.Math.Decide.{dec_lt}
 use Rattle.std.proofs.lemmas.Bool.Decides.{eqb_tells}
 use Rattle.ps_label.specs.Expression.{Expression}
 use Rattle.ps_text.specs.Answers.{signs}
@@ -25,8 +24,7 @@ use Rattle.ps_hoa.specs.declared.edges.Labelling.TheVariants.{ByPlace}
 use Rattle.ps_hoa.specs.declared.fault.HoaCause.TheVariants as causes
 use Rattle.ps_hoa.proofs.Soundness.Keeping.{Keeps, keeps_then, keeps_mapped}
 use Rattle.ps_hoa.proofs.Soundness.SoundBodies.{AreSets, IsStateOf, IsScoped, IsGuardKept, IsEdgeKept, IsRowKept}
-use Rattle.ps_hoa.proofs.Soundness.SoundBodies.{HasRightCount}
-use Rattle.ps_hoa.proofs.Soundness.SoundBodies.{IsBodyDone, LabelledBy, way_of, way, keeps_body}
+use Rattle.ps_hoa.proofs.Soundness.SoundBodies.{HasRightCount, IsBodyDone, LabelledBy, way_of, way, keeps_body}
 use Rattle.ps_hoa.proofs.Soundness.SoundHeaders.{Kept, HasNoFlaw, keeps_header, sound_aliases}
 use Rattle.ps_hoa.proofs.Soundness.SoundLabels.{NamesBelow, below, label_from}
 use Rattle.ps_hoa.proofs.Soundness.SoundLaws.{all_at}
@@ -39,8 +37,11 @@ target_rises s (e ∷ es) = omega (arith, target_rises (max s e.target) es)
 
 state_rises : (s : ℕ) (rows : List RowData) → s ≤ greatest_state s rows
 state_rises s [] = omega arith
-state_rises s (r ∷ rows) = omega (arith, target_rises (max s r.state) r.edges,
-    state_rises (greatest_target (max s r.state) r.edges) rows)
+state_rises s (r ∷ rows) = omega (
+  arith,
+  target_rises (max s r.state) r.edges,
+  state_rises (greatest_target (max s r.state) r.edges) rows,
+)
 
 targets_up_to : (g s : ℕ) (es : List EdgeData) → greatest_target s es ≤ g → AllByRecursion (λ e. e.target ≤ g) es
 targets_up_to g s [] l = tt
@@ -54,9 +55,10 @@ rows_up_to : (g s : ℕ) (rows : List RowData) → greatest_state s rows ≤ g �
 rows_up_to g s [] l = tt
 rows_up_to g s (r ∷ rows) l =
     let next = greatest_target (max s r.state) r.edges in
-    let n = state_rises next rows in
-    ((omega (arith, target_rises (max s r.state) r.edges), targets_up_to g (max s r.state) r.edges (omega arith)),
-    rows_up_to g next rows l)
+    let n = state_rises next rows in (
+      (omega (arith, target_rises (max s r.state) r.edges), targets_up_to g (max s r.state) r.edges (omega arith)),
+      rows_up_to g next rows l,
+    )
 
 targets_below : (limit s : ℕ) (es : List EdgeData) → s < limit → AllByRecursion (λ e. e.target < limit) es →
     greatest_target s es < limit

@@ -1,21 +1,18 @@
 -- A header that was read has no flaw, at most 64 propositions, and aliases that each speak of earlier ones alone.
 --     keeps_header      for each header
 --     sound_aliases      its aliases
-use Rattle.std.proofs.Common.{◌≡◌, ℕ, zero, suc, ◌+◌, ◌<◌, ◌≤◌, ◌⊎◌, true, List, [], ◌∷◌, ◌++◌, length, codes, Option, None, Some}
-use Rattle.std.proofs.Common.{refl, sym, ap, subst, inl, inr, ◌∙◌, arith, length-append}
+use Rattle.std.proofs.Common.{◌≡◌, ℕ, zero, suc, ◌+◌, ◌<◌, ◌≤◌, true, List, [], ◌∷◌, ◌++◌, length, codes, Option, None}
+use Rattle.std.proofs.Common.{Some, refl, sym, subst, inl, inr, ◌∙◌, arith, length-append}
 use Rattle.std.specs.Option.{IfSome}
-use Rattle.std.proofs.Math.Decide.{dec_lt}
 use Rattle.ps_label.specs.Expression.{Expression}
 use Rattle.ps_text.specs.Parts.{one, times, many, barred}
 use Rattle.ps_text.proofs.Simple.{none_is_some, same_some}
 use Rattle.ps_hoa.specs.Header.{HeaderData, no_items, names_of, state_limit, proposition_limit, alias_limit, set_limit}
-use Rattle.ps_hoa.specs.Header.{item_name, int_in, IsAbove, int, string, with_states, states_item, IsAlternating}
-use Rattle.ps_hoa.specs.Header.{is_name_among, with_start, start_item, string_in, IsBadName, with_name}
-use Rattle.ps_hoa.specs.Header.{proposition_name, with_names, names_item, alias_value, IsBadAlias, header_scope}
-use Rattle.ps_hoa.specs.Header.{with_alias, alias_item, with_acceptance, acceptance_item, index, with_controllable}
-use Rattle.ps_hoa.specs.Header.{controllable_item, unchanged, tool_item, name_item, read_over_value, read_over, form_of}
-use Rattle.ps_hoa.specs.Header.{item, AnAliasBeyond, IsBadHeader, out_of_range, body_value, IsBadBody, body_mark}
-use Rattle.ps_hoa.specs.Header.{header}
+use Rattle.ps_hoa.specs.Header.{item_name, int_in, IsAbove, int, string, with_states, IsAlternating, is_name_among}
+use Rattle.ps_hoa.specs.Header.{with_start, string_in, IsBadName, with_name, proposition_name, with_names, alias_value}
+use Rattle.ps_hoa.specs.Header.{IsBadAlias, header_scope, with_alias, with_acceptance, index, with_controllable}
+use Rattle.ps_hoa.specs.Header.{unchanged, read_over_value, read_over, form_of, item, AnAliasBeyond, IsBadHeader}
+use Rattle.ps_hoa.specs.Header.{out_of_range, body_value, IsBadBody, body_mark, header, is_empty, has_control, kept}
 use Rattle.ps_hoa.specs.ItemNames as items
 use Rattle.ps_hoa.specs.ItemNames.{ItemName}
 use Rattle.ps_hoa.specs.Labels.{label}
@@ -26,14 +23,10 @@ use Rattle.ps_hoa.specs.declared.fault.HoaCause.{HoaCause}
 use Rattle.ps_hoa.specs.declared.fault.HoaCause.TheVariants as causes
 use Rattle.ps_hoa.specs.declared.tokens.Kind.{Kind}
 use Rattle.ps_hoa.specs.declared.tokens.Kind.TheVariants.{Body, Int, Text, Word}
-use Rattle.std.specs.Prelude.{◌||◌, Bool, false, cond}
+use Rattle.std.specs.Prelude.{◌||◌, Bool, false}
 use Rattle.std.specs.Str.{bytes_eq}
-use Rattle.std.proofs.lemmas.Slice.Eq.{bytes_eq-Decides}
-use Rattle.ps_hoa.specs.Header.{is_empty, has_control}
 use Rattle.ps_hoa.specs.Sound.{AreDifferent, AreAliases, AreNames}
-use Rattle.ps_hoa.specs.Header.{kept}
 use Rattle.ps_hoa.proofs.Soundness.Places.{different_kept}
-use Rattle.ps_hoa.proofs.Grammar.OperandLaws.{false_true}
 use Rattle.ps_hoa.specs.Body.{BadIn}
 use Rattle.std.proofs.lemmas.Bool.{false_from_ne_true}
 use Rattle.ps_hoa.proofs.NameLemmas.{bytes_eq-sym}
@@ -54,7 +47,8 @@ pub keeps_number : (Bad : ℕ → HoaCause → Type 0) → Keeps (one int_in (Ba
 keeps_number Bad = keeps_one int_in (BadIn Bad) (λ t n e good f b. good f (if_there (λ m. Bad m f) e b))
 
 keeps_int : (limit : ℕ) → Keeps (int limit) (λ n. n ≤ limit)
-keeps_int limit = keeps_less (int limit) (λ n good. let s : limit < n → ⊥ = λ l. good causes.Limit (l, refl) in omega arith)
+keeps_int limit = keeps_less (int limit)
+    (λ n good. let s : limit < n → ⊥ = λ l. good causes.Limit (l, refl) in omega arith)
     (keeps_number (λ n f. (limit < n) × (f ≡ causes.Limit)))
 
 -- ## What the items so far keep
@@ -98,7 +92,8 @@ not_named : (other name : List ℕ) (names : List (List ℕ)) → is_name_among 
     bytes_eq other name ≡ false → is_name_among other (names ++ name ∷ []) ≡ false
 not_named other name [] e d = rw d refl
 not_named other name (next ∷ names) e d =
-    let f = neither (bytes_eq other next) (is_name_among other names) e in rw (f.0, not_named other name names f.1 d) refl
+    let f = neither (bytes_eq other next) (is_name_among other names) e in
+    rw (f.0, not_named other name names f.1 d) refl
 
 -- one more name, which is none of the others
 names_push : (names : List (List ℕ)) (name : List ℕ) → AreNames names → (is_empty name || has_control name) ≡ false →
@@ -162,8 +157,14 @@ keeps_form h k items.acceptance = keeps_behind (item_name (codes "Acceptance:"))
     keeps_then (keeps_int set_limit) (λ n l.
     keeps_mapped _ (with_acceptance h n) (condition nesting_limit) (λ text c i q. (k.0, k.1, k.2, l, k.4))))
 keeps_form h k items.controllable = keeps_behind (item_name (codes "controllable-AP:")) (λ _.
-    keeps_mapped _ (with_controllable h) (many index []) (λ text ns i q. (k.0, k.1, k.2, k.3, keeps_many index
-    (λ ns a. keeps_mapped _ (kept ns) (int number_limit) (λ text n i q. different_kept ns n a)) [] tt text ns i q)))
+    keeps_mapped _ (with_controllable h) (many index []) (λ text ns i q. (
+      k.0,
+      k.1,
+      k.2,
+      k.3,
+      keeps_many index
+          (λ ns a. keeps_mapped _ (kept ns) (int number_limit) (λ text n i q. different_kept ns n a)) [] tt text ns i q,
+    )))
 keeps_form h k items.tool = keeps_behind (item_name (codes "tool:")) (λ _. keeps_behind string (λ _.
     keeps_either (keeps_mapped _ (unchanged h) string (λ text v i q. k)) (keeps_give _ h k)))
 keeps_form h k items.name = keeps_behind (item_name (codes "name:")) (λ _.

@@ -6,7 +6,6 @@ use Rattle.std.proofs.Common.{◌≡◌, ℕ, zero, suc, ◌<◌, ◌≤◌, Boo
 use Rattle.std.proofs.Common.{sym, subst, inl, inr, arith}
 use Rattle.std.specs.List.{AllByRecursion}
 use Rattle.std.specs.Str.{bytes_eq}
-use Rattle.std.proofs.Math.Decide.{dec_lt}
 use Rattle.std.proofs.lemmas.List.Quantifiers.{position-Some}
 use Rattle.ps_label.specs.Expression.{Expression, constant, proposition, alias, not_of, all_of, any_of, Operands, last}
 use Rattle.ps_label.specs.Expression.{more, row_of}
@@ -16,8 +15,8 @@ use Rattle.ps_text.proofs.Simple.{none_is_some, same_some}
 use Rattle.ps_hoa.specs.Header.{SpeaksBeyond, SomeSpeaksBeyond}
 use Rattle.ps_hoa.specs.Labels.{ScopeData, boolean_in, constant_in, alias_number, alias_in, leaf_value, leaf_in}
 use Rattle.ps_hoa.specs.Labels.{IsBeyond, IsBadLeaf, BadLeaf, leaf, together, operand, label}
-use Rattle.ps_hoa.specs.Operands.{is_not, is_and, is_or, is_left, is_right, mark, before, single, with_last}
-use Rattle.ps_hoa.specs.Operands.{joined, further, operands, row, rows}
+use Rattle.ps_hoa.specs.Operands.{is_not, is_and, is_or, is_left, is_right, mark, before, single, with_last, joined}
+use Rattle.ps_hoa.specs.Operands.{further, operands, row, rows}
 use Rattle.ps_hoa.specs.Sound.{IsLabel, AreLabels}
 use Rattle.ps_hoa.specs.Tokens.{Sign}
 use Rattle.ps_hoa.specs.declared.connective.Connective.{Connective}
@@ -74,8 +73,8 @@ module _ {V : Type 0} {S : V → Type 0} (sign : Kind → Bool) (join : List V �
   keeps_operands : Keeps (operands sign part) (AllByRecursion S)
   keeps_operands =
       keeps_then {S = AllByRecursion S} (keeps_mapped _ single part (λ text v i q. (k text v i q, tt)))
-      (keeps_many (λ ws. further sign part ws) (λ vs a. keeps_behind (mark sign) (λ _. keeps_mapped _ (with_last vs) part
-      (λ text v i q. all_push S vs v a (k text v i q)))))
+      (keeps_many (λ ws. further sign part ws) (λ vs a. keeps_behind (mark sign) (λ _.
+      keeps_mapped _ (with_last vs) part (λ text v i q. all_push S vs v a (k text v i q)))))
 
   joined_too : (vs : List V) → AllByRecursion S vs → S (joined join vs)
   joined_too [] a = joins [] a
@@ -83,7 +82,8 @@ module _ {V : Type 0} {S : V → Type 0} (sign : Kind → Bool) (join : List V �
   joined_too (v ∷ w ∷ vs) a = joins (v ∷ w ∷ vs) a
 
   pub keeps_row : Keeps (row sign join part) S
-  keeps_row = keeps_mapped _ (joined join) (operands sign part) (λ text vs i q. joined_too vs (keeps_operands text vs i q))
+  keeps_row =
+      keeps_mapped _ (joined join) (operands sign part) (λ text vs i q. joined_too vs (keeps_operands text vs i q))
 
 -- ## Labels
 
