@@ -2,63 +2,46 @@
 use Rattle.std.proofs.Common.{◌≡◌, ℕ, suc, ◌+◌, ◌*◌, ◌%◌, ◌^◌, ◌<◌, ◌≤◌, Bool, true, false, cond, List, [], ◌∷◌, ◌++◌}
 use Rattle.std.proofs.Common.{Option, Some, None, nat_eq, eqb, refl, ap, sym, subst, ◌∙◌, arith, append_assoc}
 use Rattle.std.proofs.Common.{append-nil, inl, inr}
-use Rattle.std.proofs.lemmas.Bool.{eq-eqb, eqb-true}
+use Rattle.std.proofs.lemmas.Bool.{cases_order, eq-eqb, eqb-true}
 use Rattle.std.proofs.lemmas.List.Elements.{All-from_recursion}
 use Rattle.std.proofs.lemmas.List.Kept.{AllPairs-cons}
-use Rattle.std.proofs.Math.Nat.{pow-suc, mod-eq_of_lt}
+use Rattle.std.proofs.Math.Nat.{pow-suc}
 use Rattle.std.proofs.Math.Pow.{pow_mono}
-use Rattle.std.proofs.lemmas.Nat.{pow_pos}
 use Rattle.std.specs.Prelude.{AllPairs, Any, MatchOption, is_some}
 use Rattle.std.specs.List.{AllByRecursion}
 use Rattle.std.specs.Map.{lookup}
 use Rattle.ps_label.specs.Truth.{is_in}
+use Rattle.ps_diagram.specs.Leaves.{joined}
 use Rattle.ps_diagram.specs.Letters.{assignment, IsBefore, IsLeast}
 use Rattle.ps_diagram.specs.Parts.{IsChoice}
 use Rattle.ps_diagram.specs.Reached.{LeadsTo, AreLeaves, IsFound, IsFirst, AreRising, Gathers, IsGathered, HaveFound}
 use Rattle.ps_diagram.specs.Split.{root_of}
 use Rattle.ps_diagram.specs.Table.{Table, tree_of}
 use Rattle.ps_diagram.specs.Tree.{Tree, empty, final, choice, leaf_at, IsFrom}
-use Rattle.ps_diagram.proofs.Cells.{bool_cases, true_is_not_false}
-use Rattle.ps_diagram.proofs.Canon.{order_cases}
-use Rattle.ps_diagram.proofs.KnownLemmas.{some_nat}
+use Rattle.ps_diagram.proofs.Cells.{bool_cases}
+use Rattle.ps_diagram.proofs.Halving.{one_bit}
 use Rattle.ps_diagram.proofs.Letters.{no_bit, top_bit, lower_bit}
 
 -- ## Lists of what was found
 
-front_case : (b : Bool) (a : ℕ) (u v : Option ℕ) {z : ℕ} → (u ≡ Some z → v ≡ Some z) → cond b (Some a) u ≡ Some z →
-    cond b (Some a) v ≡ Some z
-front_case true a u v h e = e
-front_case false a u v h e = h e
+lookup-append : (test : ℕ → Bool) (xs ys : List (ℕ × ℕ)) →
+    lookup test (xs ++ ys) ≡ joined (lookup test xs) (lookup test ys)
+lookup-append test [] ys = refl
+lookup-append test (x ∷ xs) ys = elim (bool_cases (test x.0)) [
+  | inl is ↦ rw is
+  | inr isnt ↦ rw isnt (lookup-append test xs ys)
+]
 
-found_front : (test : ℕ → Bool) (xs ys : List (ℕ × ℕ)) {z : ℕ} → lookup test xs ≡ Some z →
-    lookup test (xs ++ ys) ≡ Some z
-found_front test [] ys e = cc
-found_front test (x ∷ xs) ys {z} e =
-    front_case (test x.0) x.1 (lookup test xs) (lookup test (xs ++ ys)) (found_front test xs ys) e
-
-none_case : (b : Bool) (a : ℕ) (u v : Option ℕ) → (v ≡ None → u ≡ None) → cond b (Some a) v ≡ None →
-    cond b (Some a) u ≡ None
-none_case true a u v h e = e
-none_case false a u v h e = h e
-
-none_front : (test : ℕ → Bool) (xs ys : List (ℕ × ℕ)) → lookup test (xs ++ ys) ≡ None → lookup test xs ≡ None
-none_front test [] ys e = refl
-none_front test (x ∷ xs) ys e =
-    none_case (test x.0) x.1 (lookup test xs) (lookup test (xs ++ ys)) (none_front test xs ys) e
-
-last_case : (b : Bool) (a : ℕ) (u v : Option ℕ) (z : ℕ) → (u ≡ None → v ≡ Some z) → cond b (Some a) u ≡ None →
-    cond b (Some a) v ≡ Some z
-last_case true a u v z h e = cc
-last_case false a u v z h e = h e
+none_front : (a b : Option ℕ) → joined a b ≡ None → a ≡ None
+none_front None b e = refl
+none_front (Some k) b e = cc
 
 found_last : (xs : List (ℕ × ℕ)) (k z : ℕ) → lookup (nat_eq k) xs ≡ None →
     lookup (nat_eq k) (xs ++ (k, z) ∷ []) ≡ Some z
-found_last [] k z e = ap (λ b. cond b (Some z) None) (eq-eqb k k refl)
-found_last (x ∷ xs) k z e =
-    last_case (nat_eq k x.0) x.1 (lookup (nat_eq k) xs) (lookup (nat_eq k) (xs ++ (k, z) ∷ [])) z (found_last xs k z) e
+found_last xs k z e = rw (lookup-append (nat_eq k) xs ((k, z) ∷ []), e, eq-eqb k k refl)
 
 found_more : (xs ys : List (ℕ × ℕ)) (leaf : ℕ) → IsFound xs leaf → IsFound (xs ++ ys) leaf
-found_more xs ys leaf h = (h.0, found_front (nat_eq leaf) xs ys h.1)
+found_more xs ys leaf h = (h.0, rw (lookup-append (nat_eq leaf) xs ys, h.1))
 
 all_map : (P Q : ℕ × ℕ → Type 0) (xs : List (ℕ × ℕ)) → ((x : ℕ × ℕ) → P x → Q x) → AllByRecursion P xs →
     AllByRecursion Q xs
@@ -85,12 +68,12 @@ rising_append P Q (x ∷ xs) ys f ps qs h g = (
 )
 
 pub some_of : (o : Option ℕ) → is_some o ≡ true → (z : ℕ) × (o ≡ Some z)
-some_of None e = absurd (true_is_not_false (sym e))
+some_of None e = cc
 some_of (Some z) e = (z, refl)
 
 pub none_of : (o : Option ℕ) → is_some o ≡ false → o ≡ None
 none_of None e = refl
-none_of (Some z) e = absurd (true_is_not_false e)
+none_of (Some z) e = cc
 
 -- ## Nodes without leaves of their own
 
@@ -101,22 +84,21 @@ gathers_none n t letter old h =
 
 pub leaf_found : {t : Tree} (k : ℕ) {letter : ℕ} (found : List (ℕ × ℕ)) → t ≡ final k →
     lookup (nat_eq k) found ≡ Some letter → (f : ℕ → Bool) (leaf : ℕ) → leaf_at t f ≡ Some leaf → IsFound found leaf
-leaf_found k {letter} found e is f leaf at =
-    let same : k ≡ leaf = some_nat k leaf (sym (ap (λ u. leaf_at u f) e) ∙ at) in
-    subst (IsFound found) same (letter, is)
+leaf_found k {letter} found e is f leaf leads =
+    let there = rw e at leads in
+    let same : k ≡ leaf = cc in
+    rw (← same) (letter, is)
 
 pub gathers_leaf : (n : ℕ) {t : Tree} (k letter : ℕ) (old : List (ℕ × ℕ)) {new : List (ℕ × ℕ)} → t ≡ final k →
     letter < 2 ^ root_of n t → lookup (nat_eq k) old ≡ None → new ≡ old ++ (k, letter) ∷ [] → Gathers n t letter old new
 gathers_leaf n {t} k letter old {new} e lt none is =
-    let P : Tree → Type 0 = λ u. letter < 2 ^ root_of n u in
-    let within : letter < 2 ^ n = subst P e lt in
     record {
       added = (k, letter) ∷ [];
       is = is;
       first = (
         record {
-          within = within;
-          there = ap (λ u. leaf_at u (assignment letter)) e;
+          within = rw e at lt;
+          there = rw e;
           same = λ q _. refl;
           least = λ x _ before. before.is_true;
         },
@@ -132,17 +114,7 @@ gathers_leaf n {t} k letter old {new} e lt none is =
 pub root_later : (n p : ℕ) (t : Tree) → IsFrom (p + 1) n t → p < n → p < root_of n t
 root_later n p empty o lt = lt
 root_later n p (final k) o lt = lt
-root_later n p (choice q low high) o lt = omega (arith, o.0)
-
-one_more : (p letter : ℕ) → letter < 2 ^ p → letter + 2 ^ p < 2 ^ suc p
-one_more p letter lt = omega (arith, pow-suc 2 p)
-
-side : (p : ℕ) {v : Bool} (low high : Tree) (f : ℕ → Bool) → f p ≡ v →
-    leaf_at (choice p low high) f ≡ cond v (leaf_at high f) (leaf_at low f)
-side p low high f e = ap (λ b. cond b (leaf_at high f) (leaf_at low f)) e
-
-apart : {a b : Bool} → a ≡ b → a ≡ true → b ≡ false → ⊥
-apart e h g = true_is_not_false (sym h ∙ e ∙ g)
+root_later n p (choice q low high) o lt = omega arith
 
 first_low : {n : ℕ} (p : ℕ) {letter : ℕ} {low : Tree} (high : Tree) → letter < 2 ^ p → p < root_of n low →
     {leaf place : ℕ} → IsFirst n low letter leaf place → IsFirst n (choice p low high) letter leaf place
@@ -150,15 +122,15 @@ first_low p {letter} {low} high lt root {place} h =
     let bit : is_in p place ≡ false = h.same p root ∙ no_bit p letter p lt (omega arith) in
     record {
       within = h.within;
-      there = side p low high (assignment place) bit ∙ h.there;
-      same = λ q less. h.same q (omega (arith, less, root));
+      there = rw bit h.there;
+      same = λ q less. h.same q (omega arith);
       least = λ x e before. elim (bool_cases (is_in p x)) [
-        | inl is ↦ elim (order_cases before.first p) [
-          | inl less ↦ sym (h.same before.first (omega (arith, less, root))) ∙ before.is_true
-          | inr (inl same) ↦ absurd (apart (ap (λ q. is_in q x) (sym same)) is before.is_false)
-          | inr (inr less) ↦ absurd (apart (before.same p less) is bit)
+        | inl is ↦ elim (cases_order before.first p) [
+          | inl same ↦ let not = rw same at before.is_false in cc
+          | inr (inl less) ↦ sym (h.same before.first (omega arith)) ∙ before.is_true
+          | inr (inr less) ↦ let both = before.same p less in cc
         ]
-        | inr isnt ↦ h.least x (sym (side p low high (assignment x) isnt) ∙ e) before
+        | inr isnt ↦ h.least x (rw isnt at e) before
       ];
     }
 
@@ -169,18 +141,19 @@ first_high p letter low {high} lt root {place} fresh h =
     let bit : is_in p place ≡ true = h.same p root ∙ top_bit p letter lt in
     record {
       within = h.within;
-      there = side p low high (assignment place) bit ∙ h.there;
-      same = λ q less. h.same q (omega (arith, less, root)) ∙ lower_bit p letter q less;
+      there = rw bit h.there;
+      same = λ q less. h.same q (omega arith) ∙ lower_bit p letter q less;
       least = λ x e before. elim (bool_cases (is_in p x)) [
         | inl is ↦
-            let there = h.least x (sym (side p low high (assignment x) is) ∙ e) before in
-            elim (order_cases before.first p) [
-              | inl less ↦ sym (lower_bit p letter before.first less) ∙ there
-              | inr (inl same) ↦ absurd (apart (ap (λ q. is_in q x) (sym same)) is before.is_false)
-              | inr (inr less) ↦ absurd (apart refl there (no_bit (suc p) (letter + 2 ^ p) before.first
-                  (one_more p letter lt) (omega (arith, less))))
+            let there = h.least x (rw is at e) before in
+            elim (cases_order before.first p) [
+              | inl same ↦ let not = rw same at before.is_false in cc
+              | inr (inl less) ↦ sym (lower_bit p letter before.first less) ∙ there
+              | inr (inr less) ↦
+                  let none = no_bit (suc p) (letter + 2 ^ p) before.first (omega (arith, pow-suc 2 p)) (omega arith) in
+                  cc
             ]
-        | inr isnt ↦ absurd (fresh (assignment x) (sym (side p low high (assignment x) isnt) ∙ e))
+        | inr isnt ↦ absurd (fresh (assignment x) (rw isnt at e))
       ];
     }
 
@@ -190,12 +163,11 @@ low_before_high p {letter} lt rl rh a b = record {
   first = p;
   is_false = a.same p rl ∙ no_bit p letter p lt (omega arith);
   is_true = b.same p rh ∙ top_bit p letter lt;
-  same = λ q less. a.same q (omega (arith, less, rl)) ∙ sym (lower_bit p letter q less)
-      ∙ sym (b.same q (omega (arith, less, rh)));
+  same = λ q less. a.same q (omega arith) ∙ sym (lower_bit p letter q less) ∙ sym (b.same q (omega arith));
 }
 
 not_found : (found : List (ℕ × ℕ)) (leaf : ℕ) → lookup (nat_eq leaf) found ≡ None → IsFound found leaf → ⊥
-not_found found leaf none h = let e : Some h.0 ≡ None = sym h.1 ∙ none in cc
+not_found found leaf none h = cc
 
 gathers_choice : {n : ℕ} (p : ℕ) {letter : ℕ} {low high : Tree} {old mid new : List (ℕ × ℕ)} → letter < 2 ^ p →
     p < root_of n low → p < root_of n high → Gathers n low letter old mid → Gathers n high (letter + 2 ^ p) mid new →
@@ -206,29 +178,26 @@ gathers_choice {n} p {letter} {low} {high} {old} {mid} {new} lt rl rh a b =
     let C : ℕ × ℕ → Type 0 = λ pair. IsFirst n (choice p low high) letter pair.0 pair.1 in
     let N : ℕ × ℕ → Type 0 = λ pair. lookup (nat_eq pair.0) mid ≡ None in
     let O : ℕ × ℕ → Type 0 = λ pair. lookup (nat_eq pair.0) old ≡ None in
-    let later : (leaf : ℕ) → IsFound mid leaf → IsFound new leaf =
-    λ leaf h. subst (λ (xs : List (ℕ × ℕ)). IsFound xs leaf) (sym b.is) (found_more mid b.added leaf h) in
     record {
       added = a.added ++ b.added;
-      is = b.is ∙ ap (λ (xs : List (ℕ × ℕ)). xs ++ b.added) a.is ∙ append_assoc old a.added b.added;
+      is = rw (b.is, a.is) (append_assoc old a.added b.added);
       first = all_append C a.added b.added (all_map L C a.added (λ pair h. first_low p high lt rl h) a.first)
           (all_both N H C b.added (λ pair none h. first_high p letter low lt rh
           (λ f e. not_found mid pair.0 none (a.whole f pair.0 e)) h) b.fresh b.first);
       fresh = all_append O a.added b.added a.fresh
-          (all_map N O b.added (λ pair none. none_front (nat_eq pair.0) old a.added
-          (sym (ap (lookup (nat_eq pair.0)) a.is) ∙ none)) b.fresh);
+          (all_map N O b.added (λ pair none. none_front _ (lookup (nat_eq pair.0) a.added)
+          (rw (a.is, lookup-append (nat_eq pair.0) old a.added) at none)) b.fresh);
       rising = rising_append L H a.added b.added (λ x y hx hy. low_before_high p lt rl rh
           hx hy) a.first b.first a.rising b.rising;
       whole = λ f leaf e. elim (bool_cases (f p)) [
-        | inl is ↦ b.whole f leaf (sym (side p low high f is) ∙ e)
-        | inr isnt ↦ later leaf (a.whole f leaf (sym (side p low high f isnt) ∙ e))
+        | inl is ↦ b.whole f leaf (rw is at e)
+        | inr isnt ↦ rw b.is (found_more mid b.added leaf (a.whole f leaf (rw isnt at e)))
       ];
     }
 
 pub begun_below : {t : Table} {node p low high : ℕ} (letter : ℕ) → IsChoice t node p low high →
     letter < 2 ^ root_of t.propositions (tree_of t node) → letter < 2 ^ p
-begun_below {t} letter h lt =
-    let P : Tree → Type 0 = λ u. letter < 2 ^ root_of t.propositions u in subst P h.tree lt
+begun_below letter h lt = rw h.tree at lt
 
 pub begun_low : {t : Table} {node p low high : ℕ} (letter : ℕ) → IsChoice t node p low high →
     letter < 2 ^ root_of t.propositions (tree_of t node) → letter < 2 ^ root_of t.propositions (tree_of t low)
@@ -240,10 +209,7 @@ begun_low {t} {node} {p} {low} {high} letter h lt =
 -- the bit that is set, as the code makes it
 pub set_bit : {t : Table} {node p low high : ℕ} → IsChoice t node p low high → 1 * 2 ^ p % 2 ^ 64 ≡ 2 ^ p
 set_bit {p} h =
-    let small : suc p ≤ 64 = omega (arith, h.below, h.few) in
-    let one : 1 * 2 ^ p ≡ 2 ^ p = omega arith in
-    let below : 2 ^ p < 2 ^ 64 = omega (arith, pow_mono {i = suc p} {j = 64} small, pow-suc 2 p, pow_pos p) in
-    ap (λ x. x % 2 ^ 64) one ∙ mod-eq_of_lt below
+    one_bit p (omega arith)
 
 pub begun_high : {t : Table} {node p low high : ℕ} (letter : ℕ) → IsChoice t node p low high →
     letter < 2 ^ root_of t.propositions (tree_of t node) → letter + 2 ^ p < 2 ^ root_of t.propositions (tree_of t high)
@@ -252,7 +218,8 @@ begun_high {t} {node} {p} {low} {high} letter h lt =
     let le : suc p ≤ root_of t.propositions (tree_of t high) = omega (arith, r) in
     omega (
       arith,
-      one_more p letter (begun_below letter h lt),
+      pow-suc 2 p,
+      begun_below letter h lt,
       pow_mono {i = suc p} {j = root_of t.propositions (tree_of t high)} le,
     )
 
@@ -262,8 +229,7 @@ pub gathers_test : {t : Table} {node p low high letter : ℕ} {old mid new : Lis
     new → Gathers t.propositions (tree_of t node) letter old new
 gathers_test {t} {node} {p} {low} {high} {letter} {old} {mid} {new} h lt a b =
     let n = t.propositions in
-    let P : Tree → Type 0 = λ u. Gathers n u letter old new in
-    subst P (sym h.tree) (gathers_choice p (begun_below letter h lt) (root_later n p (tree_of t low) h.low_from h.below)
+    rw h.tree (gathers_choice p (begun_below letter h lt) (root_later n p (tree_of t low) h.low_from h.below)
     (root_later n p (tree_of t high) h.high_from h.below) a b)
 
 -- one node more was seen
@@ -271,8 +237,8 @@ pub seen_more : (t : Table) (old new : ℕ → Bool) (node : ℕ) (found : List 
     ((q : ℕ) → new q ≡ cond (eqb node q) true (old q)) → HaveFound t old found →
     ((f : ℕ → Bool) (leaf : ℕ) → leaf_at (tree_of t node) f ≡ Some leaf → IsFound found leaf) → HaveFound t new found
 seen_more t old new node found update h own q is f leaf e = elim (bool_cases (eqb node q)) [
-  | inl same ↦ own f leaf (ap (λ x. leaf_at (tree_of t x) f) (eqb-true node q same) ∙ e)
-  | inr isnt ↦ h q (sym (update q ∙ ap (λ b. cond b true (old q)) isnt) ∙ is) f leaf e
+  | inl same ↦ own f leaf (rw (eqb-true node q same) e)
+  | inr isnt ↦ h q (sym (rw isnt at (update q)) ∙ is) f leaf e
 ]
 
 -- ## What was gathered from the whole node
@@ -284,28 +250,24 @@ least_of : (t : Table) (node : ℕ) {leaf place : ℕ} → IsFirst t.proposition
     IsLeast (LeadsTo t node leaf) place
 least_of t node h = record {
   here = (h.within, h.there);
-  none_before = λ x e before. apart refl (h.least x e.1 before) (zero_bit before.first);
+  none_before = λ x e before. let is = h.least x e.1 before in let not = zero_bit before.first in cc;
 }
-
-entry_case : (P : ℕ → ℕ → Type 0) (k place leaf : ℕ) {z : ℕ} (b : Bool) (rest : Option ℕ) → nat_eq leaf k ≡ b →
-    P k place → (rest ≡ Some z → P leaf z) → cond b (Some place) rest ≡ Some z → P leaf z
-entry_case P k place leaf {z} true rest is h go e =
-    let Q : ℕ → Type 0 = λ m. P m z in
-    subst Q (sym (eqb-true leaf k is)) (subst (P k) (some_nat place z e) h)
-entry_case P k place leaf false rest is h go e = go e
 
 entry_of : (P : ℕ → ℕ → Type 0) (es : List (ℕ × ℕ)) (leaf : ℕ) {z : ℕ} → AllByRecursion (λ pair. P pair.0 pair.1) es →
     lookup (nat_eq leaf) es ≡ Some z → P leaf z
-entry_of P [] leaf {z} h e = let x : None ≡ Some z = e in cc
-entry_of P (pair ∷ es) leaf {z} h e =
-    entry_case P pair.0 pair.1 leaf (nat_eq leaf pair.0) (lookup (nat_eq leaf) es) refl h.0 (entry_of P es leaf h.1) e
+entry_of P [] leaf h e = cc
+entry_of P (pair ∷ es) leaf {z} h e = elim (bool_cases (nat_eq leaf pair.0)) [
+  | inl is ↦
+      let there = rw is at e in
+      let value : z ≡ pair.1 = cc in
+      rw (eqb-true leaf pair.0 is, value) h.0
+  | inr isnt ↦ entry_of P es leaf h.1 (rw isnt at e)
+]
 
 -- all that was gathered, once it began with nothing
 firsts : {t : Table} {node : ℕ} {found : List (ℕ × ℕ)} → IsGathered t node found →
     AllByRecursion (λ pair. IsFirst t.propositions (tree_of t node) 0 pair.0 pair.1) found
-firsts {t} {node} h = let P : List (ℕ × ℕ) → Type 0 =
-    λ es. AllByRecursion (λ pair. IsFirst t.propositions (tree_of t node) 0 pair.0 pair.1) es in
-    subst P (sym h.all.is) h.all.first
+firsts h = rw h.all.is h.all.first
 
 pub path_found : {t : Table} {node : ℕ} (leaf : ℕ) {found : List (ℕ × ℕ)} → IsGathered t node found → (o : Option ℕ) →
     o ≡ lookup (nat_eq leaf) found →
@@ -314,22 +276,18 @@ path_found leaf {found} h None e = λ letter at. not_found found leaf (sym e) (h
 path_found {t} {node} leaf {found} h (Some z) e =
     least_of t node (entry_of (IsFirst t.propositions (tree_of t node) 0) found leaf (firsts h) (sym e))
 
-any_more : (P : ℕ × ℕ → Type 0) (x : ℕ × ℕ) (xs : List (ℕ × ℕ)) → Any P xs → Any P (x ∷ xs)
-any_more P x xs h = (suc h.0, h.1, omega (arith, h.2), h.3, h.4)
-
-any_case : (k place leaf : ℕ) {z : ℕ} (rest : List (ℕ × ℕ)) (b : Bool) → nat_eq leaf k ≡ b →
-    (lookup (nat_eq leaf) rest ≡ Some z → Any (λ pair. pair.0 ≡ leaf) rest) →
-    cond b (Some place) (lookup (nat_eq leaf) rest) ≡ Some z → Any (λ pair. pair.0 ≡ leaf) ((k, place) ∷ rest)
-any_case k place leaf rest true is go e = (0, (k, place), omega arith, refl, sym (eqb-true leaf k is))
-any_case k place leaf rest false is go e = any_more (λ pair. pair.0 ≡ leaf) (k, place) rest (go e)
-
 any_of_found : (es : List (ℕ × ℕ)) (leaf : ℕ) {z : ℕ} → lookup (nat_eq leaf) es ≡ Some z →
     Any (λ pair. pair.0 ≡ leaf) es
-any_of_found [] leaf {z} e = let x : None ≡ Some z = e in cc
-any_of_found ((k, place) ∷ es) leaf {z} e = any_case k place leaf es (nat_eq leaf k) refl (any_of_found es leaf) e
+any_of_found [] leaf e = cc
+any_of_found ((k, place) ∷ es) leaf e = elim (bool_cases (nat_eq leaf k)) [
+  | inl is ↦ (0, (k, place), omega arith, refl, sym (eqb-true leaf k is))
+  | inr isnt ↦
+      let later = any_of_found es leaf (rw isnt at e) in
+      (suc later.0, later.1, omega (arith, later.2), later.3, later.4)
+]
 
 pairs_of : (es : List (ℕ × ℕ)) → AreRising es → AllPairs (λ a b. IsBefore a.1 b.1) es
-pairs_of [] h = λ i j d lt below. absurd (omega (arith, below))
+pairs_of [] h = λ i j d lt below. absurd (omega arith)
 pairs_of (x ∷ es) h =
     AllPairs-cons (λ a b. IsBefore a.1 b.1) x es (All-from_recursion (λ later. IsBefore x.1 later.1) es h.0)
     (pairs_of es h.1)

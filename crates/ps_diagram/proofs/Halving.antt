@@ -1,14 +1,14 @@
 -- Rows of nodes, proposition by proposition.
-use Rattle.std.proofs.Common.{◌≡◌, ℕ, suc, ◌+◌, ◌*◌, ◌%◌, ◌^◌, ◌<◌, ◌≤◌, Bool, true, false, cond, List, [], ◌∷◌, ◌++◌}
-use Rattle.std.proofs.Common.{length, length-append, get_or, min, Option, None, ap, sym, subst, ◌∙◌, arith, inl, inr}
+use Rattle.std.proofs.Common.{◌≡◌, ℕ, suc, ◌+◌, ◌*◌, ◌%◌, ◌^◌, ◌<◌, ◌≤◌, true, false, List, [], ◌∷◌, ◌++◌}
+use Rattle.std.proofs.Common.{length, length-append, get_or, min, Option, None, ap, sym, ◌∙◌, add-one, arith, inl, inr}
 use Rattle.std.proofs.Common.{◌⊎◌}
 use Rattle.std.specs.List.{slice_get}
 use Rattle.std.specs.Int.{bit_at}
 use Rattle.std.proofs.lemmas.Bool.{eqb-true, eqb-false, cases_lt}
-use Rattle.std.proofs.lemmas.List.{get_or_append_left, get_or_push, get_or_past}
+use Rattle.std.proofs.lemmas.List.{get_or_default, get_or_past}
 use Rattle.std.proofs.lemmas.Nat.{pow_pos}
 use Rattle.std.proofs.lemmas.Nat.Bits.{bit_at-lt}
-use Rattle.std.proofs.lemmas.Option.{get_or_from_slice_get, slice_get-get_or, slice_get_past}
+use Rattle.std.proofs.lemmas.Option.{slice_get_past}
 use Rattle.std.proofs.Math.Arith.{mod-mul}
 use Rattle.std.proofs.Math.Nat.{pow-suc, mod-eq_of_lt, mod-lt}
 use Rattle.std.proofs.Math.Pow.{pow_mono}
@@ -16,70 +16,48 @@ use Rattle.ps_label.specs.Truth.{is_in}
 use Rattle.ps_diagram.specs.Letters.{assignment}
 use Rattle.ps_diagram.specs.Rows.{AreLeafNodes, HasLeaf, IsRow, LeadsOn}
 use Rattle.ps_diagram.specs.Table.{Table, IsNode, Keeps, leaf_of, tree_of}
-use Rattle.ps_diagram.specs.Tree.{Tree, leaf_at, IsBlind, IsTestOf}
+use Rattle.ps_diagram.specs.Tree.{IsTestOf}
 use Rattle.ps_diagram.proofs.Alone.{empty_blind, test_blind}
-use Rattle.ps_diagram.proofs.Cells.{bool_cases, old_or_new}
-use Rattle.ps_diagram.proofs.KnownLemmas.{kept}
+use Rattle.ps_diagram.proofs.Cells.{bool_cases, push_each}
 
 -- ## Letters by their first propositions
 
 pub one_bit : (p : ℕ) → p < 64 → 1 * 2 ^ p % 2 ^ 64 ≡ 2 ^ p
 one_bit p h =
-    let small : suc p ≤ 64 = omega (arith, h) in
+    let small : suc p ≤ 64 = omega arith in
     let one : 1 * 2 ^ p ≡ 2 ^ p = omega arith in
-    let below : 2 ^ p < 2 ^ 64 = omega (arith, pow_mono {i = suc p} {j = 64} small, pow-suc 2 p, pow_pos p) in
-    ap (λ x. x % 2 ^ 64) one ∙ mod-eq_of_lt below
+    rw one (mod-eq_of_lt (omega (arith, pow_mono {i = suc p} {j = 64} small, pow-suc 2 p, pow_pos p)))
 
 pub few_bits : (p : ℕ) → p < 64 → 2 ^ p ≤ 2 ^ 63
-few_bits p h = let small : p ≤ 63 = omega (arith, h) in pow_mono {i = p} {j = 63} small
+few_bits p h = let small : p ≤ 63 = omega arith in pow_mono {i = p} {j = 63} small
 
 first_bits : (p letter : ℕ) → letter % 2 ^ (p + 1) ≡ bit_at letter p * 2 ^ p + letter % 2 ^ p
 first_bits p letter =
-    let next : p + 1 ≡ suc p = omega arith in
-    let two : 2 ^ p * 2 ≡ 2 * 2 ^ p = omega arith in
-    let twice : 2 ^ (p + 1) ≡ 2 * 2 ^ p = ap (λ k. 2 ^ k) next ∙ pow-suc 2 p ∙ two in
-    ap (λ m. letter % m) twice ∙ mod-mul letter {m = 2} {c = 2 ^ p} (omega arith) (pow_pos p)
+    let twice : 2 ^ (p + 1) ≡ 2 * 2 ^ p = rw add-one (omega (arith, pow-suc 2 p)) in
+    rw twice (mod-mul letter {m = 2} {c = 2 ^ p} (omega arith) (pow_pos p))
 
 bits_below : (p letter : ℕ) → is_in p letter ≡ false → letter % 2 ^ (p + 1) ≡ letter % 2 ^ p
 bits_below p letter isnt =
-    let bit : bit_at letter p < 2 = bit_at-lt letter p in
-    let not : bit_at letter p ≡ 1 → ⊥ = eqb-false (bit_at letter p) 1 isnt in
-    let is : bit_at letter p ≡ 0 = omega (arith, bit, not) in
-    let none : 0 * 2 ^ p + letter % 2 ^ p ≡ letter % 2 ^ p = omega arith in
-    first_bits p letter ∙ ap (λ b. b * 2 ^ p + letter % 2 ^ p) is ∙ none
+    let is : bit_at letter p ≡ 0 = omega (arith, bit_at-lt letter p, eqb-false (bit_at letter p) 1 isnt) in
+    rw (first_bits p letter, is) (omega arith)
 
 bits_above : (p letter : ℕ) → is_in p letter ≡ true → letter % 2 ^ (p + 1) ≡ 2 ^ p + letter % 2 ^ p
 bits_above p letter is =
-    let one : 1 * 2 ^ p + letter % 2 ^ p ≡ 2 ^ p + letter % 2 ^ p = omega arith in
-    first_bits p letter ∙ ap (λ b. b * 2 ^ p + letter % 2 ^ p) (eqb-true (bit_at letter p) 1 is) ∙ one
+    rw (first_bits p letter, eqb-true (bit_at letter p) 1 is) (omega arith)
 
 bits_rise : (p letter : ℕ) → letter % 2 ^ p ≤ letter % 2 ^ (p + 1)
 bits_rise p letter = omega (arith, first_bits p letter)
 
 -- ## One node more
 
-push_each : (P : ℕ → ℕ → Type 0) (xs : List ℕ) {more : List ℕ} (x : ℕ) {count : ℕ} → length xs ≡ count →
-    more ≡ xs ++ x ∷ [] → ((i : ℕ) → i < count → P i (get_or xs i 0)) → P count x → (i : ℕ) → i < count + 1 →
-    P i (get_or more i 0)
-push_each P xs {more} x {count} size is each last i lt = elim (old_or_new i count lt) [
-  | inl before ↦ (
-      let same : get_or more i 0 ≡ get_or xs i 0 = ap (λ (ys : List ℕ). get_or ys i 0) is
-      ∙ get_or_append_left xs (x ∷ []) 0 i (omega (arith, before, size)) in
-      subst (P i) (sym same) (each i before))
-  | inr here ↦ (
-      let at : get_or more i 0 ≡ x = ap (λ (ys : List ℕ). get_or ys i 0) is ∙ get_or_push xs x 0 i (size ∙ sym here) in
-      subst (P i) (sym at) (subst (λ (k : ℕ). P k x) (sym here) last))
-]
-
 push_length : (xs : List ℕ) {more : List ℕ} (x : ℕ) {count : ℕ} → length xs ≡ count → more ≡ xs ++ x ∷ [] →
     length more ≡ count + 1
 push_length xs x size is =
-    let len : length (xs ++ x ∷ []) ≡ length xs + 1 = length-append xs (x ∷ []) in
-    omega (arith, ap length is, len, size)
+    omega (arith, ap length is, length-append xs (x ∷ []), size)
 
 pub has_leaf_kept : {t u : Table} → Keeps t u → (node : ℕ) (leaf : Option ℕ) → HasLeaf t node leaf → HasLeaf u node leaf
 has_leaf_kept {t} {u} k node leaf h =
-    (k.held node h.0, kept (λ (x : Tree). (f : ℕ → Bool) → leaf_at x f ≡ leaf) k h.0 h.1)
+    (k.held node h.0, rw (k.same node h.0) h.1)
 
 pub leaf_nodes_kept : {t u : Table} {leaves nodes : List ℕ} {count : ℕ} → Keeps t u →
     AreLeafNodes t leaves count nodes → AreLeafNodes u leaves count nodes
@@ -93,26 +71,17 @@ pub leaf_nodes_more : {t u : Table} {leaves nodes more : List ℕ} {count : ℕ}
     HasLeaf u node (slice_get leaves count) → AreLeafNodes u leaves (count + 1) more
 leaf_nodes_more {t} {u} {leaves} {nodes} {more} {count} node k a is h = record {
   one_each = push_length nodes node a.one_each is;
-  each = push_each (λ i x. HasLeaf u x (slice_get leaves i)) nodes node a.one_each is (leaf_nodes_kept k a).each h;
+  each = push_each (λ i x. HasLeaf u x (slice_get leaves i)) 0 nodes node a.one_each is (leaf_nodes_kept k a).each h;
 }
 
 -- ## The first row
-
-same_default : (xs : List ℕ) (i other : ℕ) → i < length xs → get_or xs i other ≡ get_or xs i 0
-same_default xs i other lt = get_or_from_slice_get xs i (get_or xs i 0) other (slice_get-get_or xs i 0 lt)
 
 module _ {t : Table} {leaves nodes : List ℕ} (none : ℕ) (nothing : HasLeaf t none None)
     (a : AreLeafNodes t leaves (length leaves) nodes) where
   leaf_there : (i : ℕ) → HasLeaf t (get_or nodes i none) (slice_get leaves i)
   leaf_there i = elim (cases_lt i (length leaves)) [
-    | inl lt ↦ (
-        let size = a.one_each in
-        subst (λ (x : ℕ). HasLeaf t x (slice_get leaves i)) (sym (same_default nodes i none (omega (arith, lt, size))))
-        (a.each i lt))
-    | inr past ↦ (
-        let size = a.one_each in
-        subst (λ (x : ℕ). HasLeaf t x (slice_get leaves i)) (sym (get_or_past nodes i none (omega (arith, past, size))))
-        (subst (HasLeaf t none) (sym (slice_get_past leaves i past)) nothing))
+    | inl lt ↦ rw (get_or_default nodes i none 0 (omega (arith, a.one_each))) (a.each i lt)
+    | inr past ↦ rw (get_or_past nodes i none (omega (arith, a.one_each)), slice_get_past leaves i past) nothing
   ]
 
   pub first_row : IsRow t t.propositions none nodes
@@ -143,20 +112,15 @@ pub tests_more : {t u v : Table} {p none half : ℕ} {nodes : List ℕ} {count :
     TestsAt t v p none half nodes count node → AreTests t v p none half nodes (count + 1) more
 tests_more {t} {u} {v} {p} {none} {half} {nodes} {count} {made} {more} node k a is h = record {
   one_each = push_length made node a.one_each is;
-  each = push_each (TestsAt t v p none half nodes) made node a.one_each is (λ i lt. (
-    k.held _ (a.each i lt).0,
-    kept (IsTestOf p (tree_of t (get_or nodes i none))
-        (tree_of t (get_or nodes (half + i) none))) k (a.each i lt).0 (a.each i lt).1,
-  )) h;
+  each = push_each (TestsAt t v p none half nodes) 0 made node a.one_each is
+      (λ i lt. let one = a.each i lt in (k.held _ one.0, rw (k.same _ one.0) one.1)) h;
 }
 
 -- all places are done
 pub all_tests : {t u : Table} {p none half : ℕ} {nodes : List ℕ} {count : ℕ} {made : List ℕ} → half ≡ 2 ^ p →
     count ≡ min (length nodes) (2 ^ p) → AreTests t u p none half nodes count made →
     AreTests t u p none (2 ^ p) nodes (min (length nodes) (2 ^ p)) made
-all_tests {t} {u} {p} {none} {nodes} {count} {made} is done a =
-    subst (λ n. AreTests t u p none (2 ^ p) nodes n made) done
-    (subst (λ h. AreTests t u p none h nodes count made) is a)
+all_tests is done a = rw (is, done) at a
 
 module _ {t u : Table} {p none : ℕ} {nodes made : List ℕ} (row : IsRow t (p + 1) none nodes) (keeps : Keeps t u)
     (a : AreTests t u p none (2 ^ p) nodes (min (length nodes) (2 ^ p)) made) where
@@ -167,14 +131,8 @@ module _ {t u : Table} {p none : ℕ} {nodes made : List ℕ} (row : IsRow t (p 
   made_there : (i : ℕ) → Made i
   unfolding Made
   made_there i = elim (cases_lt i (min (length nodes) (2 ^ p))) [
-    | inl lt ↦ (
-        let size = a.one_each in
-        inl (
-          omega (arith, lt),
-          subst (TestsAt t u p none (2 ^ p) nodes i)
-              (sym (same_default made i none (omega (arith, lt, size)))) (a.each i lt),
-        ))
-    | inr past ↦ (let size = a.one_each in inr (get_or_past made i none (omega (arith, past, size))))
+    | inl lt ↦ inl (omega arith, rw (get_or_default made i none 0 (omega (arith, a.one_each))) (a.each i lt))
+    | inr past ↦ inr (get_or_past made i none (omega (arith, a.one_each)))
   ]
 
   nothing_now : HasLeaf u none None
@@ -184,11 +142,11 @@ module _ {t u : Table} {p none : ℕ} {nodes made : List ℕ} (row : IsRow t (p 
   unfolding Made
   half_row = record {
     nothing = nothing_now;
-    held = λ i. elim (made_there i) [ inl h ↦ h.1.0 | inr is ↦ subst (IsNode u) (sym is) nothing_now.0 ];
+    held = λ i. elim (made_there i) [ inl h ↦ h.1.0 | inr is ↦ rw is nothing_now.0 ];
     later = λ i. elim (made_there i) [
       | inl h ↦ test_blind p (tree_of t (get_or nodes i none)) (tree_of t (get_or nodes (2 ^ p + i) none))
           (tree_of u (get_or made i none)) h.1.1 (row.later i) (row.later (2 ^ p + i))
-      | inr is ↦ subst (λ (x : ℕ). IsBlind p (tree_of u x)) (sym is) (empty_blind p (tree_of u none) nothing_now.1)
+      | inr is ↦ rw is (empty_blind p (tree_of u none) nothing_now.1)
     ];
   }
 
@@ -196,42 +154,25 @@ module _ {t u : Table} {p none : ℕ} {nodes made : List ℕ} (row : IsRow t (p 
   leads_by : (letter : ℕ) → IsTestOf p (tree_of t (get_or nodes (letter % 2 ^ p) none))
       (tree_of t (get_or nodes (2 ^ p + letter % 2 ^ p) none)) (tree_of u (get_or made (letter % 2 ^ p) none)) →
       leaf_of u (get_or made (letter % 2 ^ p) none) letter ≡ leaf_of t (get_or nodes (letter % 2 ^ (p + 1)) none) letter
-  leads_by letter h =
-      let f = assignment letter in
-      let low = leaf_of t (get_or nodes (letter % 2 ^ p) none) letter in
-      let high = leaf_of t (get_or nodes (2 ^ p + letter % 2 ^ p) none) letter in
-      elim (bool_cases (is_in p letter)) [
-        | inl is ↦ h f ∙ ap (λ b. cond b high low) is ∙ ap (λ i. leaf_of t (get_or nodes i none) letter)
-            (sym (bits_above p letter is))
-        | inr isnt ↦ h f ∙ ap (λ b. cond b high low) isnt ∙ ap (λ i. leaf_of t (get_or nodes i none) letter)
-            (sym (bits_below p letter isnt))
-      ]
-
-  made_within : (letter : ℕ) → letter % 2 ^ p < min (length nodes) (2 ^ p) ⊎ (length nodes ≤ letter % 2 ^ p)
-  made_within letter = elim (cases_lt (letter % 2 ^ p) (length nodes)) [
-    | inl lt ↦ (let small : letter % 2 ^ p < 2 ^ p = mod-lt letter (pow_pos p) in inl (omega (arith, lt, small)))
-    | inr past ↦ inr past
-  ]
+  leads_by letter h = rw (h (assignment letter)) (elim (bool_cases (is_in p letter)) [
+    | inl is ↦ rw (is, bits_above p letter is)
+    | inr isnt ↦ rw (isnt, bits_below p letter isnt)
+  ])
 
   leads_here : (letter : ℕ) → leaf_of u (get_or made (letter % 2 ^ p) none) letter ≡ leaf_of t
       (get_or nodes (letter % 2 ^ (p + 1)) none) letter
-  leads_here letter = elim (made_within letter) [
+  leads_here letter = elim (cases_lt (letter % 2 ^ p) (length nodes)) [
     | inl lt ↦ (
-        let size = a.one_each in
-        let test = subst (TestsAt t u p none (2 ^ p) nodes (letter % 2 ^ p))
-        (sym (same_default made (letter % 2 ^ p) none (omega (arith, lt, size)))) (a.each (letter % 2 ^ p) lt) in
-        leads_by letter test.1)
-    | inr past ↦ (
-        let size = a.one_each in
-        let rise = bits_rise p letter in
-        let now : get_or made (letter % 2 ^ p) none ≡ none =
-        get_or_past made (letter % 2 ^ p) none (omega (arith, past, size)) in
-        let was : get_or nodes (letter % 2 ^ (p + 1)) none ≡ none =
-        get_or_past nodes (letter % 2 ^ (p + 1)) none (omega (arith, past, rise)) in
-        ap (λ i. leaf_of u i letter) now ∙ nothing_now.1 (assignment letter) ∙ sym (row.nothing.1 (assignment letter))
-        ∙ ap (λ i. leaf_of t i letter) (sym was))
+        let small : letter % 2 ^ p < 2 ^ p = mod-lt letter (pow_pos p) in
+        let test = a.each (letter % 2 ^ p) (omega arith) in
+        leads_by letter (rw (get_or_default made (letter % 2 ^ p) none 0 (omega (arith, a.one_each))) test.1))
+    | inr past ↦
+        rw (
+          get_or_past made (letter % 2 ^ p) none (omega (arith, a.one_each)),
+          get_or_past nodes (letter % 2 ^ (p + 1)) none (omega (arith, bits_rise p letter)),
+        ) (nothing_now.1 (assignment letter) ∙ sym (row.nothing.1 (assignment letter)))
   ]
 
   pub half_leads : (leaves : List ℕ) → LeadsOn t leaves (p + 1) none nodes → LeadsOn u leaves p none made
   half_leads leaves leads letter =
-      leads_here letter ∙ leads letter ∙ ap (λ n. slice_get leaves (letter % 2 ^ n)) (sym keeps.propositions)
+      leads_here letter ∙ rw keeps.propositions (leads letter)

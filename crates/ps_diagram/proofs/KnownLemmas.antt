@@ -1,11 +1,11 @@
 -- What is known stays known as the table grows, and one more is known.
-use Rattle.std.proofs.Common.{◌≡◌, ℕ, cond, eqb, Option, Some, None, refl, ap, sym, subst, ◌∙◌, inl, inr}
+use Rattle.std.proofs.Common.{◌≡◌, ℕ, Bool, true, cond, eqb, Option, Some, None, sym, ◌∙◌, inl, inr}
 use Rattle.std.specs.Option.{unwrap_or}
 use Rattle.std.proofs.lemmas.Bool.{eqb-true}
 use Rattle.ps_diagram.specs.Tree.{Tree}
 use Rattle.ps_diagram.specs.Table.{Table, IsNode, Keeps, tree_of}
 use Rattle.ps_diagram.specs.Known.{Knows, KnowsPairs, pair_eq}
-use Rattle.ps_diagram.proofs.Cells.{bool_cases}
+use Rattle.ps_diagram.proofs.Cells.{bool_cases, keeps_refl}
 use Rattle.ps_diagram.proofs.Keys.{and_both}
 
 pub keeps_trans : {t u v : Table} → Keeps t u → Keeps u v → Keeps t v
@@ -15,86 +15,56 @@ keeps_trans a b = record {
   same = λ node h. b.same node (a.held node h) ∙ a.same node h;
 }
 
-pub keeps_itself : (t : Table) → Keeps t t
-keeps_itself t = record { propositions = refl; held = λ node h. h; same = λ node h. refl }
-
 -- the table that is read, another one or else the one that grows
 pub read_keeps : (other : Option Table) {t u : Table} → Keeps t u → Keeps (unwrap_or other t) (unwrap_or other u)
 read_keeps None k = k
-read_keeps (Some s) k = keeps_itself s
+read_keeps (Some s) k = keeps_refl s
 
 pub kept : (P : Tree → Type 0) {t u : Table} → Keeps t u → {node : ℕ} → IsNode t node → P (tree_of t node) →
     P (tree_of u node)
-kept P k {node} h p = subst P (sym (k.same node h)) p
-
-pub back : (P : Tree → Type 0) {t u : Table} → Keeps t u → {node : ℕ} → IsNode t node → P (tree_of u node) →
-    P (tree_of t node)
-back P k {node} h p = subst P (k.same node h) p
-
-nat_in : Option ℕ → ℕ
-nat_in None = 0
-nat_in (Some k) = k
+kept P k {node} h p = rw (k.same node h) p
 
 pub some_nat : (x y : ℕ) → Some x ≡ Some y → x ≡ y
-unfolding nat_in
-some_nat x y e = ap nat_in e
+some_nat x y e = cc
 
 pub knows_kept : (R : Tree → Tree → Type 0) (s s' t t' : Table) (known : ℕ → Option ℕ) → Keeps s s' → Keeps t t' →
     Knows R s t known → Knows R s' t' known
 knows_kept R s s' t t' known j k h node made e =
-    let r = h node made e in (
-      j.held node r.0,
-      k.held made r.1,
-      kept (λ x. R x (tree_of t' made)) j r.0 (kept (λ y. R (tree_of s node) y) k r.1 r.2),
-    )
+    let r = h node made e in (j.held node r.0, k.held made r.1, rw (j.same node r.0, k.same made r.1) r.2)
+
+pub pairs_kept : (R : Tree → Tree → Tree → Type 0) {t u : Table} (known : ℕ × ℕ → Option ℕ) → Keeps t u →
+    KnowsPairs R t known → KnowsPairs R u known
+pairs_kept R known k h a b made e =
+    let r = h a b made e in
+    (k.held a r.0, k.held b r.1, k.held made r.2, rw (k.same a r.0, k.same b r.1, k.same made r.2) r.3)
+
+-- one more key has a value
+pub one_more : {K : Type 0} (F : K → ℕ → Type 0) (eq : K → K → Bool) → ((a b : K) → eq a b ≡ true → a ≡ b) →
+    (known new : K → Option ℕ) {key : K} {value : ℕ} →
+    ((q : K) → new q ≡ cond (eq key q) (Some value) (known q)) →
+    ((q : K) (made : ℕ) → known q ≡ Some made → F q made) → F key value → (q : K) (made : ℕ) → new q ≡ Some made →
+    F q made
+one_more F eq same known new {key} {value} update h f q made e = elim (bool_cases (eq key q)) [
+  | inl is ↦
+      let new_is = rw is at (update q) in
+      let value_is : value ≡ made = cc in
+      rw (← same key q is, ← value_is) f
+  | inr isnt ↦ h q made (sym (rw isnt at (update q)) ∙ e)
+]
 
 pub knows_more : (R : Tree → Tree → Type 0) (s t : Table) (known new : ℕ → Option ℕ) {key value : ℕ} →
     ((q : ℕ) → new q ≡ cond (eqb key q) (Some value) (known q)) →
     Knows R s t known → IsNode s key → IsNode t value → R (tree_of s key) (tree_of t value) → Knows R s t new
-knows_more R s t known new {key} {value} update h hk hv r node made e = elim (bool_cases (eqb key node)) [
-  | inl is ↦
-      let same : key ≡ node = eqb-true key node is in
-      let value_is : value ≡ made =
-      some_nat value made (sym (update node ∙ ap (λ b. cond b (Some value) (known node)) is) ∙ e) in
-      let P : ℕ → Type 0 = λ k. IsNode s k × IsNode t made × R (tree_of s k) (tree_of t made) in
-      let Q : ℕ → Type 0 = λ v. IsNode s key × IsNode t v × R (tree_of s key) (tree_of t v) in
-      subst P same (subst Q value_is (hk, hv, r))
-  | inr isnt ↦ h node made (sym (update node ∙ ap (λ b. cond b (Some value) (known node)) isnt) ∙ e)
-]
+knows_more R s t known new update h hk hv r =
+    one_more (λ k v. IsNode s k × IsNode t v × R (tree_of s k) (tree_of t v)) eqb eqb-true known new update h (hk, hv, r)
 
-pub pairs_kept : (R : Tree → Tree → Tree → Type 0) {t u : Table} (known : ℕ × ℕ → Option ℕ) → Keeps t u →
-    KnowsPairs R t known → KnowsPairs R u known
-pairs_kept R {t} {u} known k h a b made e =
-    let r = h a b made e in (
-      k.held a r.0,
-      k.held b r.1,
-      k.held made r.2,
-      kept (λ x. R x (tree_of u b) (tree_of u made)) k r.0 (kept (λ y. R (tree_of t a) y (tree_of u made)) k r.1
-          (kept (λ z. R (tree_of t a) (tree_of t b) z) k r.2 r.3)),
-    )
+pair_same : (a b : ℕ × ℕ) → pair_eq a b ≡ true → a ≡ b
+pair_same (x, y) (a, b) e =
+    let both = and_both (eqb x a) (eqb y b) e in cc (eqb-true x a both.0, eqb-true y b both.1)
 
 pub pairs_more : (R : Tree → Tree → Tree → Type 0) (t : Table) (known new : ℕ × ℕ → Option ℕ) {x y value : ℕ} →
     ((q : ℕ × ℕ) → new q ≡ cond (pair_eq (x, y) q) (Some value) (known q)) → KnowsPairs R t known → IsNode t x →
     IsNode t y → IsNode t value → R (tree_of t x) (tree_of t y) (tree_of t value) → KnowsPairs R t new
-pairs_more R t known new {x} {y} {value} update h hx hy hv r a b made e = elim (bool_cases (pair_eq (x, y) (a, b))) [
-  | inl is ↦
-      let both = and_both (eqb x a) (eqb y b) is in
-      let value_is : value ≡ made =
-      some_nat value made (sym (update (a, b) ∙ ap (λ c. cond c (Some value) (known (a, b))) is) ∙ e) in
-      let P : ℕ → Type 0 =
-      λ k. IsNode t k × IsNode t b × IsNode t made × R (tree_of t k) (tree_of t b) (tree_of t made) in
-      let Q : ℕ → Type 0 =
-      λ k. IsNode t x × IsNode t k × IsNode t made × R (tree_of t x) (tree_of t k) (tree_of t made) in
-      let V : ℕ → Type 0 =
-      λ v. IsNode t x × IsNode t y × IsNode t v × R (tree_of t x) (tree_of t y) (tree_of t v) in
-      subst P (eqb-true x a both.0) (subst Q (eqb-true y b both.1) (subst V value_is (hx, hy, hv, r)))
-  | inr isnt ↦ h a b made (sym (update (a, b) ∙ ap (λ c. cond c (Some value) (known (a, b))) isnt) ∙ e)
-]
-
-pub pairs_same : (R : Tree → Tree → Tree → Type 0) (t : Table) (known new : ℕ × ℕ → Option ℕ) →
-    ((q : ℕ × ℕ) → new q ≡ known q) → KnowsPairs R t known → KnowsPairs R t new
-pairs_same R t known new e h a b made is = h a b made (sym (e (a, b)) ∙ is)
-
-pub knows_same : (R : Tree → Tree → Type 0) (s t : Table) (known new : ℕ → Option ℕ) → ((q : ℕ) → new q ≡ known q) →
-    Knows R s t known → Knows R s t new
-knows_same R s t known new e h a made is = h a made (sym (e a) ∙ is)
+pairs_more R t known new update h hx hy hv r a b =
+    one_more (λ k v. IsNode t k.0 × IsNode t k.1 × IsNode t v × R (tree_of t k.0) (tree_of t k.1) (tree_of t v)) pair_eq
+    pair_same known new update (λ k. h k.0 k.1) (hx, hy, hv, r) (a, b)

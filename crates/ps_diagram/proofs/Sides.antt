@@ -1,12 +1,11 @@
 -- Nodes split at a proposition.
-use Rattle.std.proofs.Common.{◌≡◌, ℕ, ◌+◌, ◌<◌, ◌≤◌, Some, None, refl, arith, min, inl, inr, ◌⊎◌, ltb}
-use Rattle.std.proofs.lemmas.Bool.{ltb-true, ltb-false}
-use Rattle.ps_diagram.specs.Tree.{Tree, empty, final, choice, IsFrom}
+use Rattle.std.proofs.Common.{◌≡◌, ℕ, ◌+◌, ◌<◌, ◌≤◌, Bool, true, false, cond, Some, None, refl, arith, min, inl, inr}
+use Rattle.std.proofs.lemmas.Bool.{cases_lt}
+use Rattle.ps_diagram.specs.Tree.{Tree, empty, final, choice, leaf_at, IsFrom}
 use Rattle.ps_diagram.specs.Table.{Table, IsNode, IsSoundTable, tree_of}
 use Rattle.ps_diagram.specs.Parts.{IsChoice}
 use Rattle.ps_diagram.specs.Split.{root_of, IsConstant, IsSides}
-use Rattle.ps_diagram.proofs.Cells.{bool_cases}
-use Rattle.ps_diagram.proofs.Canon.{blind-from, same_sides, test_from}
+use Rattle.ps_diagram.proofs.Canon.{blind-from, changed, same_cond, side_leaf}
 
 pub sides_of_test : {t : Table} {node p low high : ℕ} → IsChoice t node p low high → IsSides t node p low high
 sides_of_test {t} {node} {p} {low} {high} h = record {
@@ -16,13 +15,13 @@ sides_of_test {t} {node} {p} {low} {high} h = record {
   high_before = omega (arith, h.high_earlier);
   low_later = blind-from (p + 1) t.propositions (tree_of t low) h.low_from;
   high_later = blind-from (p + 1) t.propositions (tree_of t high) h.high_from;
-  leaf = test_from p (tree_of t low) (tree_of t high) h.tree;
+  leaf = λ f. rw h.tree;
 }
 
 from_root : (n p : ℕ) (t : Tree) → IsFrom 0 n t → p < root_of n t → IsFrom (p + 1) n t
 from_root n p empty o h = tt
 from_root n p (final k) o h = tt
-from_root n p (choice q low high) o h = (omega (arith, h), o.1, o.2, o.3)
+from_root n p (choice q low high) o h = (omega arith, o.1, o.2, o.3)
 
 pub sides_of_later : {t : Table} {node : ℕ} (p : ℕ) → IsSoundTable t → IsNode t node →
     p < root_of t.propositions (tree_of t node) → IsSides t node p node node
@@ -36,32 +35,26 @@ sides_of_later {t} {node} p s h lt =
       high_before = omega arith;
       low_later = later;
       high_later = later;
-      leaf = same_sides p (tree_of t node);
+      leaf = λ f. same_cond (f p) (leaf_at (tree_of t node) f);
     }
 
 pub constant_root : (n : ℕ) (t : Tree) → IsFrom 0 n t → n ≤ root_of n t → IsConstant t
 constant_root n empty o h = (None, (λ f. refl))
 constant_root n (final k) o h = (Some k, (λ f. refl))
-constant_root n (choice p low high) o h = absurd (omega (arith, o.1, h))
+constant_root n (choice p low high) o h = absurd (omega arith)
 
-pub split_named : (a b n : ℕ) {r : ℕ} → r ≡ min a b → a ≤ n → b ≤ n → (r ≡ n → ⊥) → r < n
-split_named a b n e ha hb ne = omega (arith, e, ha, hb, ne)
+-- the leaf of a side is the node's at a letter changed there
+pub side_at : {t : Table} {node p low high : ℕ} (v : Bool) → IsSides t node p low high → (f : ℕ → Bool) →
+    leaf_at (tree_of t node) (changed f p v) ≡ leaf_at (tree_of t (cond v high low)) f
+side_at {t} {node} {p} {low} {high} true s =
+    side_leaf p true (tree_of t node) (tree_of t low) (tree_of t high) s.leaf s.low_later s.high_later
+side_at {t} {node} {p} {low} {high} false s =
+    side_leaf p false (tree_of t node) (tree_of t low) (tree_of t high) s.leaf s.low_later s.high_later
 
-pub min_left : (a b : ℕ) {r : ℕ} → r ≡ min a b → r ≤ a
-min_left a b e = omega (arith, e)
-
-pub min_right : (a b : ℕ) {r : ℕ} → r ≡ min a b → r ≤ b
-min_right a b e = omega (arith, e)
-
-least_of : (a b : ℕ) {r : ℕ} → r ≡ min a b → (a ≡ r) ⊎ (b ≡ r)
-least_of a b e = elim (bool_cases (ltb a b)) [
-  | inl is ↦ inl (let h = ltb-true a b is in omega (arith, e, h))
-  | inr isnt ↦ inr (let h = ltb-false a b isnt in omega (arith, e, h))
-]
-
+-- of two places that fall, one does at least, the one that is the least
 pub falls : (a b : ℕ) {r : ℕ} (first second x y : ℕ) → r ≡ min a b → x ≤ first → y ≤ second → (a ≡ r → x < first) →
     (b ≡ r → y < second) → x + y < first + second
-falls a b {r} first second x y e hx hy lx ly = elim (least_of a b e) [
-  | inl is ↦ (let h = lx is in omega (arith, h, hy))
-  | inr is ↦ (let h = ly is in omega (arith, h, hx))
+falls a b first second x y e hx hy lx ly = elim (cases_lt a b) [
+  | inl lt ↦ omega (arith, lx (omega arith))
+  | inr ge ↦ omega (arith, ly (omega arith))
 ]

@@ -1,23 +1,22 @@
 -- Diagrams of truths: what is made of them, and that they stay as the table grows.
 use Rattle.std.proofs.Common.{◌≡◌, ℕ, ◌+◌, ◌<◌, Bool, true, false, cond, List, [], ◌∷◌, ◌++◌, length, get_or, Option}
-use Rattle.std.proofs.Common.{Some, refl, ap, sym, subst, ◌∙◌, arith, drop, drop-cons, add-one, inl, inr, length-append}
-use Rattle.std.proofs.lemmas.List.{get_or_append_left, get_or_push, get_or-map, length-map}
+use Rattle.std.proofs.Common.{Some, refl, ap, sym, ◌∙◌, arith, drop, drop-cons, add-one, length-append}
+use Rattle.std.proofs.lemmas.List.{get_or-map, length-map}
 use Rattle.ps_label.specs.declared.label.Label.{Label}
-use Rattle.ps_label.specs.Expression.{Expression, Operands, constant, more, AreOrdered, expression, row_of}
-use Rattle.ps_label.specs.Truth.{alias_truths, expressions, truth, all_true, any_true}
+use Rattle.ps_label.specs.Expression.{constant, AreOrdered, expression}
+use Rattle.ps_label.specs.Truth.{alias_truths, expressions, truth}
 use Rattle.ps_label.proofs.Tables.{table}
 use Rattle.ps_diagram.specs.declared.fault.OverlayError.TheVariants.{Clash}
 use Rattle.ps_diagram.specs.Clashes.{TellsClash}
 use Rattle.ps_diagram.specs.Leaves.{joined, opposite}
-use Rattle.ps_diagram.specs.Labels.{one_where, IsOneOrNone, IsOver, AreOver, AreOverFrom, HaveTruths}
+use Rattle.ps_diagram.specs.Labels.{one_where, IsOneOrNone, HaveTruths}
 use Rattle.ps_diagram.specs.Letters.{assignment}
 use Rattle.ps_diagram.specs.Tree.{leaf_at}
 use Rattle.ps_diagram.specs.Table.{Table, IsNode, Keeps, leaf_of}
-use Rattle.ps_diagram.proofs.Cells.{old_or_new}
-use Rattle.ps_diagram.proofs.KnownLemmas.{some_nat}
+use Rattle.ps_diagram.proofs.Cells.{push_each}
 
 is_one : (b : Bool) {x : ℕ} → one_where b ≡ Some x → x ≡ 1
-is_one true {x} e = sym (some_nat 1 x e)
+is_one true {x} e = cc
 is_one false e = cc
 
 one_leaf : {leaf : Option ℕ} {x : ℕ} → IsOneOrNone leaf → leaf ≡ Some x → x ≡ 1
@@ -86,33 +85,10 @@ all_more {other} b rest h e o j = record {
   decides = all_cases h.so_far b rest ∙ h.decides;
 }
 
--- the operands from a place on are the one there and those behind it
-rest_is : (items : List Label) (k : ℕ) {x : Label} → k < length items → x ≡ get_or items k x →
-    row_of (expressions (drop k items)) ≡ more (expression x) (row_of (expressions (drop (k + 1) items)))
-rest_is items k {x} lt is =
-    let e : drop k items ≡ get_or items k x ∷ drop (k + 1) items = rw (add-one, drop-cons items k x) refl in
-    ap (λ (ls : List Label). row_of (expressions ls)) e ∙ ap (λ (y : Label).
-    more (expression y) (row_of (expressions (drop (k + 1) items)))) (sym is)
-
-pub any_rest : (known : List Bool) (letter : ℕ) (items : List Label) (k : ℕ) {x : Label} → k < length items →
-    x ≡ get_or items k x → any_true known letter (row_of (expressions (drop k items))) ≡ cond
-    (truth known letter (expression x)) true (any_true known letter (row_of (expressions (drop (k + 1) items))))
-any_rest known letter items k {x} lt is = ap (any_true known letter) (rest_is items k lt is)
-
-pub all_rest : (known : List Bool) (letter : ℕ) (items : List Label) (k : ℕ) {x : Label} → k < length items →
-    x ≡ get_or items k x → all_true known letter (row_of (expressions (drop k items))) ≡ cond
-    (truth known letter (expression x)) (all_true known letter (row_of (expressions (drop (k + 1) items)))) false
-all_rest known letter items k {x} lt is = ap (all_true known letter) (rest_is items k lt is)
-
-pub over_rest : (aliases n : ℕ) (items : List Label) (k : ℕ) {x : Label} → k < length items → x ≡ get_or items k x →
-    AreOver aliases n (row_of (expressions (drop k items))) → IsOver aliases n (expression x) ×
-    AreOver aliases n (row_of (expressions (drop (k + 1) items)))
-over_rest aliases n items k {x} lt is h = subst (AreOver aliases n) (rest_is items k lt is) h
-
--- the conditions of a call on a later table
-pub row_kept : {t u : Table} (aliases : ℕ) (es : Operands) → Keeps t u → AreOver aliases t.propositions es →
-    AreOver aliases u.propositions es
-row_kept aliases es k h = subst (λ (n : ℕ). AreOver aliases n es) (sym k.propositions) h
+-- the expressions from a place on are the one there and those behind it
+pub drop_is : (items : List Label) (k : ℕ) {x : Label} → k < length items → x ≡ get_or items k x →
+    expressions (drop k items) ≡ expression x ∷ expressions (drop (k + 1) items)
+drop_is items k {x} lt is = rw (add-one, drop-cons items k x, ← is)
 
 pub some_kept : {t u : Table} {nodes : List ℕ} → Keeps t u → ((known : ℕ → List Bool) × HaveTruths t nodes known) →
     (known : ℕ → List Bool) × HaveTruths u nodes known
@@ -127,21 +103,12 @@ pub truths_push : {t u : Table} {nodes : List ℕ} {node : ℕ} {known : ℕ →
     HaveTruths u (nodes ++ node ∷ []) known
 truths_push {t} {u} {nodes} {node} {known} k h held leaf =
     let old = truths_kept k h in
-    let len : length (nodes ++ node ∷ []) ≡ length nodes + 1 = length-append nodes (node ∷ []) in
-    let last : get_or (nodes ++ node ∷ []) (length nodes) 0 ≡ node = get_or_push nodes node 0 (length nodes) refl in
-    let same : (j : ℕ) → j < length nodes → get_or (nodes ++ node ∷ []) j 0 ≡ get_or nodes j 0 =
-    λ j lt. get_or_append_left nodes (node ∷ []) 0 j lt in
+    let len = length-append nodes (node ∷ []) in
     record {
-      held = λ j lt. elim (old_or_new j (length nodes) (omega (arith, len, lt))) [
-        | inl before ↦ subst (IsNode u) (sym (same j before)) (old.held j before)
-        | inr is ↦ (let P : ℕ → Type 0 = λ i. IsNode u (get_or (nodes ++ node ∷ []) i 0) in
-            subst P (sym is) (subst (IsNode u) (sym last) held))
-      ];
-      leaf = λ j letter lt. elim (old_or_new j (length nodes) (omega (arith, len, lt))) [
-        | inl before ↦ ap (λ x. leaf_of u x letter) (same j before) ∙ old.leaf j letter before
-        | inr is ↦ (let P : ℕ → Type 0 = λ i. leaf_of u (get_or (nodes ++ node ∷ []) i 0) letter ≡ one_where
-            (get_or (known letter) i false) in subst P (sym is) (ap (λ x. leaf_of u x letter) last ∙ leaf letter))
-      ];
+      held = λ j lt. push_each (λ i x. IsNode u x) 0 nodes node refl refl old.held held j (omega arith);
+      leaf = λ j letter lt.
+          push_each (λ i x. leaf_of u x letter ≡ one_where (get_or (known letter) i false)) 0 nodes node refl refl
+          (λ i within. old.leaf i letter within) (leaf letter) j (omega arith);
     }
 
 -- the truth of an alias is that of its expression
@@ -149,21 +116,6 @@ pub alias_truth : (labels : List Label) (letter k : ℕ) {x : Label} → AreOrde
     k < length labels → x ≡ get_or labels k x → get_or (alias_truths (expressions labels) letter) k false ≡ truth
     (alias_truths (expressions labels) letter) letter (expression x)
 alias_truth labels letter k {x} o lt is =
-    let within : k < length (expressions labels) = omega (arith, length-map labels expression, lt) in
-    let at : get_or (expressions labels) k (constant false) ≡ expression x =
+    let there : get_or (expressions labels) k (constant false) ≡ expression x =
     get_or-map expression labels k x (constant false) lt ∙ ap expression (sym is) in
-    (table (expressions labels) letter o).each k within ∙ ap (truth (alias_truths (expressions labels) letter) letter)
-    at
-
-pub aliases_rest : (n k : ℕ) (items : List Label) {x : Label} → k < length items → x ≡ get_or items k x →
-    AreOverFrom k n (expressions (drop k items)) → IsOver k n (expression x) ×
-    AreOverFrom (k + 1) n (expressions (drop (k + 1) items))
-aliases_rest n k items {x} lt is h =
-    let e : drop k items ≡ get_or items k x ∷ drop (k + 1) items = rw (add-one, drop-cons items k x) refl in
-    let at : expressions (drop k items) ≡ expression x ∷ expressions (drop (k + 1) items) =
-    ap expressions e ∙ ap (λ (y : Label). expression y ∷ expressions (drop (k + 1) items)) (sym is) in
-    subst (AreOverFrom k n) at h
-
-pub aliases_kept : {t u : Table} (k : ℕ) (es : List Expression) → Keeps t u → AreOverFrom k t.propositions es →
-    AreOverFrom k u.propositions es
-aliases_kept k es keeps h = subst (λ (n : ℕ). AreOverFrom k n es) (sym keeps.propositions) h
+    rw there at ((table (expressions labels) letter o).each k (omega (arith, length-map labels expression)))

@@ -1,13 +1,12 @@
-use Rattle.std.proofs.Common.{sym, ap, ℕ, nat_eq}
+use Rattle.std.proofs.Common.{sym, ap, nat_eq}
 use Rattle.std.proofs.lemmas.Result.{IfOk-weaker}
 use Rattle.indexmap.specs.IndexMap.{get}
-use Rattle.std.specs.Map.{lookup}
 use Rattle.ps_diagram.specs.Tree.{leaf_at}
 use Rattle.ps_diagram.specs.Table.{tree_of}
 use Rattle.ps_diagram.specs.Rests.{IsDivided, test_eq}
 use Rattle.ps_diagram.proofs.Sides.{sides_of_test}
-use Rattle.ps_diagram.proofs.KnownLemmas.{keeps_trans, knows_more, knows_same}
-use Rattle.ps_diagram.proofs.Dividing.{divided_blind, divided_leads, are_divided}
+use Rattle.ps_diagram.proofs.KnownLemmas.{keeps_trans, knows_more}
+use Rattle.ps_diagram.proofs.Dividing.{divided_blind, divided_leads, divided_side}
 use Rattle.ps_diagram.proofs.Dividing.{sides_divided, known_divided_kept, tests_kept}
 use Rattle.ps_diagram.proofs.store.Store.+divided.Goals as goal
 
@@ -19,35 +18,23 @@ returns-in-Some-clause-leaf t c = (c.requires.known c.args.node c.in-Some.made.n
 
 pub divided_test-requires-clause-low_later : goal.divided_test-requires-clause-low_later
 divided_test-requires-clause-low_later t c =
-    let s = sides_of_test c.in-Test.ensures.part in
-    let both = are_divided c.divided-in-Test.ensures.keeps c.args.split
-    (tree_of c.args.other.now c.in-Test.low) (tree_of c.args.other.now c.in-Test.high) _
-    c.in_ok-low-in-Test.ensures.held c.in_ok-low-in-Test.ensures.leaf c.in_ok-high-in-Test.ensures.leaf in
-    divided_blind c.allocator.ensures.sound c.args.split _ _ _ both.low s.low_later
+    divided_blind c.allocator.ensures.sound c.args.split _ _ _ (divided_side c.divided-in-Test.ensures.keeps
+    c.args.split _ c.in_ok-low-in-Test.ensures.held c.in_ok-low-in-Test.ensures.leaf)
+    (sides_of_test c.in-Test.ensures.part).low_later
 
 pub divided_test-requires-clause-high_later : goal.divided_test-requires-clause-high_later
-divided_test-requires-clause-high_later t c =
-    let s = sides_of_test c.in-Test.ensures.part in
-    let both = are_divided c.divided-in-Test.ensures.keeps c.args.split
-    (tree_of c.args.other.now c.in-Test.low) (tree_of c.args.other.now c.in-Test.high) _
-    c.in_ok-low-in-Test.ensures.held c.in_ok-low-in-Test.ensures.leaf c.in_ok-high-in-Test.ensures.leaf in
-    divided_blind c.allocator.ensures.sound c.args.split _ _ _ both.high s.high_later
+divided_test-requires-clause-high_later t c = divided_blind c.allocator.ensures.sound c.args.split _ _ _
+    c.in_ok-high-in-Test.ensures.leaf (sides_of_test c.in-Test.ensures.part).high_later
 
 pub divided_test-requires-clause-low_leads : goal.divided_test-requires-clause-low_leads
 divided_test-requires-clause-low_leads t c =
-    let s = sides_of_test c.in-Test.ensures.part in
-    let both = are_divided c.divided-in-Test.ensures.keeps c.args.split
-    (tree_of c.args.other.now c.in-Test.low) (tree_of c.args.other.now c.in-Test.high) _
-    c.in_ok-low-in-Test.ensures.held c.in_ok-low-in-Test.ensures.leaf c.in_ok-high-in-Test.ensures.leaf in
-    divided_leads c.divided-in-Test.new.self c.args.split _ _ _ both.low s.low_later
+    divided_leads c.divided-in-Test.new.self c.args.split _ _ _ (divided_side c.divided-in-Test.ensures.keeps
+    c.args.split _ c.in_ok-low-in-Test.ensures.held c.in_ok-low-in-Test.ensures.leaf)
+    (sides_of_test c.in-Test.ensures.part).low_later
 
 pub divided_test-requires-clause-high_leads : goal.divided_test-requires-clause-high_leads
-divided_test-requires-clause-high_leads t c =
-    let s = sides_of_test c.in-Test.ensures.part in
-    let both = are_divided c.divided-in-Test.ensures.keeps c.args.split
-    (tree_of c.args.other.now c.in-Test.low) (tree_of c.args.other.now c.in-Test.high) _
-    c.in_ok-low-in-Test.ensures.held c.in_ok-low-in-Test.ensures.leaf c.in_ok-high-in-Test.ensures.leaf in
-    divided_leads c.divided-in-Test.new.self c.args.split _ _ _ both.high s.high_later
+divided_test-requires-clause-high_leads t c = divided_leads c.divided-in-Test.new.self c.args.split _ _ _
+    c.in_ok-high-in-Test.ensures.leaf (sides_of_test c.in-Test.ensures.part).high_later
 
 pub returns-in_err-made-in-Test-clause-known : goal.returns-in_err-made-in-Test-clause-known
 returns-in_err-made-in-Test-clause-known t c =
@@ -60,10 +47,7 @@ returns-in_err-insert-in-Test-clause-keeps t c =
 
 pub returns-in_err-insert-in-Test-clause-known : goal.returns-in_err-insert-in-Test-clause-known
 returns-in_err-insert-in-Test-clause-known t c =
-    knows_same (IsDivided c.divided_test.new.self c.args.split) c.args.other.now c.divided_test.new.self
-    (get nat_eq c.divided-in-Test.new.known) (get nat_eq c.insert.new.self)
-    (λ q. ap (λ es. lookup (nat_eq q) es) c.in_err-insert-in-Test.ensures.err)
-    (known_divided_kept c.args.other.now c.args.split
+    rw c.in_err-insert-in-Test.ensures.err (known_divided_kept c.args.other.now c.args.split
     (get nat_eq c.divided-in-Test.new.known) c.divided_test.ensures.keeps c.divided-in-Test.ensures.known)
 
 pub returns-in-Nothing-clause-known : goal.returns-in-Nothing-clause-known
@@ -97,17 +81,11 @@ pub returns-in_ok-insert-in-Test-clause-keeps : goal.returns-in_ok-insert-in-Tes
 returns-in_ok-insert-in-Test-clause-keeps t c =
     keeps_trans (keeps_trans c.divided.ensures.keeps c.divided-in-Test.ensures.keeps) c.divided_test.ensures.keeps
 
-made : (t : ℕ) (c : goal.In_ok-insert-in-Test t) → IsDivided c.divided_test.new.self c.args.split
-    (tree_of c.args.other.now c.args.node) (tree_of c.divided_test.new.self c.in_ok-made-in-Test.made)
-made t c =
-    let s = sides_of_test c.in-Test.ensures.part in
-    let both = are_divided c.divided-in-Test.ensures.keeps c.args.split
-    (tree_of c.args.other.now c.in-Test.low) (tree_of c.args.other.now c.in-Test.high) _
-    c.in_ok-low-in-Test.ensures.held c.in_ok-low-in-Test.ensures.leaf c.in_ok-high-in-Test.ensures.leaf in
-    sides_divided c.divided_test.ensures.keeps c.in-Test.proposition _ _ s.leaf c.in_ok-made-in-Test.ensures.leaf both
-
 pub returns-in_ok-insert-in-Test-clause-leaf : goal.returns-in_ok-insert-in-Test-clause-leaf
-returns-in_ok-insert-in-Test-clause-leaf t c = made t c
+returns-in_ok-insert-in-Test-clause-leaf t c =
+    sides_divided c.divided-in-Test.ensures.keeps c.divided_test.ensures.keeps c.args.split _ _
+    (sides_of_test c.in-Test.ensures.part) c.in_ok-low-in-Test.ensures.held c.in_ok-low-in-Test.ensures.leaf
+    c.in_ok-high-in-Test.ensures.leaf c.in_ok-made-in-Test.ensures.leaf
 
 pub returns-in_ok-insert-in-Test-clause-known : goal.returns-in_ok-insert-in-Test-clause-known
 returns-in_ok-insert-in-Test-clause-known t c =
@@ -116,4 +94,4 @@ returns-in_ok-insert-in-Test-clause-known t c =
     knows_more (IsDivided last c.args.split) s last (get nat_eq c.divided-in-Test.new.known)
     (get nat_eq c.insert.new.self) c.in_ok-insert-in-Test.ensures.updates.0
     (known_divided_kept s c.args.split (get nat_eq c.divided-in-Test.new.known) c.divided_test.ensures.keeps
-    c.divided-in-Test.ensures.known) c.requires.held c.in_ok-made-in-Test.ensures.held (made t c)
+    c.divided-in-Test.ensures.known) c.requires.held c.in_ok-made-in-Test.ensures.held (returns-in_ok-insert-in-Test-clause-leaf t c)

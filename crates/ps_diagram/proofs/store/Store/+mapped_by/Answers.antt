@@ -1,12 +1,12 @@
-use Rattle.std.proofs.Common.{sym, ap, ℕ, Option, nat_eq, Bool, false, subst, rules, arith, ◌≤◌}
+use Rattle.std.proofs.Common.{sym, ℕ, ◌+◌, nat_eq, Bool, true, false, rules, arith}
 use Rattle.std.specs.Option.{option_copied, unwrap_or}
 use Rattle.indexmap.specs.IndexMap.{get}
-use Rattle.ps_diagram.specs.Tree.{leaf_at}
-use Rattle.ps_diagram.specs.Table.{Keeps, tree_of}
+use Rattle.ps_diagram.specs.Tree.{leaf_at, IsBlind}
+use Rattle.ps_diagram.specs.Table.{tree_of}
 use Rattle.ps_diagram.specs.Known.{IsMapped}
 use Rattle.ps_diagram.proofs.Sides.{sides_of_test}
-use Rattle.ps_diagram.proofs.KnownLemmas.{keeps_trans, kept, back, read_keeps, knows_kept, knows_more}
-use Rattle.ps_diagram.proofs.Mapping.{mapped_test, mapped_blind, on_low, on_high}
+use Rattle.ps_diagram.proofs.KnownLemmas.{keeps_trans, kept, read_keeps, knows_kept, knows_more}
+use Rattle.ps_diagram.proofs.Mapping.{mapped_blind, mapped_sides, on_side}
 use Rattle.ps_diagram.proofs.store.Store.+mapped_by.Goals as goal
 
 pub returns-in-Some-clause-held : goal.returns-in-Some-clause-held
@@ -16,14 +16,10 @@ pub returns-in-Some-clause-leaf : goal.returns-in-Some-clause-leaf
 returns-in-Some-clause-leaf g t c = (c.requires.known c.args.node c.in-Some.changed.now (sym c.in-Some.ensures.value)).2
 
 pub changed-requires : goal.changed-requires
-changed-requires g t c =
-    let P : Option ℕ → Type 0 = λ x. g.R.LeafRule.fits c.args.rule.now x in
-    subst P (ap (λ u. leaf_at u (λ _. false)) c.in-Nothing.ensures.part) (c.requires.fits (λ _. false))
+changed-requires g t c = rw c.in-Nothing.ensures.part at (c.requires.fits (λ _. false))
 
 pub changed-requires-in-Leaf : goal.changed-requires-in-Leaf
-changed-requires-in-Leaf g t c =
-    let P : Option ℕ → Type 0 = λ x. g.R.LeafRule.fits c.args.rule.now x in
-    subst P (ap (λ u. leaf_at u (λ _. false)) c.in-Leaf.ensures.part) (c.requires.fits (λ _. false))
+changed-requires-in-Leaf g t c = rw c.in-Leaf.ensures.part at (c.requires.fits (λ _. false))
 
 pub mapped_by-requires : goal.mapped_by-requires
 mapped_by-requires g t c = λ κs b.
@@ -36,7 +32,7 @@ mapped_by-requires g t c = λ κs b.
           (
             c.requires.few,
             (
-              on_low (λ x. g.R.LeafRule.fits c.args.rule.now x) s c.requires.fits,
+              on_side (λ x. g.R.LeafRule.fits c.args.rule.now x) false s c.requires.fits,
               c.requires.known,
             ),
           ),
@@ -47,23 +43,18 @@ mapped_by-requires g t c = λ κs b.
 pub mapped_by-requires-in-Test : goal.mapped_by-requires-in-Test
 mapped_by-requires-in-Test g t c = λ κs b.
     let s = sides_of_test c.in-Test.ensures.part in
-    let now = c.args.self.now in
-    let then = c.mapped_by.new.self in
-    let other = option_copied c.args.other in
     let k = c.mapped_by.ensures.keeps in
-    let j : Keeps (unwrap_or other now) (unwrap_or other then) = read_keeps other k in
-    let few : (unwrap_or other then).propositions ≤ then.propositions = omega
-    (arith, j.propositions, k.propositions, c.requires.few) in (
+    let j = read_keeps (option_copied c.args.other) k in (
       search rules,
       (
         search rules,
         (
           j.held _ s.high_held,
           (
-            few,
+            omega (arith, j.propositions, k.propositions, c.requires.few),
             (
               kept (λ u. (f : ℕ → Bool) → g.R.LeafRule.fits c.args.rule.now (leaf_at u f)) j s.high_held
-                  (on_high (λ x. g.R.LeafRule.fits c.args.rule.now x) s c.requires.fits),
+                  (on_side (λ x. g.R.LeafRule.fits c.args.rule.now x) true s c.requires.fits),
               c.mapped_by.ensures.known,
             ),
           ),
@@ -73,19 +64,16 @@ mapped_by-requires-in-Test g t c = λ κs b.
 
 pub test-requires-clause-low_later : goal.test-requires-clause-low_later
 test-requires-clause-low_later g t c =
-    let s = sides_of_test c.in-Test.ensures.part in
-    let read = unwrap_or (option_copied c.args.other) c.args.self.now in
-    mapped_blind (g.R.LeafRule.rule c.args.rule.now) _ _ _ (kept
-    (λ u. IsMapped (g.R.LeafRule.rule c.args.rule.now) (tree_of read c.in-Test.low) u)
-    c.mapped_by-in-Test.ensures.keeps c.in_ok-low-in-Test.ensures.held c.in_ok-low-in-Test.ensures.leaf) s.low_later
+    kept (IsBlind (c.in-Test.proposition + 1)) c.mapped_by-in-Test.ensures.keeps c.in_ok-low-in-Test.ensures.held
+    (mapped_blind (g.R.LeafRule.rule c.args.rule.now) _ _ _ c.in_ok-low-in-Test.ensures.leaf
+    (sides_of_test c.in-Test.ensures.part).low_later)
 
 pub test-requires-clause-high_later : goal.test-requires-clause-high_later
 test-requires-clause-high_later g t c =
     let s = sides_of_test c.in-Test.ensures.part in
-    let other = option_copied c.args.other in
-    mapped_blind (g.R.LeafRule.rule c.args.rule.now) _ _ _ (back (λ u. IsMapped (g.R.LeafRule.rule c.args.rule.now) u
-    (tree_of c.mapped_by-in-Test.new.self c.in_ok-high-in-Test.high)) (read_keeps other c.mapped_by.ensures.keeps)
-    s.high_held c.in_ok-high-in-Test.ensures.leaf) s.high_later
+    mapped_blind (g.R.LeafRule.rule c.args.rule.now) _ _ _ c.in_ok-high-in-Test.ensures.leaf
+    (kept (IsBlind (c.in-Test.proposition + 1)) (read_keeps (option_copied c.args.other) c.mapped_by.ensures.keeps)
+    s.high_held s.high_later)
 
 pub test-requires-clause-named : goal.test-requires-clause-named
 test-requires-clause-named g t c =
@@ -105,25 +93,17 @@ returns-in_err-insert-in-Test-clause-keeps g t c = keeps_trans
 pub returns-in_ok-insert-in-Test-clause-known : goal.returns-in_ok-insert-in-Test-clause-known
 returns-in_ok-insert-in-Test-clause-known g t c =
     let rule = g.R.LeafRule.rule c.args.rule.now in
-    let s = sides_of_test c.in-Test.ensures.part in
     let other = option_copied c.args.other in
-    let now = c.args.self.now in
     let mid = c.mapped_by-in-Test.new.self in
     let last = c.test.new.self in
-    let k : Keeps now last =
-    keeps_trans (keeps_trans c.mapped_by.ensures.keeps c.mapped_by-in-Test.ensures.keeps) c.test.ensures.keeps in
-    let j = read_keeps other k in
-    let read = unwrap_or other now in
-    let low = kept (λ u. IsMapped rule (tree_of read c.in-Test.low) u) c.mapped_by-in-Test.ensures.keeps
-    c.in_ok-low-in-Test.ensures.held c.in_ok-low-in-Test.ensures.leaf in
-    let high = back (λ u. IsMapped rule u (tree_of mid c.in_ok-high-in-Test.high))
-    (read_keeps other c.mapped_by.ensures.keeps) s.high_held c.in_ok-high-in-Test.ensures.leaf in
-    let made = mapped_test rule c.in-Test.proposition (tree_of read c.args.node) (tree_of read c.in-Test.low)
-    (tree_of read c.in-Test.high) (tree_of last c.in_ok-changed-in-Test.changed) _ _ s.leaf
-    c.in_ok-changed-in-Test.ensures.leaf low high in
+    let j = read_keeps other (keeps_trans (keeps_trans c.mapped_by.ensures.keeps c.mapped_by-in-Test.ensures.keeps)
+    c.test.ensures.keeps) in
     knows_more (IsMapped rule) (unwrap_or other last) last (get nat_eq c.mapped_by-in-Test.new.known)
     (get nat_eq c.insert.new.self) c.in_ok-insert-in-Test.ensures.updates.0
     (knows_kept (IsMapped rule) (unwrap_or other mid) (unwrap_or other last) mid last
     (get nat_eq c.mapped_by-in-Test.new.known) (read_keeps other c.test.ensures.keeps) c.test.ensures.keeps
     c.mapped_by-in-Test.ensures.known) (j.held c.args.node c.requires.held) c.in_ok-changed-in-Test.ensures.held
-    (kept (λ u. IsMapped rule u (tree_of last c.in_ok-changed-in-Test.changed)) j c.requires.held made)
+    (kept (λ u. IsMapped rule u (tree_of last c.in_ok-changed-in-Test.changed)) j c.requires.held
+    (mapped_sides rule last (read_keeps other c.mapped_by.ensures.keeps) c.mapped_by-in-Test.ensures.keeps _ _
+    (sides_of_test c.in-Test.ensures.part) c.in_ok-low-in-Test.ensures.held c.in_ok-low-in-Test.ensures.leaf
+    c.in_ok-high-in-Test.ensures.leaf c.in_ok-changed-in-Test.ensures.leaf))

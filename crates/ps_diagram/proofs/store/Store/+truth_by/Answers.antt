@@ -1,4 +1,4 @@
-use Rattle.std.proofs.Common.{rules, ◌<◌, ℕ, Bool, List, true, false, cond, refl, ap, subst, ◌∙◌, length, arith}
+use Rattle.std.proofs.Common.{rules, ◌<◌, ℕ, Bool, List, true, false, cond, refl, ap, ◌∙◌, length, arith}
 use Rattle.ps_label.specs.Expression.{expression}
 use Rattle.ps_label.specs.Truth.{truth}
 use Rattle.ps_label.proofs.Rows.{expression-Both, expression-Either}
@@ -6,8 +6,8 @@ use Rattle.ps_diagram.specs.Leaves.{opposite}
 use Rattle.ps_diagram.specs.Table.{Keeps}
 use Rattle.ps_diagram.specs.Unions.{IsTruth, first_leaf, leaves_of}
 use Rattle.ps_diagram.proofs.KnownLemmas.{keeps_trans}
-use Rattle.ps_diagram.proofs.Truths.{IsAny, IsNotAll, truths_kept, opposite_of, any_more, all_more, any_rest, all_rest}
-use Rattle.ps_diagram.proofs.Truths.{over_rest, row_kept, some_kept}
+use Rattle.ps_diagram.proofs.Truths.{truths_kept, opposite_of, any_more, all_more, drop_is}
+use Rattle.ps_diagram.proofs.Truths.{some_kept}
 use Rattle.ps_diagram.proofs.Unions.{no_nodes, truths_more, union_more}
 use Rattle.ps_diagram.proofs.store.Store.+truth_by.Goals as goal
 
@@ -69,14 +69,10 @@ loop-operand-preserved t c =
       keeps = keeps_trans v.keeps k;
       nodes = truths_more l.nodes.items k v.nodes is_truth c.in_ok-push-in-Both.ensures.items;
       aliases = some_kept k v.aliases;
-      within = row_kept _ _ k (over_rest _ _ items l.operand-index here x.is v.within).1;
+      within = rw k.propositions (rw (drop_is items l.operand-index here x.is) at v.within).1;
       leaf = λ known h letter.
-          let whole = truth (known letter) letter (expression c.args.label.now) in
           let b = truth (known letter) letter (expression x.result) in
-          let old = first_leaf (leaves_of l.self l.nodes.items letter) in
-          let R : Bool → Type 0 = λ r. IsNotAll old r whole in
-          let before = subst R (all_rest (known letter) letter items l.operand-index here x.is)
-          (v.leaf known h letter) in
+          let before = rw (drop_is items l.operand-index here x.is) at (v.leaf known h letter) in
           all_more b _ before (c.in_ok-node-in-Both.ensures.leaf known (kept known h) letter)
           (c.in_ok-negated-in-Both.ensures.leaf letter) (union_more l.nodes.items not letter k v.nodes
           c.in_ok-push-in-Both.ensures.items);
@@ -105,14 +101,10 @@ loop-operand-2-preserved t c =
       keeps = keeps_trans v.keeps k;
       nodes = truths_more l.nodes.items k v.nodes is_truth c.in_ok-push-in-Either.ensures.items;
       aliases = some_kept k v.aliases;
-      within = row_kept _ _ k (over_rest _ _ items l.operand-index here x.is v.within).1;
+      within = rw k.propositions (rw (drop_is items l.operand-index here x.is) at v.within).1;
       leaf = λ known h letter.
-          let whole = truth (known letter) letter (expression c.args.label.now) in
           let b = truth (known letter) letter (expression x.result) in
-          let old = first_leaf (leaves_of l.self l.nodes.items letter) in
-          let R : Bool → Type 0 = λ r. IsAny old r whole in
-          let before = subst R (any_rest (known letter) letter items l.operand-index here x.is)
-          (v.leaf known h letter) in
+          let before = rw (drop_is items l.operand-index here x.is) at (v.leaf known h letter) in
           any_more b _ before (c.in_ok-truth_by-in-Either.ensures.leaf known (kept known h) letter)
           (union_more l.nodes.items node letter k v.nodes c.in_ok-push-in-Either.ensures.items);
     }

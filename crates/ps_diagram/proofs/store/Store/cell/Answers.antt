@@ -1,7 +1,6 @@
-use Rattle.std.proofs.Common.{subst, ◌≡◌, ◌∙◌, ap, sym, get_or}
+use Rattle.std.proofs.Common.{◌≡◌, ◌∙◌, ap, sym, get_or}
 use Rattle.std.proofs.lemmas.List.{get_or_default}
 use Rattle.ps_diagram.specs.declared.view.View.TheVariants.{Nothing}
-use Rattle.ps_diagram.specs.Parts.{IsPart}
 use Rattle.ps_diagram.specs.Table.{Table, IsNode}
 use Rattle.ps_diagram.proofs.Cells.{part_of}
 use Rattle.ps_diagram.proofs.store.Store.cell.Goals as goal
@@ -10,10 +9,8 @@ pub returns-clause-part : goal.returns-clause-part
 returns-clause-part c =
     let t : Table = record { propositions = c.self.inside.propositions; cells = c.self.inside.cells.keys } in
     let r = c.index-as_slice-node.result in
-    let H : Table → Type 0 = λ u. IsNode u c.args.node in
-    let held : IsNode t c.args.node = subst H (sym c.self.view_is) c.requires.held in
+    let held : IsNode t c.args.node = rw (← c.self.view_is) at c.requires.held in
     let is : get_or t.cells c.args.node Nothing ≡ r =
     get_or_default t.cells c.args.node Nothing r held ∙ ap (λ k. get_or t.cells k r) (sym c.node.view_is)
     ∙ ap (λ xs. get_or xs c.node.inside.place r) (sym c.as_slice.ensures.keys) ∙ sym c.index-as_slice-node.is in
-    let P : Table → Type 0 = λ u. IsPart u c.args.node r in
-    subst P c.self.view_is (part_of r c.self.invariant held is)
+    rw c.self.view_is at (part_of {node = c.args.node} r c.self.invariant held is)

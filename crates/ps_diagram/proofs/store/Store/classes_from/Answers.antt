@@ -1,5 +1,4 @@
-use Rattle.std.proofs.Common.{List, ℕ, sym, subst, ◌∙◌}
-use Rattle.ps_diagram.specs.Reached.{AreLeaves}
+use Rattle.std.proofs.Common.{◌∙◌}
 use Rattle.ps_diagram.proofs.Classing.{classes_of}
 use Rattle.ps_diagram.proofs.KnownLemmas.{keeps_trans}
 use Rattle.ps_diagram.proofs.Numbering.{leaves_differ}
@@ -7,18 +6,15 @@ use Rattle.ps_diagram.proofs.store.Store.classes_from.Goals as goal
 
 pub classes_of_leaves-requires-clause-leaves : goal.classes_of_leaves-requires-clause-leaves
 classes_of_leaves-requires-clause-leaves c =
-    let P : List (ℕ × ℕ) → Type 0 = λ l. AreLeaves c.rests.new.self c.in_ok-divided.divided l in
-    leaves_differ (subst P (sym c.deref.ensures.value) c.in_ok-leaves.ensures)
+    leaves_differ (rw (← c.deref.ensures.value) at c.in_ok-leaves.ensures)
 
 pub returns-clause-keeps : goal.returns-clause-keeps
 returns-clause-keeps c = keeps_trans c.rests.ensures.keeps c.classes_of_leaves.ensures.keeps
 
 pub returns-clause-classes : goal.returns-clause-classes
 returns-clause-classes c =
-    let v = c.rests.new.self in
-    let P : List (ℕ × ℕ) → Type 0 = λ l. AreLeaves v c.in_ok-divided.divided l in
     let of = c.in_ok-classes.ensures.classes in
     classes_of c.classes_of_leaves.ensures.keeps c.allocator.ensures.sound c.in_ok-classes.ensures.sound
     (c.classes_of_leaves.ensures.keeps.propositions ∙ c.rests.ensures.keeps.propositions ∙ c.requires.letters)
     c.args.split c.requires.held c.in_ok-divided.ensures.held c.in_ok-classes.ensures.held c.in_ok-divided.ensures.leaf
-    (subst P (sym c.deref.ensures.value) c.in_ok-leaves.ensures) of.listed of.found of.mapped
+    (rw (← c.deref.ensures.value) at c.in_ok-leaves.ensures) of.listed of.found of.mapped

@@ -1,6 +1,5 @@
-use Rattle.std.proofs.Common.{◌≡◌, refl, sym, ◌∙◌, subst, ap, length}
-use Rattle.ps_diagram.specs.Tree.{IsFrom, IsReduced}
-use Rattle.ps_diagram.specs.Table.{Table, Keeps, IsWithin, tree_in}
+use Rattle.std.proofs.Common.{◌≡◌, sym, ◌∙◌, ap}
+use Rattle.ps_diagram.specs.Table.{Table, tree_in}
 use Rattle.ps_diagram.proofs.Cells.{Interned, interned}
 use Rattle.ps_diagram.proofs.Keys.{same_view, view_same}
 use Rattle.ps_diagram.proofs.store.Store.intern.Goals as goal
@@ -15,12 +14,9 @@ done : (c : goal.In_ok-place) → Interned (old c) (new c) c.args.cell c.in_ok-p
 unfolding old new
 done c =
     let was : c.args.self.now ≡ old c = sym c.self.view_is in
-    let W : Table → Type 0 = λ t. IsWithin (length t.cells) c.args.cell in
-    let O : Table → Type 0 = λ t. IsFrom 0 t.propositions (tree_in t.cells c.args.cell) in
-    let R : Table → Type 0 = λ t. IsReduced (tree_in t.cells c.args.cell) in
-    interned (new c) c.in_ok-place.place _ same_view view_same c.self.invariant
-    (subst W was c.requires.within) (subst O was c.requires.ordered) (subst R was c.requires.reduced) refl
-    c.in_ok-place.ensures.keys c.in_ok-place.ensures.stored
+    interned c.in_ok-place.place _ same_view view_same c.self.invariant (rw was at c.requires.within)
+    (rw was at c.requires.ordered) (rw was at c.requires.reduced) c.in_ok-place.ensures.keys
+    c.in_ok-place.ensures.stored
 
 pub invariant_of-self-2 : goal.invariant_of-self-2
 unfolding new
@@ -28,7 +24,7 @@ invariant_of-self-2 c = (done c).sound
 
 pub returns-clause-keeps : goal.returns-clause-keeps
 unfolding old new
-returns-clause-keeps c = let P : Table → Type 0 = λ t. Keeps t (new c) in subst P c.self.view_is (done c).keeps
+returns-clause-keeps c = rw c.self.view_is at (done c).keeps
 
 pub returns-clause-tree : goal.returns-clause-tree
 unfolding old new

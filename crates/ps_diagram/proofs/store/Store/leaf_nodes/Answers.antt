@@ -1,4 +1,3 @@
-use Rattle.std.proofs.Common.{sym, subst}
 use Rattle.std.specs.List.{slice_get}
 use Rattle.std.proofs.lemmas.Option.{slice_get-get_or}
 use Rattle.ps_diagram.specs.Rows.{HasLeaf}
@@ -19,9 +18,9 @@ loop-leaf-preserved c =
     let k = c.constant.ensures.keeps in
     let leaves = c.args.leaves.now in
     let node = c.in_ok-constant.field-0 in
-    let at = slice_get-get_or leaves l.leaf-index 0 c.loop-leaf-test.true in
+    let stands = slice_get-get_or leaves l.leaf-index 0 c.loop-leaf-test.true in
     let has : HasLeaf c.constant.new.self node (slice_get leaves l.leaf-index) =
-    subst (HasLeaf c.constant.new.self node) (sym at) (c.in_ok-constant.ensures.held, c.in_ok-constant.ensures.leaf) in
+    rw stands (c.in_ok-constant.ensures.held, c.in_ok-constant.ensures.leaf) in
     record {
       keeps = keeps_trans v.keeps k;
       nodes_of = leaf_nodes_more node k v.nodes_of c.in_ok-push.ensures.items has;

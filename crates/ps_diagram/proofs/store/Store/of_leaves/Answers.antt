@@ -1,5 +1,5 @@
-use Rattle.std.proofs.Common.{ℕ, ◌≡◌, ◌+◌, ◌-◌, ◌<◌, List, None, sym, subst, arith}
-use Rattle.ps_diagram.specs.Rows.{HasLeaf, IsRow, LeadsOn}
+use Rattle.std.proofs.Common.{◌≡◌, ◌+◌, ◌-◌, ◌<◌, None, arith}
+use Rattle.ps_diagram.specs.Rows.{HasLeaf, LeadsOn}
 use Rattle.ps_diagram.proofs.Halving.{first_row, first_leads, has_leaf_kept}
 use Rattle.ps_diagram.proofs.KnownLemmas.{keeps_trans}
 use Rattle.ps_diagram.proofs.store.Store.of_leaves.Goals as goal
@@ -7,17 +7,14 @@ use Rattle.ps_diagram.proofs.store.Store.of_leaves.Goals as goal
 pub loop-proposition-init : goal.loop-proposition-init
 loop-proposition-init c =
     let t = c.leaf_nodes.new.self in
-    let leaves = c.args.leaves.now in
     let none = c.in_ok-none.none in
-    let nodes = c.in_ok-nodes.nodes.items in
     let nothing : HasLeaf t none None =
     has_leaf_kept c.leaf_nodes.ensures.keeps none None (c.in_ok-none.ensures.held, c.in_ok-none.ensures.leaf) in
     let n = c.propositions-proposition.ensures.value in
     record {
       keeps = keeps_trans c.constant.ensures.keeps c.leaf_nodes.ensures.keeps;
-      row = subst (λ (k : ℕ). IsRow t k none nodes) (sym n) (first_row none nothing c.in_ok-nodes.ensures.nodes);
-      leads = subst (λ (k : ℕ). LeadsOn t leaves k none nodes) (sym n)
-          (first_leads none nothing c.in_ok-nodes.ensures.nodes);
+      row = rw n (first_row none nothing c.in_ok-nodes.ensures.nodes);
+      leads = rw n (first_leads none nothing c.in_ok-nodes.ensures.nodes);
     }
 
 pub returns-in_err-nodes-2-clause-keeps : goal.returns-in_err-nodes-2-clause-keeps
@@ -30,10 +27,8 @@ loop-proposition-preserved c =
     let leaves = c.args.leaves.now in
     let some : 0 < l.proposition = omega arith in
     let next : l.proposition ≡ l.proposition - 1 + 1 = omega (arith, some) in
-    let leads : LeadsOn l.self leaves (l.proposition - 1 + 1) none l.nodes.items =
-    subst (λ (k : ℕ). LeadsOn l.self leaves k none l.nodes.items) next l.invariant.leads in
     let given : LeadsOn l.self leaves (l.proposition - 1 + 1) none c.deref.result.now =
-    subst (λ (ns : List ℕ). LeadsOn l.self leaves (l.proposition - 1 + 1) none ns) (sym c.deref.ensures.value) leads in
+    rw (← next, c.deref.ensures.value) l.invariant.leads in
     record {
       keeps = keeps_trans l.invariant.keeps c.halved.ensures.keeps;
       row = c.in_ok-nodes-2.ensures.row;

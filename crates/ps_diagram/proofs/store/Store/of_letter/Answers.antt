@@ -1,7 +1,6 @@
-use Rattle.std.proofs.Common.{ℕ, ◌≡◌, ◌<◌, ◌≤◌, Bool, None, arith, subst}
+use Rattle.std.proofs.Common.{ℕ, ◌≡◌, ◌<◌, ◌≤◌, Bool, true, false, None, arith}
 use Rattle.ps_diagram.specs.Tree.{leaf_at}
-use Rattle.ps_diagram.specs.Table.{tree_of}
-use Rattle.ps_diagram.proofs.Alone.{IsAlone, step_true, step_false, bit_true, bit_false, alone_end}
+use Rattle.ps_diagram.proofs.Alone.{alone_next, bit_true, bit_false, alone_end}
 use Rattle.ps_diagram.proofs.KnownLemmas.{keeps_trans, kept}
 use Rattle.ps_diagram.proofs.store.Store.of_letter.Goals as goal
 
@@ -23,8 +22,8 @@ loop-proposition-preserved-in_ok-node-2 c =
       none_held = k.held _ v.none_held;
       held = c.in_ok-node-2.ensures.held;
       nothing = kept (λ u. (f : ℕ → Bool) → leaf_at u f ≡ None) k v.none_held v.nothing;
-      alone = step_true c.in_ok-none.none l.node c.in_ok-node-2.node k
-          some within v.nothing v.alone (bit_true _ _ c.if-letter-proposition-eq1.true) c.in_ok-node-2.ensures.leaf;
+      alone = alone_next true _ _ _ k.propositions some within v.nothing v.alone
+          (bit_true _ _ c.if-letter-proposition-eq1.true) c.in_ok-node-2.ensures.leaf;
     }
 
 pub loop-proposition-preserved : goal.loop-proposition-preserved
@@ -45,7 +44,7 @@ loop-proposition-preserved c =
       none_held = k.held _ v.none_held;
       held = c.in_ok-node-3.ensures.held;
       nothing = kept (λ u. (f : ℕ → Bool) → leaf_at u f ≡ None) k v.none_held v.nothing;
-      alone = step_false c.in_ok-none.none l.node c.in_ok-node-3.node k some within v.nothing v.alone
+      alone = alone_next false _ _ _ k.propositions some within v.nothing v.alone
           (bit_false _ _ c.if-letter-proposition-eq1.false) c.in_ok-node-3.ensures.leaf;
     }
 
@@ -54,6 +53,4 @@ returns-clause-leaf c =
     let l = c.loop-proposition in
     let v = l.invariant in
     let done : l.proposition ≡ 0 = omega arith in
-    let P : ℕ → Type 0 = λ j. IsAlone l.self.propositions j c.args.letter (tree_of l.self l.node) in
-    let N : ℕ → Type 0 = λ m. IsAlone m 0 c.args.letter (tree_of l.self l.node) in
-    alone_end c.requires.within (subst N v.keeps.propositions (subst P done v.alone))
+    alone_end c.requires.within v.keeps.propositions done v.alone

@@ -1,13 +1,12 @@
-use Rattle.std.proofs.Common.{subst, sym, ◌∙◌}
+use Rattle.std.proofs.Common.{sym, ◌∙◌}
 use Rattle.std.proofs.lemmas.Result.{IfOk-weaker}
-use Rattle.ps_diagram.specs.Table.{Table, IsSoundTable, tree_of}
-use Rattle.ps_diagram.proofs.Canon.{Ready, ready, test_from}
+use Rattle.ps_diagram.specs.Table.{tree_of}
+use Rattle.ps_diagram.proofs.Canon.{Ready, ready}
 use Rattle.ps_diagram.proofs.store.Store.test.Goals as goal
 
 made_ready : (c : goal.After-intern-arg-1) → Ready c.args.self.now c.args.proposition c.args.low c.args.high
 made_ready c =
-    let P : Table → Type 0 = λ t. IsSoundTable t in
-    ready (subst P c.self.view_is c.self.invariant) c.args.proposition c.requires.named c.requires.low_held
+    ready (rw c.self.view_is at c.self.invariant) c.args.proposition c.requires.named c.requires.low_held
     c.requires.high_held c.requires.low_later c.requires.high_later (sym c.eq.ensures ∙ c.if-eq.false)
 
 pub intern-requires : goal.intern-requires
@@ -23,5 +22,5 @@ unfolding tree_of
 returns c = record {
   keeps = c.intern.ensures.keeps;
   held = c.intern.ensures.held;
-  leaf = IfOk-weaker c.intern.result _ _ (λ node e. test_from c.args.proposition _ _ e) c.intern.ensures.tree;
+  leaf = IfOk-weaker c.intern.result _ _ (λ node e f. rw e) c.intern.ensures.tree;
 }
