@@ -78,8 +78,16 @@ has_alias h = has_then hoa_causes (joint_alias h) (has_name (codes "Alias:")) (�
     (has_label (header_scope h) nesting_limit)))
 
 has_acceptance : (h : HeaderData) → Has (acceptance_item h)
-has_acceptance h = search (rules, has_then, joint_acceptance, has_name,
-    joint_counted_condition, has_int, has_mapped, has_condition)
+has_acceptance h = search (
+  rules,
+  has_then,
+  joint_acceptance,
+  has_name,
+  joint_counted_condition,
+  has_int,
+  has_mapped,
+  has_condition,
+)
 
 has_index : (ns : List ℕ) → Has (index ns)
 has_index ns = has_mapped hoa_causes (kept ns) (int number_limit) (has_int number_limit)
