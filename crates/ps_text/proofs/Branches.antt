@@ -39,10 +39,12 @@ shrinks {T} P all rest v some p = go p.text p.split p.is_text
 -- a reading that took a sign has fewer to come
 pub reads_shrinks : {T V F : Type 0} {P : Part T V F} {old new : Stream T} {v : V} → ((w : V) → P.IsText [] w → ⊥) →
     Reads P old v new → length new.pieces < length old.pieces
-reads_shrinks {P = P} {old = old} {new = new} {v = v} some m = let a : length
-    (signs new.pieces) < length (signs old.pieces) = shrinks P (signs old.pieces) (signs new.pieces) v some m.1 in
-    let b : length (signs new.pieces) ≡ length new.pieces = length-map new.pieces (λ p. p.sign) in let c : length
-    (signs old.pieces) ≡ length old.pieces = length-map old.pieces (λ p. p.sign) in omega (arith, a, b, c)
+reads_shrinks {P = P} {old = old} {new = new} {v = v} some m = omega (
+  arith,
+  shrinks P (signs old.pieces) (signs new.pieces) v some m.1,
+  length-map new.pieces (λ p. p.sign),
+  length-map old.pieces (λ p. p.sign),
+)
 
 pub record Stands {T V F : Type 0} (there : Option T) (P Q : Part T V F) : Type 0 where
   pub covers : Covers there P Q

@@ -26,13 +26,18 @@ read_none text = record { counted = omega arith; made = refl }
 next_value : (text : List ℕ) (value digits : ℕ) → digits < length text → is_ascii_digit (get_or text digits 0) ≡ true →
     IsReadTo text value digits → value_after (value * 10 + (get_or text digits 0 - 48))
     (take_while is_ascii_digit (drop (digits + 1) text)) ≡ decimal_value (take_while is_ascii_digit text)
-next_value text value digits lt digit is = let b = get_or text digits 0 in let bs = drop (digits + 1) text in
+next_value text value digits lt digit is =
+    let b = get_or text digits 0 in
+    let bs = drop (digits + 1) text in
     let run : take_while is_ascii_digit (drop digits text) ≡ b ∷ take_while is_ascii_digit bs =
-    search (rules, drop_more, take_while-cons) in sym (ap (value_after value) run) ∙ is.made
+    search (rules, drop_more, take_while-cons) in
+    sym (ap (value_after value) run) ∙ is.made
 
 pub read_one : (text : List ℕ) (value digits : ℕ) → digits < length text → is_ascii_digit (get_or text digits 0)
     ≡ true → IsReadTo text value digits → IsReadTo text (value * 10 + (get_or text digits 0 - 48)) (digits + 1)
-read_one text value digits lt digit is = let b = get_or text digits 0 in let bs = drop (digits + 1) text in
+read_one text value digits lt digit is =
+    let b = get_or text digits 0 in
+    let bs = drop (digits + 1) text in
     let more : prefix_len is_ascii_digit (drop digits text) ≡ 1 + prefix_len is_ascii_digit bs =
     ap (prefix_len is_ascii_digit) (drop_more text digits 0 lt) ∙ rw digit refl in
     record { counted = omega (arith, more, is.counted); made = next_value text value digits lt digit is }
