@@ -1,7 +1,7 @@
 -- From a vertex of a set that one player holds, each history table of the other player is beaten: the path goes by
 -- both tables, and its loops are won by the holder.
-use Rattle.std.proofs.Common.{◌≡◌, ℕ, zero, suc, ◌+◌, ◌-◌, ◌<◌, ◌≤◌, inl, inr, List, [], ◌∷◌, ◌++◌, Bool, length}
-use Rattle.std.proofs.Common.{get_or, Option, Some, None, refl, sym, ◌∙◌, arith}
+use Rattle.std.proofs.Common.{◌≡◌, ℕ, zero, suc, ◌+◌, ◌-◌, ◌<◌, ◌≤◌, inl, inr, List, [], ◌∷◌, ◌++◌, Bool, length, rules}
+use Rattle.std.proofs.Common.{get_or, Option, Some, refl, sym, ◌∙◌, arith}
 use Rattle.std.specs.Prelude.{IsTrue, IsSomeAnd}
 use Rattle.std.proofs.Math.Nat.{le_refl}
 use Rattle.std.proofs.lemmas.Bool.{cases_eq}
@@ -22,8 +22,7 @@ record Meets (game : ParityGame) (player : ℕ) (table : ℕ → Option ℕ) (hi
   goes_by : GoesBy game player history path
 
 value_of : (o : Option ℕ) (P : ℕ → Type 0) → IsSomeAnd o P → (x : ℕ) × (o ≡ Some x) × P x
-value_of None P is = absurd is
-value_of (Some x) P is = (x, refl, is)
+value_of o P h1 = search rules
 
 pub players_differ : (player : ℕ) → player < 2 → player ≡ other_player player → ⊥
 players_differ player is_player same = omega arith
@@ -65,11 +64,7 @@ module _ (game : ParityGame) (player : ℕ) (set : ℕ → Bool) (table : ℕ �
       IsTrue (set v) → (k : ℕ) → k ≤ n → Meets game player table history v k
   meets n history is_table v is_vertex inside zero within = record {
     path = v ∷ [];
-    is_path = record {
-      begins = omega arith;
-      vertices = λ k below. let first : k ≡ 0 = omega arith in rw first is_vertex;
-      edges = λ k below. absurd (omega arith);
-    };
+    is_path = search rules;
     starts = refl;
     long = omega arith;
     follows = λ k below. absurd (omega arith);

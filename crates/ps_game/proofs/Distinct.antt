@@ -1,7 +1,8 @@
 -- The numbers of a list at their first places, gone through with stamps.
+use Rattle.std.proofs.Common.{rules}
 use Rattle.std.proofs.Math.Nat.{le_refl}
-use Rattle.std.proofs.Common.{length-set, inl, inr, ◌≡◌, ◌≢◌, ℕ, ◌+◌, ◌<◌, ◌≤◌, List, [], ◌∷◌, ◌++◌, cond, Bool, true}
-use Rattle.std.proofs.Common.{false, not, ◌||◌, ◌==◌, filter, length, take, get_or, set, refl, ap, ◌∙◌, sym, arith}
+use Rattle.std.proofs.Common.{inl, inr, ◌≡◌, ◌≢◌, ℕ, ◌+◌, ◌<◌, ◌≤◌, List, [], ◌∷◌, ◌++◌, cond, Bool}
+use Rattle.std.proofs.Common.{not, ◌||◌, ◌==◌, filter, length, take, get_or, set, refl, ap, ◌∙◌, sym, arith}
 use Rattle.std.specs.List.{All, list_any}
 use Rattle.std.proofs.lemmas.List.{append-nil, take_more, take_more_set, get_or-set_other, ext_get_or, get_or-map}
 use Rattle.std.proofs.lemmas.List.{length-map}
@@ -14,16 +15,12 @@ use Rattle.ps_game.specs.Games.{ParityGame, no_vertex}
 use Rattle.ps_game.specs.Drafts.{distinct, vertex_without_repeats, without_repeats}
 
 filter-cond : (p : ℕ → Bool) (b : Bool) (xs ys : List ℕ) → filter p (cond b xs ys) ≡ cond b (filter p xs) (filter p ys)
-filter-cond p true xs ys = refl
-filter-cond p false xs ys = refl
+filter-cond p b xs ys = search rules
 
 -- one more number, which is kept if it is neither the head, as e says, nor in the tail, as b says
 kept_or_not : (e b : Bool) (x y : ℕ) (ys : List ℕ) → y ∷ cond b ys (ys ++ cond (not e) (x ∷ []) []) ≡ cond (e || b)
     (y ∷ ys) ((y ∷ ys) ++ x ∷ [])
-kept_or_not true true x y ys = refl
-kept_or_not true false x y ys = ap (λ zs. y ∷ zs) (append-nil ys)
-kept_or_not false true x y ys = refl
-kept_or_not false false x y ys = refl
+kept_or_not e b x y ys = search (rules, append-nil)
 
 -- a number that stood before is dropped, and another one goes to the end
 pub distinct-push : (xs : List ℕ) (x : ℕ) → distinct (xs ++ x ∷ []) ≡ cond (list_any (λ y. y == x) xs) (distinct xs)
@@ -61,50 +58,46 @@ marks_more : (before seen later : List ℕ) (stamp place number : ℕ) → place
 marks_more before seen later stamp place number inside same long here elsewhere marks u below =
     list_any_more (λ x. x == u) before place 0 inside ∙ elim (cases_eq u number) [
       | inl e ↦ rw (e, same, here, eq-eqb number number refl, eq-eqb stamp stamp refl) (or-true _)
-      | inr other ↦ rw (same, ne_eqb number u (λ e. other (sym e)), elsewhere u other)
-          (or-false _ ∙ marks u (omega arith))
+      | inr other ↦ search (rules, same, ne_eqb, or-false)
     ]
 
 module _ {before numbers seen : List ℕ} {stamp place kept number : ℕ}
-    (so_far : IsKept before numbers seen stamp place kept) (within : place < length numbers) (as_long : length numbers ≡ length before) (is : get_or numbers place 0 ≡ number)
-    (known : number < length seen) where
-  same : get_or before place 0 ≡ number
-  same = sym (so_far.back place (le_refl place)) ∙ is
+    (so_far : IsKept before numbers seen stamp place kept) (within : place < length numbers)
+    (as_long : length numbers ≡ length before) (is : get_or numbers place 0 ≡ number) (known : number < length seen)
+  where
+    same : get_or before place 0 ≡ number
+    same = sym (so_far.back place (le_refl place)) ∙ is
 
-  -- a number that was not seen goes to the end of the front
-  pub keep : get_or seen number 0 ≢ stamp →
-      IsKept before (set numbers kept number) (set seen number stamp) stamp (place + 1) (kept + 1)
-  keep fresh =
-      let few : kept ≤ place = so_far.few in
-      let inside : place < length before = omega arith in
-      let new = so_far.marks number known ∙ ne_eqb (get_or seen number 0) stamp fresh in
-      record {
-        few = omega arith;
-        front =
-            take_more_set numbers kept number (omega arith) ∙ ap (λ xs. xs ++ number ∷ []) so_far.front
-            ∙ sym (distinct-more before place inside ∙ rw (same, new) refl);
-        back = λ k after. let other : k ≢ kept = omega arith in rw get_or-set_other (so_far.back k (omega arith));
-        stamped = All-set (λ earlier. earlier ≤ stamp) seen number stamp (le_refl stamp) so_far.stamped;
-        marks =
-            marks_more before seen (set seen number stamp) stamp place number inside same (length-set seen number stamp)
-            (get_or-set_at seen number number stamp 0 refl known)
-            (λ u other. get_or-set_other seen number u stamp 0 other) so_far.marks;
-      }
+    -- a number that was not seen goes to the end of the front
+    pub keep : get_or seen number 0 ≢ stamp →
+        IsKept before (set numbers kept number) (set seen number stamp) stamp (place + 1) (kept + 1)
+    keep fresh =
+        let few : kept ≤ place = so_far.few in
+        let inside : place < length before = omega arith in
+        let new = so_far.marks number known ∙ ne_eqb (get_or seen number 0) stamp fresh in
+        record {
+          few = omega arith;
+          front =
+              take_more_set numbers kept number (omega arith) ∙ ap (λ xs. xs ++ number ∷ []) so_far.front
+              ∙ sym (distinct-more before place inside ∙ rw (same, new) refl);
+          back = λ k after. let other : k ≢ kept = omega arith in rw get_or-set_other (so_far.back k (omega arith));
+          stamped = All-set (λ earlier. earlier ≤ stamp) seen number stamp (le_refl stamp) so_far.stamped;
+          marks = search (rules, marks_more, same, get_or-set_at, get_or-set_other);
+        }
 
-  -- a number that was seen is left out
-  pub leave : get_or seen number 0 ≡ stamp → IsKept before numbers seen stamp (place + 1) kept
-  leave stood =
-      let few : kept ≤ place = so_far.few in
-      let inside : place < length before = omega arith in
-      let old = so_far.marks number known ∙ eq-eqb (get_or seen number 0) stamp stood in
-      record {
-        few = omega arith;
-        front = so_far.front ∙ sym (distinct-more before place inside ∙ rw (same, old) refl);
-        back = λ k after. so_far.back k (omega arith);
-        stamped = so_far.stamped;
-        marks =
-            marks_more before seen seen stamp place number inside same refl stood (λ u other. refl) so_far.marks;
-      }
+    -- a number that was seen is left out
+    pub leave : get_or seen number 0 ≡ stamp → IsKept before numbers seen stamp (place + 1) kept
+    leave stood =
+        let few : kept ≤ place = so_far.few in
+        let inside : place < length before = omega arith in
+        let old = so_far.marks number known ∙ eq-eqb (get_or seen number 0) stamp stood in
+        record {
+          few = omega arith;
+          front = so_far.front ∙ sym (distinct-more before place inside ∙ rw (same, old) refl);
+          back = λ k after. so_far.back k (omega arith);
+          stamped = so_far.stamped;
+          marks = search (rules, marks_more, same);
+        }
 
 -- the vertices below the number have no repeats, the others are as they were, and no stamp is in use
 pub record IsDropped (before vertices : ParityGame) (seen : List ℕ) (number : ℕ) : Type 0 where

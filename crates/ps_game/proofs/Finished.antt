@@ -1,6 +1,6 @@
 -- A draft in which each vertex has a successor and each successor is a vertex is a game without its repeats.
 use Rattle.std.proofs.Common.{◌≡◌, ◌≢◌, ℕ, suc, true, ◌<◌, List, [], ◌∷◌, not, ◌==◌, filter, length, get_or, subst, ap}
-use Rattle.std.proofs.Common.{arith}
+use Rattle.std.proofs.Common.{arith, rules}
 use Rattle.std.specs.List.{All, AllPairs, Contains}
 use Rattle.std.proofs.Math.ListN.{get_or-map}
 use Rattle.std.proofs.lemmas.List.{length-map}
@@ -65,8 +65,7 @@ IsGame-without_repeats draft owners bare known =
     let IsVertex : ℕ → Type 0 = λ w. w < vertex_count draft in
     record {
       owners = λ v within. rw (owner_of-without_repeats draft v) (owner_below draft owners v (in_draft v within));
-      has_successor =
-          λ v within. rw (successors_of-without_repeats draft v) (some-distinct _ (bare v (in_draft v within)));
+      has_successor = search (rules, successors_of-without_repeats, some-distinct);
       different = λ v within. rw (successors_of-without_repeats draft v) (AllPairs-distinct _);
       within = λ v w edge.
           let among : Contains (distinct (successors_of draft v)) w =

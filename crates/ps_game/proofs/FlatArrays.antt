@@ -1,5 +1,5 @@
 -- Games in four arrays: what is read from arrays that tell a game, and that they stand for it.
-use Rattle.std.proofs.Common.{◌≡◌, ℕ, ◌+◌, ◌-◌, ◌^◌, ◌<◌, ◌≤◌, List, [], ◌∷◌, ◌++◌, length, get_or, take}
+use Rattle.std.proofs.Common.{◌≡◌, ℕ, ◌+◌, ◌-◌, ◌^◌, ◌<◌, ◌≤◌, List, [], ◌∷◌, ◌++◌, length, get_or, take, rules}
 use Rattle.std.proofs.Common.{drop, length-append, take-append-drop, append-nil, refl, sym, ap, ap₂, ◌∙◌, arith}
 use Rattle.std.specs.List.{All, flat_map, slice_range}
 use Rattle.std.proofs.lemmas.Grind.{flat_map-append, get_or_default_zero}
@@ -82,9 +82,7 @@ pub record StandsAt (game : ParityGame) (offsets successors owners priorities : 
 pub successor_is : {game : ParityGame} {offsets successors owners priorities : List ℕ} {v number : ℕ} →
     StandsAt game offsets successors owners priorities v → number < length (successors_of game v) →
     get_or successors (get_or offsets v 0 + number) 0 ≡ get_or (successors_of game v) number 0
-successor_is {successors = successors} {number = number} at less =
-    rw (← at.part_is)
-    (sym (get_or-take _ (drop _ successors) number 0 (omega arith) ∙ get_or-drop _ successors number 0))
+successor_is {successors = successors} {number = number} at less = search (rules, get_or-take, get_or-drop)
 
 -- where the successors of a vertex begin and end
 pub record IsPart (successors : List ℕ) (start end : ℕ) (part : List ℕ) : Type 0 where
@@ -113,8 +111,7 @@ module _ {game : ParityGame} {offsets successors owners priorities : List ℕ}
       let ends = piece_ends (λ (d : VertexData). d.successors) game v no_vertex less in
       let inside = front_within game (v + 1) in
       let many = ap length tell.successors_are in
-      let part : successors_in offsets successors v ≡ (get_or game v no_vertex).successors =
-      rw (front, next, tell.successors_are) (piece_at (λ (d : VertexData). d.successors) game v no_vertex less) in
+      let part : successors_in offsets successors v ≡ (get_or game v no_vertex).successors = search (rules, piece_at) in
       rw (← is) (record {
         owned = omega (arith, as_many);
         ranked = omega (arith, ap length tell.priorities_are, length-map game (λ v. v.priority));
@@ -163,24 +160,12 @@ module _ {game : ParityGame} {offsets successors owners priorities : List ℕ}
   }
 
   pub edges_count : {other : ParityGame} → game ≡ other → length successors ≡ edge_count other
-  edges_count is =
-      ap length tell.successors_are ∙ length-flat_map (λ (v : VertexData). v.successors) game
-      ∙ ap (λ g. edge_count g) is
+  edges_count is = search (rules, length-flat_map)
 
   -- a limit that holds the number of edges holds each offset
   pub offsets_fit : {other : ParityGame} {limit : ℕ} → game ≡ other → FitsWithin other limit →
       All (λ n. n ≤ limit) offsets
-  offsets_fit is fits k d lt =
-      omega (
-        arith,
-        get_or_default offsets k d 0 lt,
-        tell.offsets_are.in_front k (omega (arith, tell.offsets_are.offset_each)),
-        front_within game k,
-        ap length tell.successors_are,
-        tell.few,
-        edges_count is,
-        fits.edges,
-      )
+  offsets_fit is fits k d lt = search (rules, get_or_default, front_within, edges_count)
 
   -- a limit that holds the number of vertices holds each successor
   pub successors_fit : {other : ParityGame} {limit : ℕ} → game ≡ other → IsGame game → FitsWithin other limit →

@@ -1,6 +1,6 @@
 -- The priority of a loop is the greatest of its places: it bounds the priority of each, and is the priority of one.
-use Rattle.std.proofs.Common.{◌≡◌, ℕ, suc, ◌+◌, ◌-◌, ◌<◌, ◌≤◌, inl, inr, List, [], ◌∷◌, length, get_or, map, drop}
-use Rattle.std.proofs.Common.{refl, sym, ap, ◌∙◌, arith}
+use Rattle.std.proofs.Common.{◌≡◌, ℕ, suc, ◌+◌, ◌-◌, ◌<◌, ◌≤◌, inl, inr, List, [], ◌∷◌, length, get_or, map}
+use Rattle.std.proofs.Common.{refl, sym, ap, ◌∙◌, arith, rules}
 use Rattle.std.specs.Prelude.{slice_range}
 use Rattle.std.proofs.lemmas.Bool.{cases_lt}
 use Rattle.std.proofs.lemmas.List.Recursion.{max_bounds}
@@ -24,16 +24,11 @@ greatest_stands (x ∷ y ∷ ys) some =
 -- the places of a part of a path, and their priorities
 module _ (game : ParityGame) (path : List ℕ) (i j : ℕ) (within : j ≤ length path) where
   places : length (map (priority_of game) (slice_range path i j)) ≡ j - i
-  places =
-      length-map (slice_range path i j) (priority_of game)
-      ∙ length-take-le (j - i) (drop i path) (omega (arith, length-drop i path))
+  places = search (rules, length-map, length-take-le, length-drop)
 
   priority_at : (k : ℕ) → k < j - i →
       get_or (map (priority_of game) (slice_range path i j)) k 0 ≡ priority_of game (get_or path (i + k) 0)
-  priority_at k below =
-      get_or-map (priority_of game) (slice_range path i j) k 0 0 (omega
-      (arith, places, length-map (slice_range path i j) (priority_of game)))
-      ∙ ap (priority_of game) (get_or-take (j - i) (drop i path) k 0 below ∙ get_or-drop i path k 0)
+  priority_at k below = search (rules, get_or-map, places, length-map, get_or-take, get_or-drop)
 
 pub le-loop_priority : (game : ParityGame) (path : List ℕ) (i j k : ℕ) → i ≤ k → k < j → j ≤ length path →
     priority_of game (get_or path k 0) ≤ loop_priority game path i j

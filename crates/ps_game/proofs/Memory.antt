@@ -1,6 +1,6 @@
 -- A strategy of finite memory is a history table, so it does not win where its histories are beaten.
 use Rattle.std.proofs.Common.{◌≡◌, ℕ, suc, ◌+◌, ◌-◌, ◌*◌, ◌<◌, List, [], ◌∷◌, length, get_or, take, fold, map, subst}
-use Rattle.std.proofs.Common.{sym, ap, ◌∙◌, arith}
+use Rattle.std.proofs.Common.{sym, ◌∙◌, arith, rules}
 use Rattle.std.specs.List.{All, range_with_len}
 use Rattle.std.proofs.lemmas.Nat.{same_from_place, mul-add-lt}
 use Rattle.std.proofs.lemmas.List.{get_or-take, get_or_default, length-take-le, take-take}
@@ -44,13 +44,7 @@ module _ (game : ParityGame) (player : ℕ) (strategy : FiniteMemory) (is_strate
     history_at : (path : List ℕ) (k : ℕ) → k < length path → history_of (take (k + 1) path) ≡ strategy.choice
         (memory_at strategy path k) (get_or path k 0)
     unfolding history_of
-    history_at path k within =
-        let last_place : length (take (k + 1) path) - 1 ≡ k =
-        omega (arith, length-take-le (k + 1) path (omega arith)) in
-        let played : List ℕ → ℕ → ℕ = λ met x. strategy.choice (fold strategy.update strategy.first met) x in
-        ap (λ n. played (take n (take (k + 1) path)) (get_or (take (k + 1) path) n 0)) last_place
-        ∙ ap (λ met. played met (get_or (take (k + 1) path) k 0)) (take-take k (k + 1) path (omega arith))
-        ∙ ap (played (take k path)) (get_or-take (k + 1) path k 0 (omega arith))
+    history_at path k within = search (rules, length-take-le, take-take, get_or-take)
 
     agrees : (path : List ℕ) → GoesBy game player history_of path → Agrees game player strategy path
     agrees path goes_by k within owns = sym (history_at path k (omega arith)) ∙ goes_by k within owns
@@ -94,5 +88,4 @@ module _ (game : ParityGame) (player : ℕ) (strategy : FiniteMemory) (is_strate
 
 pub WinsByNoMemory-AllHistoriesBeaten : (game : ParityGame) (player v : ℕ) → player < 2 →
     AllHistoriesBeaten game player v → WinsByNoMemory game player v
-WinsByNoMemory-AllHistoriesBeaten game player v is_player beaten strategy is_strategy wins =
-    loses game player strategy is_strategy v is_player beaten wins
+WinsByNoMemory-AllHistoriesBeaten game player v is_player beaten strategy is_strategy wins = search (rules, loses)

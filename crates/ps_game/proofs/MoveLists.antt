@@ -1,6 +1,6 @@
 -- Tables of moves in two lists: what they hold, and what a new move does to them.
-use Rattle.std.proofs.Common.{◌≡◌, ℕ, ◌<◌, inl, inr, Bool, true, false, cond, List, length, get_or, set, Option, Some}
-use Rattle.std.proofs.Common.{None, length-set, sym, ap, ap₂, ◌∙◌, arith}
+use Rattle.std.proofs.Common.{◌≡◌, ℕ, ◌<◌, Bool, true, false, cond, List, length, get_or, set, Option, Some}
+use Rattle.std.proofs.Common.{None, sym, ap, ◌∙◌, arith, rules}
 use Rattle.std.specs.Prelude.{replicate}
 use Rattle.std.proofs.lemmas.Bool.{cases_eq}
 use Rattle.std.proofs.lemmas.Grind.{get_or-set_at}
@@ -16,16 +16,13 @@ length-moves_of chosen moves = length-map-range_with_len (move_in chosen moves) 
 move_inside : (chosen : List Bool) (moves : List ℕ) (v : ℕ) → v < length moves →
     get_or (moves_of chosen moves) v None ≡ move_in chosen moves v
 unfolding moves_of
-move_inside chosen moves v lt =
-    get_or-map-range_with_len (move_in chosen moves) 0 (length moves) v v None lt (omega arith)
+move_inside chosen moves v lt = search (rules, get_or-map-range_with_len)
 
 -- what is read from the table of two lists
 pub move_read : (chosen : List Bool) (moves : List ℕ) {table : List (Option ℕ)} {v : ℕ} {b : Bool} →
     moves_of chosen moves ≡ table → v < length table → has chosen v ≡ b →
     move_at table v ≡ cond b (Some (get_or moves v 0)) None
-move_read chosen moves {v = v} is lt there =
-    rw (← is) (move_inside chosen moves v (omega (arith, ap length is, length-moves_of chosen moves))
-    ∙ ap (λ b. cond b (Some (get_or moves v 0)) None) there)
+move_read chosen moves {v = v} is lt there = search (rules, move_inside, length-moves_of)
 
 -- a table is that of two lists where it says what they say
 moves_are : (chosen : List Bool) (moves : List ℕ) (table : List (Option ℕ)) → length table ≡ length moves
@@ -45,16 +42,4 @@ no_moves places =
 pub one_moved : (chosen : List Bool) (moves : List ℕ) (v w : ℕ) → length chosen ≡ length moves → v < length moves
     → moves_of (set chosen v true) (set moves v w) ≡ set (moves_of chosen moves) v (Some w)
 one_moved chosen moves v w long lt =
-    moves_are (set chosen v true) (set moves v w) (set (moves_of chosen moves) v (Some w))
-    (length-set (moves_of chosen moves) v (Some w) ∙ length-moves_of chosen moves ∙ sym (length-set moves v w))
-    (λ u less. elim (cases_eq u v) [
-      | inl same ↦
-          get_or-set_at (moves_of chosen moves) v u (Some w) None same (omega (arith, length-moves_of chosen moves))
-          ∙ sym (ap₂ (λ b n. cond b (Some n) None) (get_or-set_at chosen v u true false same (omega arith))
-          (get_or-set_at moves v u w 0 same lt))
-      | inr other ↦
-          get_or-set_other (moves_of chosen moves) v u (Some w) None other
-          ∙ move_inside chosen moves u (omega (arith, length-set moves v w))
-          ∙ sym (ap₂ (λ b n. cond b (Some n) None) (get_or-set_other chosen v u true false other)
-          (get_or-set_other moves v u w 0 other))
-    ])
+    search (rules, moves_are, length-moves_of, cases_eq, get_or-set_at, get_or-set_other, move_inside)

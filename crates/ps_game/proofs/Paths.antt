@@ -1,6 +1,6 @@
 -- Paths with one more vertex.
-use Rattle.std.proofs.Common.{◌≡◌, ℕ, ◌+◌, ◌-◌, ◌<◌, inl, inr, List, [], ◌∷◌, ◌++◌, length, get_or, take, Option, Some}
-use Rattle.std.proofs.Common.{subst, sym, ap, ◌∙◌, arith}
+use Rattle.std.proofs.Common.{◌≡◌, ℕ, ◌+◌, ◌-◌, ◌<◌, List, [], ◌∷◌, ◌++◌, length, get_or, take, Option, Some}
+use Rattle.std.proofs.Common.{ap, ◌∙◌, arith, rules}
 use Rattle.std.proofs.Math.Nat.{le_refl}
 use Rattle.std.proofs.lemmas.Bool.{cases_lt}
 use Rattle.std.proofs.lemmas.List.{get_or_append_left, get_or_push, length_push, take-append-le, take_all}
@@ -13,19 +13,7 @@ pub along-push : (R : ℕ → ℕ → ℕ → Type 0) (path : List ℕ) (w : ℕ
     ((k : ℕ) → k + 1 < length path → R k (get_or path k 0) (get_or path (k + 1) 0)) →
     R (length path - 1) (last_vertex path) w → (k : ℕ) → k + 1 < length (path ++ w ∷ []) →
     R k (get_or (path ++ w ∷ []) k 0) (get_or (path ++ w ∷ []) (k + 1) 0)
-along-push R path w some so_far last k within =
-    let size : length (path ++ w ∷ []) ≡ length path + 1 = length_push path w in
-    let inside : k < length path = omega arith in
-    let first : get_or (path ++ w ∷ []) k 0 ≡ get_or path k 0 = get_or_append_left path (w ∷ []) 0 k inside in
-    let At : ℕ → Type 0 = λ x. R k x (get_or (path ++ w ∷ []) (k + 1) 0) in
-    let From : ℕ → Type 0 = R k (get_or path k 0) in
-    subst At (sym first) (elim (cases_lt (k + 1) (length path)) [
-      | inl less ↦ subst From (sym (get_or_append_left path (w ∷ []) 0 (k + 1) less)) (so_far k less)
-      | inr more ↦ (
-          let is_last : length path - 1 ≡ k = omega arith in
-          let Step : ℕ → Type 0 = λ n. R n (get_or path n 0) w in
-          subst From (sym (get_or_push path w 0 (k + 1) (omega arith))) (subst Step is_last last))
-    ])
+along-push R path w some so_far last k within = search (rules, length_push, get_or_append_left, cases_lt, get_or_push)
 
 -- an edge from the last vertex goes on
 pub IsPath-push : (game : ParityGame) (path : List ℕ) (w : ℕ) → IsPath game path → HasEdge game (last_vertex path) w →
@@ -35,10 +23,7 @@ IsPath-push game path w is_path edge is_vertex =
     let IsVertex : ℕ → Type 0 = λ v. v < vertex_count game in
     record {
       begins = omega arith;
-      vertices = λ k within. elim (cases_lt k (length path)) [
-        | inl less ↦ subst IsVertex (sym (get_or_append_left path (w ∷ []) 0 k less)) (is_path.vertices k less)
-        | inr more ↦ subst IsVertex (sym (get_or_push path w 0 k (omega arith))) is_vertex
-      ];
+      vertices = search (rules, cases_lt, get_or_append_left, get_or_push);
       edges = along-push (λ k. HasEdge game) path w is_path.begins is_path.edges edge;
     }
 

@@ -1,5 +1,5 @@
 -- The priorities of a game by their parity: those of the vertices met so far, and the sorted list of all.
-use Rattle.std.proofs.Common.{◌≡◌, ℕ, ◌+◌, ◌%◌, ◌<◌, ◌≤◌, List, [], ◌∷◌, ◌++◌, below_more, eqb, refl, arith}
+use Rattle.std.proofs.Common.{◌≡◌, ℕ, ◌+◌, ◌%◌, ◌<◌, ◌≤◌, List, [], ◌∷◌, ◌++◌, below_more, eqb, refl, arith, rules}
 use Rattle.std.specs.Ordering.{nat_cmp}
 use Rattle.std.specs.List.{All, Contains, dedup}
 use Rattle.std.specs.List.Sorted.{IsPermutation, IsSorted}
@@ -32,13 +32,7 @@ module _ {game : ParityGame} {parity n : ℕ} {list : List ℕ} (so_far : ListsB
       }
 
   pub lists_skip : (priority_of game n % 2 ≡ parity → ⊥) → ListsBelow game parity (n + 1) list
-  lists_skip wrong = record {
-    complete =
-        below_more (λ v. priority_of game v % 2 ≡ parity → Contains list (priority_of game v)) n so_far.complete
-        (λ h. absurd (wrong h));
-    right_parity = so_far.right_parity;
-    present = so_far.present;
-  }
+  lists_skip wrong = search rules
 
   pub lists_from : {sorted kept : List ℕ} → vertex_count game ≤ n → IsPermutation list sorted →
       IsSorted nat_cmp sorted → kept ≡ dedup eqb sorted → ListsPriorities game parity kept
@@ -47,9 +41,6 @@ module _ {game : ParityGame} {parity n : ℕ} {list : List ℕ} (so_far : ListsB
     complete =
         λ v lt h. Contains-dedup_nat sorted (priority_of game v) (Contains-permutation list sorted (priority_of game v)
         moved (so_far.complete v (omega arith) h));
-    right_parity =
-        All-dedup eqb (λ p. p % 2 ≡ parity) sorted (All-permutation (λ p. p % 2 ≡ parity) list sorted moved
-        so_far.right_parity);
-    present =
-        All-dedup eqb (HasPriority game) sorted (All-permutation (HasPriority game) list sorted moved so_far.present);
+    right_parity = search (rules, All-dedup, All-permutation);
+    present = search (rules, All-dedup, All-permutation);
   })

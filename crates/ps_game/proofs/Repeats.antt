@@ -1,6 +1,6 @@
 -- More places than values: two places have the same value.
 use Rattle.std.proofs.Common.{◌≡◌, ◌≢◌, ℕ, suc, ◌<◌, ◌≤◌, ◌⊎◌, inl, inr, List, [], ◌∷◌, Bool, true, false, ◌==◌, length}
-use Rattle.std.proofs.Common.{get_or, refl, subst, sym, ◌∙◌, arith}
+use Rattle.std.proofs.Common.{refl, subst, sym, ◌∙◌, arith, rules}
 use Rattle.std.specs.List.{All, AllPairs, list_any}
 use Rattle.std.proofs.lemmas.Bool.{eqb-true, eq-eqb}
 use Rattle.std.proofs.lemmas.Bool.Decides.{Decides-eqb}
@@ -27,17 +27,7 @@ head_repeats x xs differ true there =
         same = eqb-true x found.1 found.4 ∙ sym found.3 ∙ get_or_default xs found.0 found.1 0 found.2;
       },
     )
-head_repeats x xs differ false none =
-    inl (AllPairs-cons (λ x y. x ≢ y) x xs (λ k d within same.
-    let there : list_any (λ y. x == y) xs ≡ true =
-    list_any-from_Any (λ y. x == y) xs (
-      k,
-      get_or xs k d,
-      within,
-      get_or_default xs k (get_or xs k d) d within,
-      eq-eqb x (get_or xs k d) same,
-    ) in
-    cc) differ)
+head_repeats x xs differ false none = search (rules, AllPairs-cons, list_any-from_Any, get_or_default, eq-eqb)
 
 -- the values of a list differ, or two of them are the same
 differ_or_repeat : (xs : List ℕ) → AllPairs (λ x y. x ≢ y) xs ⊎ HasLoop xs
@@ -54,17 +44,16 @@ differ_or_repeat (x ∷ xs) = elim (differ_or_repeat xs) [
 
 -- what stands in a list of numbers below n is below n
 below_from_there : (n : ℕ) (xs : List ℕ) → All (λ x. x < n) xs → (q : ℕ) → list_any (λ y. q == y) xs ≡ true → q < n
-below_from_there n xs below q there =
-    let found = Any-from_list_any (λ y. q == y) xs there in
-    let IsBelow : ℕ → Type 0 = λ x. x < n in
-    subst IsBelow (found.3 ∙ sym (eqb-true q found.1 found.4)) (below found.0 found.1 found.2)
+below_from_there n xs below q there = search (rules, Any-from_list_any, eqb-true)
 
 -- more than n numbers below n
 pub repeats : (n : ℕ) (xs : List ℕ) → All (λ x. x < n) xs → n < length xs → HasLoop xs
 repeats n xs below many = elim (differ_or_repeat xs) [
   | inr repeated ↦ repeated
-  | inl differ ↦ (let few : length xs ≤ n = length-le_from_distinct_below xs n
-      (IsDistinct-from_AllPairs Decides-eqb xs differ) (below_from_there n xs below) in absurd (omega arith))
+  | inl differ ↦
+      let few = length-le_from_distinct_below xs n (IsDistinct-from_AllPairs Decides-eqb xs differ)
+      (below_from_there n xs below) in
+      absurd (omega arith)
 ]
 
 -- a path with more vertices than the game has a loop

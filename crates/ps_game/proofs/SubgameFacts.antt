@@ -1,6 +1,6 @@
 -- Subgames: all of a game is one.
-use Rattle.std.proofs.Common.{◌≡◌, ℕ, ◌<◌, inl, inr, List, Bool, true, false, replicate, length, get_or, sym, ap, ◌∙◌}
-use Rattle.std.proofs.Common.{arith}
+use Rattle.std.proofs.Common.{◌≡◌, ℕ, ◌<◌, List, Bool, true, false, replicate, length, get_or, sym, ap, ◌∙◌}
+use Rattle.std.proofs.Common.{arith, rules}
 use Rattle.std.proofs.lemmas.Bool.{cases_lt, false≢true}
 use Rattle.std.proofs.lemmas.List.{get_or-replicate, get_or_past, get_or_default, length-replicate}
 use Rattle.std.proofs.lemmas.List.Elements.{Contains-get_or}
@@ -10,16 +10,12 @@ use Rattle.ps_game.specs.Regions.{has}
 
 -- what is in a region is below its number of places
 pub has-below : (region : List Bool) (v : ℕ) → has region v ≡ true → v < length region
-has-below region v inside = elim (cases_lt v (length region)) [
-  | inl less ↦ less
-  | inr past ↦ absurd (false≢true (sym (get_or_past region v false past) ∙ inside))
-]
+has-below region v inside = search (rules, cases_lt, false≢true, get_or_past)
 
 -- the first successor of a vertex
 pub first_edge : (game : ParityGame) (v : ℕ) → IsGame game → v < vertex_count game →
     HasEdge game v (get_or (successors_of game v) 0 0)
-first_edge game v is_game is_vertex =
-    (is_vertex, Contains-get_or (successors_of game v) 0 0 (is_game.has_successor v is_vertex))
+first_edge game v is_game is_vertex = search (rules, Contains-get_or)
 
 pub whole_game : (game : ParityGame) → IsGame game → IsSubgame game (has (replicate (vertex_count game) true))
 whole_game game is_game =
@@ -49,8 +45,7 @@ edge_at game v k is_vertex within = (is_vertex, Contains-get_or (successors_of g
 -- an edge leads to a successor that has a number
 pub number_of_edge : (game : ParityGame) (v w : ℕ) → HasEdge game v w →
     (k : ℕ) × (k < length (successors_of game v)) × (get_or (successors_of game v) k 0 ≡ w)
-number_of_edge game v w edge =
-    (edge.1.0, edge.1.1, get_or_default (successors_of game v) edge.1.0 0 w edge.1.1 ∙ edge.1.2)
+number_of_edge game v w edge = search (rules, get_or_default)
 
 -- where no successor is in a set, no edge leads into it
 pub none_leads : (game : ParityGame) (set : ℕ → Bool) (v : ℕ) →

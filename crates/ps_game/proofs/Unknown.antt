@@ -1,5 +1,5 @@
 -- What the search for an unknown successor finds.
-use Rattle.std.proofs.Common.{inl, inr, ◌≤◌, sym, ◌∙◌, ◌≡◌, ℕ, zero, suc, ◌<◌, List, [], ◌∷◌, find, Option, None}
+use Rattle.std.proofs.Common.{inl, inr, ◌≤◌, ◌∙◌, ◌≡◌, ℕ, zero, suc, ◌<◌, List, [], ◌∷◌, find, Option, None, rules}
 use Rattle.std.proofs.Common.{Some, nat_le, cond, arith}
 use Rattle.std.specs.List.{All}
 use Rattle.std.proofs.lemmas.Bool.{cases_lt}
@@ -36,10 +36,7 @@ not_before {v = v} {u = u} first second = elim (cases_lt u v) [
 -- the least vertex with an unknown successor, and its first such successor, are determined
 pub first_unknown_once : {draft : ParityGame} {v w u x : ℕ} → IsFirstUnknown draft v w → IsFirstUnknown draft u x →
     (v ≡ u) × (w ≡ x)
-first_unknown_once {v = v} {w = w} {u = u} {x = x} first second =
-    let same : v ≡ u = omega (arith, not_before first second, not_before second first) in
-    let both : Some w ≡ Some x = sym first.unknown ∙ rw same second.unknown in
-    (same, cc)
+first_unknown_once {v = v} {w = w} {u = u} {x = x} first second = search (rules, not_before)
 
 -- there is none where each successor is a vertex
 pub no_first_unknown : {draft : ParityGame} {v w : ℕ} → NoneUnknown draft → IsFirstUnknown draft v w → ⊥

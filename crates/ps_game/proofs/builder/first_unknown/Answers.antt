@@ -1,4 +1,4 @@
-use Rattle.std.proofs.Common.{◌≡◌, get_or, sym, ◌∙◌, below_more}
+use Rattle.std.proofs.Common.{◌≡◌, get_or, sym, ◌∙◌, below_more, rules}
 use Rattle.std.proofs.lemmas.List.{get_or_default}
 use Rattle.ps_game.specs.Games.{vertex_count, successors_of, no_vertex}
 use Rattle.ps_game.proofs.Unknown.{all_from_find}
@@ -8,7 +8,6 @@ pub loop-number-preserved : goal.loop-number-preserved
 unfolding vertex_count successors_of
 loop-number-preserved c =
     let vertex : get_or c.args.vertices.now c.loop-number.number no_vertex ≡ c.index-vertices-number.result
-    = get_or_default c.args.vertices.now c.loop-number.number _ _ c.loop-number-test.true
-    ∙ sym c.index-vertices-number.is in
+    = search (rules, get_or_default) in
     below_more _ _ c.loop-number.invariant (rw vertex (all_from_find _ _
     (sym c.unknown_successor.ensures ∙ c.in_default.is)))

@@ -1,9 +1,9 @@
-use Rattle.std.proofs.Common.{◌∙◌, arith}
+use Rattle.std.proofs.Common.{◌∙◌, arith, rules}
 use Rattle.ps_game.proofs.FlatArrays.{offsets_fit, successors_fit}
 use Rattle.ps_game.proofs.flat.FlatGame.in_width.Goals as goal
 
 pub in_width-requires : goal.in_width-requires
-in_width-requires g c = offsets_fit c.self.invariant.tell c.self.view_is c.requires
+in_width-requires g c = search (rules, offsets_fit)
 
 pub in_width-requires-2 : goal.in_width-requires-2
 in_width-requires-2 g c =
