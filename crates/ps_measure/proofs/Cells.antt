@@ -1,12 +1,12 @@
 -- Chains of cells that hold counts: with one more cell, and as rows.
 use Rattle.std.proofs.Common.{◌≡◌, ◌≢◌, ℕ, zero, suc, ◌+◌, ◌-◌, ◌<◌, ◌≤◌, ◌==◌, ◌∙◌, ◌++◌, ◌∷◌, [], List, length, map}
-use Rattle.std.proofs.Common.{max, get_or, inl, inr, refl, sym, ap, subst, add-one, arith, Option, None, Some, cond}
+use Rattle.std.proofs.Common.{max, get_or, inl, inr, refl, sym, ap, add-one, arith, Option, None, Some, cond}
 use Rattle.std.proofs.Common.{replicate}
 use Rattle.std.specs.Prelude.{slice_get, slice_index, slice_set}
 use Rattle.std.proofs.Math.Nat.{zero-max}
 use Rattle.std.proofs.lemmas.Bool.{cases_eq, cases_lt, ne_eqb, eq-eqb}
 use Rattle.std.proofs.lemmas.List.{get_or_past, get_or-set_same, get_or-set_other, length-map, length-set, length_push}
-use Rattle.std.proofs.lemmas.List.{get_or-map, get_or-replicate, length-replicate}
+use Rattle.std.proofs.lemmas.List.{get_or-map, length-replicate}
 use Rattle.std.proofs.lemmas.List.FromFn.{fill_by_all, get_or-map-range_with_len, length-map-range_with_len}
 use Rattle.std.proofs.lemmas.Option.{slice_get-get_or, slice_get_past}
 use Rattle.ps_components.proofs.Places.{slice_get-append_left, slice_get-push, slice_get-push_cases}
@@ -14,12 +14,7 @@ use Rattle.ps_measure.specs.declared.table.CountCell.{CountCell}
 use Rattle.ps_measure.specs.Ranks.{count_of, count_in, width_of, width_in}
 use Rattle.ps_measure.specs.Tables.{next_of, count_here, count_from, row_from, rows_in, AreChained, AreHeaded, AreZero}
 use Rattle.ps_measure.specs.Tables.{HasPut}
-
-get_or-replicate_zero : (count v : ℕ) → slice_index (replicate count 0) v ≡ 0
-get_or-replicate_zero count v = elim (cases_lt v count) [
-  | inl less ↦ get_or-replicate count v 0 0 less
-  | inr more ↦ get_or_past (replicate count 0) v 0 (omega (arith, length-replicate {A = ℕ} count 0, more))
-]
+use Rattle.ps_measure.proofs.Writing.{written, zeros_at}
 
 pub from_none : (cells : List CountCell) (fuel k : ℕ) → count_from cells fuel zero k ≡ 0
 unfolding count_from
@@ -91,74 +86,44 @@ module _ (cells : List CountCell)
 abbrev pub cell_at : List CountCell → ℕ → CountCell
 cell_at cells n = get_or cells (n - 1) (record { place = 0; count = 0; next = 0 })
 
-module _ (width : ℕ) (cells : List CountCell) (chained : AreChained width cells) (n : ℕ) (some : 0 < n)
+module _ {width : ℕ} {cells : List CountCell} {n : ℕ} (chained : AreChained width cells) (some : 0 < n)
     (first : n ≤ length cells) where
-  there : slice_get cells (n - 1) ≡ Some (cell_at cells n)
+  abbrev cell_here : CountCell
+  cell_here = cell_at cells n
+
+  there : slice_get cells (n - 1) ≡ Some cell_here
   there = slice_get-get_or cells (n - 1) (record { place = 0; count = 0; next = 0 }) (omega (arith, some, first))
 
-  pub next_below : (cell_at cells n).next < n
-  next_below = omega (arith, some, chained.falls (n - 1) (cell_at cells n) there)
+  pub next_below : cell_here.next < n
+  next_below = omega (arith, some, chained.falls (n - 1) cell_here there)
 
-  pub place_below : (cell_at cells n).place < width
-  place_below = chained.places (n - 1) (cell_at cells n) there
+  pub place_below : cell_here.place < width
+  place_below = chained.places (n - 1) cell_here there
 
-  here_and_behind : (k : ℕ) →
-      count_from cells n n k
-      ≡ max (count_here (Some (cell_at cells n)) k) (count_from cells (cell_at cells n).next (cell_at cells n).next k)
+  abbrev behind : ℕ → ℕ
+  behind k = count_from cells cell_here.next cell_here.next k
+
+  here_and_behind : (k : ℕ) → count_from cells n n k ≡ max (count_here (Some cell_here) k) (behind k)
   here_and_behind k =
       let number : suc (n - 1) ≡ n = omega (arith, some) in
-      subst (λ m. count_from cells m m k ≡ max (count_here (Some (cell_at cells n)) k)
-      (count_from cells (cell_at cells n).next (cell_at cells n).next k)) number
-      (from_number cells chained.falls (n - 1) k (cell_at cells n) there)
+      rw number at (from_number cells chained.falls (n - 1) k cell_here there)
 
-  -- another place has no count here
-  elsewhere : (k : ℕ) → k ≢ (cell_at cells n).place →
-      count_from cells n n k ≡ count_from cells (cell_at cells n).next (cell_at cells n).next k
-  elsewhere k apart =
-      here_and_behind k
-      ∙ ap (λ b. max (cond b (cell_at cells n).count 0)
-      (count_from cells (cell_at cells n).next (cell_at cells n).next k))
-      (ne_eqb (cell_at cells n).place k (λ e. apart (sym e)))
-      ∙ zero-max (count_from cells (cell_at cells n).next (cell_at cells n).next k)
-
-  at_place : (k : ℕ) → k ≡ (cell_at cells n).place →
-      count_from cells n n k
-      ≡ max (cell_at cells n).count (count_from cells (cell_at cells n).next (cell_at cells n).next k)
-  at_place k same =
-      here_and_behind k
-      ∙ ap (λ b. max (cond b (cell_at cells n).count 0)
-      (count_from cells (cell_at cells n).next (cell_at cells n).next k))
-      (eq-eqb (cell_at cells n).place k (sym same))
-
-  module _ (row : List ℕ) where
-    abbrev behind : ℕ → ℕ
-    behind k = count_from cells (cell_at cells n).next (cell_at cells n).next k
-
-    pub row_raised : slice_index row (cell_at cells n).place < (cell_at cells n).count → length row ≡ width → (k : ℕ) →
-        max (slice_index (slice_set row (cell_at cells n).place (cell_at cells n).count) k) (behind k)
-        ≡ max (slice_index row k) (count_from cells n n k)
-    row_raised less long k = elim (cases_eq k (cell_at cells n).place) [
-      | inl same ↦
-          let new : slice_index (slice_set row (cell_at cells n).place (cell_at cells n).count) k ≡
-          (cell_at cells n).count =
-          ap (slice_index (slice_set row (cell_at cells n).place (cell_at cells n).count)) same
-          ∙ get_or-set_same row (cell_at cells n).place (cell_at cells n).count 0 (omega (arith, long, place_below)) in
-          let old : slice_index row k ≡ slice_index row (cell_at cells n).place = ap (slice_index row) same in
-          omega (arith, new, old, less, at_place k same)
-      | inr apart ↦
-          let new : slice_index (slice_set row (cell_at cells n).place (cell_at cells n).count) k ≡ slice_index row k =
-          get_or-set_other row (cell_at cells n).place k (cell_at cells n).count 0 apart in
-          omega (arith, new, elsewhere k apart)
-    ]
-
-    pub row_stays : (cell_at cells n).count ≤ slice_index row (cell_at cells n).place → (k : ℕ) →
-        max (slice_index row k) (behind k) ≡ max (slice_index row k) (count_from cells n n k)
-    row_stays most k = elim (cases_eq k (cell_at cells n).place) [
-      | inl same ↦
-          let old : slice_index row k ≡ slice_index row (cell_at cells n).place = ap (slice_index row) same in
-          omega (arith, old, most, at_place k same)
-      | inr apart ↦ omega (arith, elsewhere k apart)
-    ]
+  -- a row with the cell taken into account, where the cells behind are still to be
+  pub row_step : (row new : List ℕ) →
+      slice_index new cell_here.place ≡ max (slice_index row cell_here.place) cell_here.count →
+      ((k : ℕ) → k ≢ cell_here.place → slice_index new k ≡ slice_index row k) → (k : ℕ) →
+      max (slice_index new k) (behind k) ≡ max (slice_index row k) (count_from cells n n k)
+  row_step row new here others k = elim (cases_eq k cell_here.place) [
+    | inl same ↦
+        let value = here_and_behind cell_here.place
+        ∙ ap (λ b. max (cond b cell_here.count 0) (behind cell_here.place))
+        (eq-eqb cell_here.place cell_here.place refl) in
+        rw same (omega (arith, here, value))
+    | inr apart ↦
+        let value = here_and_behind k ∙ ap (λ b. max (cond b cell_here.count 0) (behind k))
+        (ne_eqb cell_here.place k (λ e. apart (sym e))) in
+        omega (arith, others k apart, value)
+  ]
 
 -- ---- the rows
 
@@ -206,8 +171,8 @@ module _ (width : ℕ) (heads : List ℕ) (cells : List CountCell) where
 
 -- ---- one more count
 
-module _ (width : ℕ) (heads : List ℕ) (cells : List CountCell) (headed : AreHeaded width heads cells)
-    (vertex place count : ℕ) (below : vertex < length heads) (within : place < width) where
+module _ {width : ℕ} {heads : List ℕ} {cells : List CountCell} {vertex place : ℕ} (headed : AreHeaded width heads cells)
+    (count : ℕ) (below : vertex < length heads) (within : place < width) where
   abbrev cell : CountCell
   cell = record { place = place; count = count; next = slice_index heads vertex }
 
@@ -222,30 +187,20 @@ module _ (width : ℕ) (heads : List ℕ) (cells : List CountCell) (headed : Are
     chained = record {
       falls = λ i c at. elim (slice_get-push_cases cells cell i c at) [
         | inl old ↦ headed.chained.falls i c old
-        | inr new ↦
-            (let is : slice_index heads vertex ≡ c.next = ap (λ (x : CountCell). x.next) new.1 in
-            omega (arith, is, new.0, headed.first vertex))
+        | inr new ↦ rw (← new.1) (omega (arith, new.0, headed.first vertex))
       ];
       places = λ i c at. elim (slice_get-push_cases cells cell i c at) [
         | inl old ↦ headed.chained.places i c old
-        | inr new ↦ (let is : place ≡ c.place = ap (λ (x : CountCell). x.place) new.1 in omega (arith, is, within))
+        | inr new ↦ rw (← new.1) within
       ];
     };
-    first = λ v. elim (cases_eq v vertex) [
-      | inl same ↦
-          (let is : slice_index new_heads v ≡ length cells + 1 = ap (slice_index new_heads) same ∙ new_head in
-          omega (arith, is, length_push cells cell))
-      | inr apart ↦
-          (let is : slice_index new_heads v ≡ slice_index heads v = old_head v apart in
-          omega (arith, is, headed.first v, length_push cells cell))
-    ];
+    first = λ v. omega (
+      arith,
+      written heads vertex (length cells + 1) v below,
+      headed.first v,
+      length_push cells cell,
+    );
   }
-    where
-      new_head : slice_index new_heads vertex ≡ length cells + 1
-      new_head = get_or-set_same heads vertex (length cells + 1) 0 below
-
-      old_head : (v : ℕ) → v ≢ vertex → slice_index new_heads v ≡ slice_index heads v
-      old_head v apart = get_or-set_other heads vertex v (length cells + 1) 0 apart
 
   pub put_done : HasPut (rows_in width heads cells) (rows_in width new_heads new_cells) vertex place count
   put_done = record {
@@ -310,7 +265,7 @@ module _ (width : ℕ) (heads : List ℕ) (cells : List CountCell) (headed : Are
 pub none_headed : (width count : ℕ) → AreHeaded width (replicate count 0) []
 none_headed width count = record {
   chained = record { falls = λ i cell at. absurd cc; places = λ i cell at. absurd cc };
-  first = λ v. (let is : slice_index (replicate count 0) v ≡ 0 = get_or-replicate_zero count v in omega (arith, is));
+  first = λ v. (let is : slice_index (replicate count 0) v ≡ 0 = zeros_at count v in omega (arith, is));
 }
 
 pub none_zero : (width count : ℕ) → AreZero (rows_in width (replicate count 0) []) count width
@@ -325,7 +280,7 @@ none_zero width count = record {
       | inr far ↦ count_behind width (replicate count 0) [] v k less far
       | inl inside ↦
           count_at width (replicate count 0) [] v k less inside
-          ∙ ap (λ h. count_from [] h h k) (get_or-replicate_zero count v) ∙ from_none [] 0 k
+          ∙ ap (λ h. count_from [] h h k) (zeros_at count v) ∙ from_none [] 0 k
     ]
   ];
 }
@@ -351,5 +306,5 @@ row_done width heads cells v head zeros row below head_is zeros_are long raised 
     each k within =
         raised k (omega (arith, within, many))
         ∙ ap (λ n. max n (count_from cells head head k))
-        (ap (λ (list : List ℕ). slice_index list k) zeros_are ∙ get_or-replicate_zero width k)
+        (ap (λ (list : List ℕ). slice_index list k) zeros_are ∙ zeros_at width k)
         ∙ zero-max (count_from cells head head k)

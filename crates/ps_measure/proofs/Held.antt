@@ -1,17 +1,17 @@
 -- A player who holds a region by a table loses no cycle in it.
 use Rattle.std.proofs.Common.{◌≡◌, ℕ, ◌+◌, ◌-◌, ◌%◌, ◌<◌, ◌∙◌, List, [], ◌∷◌, ◌++◌, length, map, take, inl, inr, refl}
-use Rattle.std.proofs.Common.{sym, ap, subst, arith, Option, Bool}
+use Rattle.std.proofs.Common.{sym, ap, arith, Option, Bool}
 use Rattle.std.specs.Prelude.{slice_index, IsTrue}
 use Rattle.std.proofs.lemmas.Bool.{cases_lt}
 use Rattle.std.proofs.lemmas.List.{get_or_append_left, get_or_push, length_push, take_at}
-use Rattle.ps_game.specs.Games.{ParityGame, vertex_count, priority_of}
+use Rattle.ps_game.specs.Games.{ParityGame, priority_of}
 use Rattle.ps_game.specs.Plays.{IsPath, IsLoop, Follows, Holds, greatest, loop_priority}
 use Rattle.ps_game.specs.Ranking.{RemainsWithin}
 use Rattle.ps_measure.specs.declared.fault.MeasureFault.{MeasureFault}
 use Rattle.ps_measure.specs.declared.fault.MeasureFault.TheVariants.{BadCycle, OutOfMemory}
 use Rattle.ps_measure.specs.Ranks.{IsLostCycle, IsRefusal, IsOutOfMemory}
 
-module _ (game : ParityGame) (player : ℕ) (set : ℕ → Bool) (table : ℕ → Option ℕ) (cycle : List ℕ)
+module _ {game : ParityGame} {player : ℕ} {set : ℕ → Bool} {table : ℕ → Option ℕ} {cycle : List ℕ}
     (lost : IsLostCycle game player set table cycle) where
   -- the cycle, with its first vertex once more
   abbrev round : List ℕ
@@ -29,27 +29,20 @@ module _ (game : ParityGame) (player : ℕ) (set : ℕ → Bool) (table : ℕ �
   step : (k : ℕ) → k + 1 < length round → RemainsWithin game player set table (slice_index round k)
       (slice_index round (k + 1))
   step k within = elim (cases_lt (k + 1) (length cycle)) [
-    | inl less ↦ subst (λ x. RemainsWithin game player set table x (slice_index round (k + 1)))
-        (sym (at_old k (omega arith))) (subst (RemainsWithin game player set table (slice_index cycle k))
-        (sym (at_old (k + 1) less)) (lost.edges k less))
+    | inl less ↦ rw (at_old k (omega arith), at_old (k + 1) less) (lost.edges k less)
     | inr more ↦
         let last : k ≡ length cycle - 1 = omega (arith, within, long, more, lost.some) in
         let after : k + 1 ≡ length cycle = omega (arith, last, lost.some) in
-        let from : slice_index round k ≡ slice_index cycle (length cycle - 1) =
-        at_old k (omega (arith, last, lost.some)) ∙ ap (slice_index cycle) last in
-        let to : slice_index round (k + 1) ≡ slice_index cycle 0 = ap (slice_index round) after ∙ at_end in
-        subst (λ x. RemainsWithin game player set table x (slice_index round (k + 1))) (sym from)
-        (subst (RemainsWithin game player set table (slice_index cycle (length cycle - 1))) (sym to) lost.closes)
+        rw (after, at_end, at_old k (omega (arith, after)), last) lost.closes
   ]
 
   is_path : IsPath game round
   is_path = record {
     begins = omega (arith, long);
     vertices = λ k within. elim (cases_lt k (length cycle)) [
-      | inl less ↦ subst (λ x. x < vertex_count game) (sym (at_old k less)) (lost.vertices k less)
-      | inr more ↦
-          let is : k ≡ length cycle = omega (arith, within, long, more) in
-          subst (λ x. x < vertex_count game) (sym (ap (slice_index round) is ∙ at_end)) (lost.vertices 0 lost.some)
+      | inl less ↦ rw (at_old k less) (lost.vertices k less)
+      | inr more ↦ (let is : k ≡ length cycle = omega (arith, within, long, more) in
+          rw (is, at_end) (lost.vertices 0 lost.some))
     ];
     edges = λ k within. (step k within).remains.edge;
   }
@@ -79,8 +72,7 @@ module _ (game : ParityGame) (player : ℕ) (set : ℕ → Bool) (table : ℕ �
       ap (λ n. n % 2) priority_is in
       omega (arith, is_player, won, of_other, same)
 
-pub held_refusal : (game : ParityGame) (player : ℕ) (set : ℕ → Bool) (table : ℕ → Option ℕ) (fault : MeasureFault) →
+pub held_refusal : {game : ParityGame} {player : ℕ} {set : ℕ → Bool} {table : ℕ → Option ℕ} (fault : MeasureFault) →
     player < 2 → IsRefusal game player set table fault → Holds game player set table → IsOutOfMemory fault
-held_refusal game player set table (BadCycle cycle) is_player lost holds =
-    not_held game player set table cycle.items lost is_player holds
-held_refusal game player set table OutOfMemory is_player lost holds = tt
+held_refusal (BadCycle cycle) is_player lost holds = not_held lost is_player holds
+held_refusal OutOfMemory is_player lost holds = tt

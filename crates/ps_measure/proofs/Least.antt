@@ -1,10 +1,9 @@
 -- The least counts of the graph of low vertices are those of the game; a way back to a link's source is a cycle of the
 -- game.
 use Rattle.std.proofs.Common.{◌≡◌, ◌≢◌, ℕ, zero, suc, ◌+◌, ◌-◌, ◌%◌, ◌<◌, ◌≤◌, ◌∙◌, List, [], ◌∷◌, length, map, get_or}
-use Rattle.std.proofs.Common.{inl, inr, refl, sym, ap, subst, arith, Bool, true, false, cond, nat_le, nat_lt, ◌&&◌}
+use Rattle.std.proofs.Common.{inl, inr, refl, sym, ap, arith, Bool, true, false, cond, nat_le, ◌&&◌}
 use Rattle.std.specs.Prelude.{slice_index, IsTrue, ◌==◌}
 use Rattle.std.proofs.lemmas.Bool.{cases_eq, cases_lt, eq-eqb, ne_eqb, and_from, le-leb, lt-leb}
-use Rattle.std.proofs.lemmas.Bool.{lt-ltb, le-ltb}
 use Rattle.std.proofs.lemmas.List.{length-map, get_or-map}
 use Rattle.std.proofs.lemmas.Option.{slice_get_within, slice_get-get_or, get_or_from_slice_get}
 use Rattle.ps_components.specs.Graphs.{Link}
@@ -24,44 +23,44 @@ use Rattle.ps_measure.proofs.Edges.{Remains, link_remains, remains_link, low_lin
 greatest-bound : (xs : List ℕ) (p : ℕ) → ((k : ℕ) → k < length xs → get_or xs k 0 ≤ p) → greatest xs ≤ p
 greatest-bound [] p each = omega arith
 greatest-bound (x ∷ xs) p each =
-    let first : x ≤ p = each zero (omega arith) in
-    let rest : greatest xs ≤ p = greatest-bound xs p (λ k within. each (suc k) (omega arith)) in
-    omega arith
+    omega (arith, each zero (omega arith), greatest-bound xs p (λ k within. each (suc k) (omega arith)))
 
 greatest-least : (xs : List ℕ) (k : ℕ) → k < length xs → get_or xs k 0 ≤ greatest xs
 greatest-least [] k within = absurd (omega arith)
 greatest-least (x ∷ xs) zero within = omega arith
-greatest-least (x ∷ xs) (suc k) within =
-    (let behind : get_or xs k 0 ≤ greatest xs = greatest-least xs k (omega arith) in omega arith)
+greatest-least (x ∷ xs) (suc k) within = omega (arith, greatest-least xs k (omega arith))
+
+-- a greatest number is one that is there, with none above it
+greatest_at : (xs : List ℕ) (k p : ℕ) → k < length xs → get_or xs k 0 ≡ p →
+    ((j : ℕ) → j < length xs → get_or xs j 0 ≤ p) → greatest xs ≡ p
+greatest_at xs k p within is each = omega (arith, is, greatest-bound xs p each, greatest-least xs k within)
 
 module _ (r : RemainingData) (low : LowData) (is_game : IsGame r.game) (levels : AreLevels r.game low.levels)
     (reverse : IsReverse (remaining_graph r) (star_graph low.star)) (regions : low.region ≡ r.region) where
   -- a link leads against an edge that remains, between vertices of no greater priority
-  pub remains_low : (w v : ℕ) → Link (low_graph low) w v → Remains r v w × (priority_of r.game w ≤ low.priority) ×
+  remains_low : (w v : ℕ) → Link (low_graph low) w v → Remains r v w × (priority_of r.game w ≤ low.priority) ×
       (priority_of r.game v ≤ low.priority)
   remains_low w v link =
-      let parts = low_link low w v link in
-      let remains = link_remains r v w (reverse.back v w parts.0) in
-      let to : v < vertex_count r.game = remains.remains.edge.0 in
-      let from : w < vertex_count r.game = is_game.within v w remains.remains.edge in
-      (remains, omega (arith, levels.is w from, parts.1), omega (arith, levels.is v to, parts.2))
+      let parts = low_link low link in
+      let remains = link_remains r (reverse.back v w parts.0) in
+      let from = is_game.within v w remains.remains.edge in (
+        remains,
+        omega (arith, levels.is w from, parts.1),
+        omega (arith, levels.is v remains.remains.edge.0, parts.2),
+      )
 
-  pub low_remains : (v w : ℕ) → Remains r v w → priority_of r.game w ≤ low.priority →
+  low_remains : (v w : ℕ) → Remains r v w → priority_of r.game w ≤ low.priority →
       priority_of r.game v ≤ low.priority → Link (low_graph low) w v
   low_remains v w remains from to =
-      let to_below : v < vertex_count r.game = remains.remains.edge.0 in
-      let from_below : w < vertex_count r.game = is_game.within v w remains.remains.edge in
-      link_low low w v (reverse.there v w (remains_link r v w remains)) (omega (arith, levels.is w from_below, from))
-      (omega (arith, levels.is v to_below, to))
-
-  in_region : (v : ℕ) → has r.region v ≡ true → has low.region v ≡ true
-  in_region v is = ap (λ l. has l v) regions ∙ is
+      let from_below = is_game.within v w remains.remains.edge in
+      link_low low (reverse.there v w (remains_link r remains)) (omega (arith, levels.is w from_below, from))
+      (omega (arith, levels.is v remains.remains.edge.0, to))
 
   heavy_one : (v : ℕ) → v < vertex_count r.game → priority_of r.game v ≡ low.priority → has r.region v ≡ true →
       low_weight low v ≡ 1
   heavy_one v below is inside =
       ap counted (and_from (slice_index low.levels v == low.priority) (has low.region v)
-      (eq-eqb (slice_index low.levels v) low.priority (levels.is v below ∙ is)) (in_region v inside))
+      (eq-eqb (slice_index low.levels v) low.priority (levels.is v below ∙ is)) (rw regions inside))
 
   light_none : (v : ℕ) → v < vertex_count r.game → priority_of r.game v ≢ low.priority → low_weight low v ≡ 0
   light_none v below apart =
@@ -74,67 +73,48 @@ module _ (r : RemainingData) (low : LowData) (is_game : IsGame r.game) (levels :
   from_rule other keep w v link =
       let parts = remains_low w v link in
       let rule = keep v w parts.0 in
-      let below : v < vertex_count r.game = parts.0.remains.edge.0 in
+      let below = parts.0.remains.edge.0 in
       elim (cases_eq (priority_of r.game v) low.priority) [
-        | inl same ↦
-            let less : other w < other v = rule.falls same parts.1 in
-            let one : low_weight low v ≡ 1 = heavy_one v below same parts.0.from in
-            omega arith
-        | inr apart ↦
-            let less : other w ≤ other v = rule.never_rises parts.2 parts.1 in
-            let none : low_weight low v ≡ 0 = light_none v below apart in
-            omega arith
+        | inl same ↦ omega (arith, rule.falls same parts.1, heavy_one v below same parts.0.from)
+        | inr apart ↦ omega (arith, rule.never_rises parts.2 parts.1, light_none v below apart)
       ]
 
   to_rule : (d : ℕ → ℕ) → AreCounts (low_graph low) (low_weight low) d →
       KeepRuleWithin r.game r.player (has r.region) (move_at r.strategy) low.priority d
   to_rule d counts v w remains = record {
-    never_rises =
-        λ from to. (let h : d w + low_weight low v ≤ d v = counts w v (low_remains v w remains to from) in omega arith);
-    falls = λ is to.
-        (let h : d w + low_weight low v ≤ d v = counts w v (low_remains v w remains to (omega (arith, is))) in
-        let one : low_weight low v ≡ 1 = heavy_one v remains.remains.edge.0 is remains.from in
-        omega arith);
+    never_rises = λ from to. omega (arith, counts w v (low_remains v w remains to from));
+    falls = λ is to. omega (
+      arith,
+      counts w v (low_remains v w remains to (omega (arith, is))),
+      heavy_one v remains.remains.edge.0 is remains.from,
+    );
   }
 
-  -- the counts, 0 where the test fails
-  abbrev kept_by : (ℕ → Bool) → (ℕ → ℕ) → ℕ → ℕ
-  kept_by test d v = cond (test v) (d v) 0
-
-  kept_counts : (test : ℕ → Bool) (d : ℕ → ℕ) → AreCounts (low_graph low) (low_weight low) d →
-      ((w v : ℕ) → Link (low_graph low) w v → (test w ≡ true) × (test v ≡ true)) →
-      AreCounts (low_graph low) (low_weight low) (kept_by test d)
-  kept_counts test d counts ends w v link =
-      let both = ends w v link in
-      let from : kept_by test d w ≡ d w = ap (λ b. cond b (d w) 0) both.0 in
-      let to : kept_by test d v ≡ d v = ap (λ b. cond b (d v) 0) both.1 in
-      let h : d w + low_weight low v ≤ d v = counts w v link in
-      omega arith
-
+  -- counts are 0 where a test fails that the ends of all links pass
   zero_where : (test : ℕ → Bool) (d : ℕ → ℕ) → AreLeast (low_graph low) (low_weight low) d →
       ((w v : ℕ) → Link (low_graph low) w v → (test w ≡ true) × (test v ≡ true)) → (v : ℕ) → test v ≡ false → d v ≡ 0
   zero_where test d least ends v fails =
-      let h : d v ≤ kept_by test d v = least.least (kept_by test d) (kept_counts test d least.counts ends) v in
-      let none : kept_by test d v ≡ 0 = ap (λ b. cond b (d v) 0) fails in
-      omega arith
+      let none : kept v ≡ 0 = ap (λ b. cond b (d v) 0) fails in
+      omega (arith, least.least kept counts v, none)
+    where
+      kept : ℕ → ℕ
+      kept u = cond (test u) (d u) 0
+
+      counts : AreCounts (low_graph low) (low_weight low) kept
+      counts w v link = (let both = ends w v link in rw (both.0, both.1) (least.counts w v link))
 
   weights_same : sum_below (low_weight low) (low_graph low).count ≤ count_with r.game (has r.region) low.priority
   weights_same =
-      subst (λ n. sum_below (low_weight low) n ≤ count_with r.game (has r.region) low.priority) (sym reverse.count)
-      (sum_below-le (low_weight low) (λ v. counted ((priority_of r.game v == low.priority) && has r.region v))
-      (vertex_count r.game) each)
+      rw reverse.count (sum_below-le (low_weight low)
+      (λ v. counted ((priority_of r.game v == low.priority) && has r.region v)) (vertex_count r.game) each)
     where
       each : (v : ℕ) → v < vertex_count r.game → low_weight low v ≤ counted
           ((priority_of r.game v == low.priority) && has r.region v)
-      each v below =
-          let e : low_weight low v ≡ counted ((priority_of r.game v == low.priority) && has r.region v) =
-          ap (λ n. counted ((n == low.priority) && has low.region v)) (levels.is v below)
-          ∙ ap (λ l. counted ((priority_of r.game v == low.priority) && has l v)) regions in
-          omega arith
+      each v below = rw (levels.is v below, regions) (omega arith)
 
-  pub least_for : (d : ℕ → ℕ) → AreLeast (low_graph low) (low_weight low) d →
+  pub least_for : {d : ℕ → ℕ} → AreLeast (low_graph low) (low_weight low) d →
       AreLeastFor r.game r.player (has r.region) (move_at r.strategy) low.priority d
-  least_for d least = record {
+  least_for {d} least = record {
     keep = to_rule d least.counts;
     least = λ other keep v. least.least other (from_rule other keep) v;
     outside =
@@ -146,94 +126,65 @@ module _ (r : RemainingData) (low : LowData) (is_game : IsGame r.game) (levels :
           le-leb (priority_of r.game w) low.priority parts.1,
           le-leb (priority_of r.game v) low.priority parts.2,
         ))) v (lt-leb (priority_of r.game v) low.priority high);
-    bounded =
-        λ v. (let h : d v ≤ sum_below (low_weight low) (low_graph low).count = least.bounded v in
-        let i = weights_same in omega arith);
+    bounded = λ v. omega (arith, least.bounded v, weights_same);
   }
     where
       false_unless : (b : Bool) → (IsTrue b → ⊥) → b ≡ false
       false_unless true not_so = absurd (not_so refl)
       false_unless false not_so = refl
 
-  pub zero_past : (d : ℕ → ℕ) → AreLeast (low_graph low) (low_weight low) d → (v : ℕ) →
-      vertex_count r.game ≤ v → d v ≡ 0
-  zero_past d least v past =
-      zero_where (λ u. nat_lt u (vertex_count r.game)) d least (λ w u link.
-      (let parts = remains_low w u link in (
-        lt-ltb w (vertex_count r.game) (is_game.within u w parts.0.remains.edge),
-        lt-ltb u (vertex_count r.game) parts.0.remains.edge.0,
-      ))) v (le-ltb v (vertex_count r.game) past)
-
   -- the vertices of a way back
-  pub lost_cycle : (cycle : List ℕ) → low.priority % 2 ≡ other_player r.player → IsLowCycle low cycle →
-      IsLostCycle r.game r.player (has r.region) (move_at r.strategy) cycle
-  lost_cycle cycle parity way = record {
-    some = some;
-    vertices = λ k within. (edge_at k within).0;
-    edges = λ k within. (link_at k within).0;
-    closes = closes.0;
-    lost = ap (λ n. n % 2) top ∙ parity;
-  }
-    where
-      some : 0 < length cycle
-      some = (let h : 0 < length cycle = slice_get_within cycle 0 way.from way.trail.first in h)
+  module _ {cycle : List ℕ} (way : IsLowCycle low cycle) where
+    some : 0 < length cycle
+    some = slice_get_within cycle 0 way.from way.trail.first
 
-      first_is : slice_index cycle 0 ≡ way.from
-      first_is = get_or_from_slice_get cycle 0 way.from 0 way.trail.first
+    first_is : slice_index cycle 0 ≡ way.from
+    first_is = get_or_from_slice_get cycle 0 way.from 0 way.trail.first
 
-      last_is : slice_index cycle (length cycle - 1) ≡ way.to
-      last_is = get_or_from_slice_get cycle (length cycle - 1) way.to 0 way.trail.last
+    last_is : slice_index cycle (length cycle - 1) ≡ way.to
+    last_is = get_or_from_slice_get cycle (length cycle - 1) way.to 0 way.trail.last
 
-      link_at : (k : ℕ) → k + 1 < length cycle → Remains r (slice_index cycle k) (slice_index cycle (k + 1)) ×
-          (priority_of r.game (slice_index cycle (k + 1)) ≤ low.priority) ×
-          (priority_of r.game (slice_index cycle k) ≤ low.priority)
-      link_at k within =
-          remains_low (slice_index cycle (k + 1)) (slice_index cycle k)
-          (way.trail.links k (slice_index cycle k) (slice_index cycle (k + 1))
-          (slice_get-get_or cycle k 0 (omega arith)) (slice_get-get_or cycle (k + 1) 0 within))
+    link_at : (k : ℕ) → k + 1 < length cycle → Remains r (slice_index cycle k) (slice_index cycle (k + 1)) ×
+        (priority_of r.game (slice_index cycle (k + 1)) ≤ low.priority) ×
+        (priority_of r.game (slice_index cycle k) ≤ low.priority)
+    link_at k within =
+        remains_low (slice_index cycle (k + 1)) (slice_index cycle k)
+        (way.trail.links k (slice_index cycle k) (slice_index cycle (k + 1))
+        (slice_get-get_or cycle k 0 (omega arith)) (slice_get-get_or cycle (k + 1) 0 within))
 
-      closing : Remains r way.to way.from × (priority_of r.game way.from ≤ low.priority) ×
-          (priority_of r.game way.to ≤ low.priority)
-      closing = remains_low way.from way.to way.closing.link
+    closing : Remains r way.to way.from × (priority_of r.game way.from ≤ low.priority) ×
+        (priority_of r.game way.to ≤ low.priority)
+    closing = remains_low way.from way.to way.closing.link
 
-      closes : Remains r (slice_index cycle (length cycle - 1)) (slice_index cycle 0) ×
-          (priority_of r.game (slice_index cycle (length cycle - 1)) ≤ low.priority)
-      closes = (
-        subst (λ x. Remains r x (slice_index cycle 0)) (sym last_is)
-            (subst (Remains r way.to) (sym first_is) closing.0),
-        subst (λ x. priority_of r.game x ≤ low.priority)
-            (sym last_is) closing.2,
-      )
+    edge_at : (k : ℕ) → k < length cycle → (slice_index cycle k < vertex_count r.game) ×
+        (priority_of r.game (slice_index cycle k) ≤ low.priority)
+    edge_at k within = elim (cases_lt (k + 1) (length cycle)) [
+      | inl less ↦ (let at = link_at k less in (at.0.remains.edge.0, at.2))
+      | inr more ↦ (let is : k ≡ length cycle - 1 = omega arith in
+          rw (is, last_is) (closing.0.remains.edge.0, closing.2))
+    ]
 
-      edge_at : (k : ℕ) → k < length cycle → (slice_index cycle k < vertex_count r.game) ×
-          (priority_of r.game (slice_index cycle k) ≤ low.priority)
-      edge_at k within = elim (cases_lt (k + 1) (length cycle)) [
-        | inl less ↦ (let at = link_at k less in (at.0.remains.edge.0, at.2))
-        | inr more ↦
-            let is : length cycle - 1 ≡ k = omega arith in
-            subst (λ j. (slice_index cycle j < vertex_count r.game) ×
-            (priority_of r.game (slice_index cycle j) ≤ low.priority)) is (closes.0.remains.edge.0, closes.1)
-      ]
+    at_map : (k : ℕ) → k < length cycle → get_or (map (priority_of r.game) cycle) k 0 ≡ priority_of r.game
+        (slice_index cycle k)
+    at_map k within = get_or-map (priority_of r.game) cycle k 0 0 within
 
-      at_map : (k : ℕ) → k < length cycle → get_or (map (priority_of r.game) cycle) k 0 ≡ priority_of r.game
-          (slice_index cycle k)
-      at_map k within = get_or-map (priority_of r.game) cycle k 0 0 within
+    long : length (map (priority_of r.game) cycle) ≡ length cycle
+    long = length-map cycle (priority_of r.game)
 
-      heavy : priority_of r.game way.to ≡ low.priority
-      heavy = sym (levels.is way.to closing.0.remains.edge.0) ∙ heavy_level low way.to way.closing.heavy
+    top : greatest (map (priority_of r.game) cycle) ≡ low.priority
+    top =
+        greatest_at (map (priority_of r.game) cycle) (length cycle - 1) low.priority (omega (arith, some, long))
+        (at_map (length cycle - 1) (omega (arith, some)) ∙ ap (priority_of r.game) last_is
+        ∙ sym (levels.is way.to closing.0.remains.edge.0) ∙ heavy_level low way.to way.closing.heavy)
+        (λ k within. (let inside : k < length cycle = omega (arith, within, long) in
+        omega (arith, at_map k inside, (edge_at k inside).1)))
 
-      long : length (map (priority_of r.game) cycle) ≡ length cycle
-      long = length-map cycle (priority_of r.game)
-
-      top : greatest (map (priority_of r.game) cycle) ≡ low.priority
-      top =
-          let at_most : greatest (map (priority_of r.game) cycle) ≤ low.priority =
-          greatest-bound (map (priority_of r.game) cycle) low.priority
-          (λ k within. (let inside : k < length cycle = omega (arith, within, long) in
-          omega (arith, at_map k inside, (edge_at k inside).1))) in
-          let at_end : get_or (map (priority_of r.game) cycle) (length cycle - 1) 0 ≤ greatest
-          (map (priority_of r.game) cycle) =
-          greatest-least (map (priority_of r.game) cycle) (length cycle - 1) (omega (arith, some, long)) in
-          let is : get_or (map (priority_of r.game) cycle) (length cycle - 1) 0 ≡ low.priority =
-          at_map (length cycle - 1) (omega (arith, some)) ∙ ap (priority_of r.game) last_is ∙ heavy in
-          omega arith
+    pub lost_cycle : low.priority % 2 ≡ other_player r.player →
+        IsLostCycle r.game r.player (has r.region) (move_at r.strategy) cycle
+    lost_cycle parity = record {
+      some = some;
+      vertices = λ k within. (edge_at k within).0;
+      edges = λ k within. (link_at k within).0;
+      closes = rw (first_is, last_is) closing.0;
+      lost = ap (λ n. n % 2) top ∙ parity;
+    }

@@ -8,8 +8,11 @@ pub mod Held
 pub mod Least
 pub mod Passing
 pub mod Placing
+pub mod Raising
 pub mod Roots
 pub mod Rows
 pub mod Steps
 pub mod Summing
+pub mod Unrolling
 pub mod Whole
+pub mod Writing

@@ -1,9 +1,8 @@
 -- The roots of a priority, looked for among the vertices that have it.
-use Rattle.std.proofs.Common.{◌≡◌, ℕ, ◌+◌, ◌<◌, ◌≤◌, ◌∙◌, List, [], ◌∷◌, ◌++◌, length, inl, inr, sym, ap, subst, arith}
+use Rattle.std.proofs.Common.{◌≡◌, ℕ, ◌+◌, ◌<◌, ◌≤◌, ◌∙◌, List, [], ◌∷◌, ◌++◌, length, inl, inr, sym, ap, arith}
 use Rattle.std.proofs.Common.{Some}
 use Rattle.std.specs.Prelude.{slice_index, slice_get}
 use Rattle.std.proofs.lemmas.Bool.{cases_eq}
-use Rattle.std.proofs.lemmas.Option.{slice_get_within}
 use Rattle.ps_components.specs.Graphs.{Link}
 use Rattle.ps_components.proofs.Places.{slice_get-append_left, slice_get-push, slice_get-push_cases}
 use Rattle.ps_measure.specs.Columns.{AreRoots}
@@ -21,21 +20,13 @@ pub record RootsAmong (low : LowData) (members : ℕ → ℕ) (roots : List ℕ)
   pub complete : (w k : ℕ) → k < n → Link (low_graph low) w (members k) → low_weight low (members k) ≡ 1 →
       (i : ℕ) × (slice_get roots i ≡ Some (members k))
 
-pub roots_none : (low : LowData) (members : ℕ → ℕ) (roots : List ℕ) → roots ≡ [] → RootsAmong low members roots 0
-roots_none low members roots none = record {
-  sound =
-      λ i v at. (let h : i < length roots = slice_get_within roots i v at in
-      let e : length roots ≡ 0 = ap length none in absurd (omega arith));
-  complete = λ w k below link heavy. absurd (omega (arith, below));
-}
-
-pub roots_more : (low : LowData) (members : ℕ → ℕ) (roots : List ℕ) (n v w : ℕ) → v ≡ members n →
+pub roots_more : {low : LowData} {members : ℕ → ℕ} {roots : List ℕ} {n v w : ℕ} → v ≡ members n →
     Link (low_graph low) w v → low_weight low v ≡ 1 → RootsAmong low members roots n →
     RootsAmong low members (roots ++ v ∷ []) (n + 1)
-roots_more low members roots n v w is link heavy so_far = record {
+roots_more {low} {members} {roots} {n} {v} {w} is link heavy so_far = record {
   sound = λ i u at. elim (slice_get-push_cases roots v i u at) [
     | inl old ↦ so_far.sound i u old
-    | inr new ↦ subst (λ x. (u : ℕ) × Link (low_graph low) u x × (low_weight low x ≡ 1)) new.1 (w, link, heavy)
+    | inr new ↦ rw (← new.1) (w, link, heavy)
   ];
   complete = λ u k below to is_heavy. elim (cases_eq k n) [
     | inl same ↦ (length roots, slice_get-push roots v ∙ ap Some (is ∙ ap members (sym same)))
@@ -44,50 +35,41 @@ roots_more low members roots n v w is link heavy so_far = record {
   ];
 }
 
-pub roots_skip : (low : LowData) (members : ℕ → ℕ) (roots : List ℕ) (n v : ℕ) → v ≡ members n →
+pub roots_skip : {low : LowData} {members : ℕ → ℕ} {roots : List ℕ} {n v : ℕ} → v ≡ members n →
     ((w : ℕ) → Link (low_graph low) w v → low_weight low v ≡ 1 → ⊥) → RootsAmong low members roots n →
     RootsAmong low members roots (n + 1)
-roots_skip low members roots n v is none so_far = record {
+roots_skip {low} {members} {n = n} {v} is none so_far = record {
   sound = so_far.sound;
   complete = λ u k below to heavy. elim (cases_eq k n) [
-    | inl same ↦ (let e : members k ≡ v = ap members same ∙ sym is in
-        absurd (none u (subst (Link (low_graph low) u) e to) (ap (low_weight low) (sym e) ∙ heavy)))
+    | inl same ↦ (let e : members k ≡ v = ap members same ∙ sym is in absurd (none u (rw e at to) (rw e at heavy)))
     | inr apart ↦ so_far.complete u k (omega (arith, below, apart)) to heavy
   ];
 }
 
 -- all roots are among the members of the group
-pub roots_all : (low : LowData) (members : StarData) (place : ℕ) (roots : List ℕ) (n : ℕ) →
+pub roots_all : {low : LowData} {members : StarData} {place : ℕ} {roots : List ℕ} {n : ℕ} →
     (star_graph members).degree place ≤ n → ((w v : ℕ) → Link (low_graph low) w v → v < low.star.count) →
     IsGroup members place low → RootsAmong low (member members place) roots n →
     AreRoots (low_graph low) (low_weight low) roots
-roots_all low members place roots n all within group so_far = record {
+roots_all {low} {members} {place} {roots} all within group so_far = record {
   sound = so_far.sound;
   complete = λ w v link heavy.
-      let found = group.complete v (within w v link) (heavy_inside low v heavy)
-      (heavy_level low v heavy) in
-      let is : member members place found.place ≡ v = one (member members place found.place) v found.target in
-      let below : found.place < n = (let h = found.at in omega arith) in
-      let root = so_far.complete w found.place below (subst (Link (low_graph low) w) (sym is) link)
-      (ap (low_weight low) is ∙ heavy) in
-      (root.0, root.1 ∙ ap Some is);
+      (let found = group.complete v (within w v link) (heavy_inside low v heavy) (heavy_level low v heavy) in
+      let is : v ≡ member members place found.place = cc (found.target) in
+      rw is (so_far.complete w found.place (omega (arith, found.at, all)) (rw is at link) (rw is at heavy)));
 }
-  where
-    one : (x y : ℕ) → Some x ≡ Some y → x ≡ y
-    one x y e = cc
 
 -- all roots are among all vertices
-pub roots_everywhere : (low : LowData) (roots : List ℕ) (n : ℕ) → low.star.count ≤ n →
+pub roots_everywhere : {low : LowData} {roots : List ℕ} {n : ℕ} → low.star.count ≤ n →
     ((w v : ℕ) → Link (low_graph low) w v → v < low.star.count) → RootsAmong low (λ k. k) roots n →
     AreRoots (low_graph low) (low_weight low) roots
-roots_everywhere low roots n all within so_far = record {
+roots_everywhere all within so_far = record {
   sound = so_far.sound;
-  complete =
-      λ w v link heavy. so_far.complete w v (let h : v < low.star.count = within w v link in omega arith) link heavy;
+  complete = λ w v link. so_far.complete w v (omega (arith, within w v link, all)) link;
 }
 
 -- a vertex to which a place of the group leads
-pub member_within : (low : LowData) (members : StarData) (place k v : ℕ) → IsGroup members place low →
+pub member_within : {low : LowData} {members : StarData} {place : ℕ} (k : ℕ) {v : ℕ} → IsGroup members place low →
     k < (star_graph members).degree place → (star_graph members).target place k ≡ Some v → v < low.star.count
-member_within low members place k v group below is =
+member_within k {v} group below is =
     group.within v (record { from = group.at; place = k; at = below; target = is })

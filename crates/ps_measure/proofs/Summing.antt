@@ -1,62 +1,77 @@
 -- Sums over the numbers below a bound, compared term by term.
-use Rattle.std.proofs.Common.{◌≡◌, ℕ, zero, suc, ◌+◌, ◌*◌, ◌<◌, ◌≤◌, inl, inr, refl, ap, add-one, arith, Bool, true}
-use Rattle.std.proofs.Common.{false}
-use Rattle.std.specs.Int.{from_bool}
-use Rattle.std.proofs.lemmas.Bool.{cases_eq}
+use Rattle.std.proofs.Common.{◌≡◌, ℕ, zero, suc, ◌+◌, ◌*◌, ◌<◌, ◌≤◌, inl, inr, refl, ap, add-one, arith, Bool}
+use Rattle.std.proofs.Common.{nat_lt, rules}
+use Rattle.std.proofs.lemmas.Bool.{cases_eq, cases_lt, lt-ltb, le-ltb}
 use Rattle.ps_measure.specs.Sums.{sum_below, counted, count_below}
 
 pub sum_below-le : (f g : ℕ → ℕ) (n : ℕ) → ((v : ℕ) → v < n → f v ≤ g v) → sum_below f n ≤ sum_below g n
 sum_below-le f g zero each = omega arith
 sum_below-le f g (suc n) each =
-    let before : sum_below f n ≤ sum_below g n = sum_below-le f g n (λ v below. each v (omega arith)) in
-    let last : f n ≤ g n = each n (omega arith) in
-    omega arith
+    omega (arith, sum_below-le f g n (λ v below. each v (omega arith)), each n (omega arith))
 
 -- and by x less where one term is
 pub sum_below-more : (f g : ℕ → ℕ) (n u x : ℕ) → u < n → ((v : ℕ) → v < n → f v ≤ g v) → f u + x ≤ g u →
     sum_below f n + x ≤ sum_below g n
 sum_below-more f g zero u x below each more = absurd (omega arith)
 sum_below-more f g (suc n) u x below each more = elim (cases_eq u n) [
-  | inl same ↦
-      let before : sum_below f n ≤ sum_below g n = sum_below-le f g n (λ v less. each v (omega arith)) in
-      let left : f u ≡ f n = ap f same in
-      let right : g u ≡ g n = ap g same in
-      omega arith
-  | inr apart ↦
-      let before : sum_below f n + x ≤ sum_below g n =
-      sum_below-more f g n u x (omega arith) (λ v less. each v (omega arith)) more in
-      let last : f n ≤ g n = each n (omega arith) in
-      omega arith
+  | inl same ↦ (let last : f n + x ≤ g n = rw same at more in
+      omega (arith, sum_below-le f g n (λ v less. each v (omega arith))))
+  | inr apart ↦ omega (
+    arith,
+    sum_below-more f g n u x (omega arith) (λ v less. each v (omega arith)) more,
+    each n (omega arith),
+  )
 ]
 
 -- at most a bound for each term
 pub sum_below-bound : (f : ℕ → ℕ) (n b : ℕ) → ((v : ℕ) → v < n → f v ≤ b) → sum_below f n ≤ n * b
 sum_below-bound f zero b each = omega arith
 sum_below-bound f (suc n) b each =
-    let before : sum_below f n ≤ n * b = sum_below-bound f n b (λ v below. each v (omega arith)) in
-    let last : f n ≤ b = each n (omega arith) in
-    omega arith
+    omega (arith, sum_below-bound f n b (λ v below. each v (omega arith)), each n (omega arith))
 
 pub sum_below-same : (f g : ℕ → ℕ) (n : ℕ) → ((v : ℕ) → v < n → f v ≡ g v) → sum_below f n ≡ sum_below g n
 sum_below-same f g zero each = refl
 sum_below-same f g (suc n) each =
-    let before : sum_below f n ≡ sum_below g n = sum_below-same f g n (λ v below. each v (omega arith)) in
-    let last : f n ≡ g n = each n (omega arith) in
-    omega arith
+    omega (arith, sum_below-same f g n (λ v below. each v (omega arith)), each n (omega arith))
 
-counted-bound : (b : Bool) → counted b ≤ 1
-counted-bound true = omega arith
-counted-bound false = omega arith
-
-pub count_below-bound : (test : ℕ → Bool) (n : ℕ) → count_below test n ≤ n
-count_below-bound test n =
-    (let h : count_below test n ≤ n * 1 = sum_below-bound (λ v. counted (test v)) n 1 (λ v _. counted-bound (test v)) in
-    omega arith)
+pub sum_below-zero : (f : ℕ → ℕ) (n : ℕ) → ((v : ℕ) → f v ≡ 0) → sum_below f n ≡ 0
+sum_below-zero f zero each = refl
+sum_below-zero f (suc n) each = omega (arith, sum_below-zero f n each, each n)
 
 -- one number more
 pub sum_below-next : (f : ℕ → ℕ) (n : ℕ) → sum_below f (n + 1) ≡ sum_below f n + f n
 sum_below-next f n = ap (sum_below f) (add-one n)
 
-pub from_bool-bound : (b : Bool) → from_bool b ≤ 1
-from_bool-bound true = omega arith
-from_bool-bound false = omega arith
+-- ---- counts of numbers
+
+pub counted-bound : (b : Bool) → counted b ≤ 1
+counted-bound b = search rules
+
+pub count_below-bound : (test : ℕ → Bool) (n : ℕ) → count_below test n ≤ n
+count_below-bound test n =
+    omega (arith, sum_below-bound (λ v. counted (test v)) n 1 (λ v _. counted-bound (test v)))
+
+-- 1 for a number that is not 0
+pub positive_none : (x : ℕ) → x ≡ 0 → counted (nat_lt 0 x) ≡ 0
+positive_none x none = ap counted (le-ltb 0 x (omega arith))
+
+pub positive_some : (x : ℕ) → 0 < x → counted (nat_lt 0 x) ≡ 1
+positive_some x some = ap counted (lt-ltb 0 x some)
+
+pub positive_bound : (x : ℕ) → counted (nat_lt 0 x) ≤ x
+positive_bound x = elim (cases_lt 0 x) [
+  | inl some ↦ omega (arith, positive_some x some)
+  | inr none ↦ omega (arith, positive_none x (omega arith))
+]
+
+-- how many numbers below n have a count that is not 0
+abbrev pub raised_below : (ℕ → ℕ) → ℕ → ℕ
+raised_below f n = count_below (λ v. nat_lt 0 (f v)) n
+
+pub raised_none : (f : ℕ → ℕ) (n : ℕ) → ((v : ℕ) → f v ≡ 0) → raised_below f n ≡ 0
+raised_none f n each = sum_below-zero (λ v. counted (nat_lt 0 (f v))) n (λ v. positive_none (f v) (each v))
+
+pub raised_same : (f g : ℕ → ℕ) (n : ℕ) → ((v : ℕ) → f v ≡ g v) → raised_below f n ≡ raised_below g n
+raised_same f g n same =
+    sum_below-same (λ v. counted (nat_lt 0 (f v))) (λ v. counted (nat_lt 0 (g v))) n
+    (λ v _. ap (λ x. counted (nat_lt 0 x)) (same v))

@@ -1,5 +1,5 @@
 -- One priority more, and what is said of all of them.
-use Rattle.std.proofs.Common.{◌≡◌, ℕ, ◌+◌, ◌%◌, ◌<◌, ◌≤◌, ◌∙◌, List, length, nat_lt, ap, subst, arith, Bool, Option}
+use Rattle.std.proofs.Common.{◌≡◌, ℕ, ◌+◌, ◌%◌, ◌<◌, ◌≤◌, ◌∙◌, List, length, ap, arith, Bool, Option}
 use Rattle.std.specs.Prelude.{slice_index}
 use Rattle.std.proofs.lemmas.List.Elements.{All-get_or}
 use Rattle.ps_game.specs.Games.{ParityGame, IsGame, vertex_count}
@@ -11,8 +11,7 @@ use Rattle.ps_measure.specs.declared.fault.MeasureFault.TheVariants.{BadCycle, O
 use Rattle.ps_measure.specs.Remaining.{RemainingData, remaining_graph, star_graph, IsReverse, LowData, low_graph}
 use Rattle.ps_measure.specs.Remaining.{low_weight}
 use Rattle.ps_measure.specs.Filling.{AreRanked, IsFilled, IsLowRefusal, AreLevels}
-use Rattle.ps_measure.specs.Ranks.{AreRanks, AreLeastFor, IsRefusal, total_of, raised_of, most_raises}
-use Rattle.ps_measure.specs.Sums.{count_below}
+use Rattle.ps_measure.specs.Ranks.{AreRanks, IsRefusal, total_of, raised_of, most_raises}
 use Rattle.ps_measure.proofs.Least.{least_for, lost_cycle}
 use Rattle.ps_measure.proofs.Rows.{Row, ranked_more, raised-le-total, raised-le-most}
 
@@ -25,37 +24,33 @@ pub record IsAtPlace (r : RemainingData) (low : LowData) (priorities : List ℕ)
   pub within : place < length priorities
   pub priority : low.priority ≡ slice_index priorities place
 
-pub column_done : (r : RemainingData) (low : LowData) (priorities : List ℕ) (old new : List Row)
-    (place raises raised : ℕ) →
-    IsAtPlace r low priorities place → IsFilled (low_graph low) (low_weight low) old new place raised →
-    AreRanked r.game r.player (has r.region) (move_at r.strategy) priorities old place raises →
-    AreRanked r.game r.player (has r.region) (move_at r.strategy) priorities new (place + 1) (raises + raised)
-column_done r low priorities old new place raises raised at filled so_far =
-    ranked_more r.game r.player (has r.region) (move_at r.strategy) priorities old new place raises raised filled.counts
-    (subst (λ p. AreLeastFor r.game r.player (has r.region) (move_at r.strategy) p filled.counts) at.priority
-    (least_for r low at.is_game at.levels at.reverse at.regions filled.counts filled.least))
-    filled.column
-    (subst (λ n. raised ≡ count_below (λ v. nat_lt 0 (filled.counts v)) n) at.reverse.count filled.raised_is)
-    so_far
+module _ {r : RemainingData} {low : LowData} {priorities : List ℕ} {place : ℕ}
+    (at : IsAtPlace r low priorities place) where
+  pub column_done : {old new : List Row} {raises raised : ℕ} →
+      IsFilled (low_graph low) (low_weight low) old new place raised →
+      AreRanked r.game r.player (has r.region) (move_at r.strategy) priorities old place raises →
+      AreRanked r.game r.player (has r.region) (move_at r.strategy) priorities new (place + 1) (raises + raised)
+  column_done filled so_far =
+      ranked_more (rw at.priority at (least_for r low at.is_game at.levels at.reverse at.regions filled.least))
+      filled.column (rw at.reverse.count at filled.raised_is) so_far
 
-pub refused : (r : RemainingData) (low : LowData) (priorities : List ℕ) (place : ℕ) (fault : MeasureFault) →
-    IsAtPlace r low priorities place → ListsPriorities r.game (other_player r.player) priorities →
-    IsLowRefusal low fault → IsRefusal r.game r.player (has r.region) (move_at r.strategy) fault
-refused r low priorities place (BadCycle cycle) at listed way =
-    lost_cycle r low at.is_game at.levels at.reverse at.regions cycle.items
-    (ap (λ n. n % 2) at.priority ∙ All-get_or (λ p. p % 2 ≡ other_player r.player) priorities place 0 at.within
-    listed.right_parity) way
-refused r low priorities place OutOfMemory at listed way = tt
+  pub refused : (fault : MeasureFault) → ListsPriorities r.game (other_player r.player) priorities →
+      IsLowRefusal low fault → IsRefusal r.game r.player (has r.region) (move_at r.strategy) fault
+  refused (BadCycle cycle) listed way =
+      lost_cycle r low at.is_game at.levels at.reverse at.regions way
+      (ap (λ n. n % 2) at.priority ∙ All-get_or (λ p. p % 2 ≡ other_player r.player) priorities place 0 at.within
+      listed.right_parity)
+  refused OutOfMemory listed way = tt
 
 -- the whole table
-pub whole : (game : ParityGame) (player : ℕ) (set : ℕ → Bool) (table : ℕ → Option ℕ) (priorities : List ℕ)
-    (rows : List Row) (raises : ℕ) → ListsPriorities game (other_player player) priorities →
+pub whole : {game : ParityGame} {player : ℕ} {set : ℕ → Bool} {table : ℕ → Option ℕ} {priorities : List ℕ}
+    {rows : List Row} {raises : ℕ} → ListsPriorities game (other_player player) priorities →
     AreRanked game player set table priorities rows (length priorities) raises
     → AreRanks game player set table priorities rows × (raised_of rows (vertex_count game) (length priorities) ≤ raises)
     × (raises ≤ total_of rows (vertex_count game) (length priorities)) × (raises ≤ most_raises game set priorities)
-whole game player set table priorities rows raises listed ranked = (
+whole {game} {priorities = priorities} {rows} listed ranked = (
   record { listed = listed; shape = ranked.shape; columns = ranked.least },
   omega (arith, ranked.raises_is),
   omega (arith, ranked.raises_is, raised-le-total rows (vertex_count game) (length priorities)),
-  omega (arith, ranked.raises_is, raised-le-most game player set table priorities rows ranked.least),
+  omega (arith, ranked.raises_is, raised-le-most priorities rows ranked.least),
 )

@@ -8,4 +8,4 @@ returns-then-is_empty-clause-filled g c =
     let roots = c.in_ok-roots.roots.items in
     let empty = eqb-true (vec_len c.in_ok-roots.roots) 0 (sym c.is_empty.ensures ∙ c.if-is_empty.true) in
     let none : length roots ≡ 0 = omega (arith, empty, c.in_ok-roots.roots.ok.0) in
-    filled_none c.args.low.now roots c.args.table.now c.args.place none c.in_ok-roots.ensures c.requires.none
+    filled_none c.args.low.now none c.in_ok-roots.ensures c.requires.none

@@ -8,24 +8,19 @@ use Rattle.ps_measure.proofs.measuring.roots_anywhere.Goals.{else-weight-eq1-via
 use Rattle.ps_measure.proofs.measuring.roots_anywhere.Goals.{else-weight-eq1-via-else-weight-eq1}
 
 pub loop-vertex-preserved : goal.loop-vertex-preserved
-loop-vertex-preserved g c =
-    let low = c.args.low.now in
-    let vertex = c.loop-vertex.vertex in
-    elim c.if-weight-eq1.branch [
-      | then-weight-eq1+then-leads_down+in_ok-push w ↦
-          let down = w.leads_down.ensures.0 w.if-leads_down.true in
-          rw (w.roots-is, w.in_ok-push.ensures.items) (roots_more low (λ k. k) c.loop-vertex.roots.items vertex vertex
-          down.0 refl down.1 (sym c.weight.ensures ∙ w.if-weight-eq1.true) c.loop-vertex.invariant)
-      | else-weight-eq1 w ↦ rw w.roots-is (roots_skip low (λ k. k) c.loop-vertex.roots.items vertex vertex refl
-          (elim w.else-weight-eq1.branch [
-            | else-weight-eq1-via-then-weight-eq1+else-leads_down u ↦ λ x link heavy. both_ways u.leads_down.result
-                u.if-leads_down.false (u.leads_down.ensures.1 (x, link))
-            | else-weight-eq1-via-else-weight-eq1 u ↦ λ x link heavy. u.if-weight-eq1.false (c.weight.ensures ∙ heavy)
-          ]) c.loop-vertex.invariant)
-    ]
+loop-vertex-preserved g c = elim c.if-weight-eq1.branch [
+  | then-weight-eq1+then-leads_down+in_ok-push w ↦
+      let down = w.leads_down.ensures.0 w.if-leads_down.true in
+      rw (w.roots-is, w.in_ok-push.ensures.items) (roots_more refl down.1 (sym c.weight.ensures
+      ∙ w.if-weight-eq1.true) c.loop-vertex.invariant)
+  | else-weight-eq1 w ↦ rw w.roots-is (roots_skip refl (elim w.else-weight-eq1.branch [
+    | else-weight-eq1-via-then-weight-eq1+else-leads_down u ↦ λ x link heavy. both_ways u.leads_down.result
+        u.if-leads_down.false (u.leads_down.ensures.1 (x, link))
+    | else-weight-eq1-via-else-weight-eq1 u ↦ λ x link heavy. u.if-weight-eq1.false (c.weight.ensures ∙ heavy)
+  ]) c.loop-vertex.invariant)
+]
 
 pub returns : goal.returns
 returns g c =
-    roots_everywhere c.args.low.now c.loop-vertex.roots.items c.loop-vertex.vertex
-    (omega (arith, c.count-vertex-end.ensures.count, c.loop-vertex-test.false)) c.count-vertex-end.ensures.within
-    c.loop-vertex.invariant
+    roots_everywhere (omega (arith, c.count-vertex-end.ensures.count, c.loop-vertex-test.false))
+    c.count-vertex-end.ensures.within c.loop-vertex.invariant

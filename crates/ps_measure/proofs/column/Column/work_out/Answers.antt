@@ -1,4 +1,4 @@
-use Rattle.std.proofs.Common.{length, Option, Some, None}
+use Rattle.std.proofs.Common.{Option, Some, None}
 use Rattle.std.specs.Prelude.{IfNone}
 use Rattle.ps_measure.proofs.Steps.{settled}
 use Rattle.ps_measure.proofs.column.Column.work_out.Goals as goal
@@ -11,7 +11,5 @@ pub returns-clause-counts : goal.returns-clause-counts
 returns-clause-counts c =
     let begun = c.in_ok-begin.ensures in
     let all = c.settle.ensures in
-    none_weaker c.settle.result
-    (λ passed. (settled c.args.low.now c.args.roots.now c.begin.new.self.components c.settle.new.self.components
-    c.begin.new.self.values.items c.settle.new.self.values.items (length c.begin.new.self.components.order) c.requires
-    begun.met begun.raised all.components all.counting all.grows passed).1) all.passed
+    none_weaker c.settle.result (λ passed. settled c.args.low.now c.requires begun.met begun.raised all.components
+    all.counting all.grows passed) all.passed

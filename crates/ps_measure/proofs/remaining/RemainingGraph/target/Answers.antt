@@ -19,7 +19,7 @@ keeps-requires-clause-to g c =
       to_is,
       successor_within c.args.self.now.game c.args.item c.args.place is_game c.requires.item
           (below_places (has c.args.self.now.region c.args.item) c.args.place
-          (length (successors_of c.args.self.now.game c.args.item)) c.requires.place),
+          (length (successors_of c.args.self.now.game c.args.item)) c.requires.place).1,
     )
 
 pub successor-to-requires-clause-number : goal.successor-to-requires-clause-number
@@ -27,6 +27,6 @@ successor-to-requires-clause-number g c =
     let same : g.A.Arena.game c.self.inside.arena.now ≡ c.args.self.now.game =
     ap (λ (r : RemainingData). r.game) c.self.view_is in
     let below : c.args.place < length (successors_of c.args.self.now.game c.args.item) =
-    below_places (has c.args.self.now.region c.args.item) c.args.place
-    (length (successors_of c.args.self.now.game c.args.item)) c.requires.place in
+    (below_places (has c.args.self.now.region c.args.item) c.args.place
+    (length (successors_of c.args.self.now.game c.args.item)) c.requires.place).1 in
     omega (arith, below, ap (λ (game : ParityGame). length (successors_of game c.args.item)) same)

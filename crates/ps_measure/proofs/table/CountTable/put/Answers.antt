@@ -1,4 +1,4 @@
-use Rattle.std.proofs.Common.{arith, ◌≡◌, ◌<◌, ◌+◌, ◌∙◌, ◌++◌, ◌∷◌, [], List, ℕ, length, ap, subst, sym, Result, Ok}
+use Rattle.std.proofs.Common.{arith, ◌≡◌, ◌<◌, ◌+◌, ◌++◌, ◌∷◌, [], List, ℕ, length, ap, Result, Ok}
 use Rattle.std.proofs.Common.{Err, OnOk, OnErr}
 use Rattle.std.specs.Prelude.{slice_set, slice_index}
 use Rattle.std.proofs.lemmas.List.{length_push}
@@ -20,19 +20,13 @@ set-requires c =
     let same = ap (λ (rows : List (List ℕ)). length rows) c.self.view_is in
     omega (arith, rows_each s.width s.heads s.cells, same, c.requires.vertex)
 
--- the number of the cell of the call
-numbered : (cells new : List CountCell) (cell : CountCell) (number : ℕ) → new ≡ cells ++ cell ∷ [] →
-    number ≡ length new → number ≡ length cells + 1
-numbered cells new cell number are is =
-    is ∙ ap (λ (list : List CountCell). length list) are ∙ length_push cells cell
-
 -- the table with the cell of the call
-module _ (width : ℕ) (heads : List ℕ) (cells : List CountCell) (rows : List (List ℕ))
-    (vertex place count next number : ℕ) (new_cells : List CountCell) (view_is : rows_in width heads cells ≡ rows)
+module _ {width : ℕ} {heads : List ℕ} {cells : List CountCell} {rows : List (List ℕ)} {vertex place next number : ℕ}
+    {new_cells : List CountCell} (count : ℕ) (view_is : rows_in width heads cells ≡ rows)
     (headed : AreHeaded width heads cells) (vertex_in : vertex < length rows)
     (place_in : place < width_of rows vertex) (next_is : next ≡ slice_index heads vertex)
     (cells_are : new_cells ≡ cells ++ record { place = place; count = count; next = next } ∷ [])
-    (number_is : number ≡ length cells + 1) where
+    (number_is : number ≡ length new_cells) where
   below : vertex < length heads
   below = omega (arith, vertex_in, rows_each width heads cells, ap (λ (list : List (List ℕ)). length list) view_is)
 
@@ -45,50 +39,35 @@ module _ (width : ℕ) (heads : List ℕ) (cells : List CountCell) (rows : List 
         ap (λ (list : List (List ℕ)). width_of list vertex) view_is,
       )
 
-  made : new_cells ≡ cells ++ record { place = place; count = count; next = slice_index heads vertex } ∷ []
-  made = cells_are ∙ ap (λ n. cells ++ record { place = place; count = count; next = n } ∷ []) next_is
+  long : length new_cells ≡ length cells + 1
+  long = rw cells_are (length_push cells (record { place = place; count = count; next = next }))
 
-  pub still_headed : AreHeaded width (slice_set heads vertex number) new_cells
-  still_headed =
-      rw (number_is, made) (put_headed width heads cells headed vertex place count below within)
+  abbrev heads' : List ℕ
+  heads' = slice_set heads vertex number
 
-  pub was_put : HasPut rows (rows_in width (slice_set heads vertex number) new_cells) vertex place count
-  was_put =
-      rw (number_is, made, ← view_is) (put_done width heads cells headed vertex place count below within)
+  still_headed : AreHeaded width heads' new_cells
+  still_headed = rw (number_is, long, cells_are, next_is) (put_headed headed count below within)
 
-  pub kept_headed : {A E : Type 0} (r : Result A E) (heads' : List ℕ) →
-      OnOk r (heads' ≡ slice_set heads vertex number) → OnErr r (heads' ≡ heads) → AreHeaded width heads' new_cells
-  kept_headed (Ok x) heads' ok err = subst (λ hs. AreHeaded width hs new_cells) (sym ok) still_headed
-  kept_headed (Err e) heads' ok err = record {
-    chained = still_headed.chained;
-    first = λ v. omega (
-      arith,
-      headed.first v,
-      ap (λ (hs : List ℕ). slice_index hs v) err,
-      ap (λ (list : List CountCell). length list) made,
-      length_push cells (record { place = place; count = count; next = slice_index heads vertex }),
-    );
-  }
+  was_put : HasPut rows (rows_in width heads' new_cells) vertex place count
+  was_put = rw (number_is, long, cells_are, next_is, ← view_is) (put_done headed count below within)
 
-  pub put_kept : {A E : Type 0} (r : Result A E) (heads' : List ℕ) → OnOk r (heads' ≡ slice_set heads vertex number) →
-      OnOk r (HasPut rows (rows_in width heads' new_cells) vertex place count)
-  put_kept (Ok x) heads' ok = subst (λ hs. HasPut rows (rows_in width hs new_cells) vertex place count) (sym ok) was_put
-  put_kept (Err e) heads' ok = tt
+  pub kept_headed : {A E : Type 0} (r : Result A E) (now : List ℕ) → OnOk r (now ≡ heads') → OnErr r (now ≡ heads) →
+      AreHeaded width now new_cells
+  kept_headed (Ok x) now ok err = rw ok still_headed
+  kept_headed (Err e) now ok err =
+      rw err (record { chained = still_headed.chained; first = λ v. omega (arith, headed.first v, long) })
+
+  pub put_kept : {A E : Type 0} (r : Result A E) (now : List ℕ) → OnOk r (now ≡ heads') →
+      OnOk r (HasPut rows (rows_in width now new_cells) vertex place count)
+  put_kept (Ok x) now ok = rw ok was_put
+  put_kept (Err e) now ok = tt
 
 pub invariant_of-self-2 : goal.invariant_of-self-2
 invariant_of-self-2 c =
-    let s = c.self.inside in
-    kept_headed s.width s.heads s.cells c.args.self.now c.args.vertex c.args.place c.args.count c.at-next.result
-    c.len.result c.push.new.self c.self.view_is c.self.invariant c.requires.vertex c.requires.place c.at-next.ensures
-    c.in_ok-push.ensures.ok (numbered s.cells c.push.new.self _ c.len.result c.in_ok-push.ensures.ok c.len.ensures)
-    c.set.result c.set.new.self
-    c.set.ensures.ok c.set.ensures.err
+    kept_headed c.args.count c.self.view_is c.self.invariant c.requires.vertex c.requires.place c.at-next.ensures
+    c.in_ok-push.ensures.ok c.len.ensures c.set.result c.set.new.self c.set.ensures.ok c.set.ensures.err
 
 pub returns : goal.returns
 returns c =
-    let s = c.self.inside in
-    put_kept s.width s.heads s.cells c.args.self.now c.args.vertex c.args.place c.args.count c.at-next.result
-    c.len.result c.push.new.self c.self.view_is c.self.invariant c.requires.vertex c.requires.place c.at-next.ensures
-    c.in_ok-push.ensures.ok (numbered s.cells c.push.new.self _ c.len.result c.in_ok-push.ensures.ok c.len.ensures)
-    c.set.result c.set.new.self
-    c.set.ensures.ok
+    put_kept c.args.count c.self.view_is c.self.invariant c.requires.vertex c.requires.place c.at-next.ensures
+    c.in_ok-push.ensures.ok c.len.ensures c.set.result c.set.new.self c.set.ensures.ok

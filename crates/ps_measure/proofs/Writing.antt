@@ -1,0 +1,20 @@
+-- A list of numbers after one was written, and a list of zeros.
+use Rattle.std.proofs.Common.{◌≡◌, ◌≢◌, ℕ, ◌<◌, ◌⊎◌, List, length, inl, inr, arith, replicate}
+use Rattle.std.specs.Prelude.{slice_index, slice_set}
+use Rattle.std.proofs.lemmas.Bool.{cases_eq, cases_lt}
+use Rattle.std.proofs.lemmas.List.{get_or-set_same, get_or-set_other, get_or-replicate, get_or_past, length-replicate}
+
+-- the new number stands at its place, and at any other one what stood there
+pub written : (xs : List ℕ) (i x j : ℕ) → i < length xs →
+    ((j ≡ i) × (slice_index (slice_set xs i x) j ≡ x)) ⊎
+    ((j ≢ i) × (slice_index (slice_set xs i x) j ≡ slice_index xs j))
+written xs i x j within = elim (cases_eq j i) [
+  | inl same ↦ inl (same, rw same (get_or-set_same xs i x 0 within))
+  | inr apart ↦ inr (apart, get_or-set_other xs i j x 0 apart)
+]
+
+pub zeros_at : (n i : ℕ) → slice_index (replicate n 0) i ≡ 0
+zeros_at n i = elim (cases_lt i n) [
+  | inl less ↦ get_or-replicate n i 0 0 less
+  | inr more ↦ get_or_past (replicate n 0) i 0 (omega (arith, length-replicate {A = ℕ} n 0, more))
+]
