@@ -17,7 +17,7 @@ use Rattle.ps_hoa.specs.declared.fault.HoaCause.{HoaCause}
 use Rattle.ps_hoa.specs.declared.tokens.Kind.{Kind}
 use Rattle.ps_hoa.specs.declared.tokens.Kind.TheVariants.{Word, Int, LeftParen}
 use Rattle.ps_hoa.proofs.Grammar.KindSets.{within, within_both, apart, plain, laws_sign}
-use Rattle.ps_hoa.proofs.Grammar.OperandLaws.{Odd, Of, laws_behind}
+use Rattle.ps_hoa.proofs.Grammar.OperandLaws.{Odd, Of, laws_behind, Tight}
 use Rattle.ps_hoa.proofs.Grammar.LabelLaws.{is_start, laws_not, laws_left, laws_right, AndOrMore, laws_rows}
 use Rattle.ps_hoa.proofs.Grammar.LabelLaws.{laws_nested}
 
@@ -51,13 +51,13 @@ none_bad room kind f h = h
 
 -- ## Sets
 
-pub laws_set : (complemented : Bool) → Laws Odd (set complemented) (Of is_int) Nothing ⊥
+pub laws_set : (complemented : Bool) → Tight (set complemented) is_int
 laws_set complemented = laws_sign is_int Int [] _ refl (λ _. refl) (λ t h. int_bad t.kind t.text h.0 h.1)
 
 pub not_int : Apart (Of is_not) (Of is_int)
 not_int = apart is_not is_int refl
 
-pub laws_complement : Laws Odd (then_by (mark is_not) (λ _. set true)) (Of is_not) Nothing ⊥
+pub laws_complement : Tight (then_by (mark is_not) (λ _. set true)) is_not
 laws_complement = laws_behind is_not laws_not (laws_set true)
 
 pub laws_any_set : Laws Odd any_set (Or (Of is_not) (Of is_int)) Nothing ⊥
@@ -70,8 +70,8 @@ laws_often = laws_first (record { kind = Word; text = codes "Inf" }) true refl
     (λ t h. plain is_word (λ _. refl) t (word_often t.kind t.text h.0 h.1)) (λ t h. h) (λ t h. absurd h.1)
 
 module _ (often : Bool) where
-  laws_closing : (s : SetData) → Laws Odd (closed_set often s) (Of is_right) Nothing ⊥
-  laws_closing s = laws_mapped _ (mark is_right) laws_right
+  laws_closing : (s : SetData) → Tight (closed_set often s) is_right
+  laws_closing s = laws_mapped _ _ laws_right
 
   pub laws_closed_set : Laws Odd (then_by any_set (closed_set often)) (Or (Of is_not) (Of is_int)) Nothing ⊥
   laws_closed_set = laws_tight laws_any_set laws_closing
@@ -82,7 +82,7 @@ module _ (often : Bool) where
 abbrev pub behind_often : Bool → Part Sign Condition HoaCause
 behind_often often = then_by (mark is_left) (λ _. then_by any_set (closed_set often))
 
-pub laws_behind_often : (often : Bool) → Laws Odd (behind_often often) (Of is_left) Nothing ⊥
+pub laws_behind_often : (often : Bool) → Tight (behind_often often) is_left
 laws_behind_often often = laws_behind is_left laws_left (laws_closed_set often)
 
 pub joint_visit : Joint often_or_not behind_often
@@ -125,18 +125,18 @@ atom_often room t (inr h) k =
     apart is_left is_word refl t (left_bad room t.kind h.0 h.1) (word_often t.kind t.text k.0 k.1)
 
 laws_atom : (room : ℕ) (test : Kind → Bool) → Within (Of is_word) (Of test) → Within (BadSign (BadStart room)) (Of test) →
-    Laws Odd (atom room) (Of test) Nothing ⊥
+    Tight (atom room) test
 laws_atom room test word bad = wider_first (laws_forms (laws_constant room) laws_visit (atom_often room))
     (both_within (both_within (λ t h. word t (word_constant t.kind t.text h.0 h.1)) bad)
     (λ t h. word t (word_often t.kind t.text h.0 h.1)))
 
-pub laws_word : (room : ℕ) → Laws Odd (atom (suc room)) (Of is_word) Nothing ⊥
+pub laws_word : (room : ℕ) → Tight (atom (suc room)) is_word
 laws_word room = laws_atom (suc room) is_word (λ t h. h) (λ t h. absurd (none_bad room t.kind h.0 h.1))
 
 pub word_left : Apart (Of is_word) (Of is_left)
 word_left = apart is_word is_left refl
 
-pub laws_operand : (room : ℕ) → Laws Odd (operand room) (Of is_start) Nothing ⊥
+pub laws_operand : (room : ℕ) → Tight (operand room) is_start
 unfolding operand
 laws_operand zero = laws_atom 0 is_start (within is_word is_start refl)
     (λ t h. within is_left is_start refl t (left_bad 0 t.kind h.0 h.1))

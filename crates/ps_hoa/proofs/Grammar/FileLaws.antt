@@ -20,7 +20,7 @@ abbrev pub body_of_file : HeaderData → Part Sign FileData HoaCause
 body_of_file h = mapped (file_of h) (body h)
 
 laws_body_of_file : (h : HeaderData) → Laws Odd (body_of_file h) (Or IsState (Of is_end)) Nothing ⊥
-laws_body_of_file h = laws_mapped (file_of h) (body h) (laws_body h)
+laws_body_of_file h = laws_mapped _ _ (laws_body h)
 
 pub joint_file : Joint header body_of_file
 joint_file = joint_tight laws_header laws_body_of_file

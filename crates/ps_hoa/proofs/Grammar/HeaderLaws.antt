@@ -13,15 +13,15 @@ use Rattle.ps_hoa.specs.Operands.{number_limit, nesting_limit, is_and}
 use Rattle.ps_hoa.specs.Labels.{label}
 use Rattle.ps_hoa.specs.Conditions.{condition}
 use Rattle.ps_hoa.specs.Header.{HeaderData, state_limit, proposition_limit, set_limit, name_value, item_name, int, string}
-use Rattle.ps_hoa.specs.Header.{with_states, state_count, IsSecondStart, IsAlternating, with_start, proposition_name}
+use Rattle.ps_hoa.specs.Header.{state_count, IsSecondStart, IsAlternating, with_start, proposition_name}
 use Rattle.ps_hoa.specs.Header.{with_names, counted_names, header_scope, with_alias, named_label, with_acceptance}
-use Rattle.ps_hoa.specs.Header.{counted_condition, index, with_controllable, controlled, unchanged, one_string}
+use Rattle.ps_hoa.specs.Header.{counted_condition, index, controlled, one_string}
 use Rattle.ps_hoa.specs.Header.{second_string, strings, other_value, read_over}
 use Rattle.ps_hoa.specs.Inner.Items.{is_value}
 use Rattle.ps_hoa.specs.declared.fault.HoaCause.{HoaCause}
 use Rattle.ps_hoa.specs.declared.tokens.Kind.TheVariants.{Header, Word}
 use Rattle.ps_hoa.proofs.Grammar.KindSets.{within, laws_sign}
-use Rattle.ps_hoa.proofs.Grammar.OperandLaws.{Odd, Of}
+use Rattle.ps_hoa.proofs.Grammar.OperandLaws.{Odd, Of, Known, Tight}
 use Rattle.ps_hoa.proofs.Grammar.LabelLaws.{is_start, AndOrMore, laws_label}
 use Rattle.ps_hoa.proofs.Grammar.ConditionLaws.{is_int, laws_condition}
 use Rattle.ps_hoa.proofs.Grammar.SignLaws.{is_string, is_alias, Named, Other, some_there, is_known, plain_named}
@@ -32,8 +32,8 @@ joint_named : {V : Type 0} {Q : Part Sign V HoaCause} {First More : Sign → Typ
     is_known name ≡ true → Laws Odd Q First More Null → Joint (item_name name) (λ _. Q)
 joint_named name e l = joint_tight (laws_name name e) (λ _. l)
 
-pub laws_index : (ns : List ℕ) → Laws Odd (index ns) (Of is_int) Nothing ⊥
-laws_index ns = laws_mapped _ (int number_limit) (laws_int number_limit)
+pub laws_index : (ns : List ℕ) → Tight (index ns) is_int
+laws_index ns = laws_mapped _ _ (laws_int number_limit)
 
 abbrev pub other_name : Part Sign (Unit {0}) HoaCause
 other_name = one (λ s. other_value s.kind s.text) NoBad
@@ -42,14 +42,14 @@ pub laws_other_name : Laws Odd other_name Other Nothing ⊥
 laws_other_name = laws_first (record { kind = Header; text = codes "a:" }) tt refl plain_other
     (λ t h. h.1) (λ t h. absurd h.1)
 
-pub laws_read_over : (h : HeaderData) → Laws Odd (read_over h) (Of is_value) Nothing ⊥
+pub laws_read_over : (h : HeaderData) → Tight (read_over h) is_value
 laws_read_over h = laws_sign is_value Word [] h refl (λ _. refl)
     (λ t b. within is_int is_value refl t ((laws_int number_limit).first_cause t b.0 (refl, b.1)))
 
 module _ (h : HeaderData) where
   -- `States:`
-  pub laws_state_count : Laws Odd (state_count h) (Of is_int) Nothing ⊥
-  laws_state_count = laws_mapped (with_states h) (int state_limit) (laws_int state_limit)
+  pub laws_state_count : Tight (state_count h) is_int
+  laws_state_count = laws_mapped _ _ (laws_int state_limit)
 
   pub joint_states : Joint (item_name (codes "States:")) (λ _. state_count h)
   joint_states = joint_named (codes "States:") refl laws_state_count
@@ -58,8 +58,8 @@ module _ (h : HeaderData) where
   abbrev pub start_state : Part Sign HeaderData HoaCause
   start_state = mapped (with_start h) (barred (int number_limit) IsAlternating)
 
-  pub laws_start_state : Laws Odd start_state (Of is_int) (Of is_and) ⊥
-  laws_start_state = laws_mapped (with_start h) (barred (int number_limit) IsAlternating)
+  pub laws_start_state : Known start_state is_int is_and ⊥
+  laws_start_state = laws_mapped _ _
       (laws_alternating (laws_int number_limit))
 
   abbrev pub start_name : Part Sign (Unit {0}) HoaCause
@@ -74,15 +74,14 @@ module _ (h : HeaderData) where
   joint_start = joint_tight laws_start_name (λ _. laws_start_state)
 
   -- `AP:`
-  laws_propositions : (n : ℕ) → Laws Odd (mapped (with_names h) (times n proposition_name [])) (Of is_string)
-      (Of is_string) (Unit {0})
-  laws_propositions n = laws_mapped (with_names h) (times n proposition_name [])
+  laws_propositions : (n : ℕ) → Known (mapped (with_names h) (times n proposition_name [])) is_string is_string (Unit {0})
+  laws_propositions n = laws_mapped _ _
       (laws_times_all proposition_name laws_proposition_name n [])
 
   pub joint_counted_names : Joint (int proposition_limit) (λ n. mapped (with_names h) (times n proposition_name []))
   joint_counted_names = joint_tight (laws_int proposition_limit) laws_propositions
 
-  pub laws_counted_names : Laws Odd (counted_names h) (Of is_int) (Of is_string) ⊥
+  pub laws_counted_names : Known (counted_names h) is_int is_string ⊥
   laws_counted_names = laws_tight (laws_int proposition_limit) laws_propositions
 
   pub joint_names : Joint (item_name (codes "AP:")) (λ _. counted_names h)
@@ -91,7 +90,7 @@ module _ (h : HeaderData) where
   -- `Alias:`
   laws_alias_label : (name : List ℕ) → Laws Odd (mapped (with_alias h name) (label (header_scope h) nesting_limit))
       (Of is_start) AndOrMore ⊥
-  laws_alias_label name = laws_mapped (with_alias h name) (label (header_scope h) nesting_limit)
+  laws_alias_label name = laws_mapped _ _
       (laws_label (header_scope h) nesting_limit)
 
   pub joint_named_label : Joint (new_alias h) (λ name.
@@ -108,7 +107,7 @@ module _ (h : HeaderData) where
   laws_acceptance_condition : (n : ℕ) → Laws Odd (mapped (with_acceptance h n) (condition nesting_limit))
       (Of is_start) AndOrMore ⊥
   laws_acceptance_condition n =
-      laws_mapped (with_acceptance h n) (condition nesting_limit) (laws_condition nesting_limit)
+      laws_mapped _ _ (laws_condition nesting_limit)
 
   pub joint_counted_condition : Joint (int set_limit) (λ n. mapped (with_acceptance h n) (condition nesting_limit))
   joint_counted_condition = joint_tight (laws_int set_limit) laws_acceptance_condition
@@ -120,26 +119,26 @@ module _ (h : HeaderData) where
   joint_acceptance = joint_named (codes "Acceptance:") refl laws_counted_condition
 
   -- `controllable-AP:`
-  pub laws_controlled : Laws Odd (controlled h) (Of is_int) (Of is_int) (Unit {0})
-  laws_controlled = laws_mapped (with_controllable h) (many index []) (laws_all index laws_index [])
+  pub laws_controlled : Known (controlled h) is_int is_int (Unit {0})
+  laws_controlled = laws_mapped _ _ (laws_all index laws_index [])
 
   pub joint_controllable : Joint (item_name (codes "controllable-AP:")) (λ _. controlled h)
   joint_controllable = joint_named (codes "controllable-AP:") refl laws_controlled
 
   -- `tool:` and `name:`
-  pub laws_read_string : Laws Odd (one_string h) (Of is_string) Nothing ⊥
-  laws_read_string = laws_mapped (unchanged h) string laws_string
+  pub laws_read_string : Tight (one_string h) is_string
+  laws_read_string = laws_mapped _ _ laws_string
 
   pub laws_no_string : Laws Odd (give {T = Sign} {V = HeaderData} {F = HoaCause} h) Nothing Nothing (Unit {0})
   laws_no_string = laws_give Odd h
 
-  laws_second_string : Laws Odd (second_string h) (Of is_string) (Of is_string) (Unit {0})
+  laws_second_string : Known (second_string h) is_string is_string (Unit {0})
   laws_second_string = laws_option laws_read_string h
 
   pub joint_strings : Joint string (λ _. second_string h)
   joint_strings = joint_tight laws_string (λ _. laws_second_string)
 
-  pub laws_strings : Laws Odd (strings h) (Of is_string) (Of is_string) ⊥
+  pub laws_strings : Known (strings h) is_string is_string ⊥
   laws_strings = laws_tight laws_string (λ _. laws_second_string)
 
   pub joint_tool : Joint (item_name (codes "tool:")) (λ _. strings h)
@@ -149,7 +148,7 @@ module _ (h : HeaderData) where
   joint_name_item = joint_named (codes "name:") refl laws_read_string
 
   -- other names
-  pub laws_values : Laws Odd (many read_over h) (Of is_value) (Of is_value) (Unit {0})
+  pub laws_values : Known (many read_over h) is_value is_value (Unit {0})
   laws_values = laws_all read_over laws_read_over h
 
   pub joint_other : Joint other_name (λ _. many read_over h)

@@ -9,7 +9,7 @@ use Rattle.std.proofs.Common.{Option, None, Some, is_some, refl, sym, ap, subst,
 use denote.Enum.Bare.{sameb, same_true}
 use denote.Enum.Declared.{tag_of}
 use Rattle.ps_text.specs.Parts.{one}
-use Rattle.ps_text.proofs.Laws.{Laws, Nothing, Or, Within, Apart}
+use Rattle.ps_text.proofs.Laws.{Or, Within, Apart}
 use Rattle.ps_text.proofs.Combined.{both_within, laws_first}
 use Rattle.ps_text.proofs.Simple.{BadSign, none_is_some}
 use Rattle.ps_hoa.specs.Causes.{own_cause}
@@ -23,7 +23,7 @@ use Rattle.ps_hoa.specs.declared.tokens.Kind.TheVariants.{Header, HeaderAgain, W
 use Rattle.ps_hoa.specs.declared.tokens.Kind.TheVariants.{And, Or as OrSign, LeftParen, RightParen, LeftBracket}
 use Rattle.ps_hoa.specs.declared.tokens.Kind.TheVariants.{RightBracket, LeftBrace, RightBrace, Body, End, Abort}
 use Rattle.ps_hoa.specs.declared.tokens.Kind.TheVariants.{OpenComment, Odd as OddSign, Behind, Finish}
-use Rattle.ps_hoa.proofs.Grammar.OperandLaws.{Odd, Of, false_true}
+use Rattle.ps_hoa.proofs.Grammar.OperandLaws.{Odd, Of, false_true, Tight}
 
 abbrev kinds : List Kind
 kinds = Header ∷ HeaderAgain ∷ Word ∷ AliasName ∷ Int ∷ ZeroRun ∷ Text ∷ Not ∷ And ∷ OrSign ∷ LeftParen ∷ RightParen ∷
@@ -59,6 +59,9 @@ each : (p : Kind → Bool) → Each p → (k : Kind) → p k ≡ true
 each p e k = subst (λ x. p x ≡ true) (place k).1 (at p kinds (tag_of the_type k) (place k).0 e)
 
 -- ## Sets of kinds
+
+abbrev pub union : (Kind → Bool) → (Kind → Bool) → Kind → Bool
+union p q k = cond (p k) true (q k)
 
 abbrev pub inside : (Kind → Bool) → (Kind → Bool) → Kind → Bool
 inside p q k = cond (p k) (q k) true
@@ -117,13 +120,13 @@ module _ {V : Type 0} (p : Kind → Bool) (take : Sign → Option V) (are : AreS
 
 module _ {V : Type 0} {take : Sign → Option V} {Bad : Sign → HoaCause → Type 0} (p : Kind → Bool) (kind : Kind)
     (text : List ℕ) (v : V) (e : take (record { kind = kind; text = text }) ≡ Some v) (are : AreSigns p take) where
-  pub laws_sign : Within (BadSign Bad) (Of p) → Laws Odd (one take Bad) (Of p) Nothing ⊥
+  pub laws_sign : Within (BadSign Bad) (Of p) → Tight (one take Bad) p
   laws_sign bad = laws_first (record { kind = kind; text = text }) v e (is_right_by_itself p take are)
       (λ t h. has_kind p take are t (λ n. none_is_some h.0 (sym n ∙ h.1))) bad
 
-  pub laws_value : ((t : Sign) (f : HoaCause) → Bad t f → take t ≡ None → ⊥) → Laws Odd (one take Bad) (Of p) Nothing ⊥
+  pub laws_value : ((t : Sign) (f : HoaCause) → Bad t f → take t ≡ None → ⊥) → Tight (one take Bad) p
   laws_value bad = laws_sign (λ t h. has_kind p take are t (bad t h.0 h.1))
 
 pub laws_mark : (p : Kind → Bool) (kind : Kind) → p kind ≡ true → AreSigns p (mark_in p) →
-    Laws Odd (mark p) (Of p) Nothing ⊥
+    Tight (mark p) p
 laws_mark p kind e are = laws_sign p kind [] tt (ap (λ (b : Bool). cond b (Some tt) None) e) are (λ t h. absurd h.1)

@@ -15,13 +15,13 @@ use Rattle.ps_text.proofs.Barred.{laws_barred}
 use Rattle.ps_hoa.specs.Tokens.{Sign}
 use Rattle.ps_hoa.specs.Causes.{begins_capital, is_spelled, is_unknown_capital, own_cause}
 use Rattle.ps_hoa.specs.Operands.{is_and}
-use Rattle.ps_hoa.specs.Header.{HeaderData, name_value, item_name, int, IsAlternating, string_in, string, IsBadName}
+use Rattle.ps_hoa.specs.Header.{HeaderData, name_value, item_name, int, IsAlternating, string}
 use Rattle.ps_hoa.specs.Header.{proposition_name, alias_value, IsBadAlias, other_value}
 use Rattle.ps_hoa.specs.declared.fault.HoaCause.{HoaCause}
 use Rattle.ps_hoa.specs.declared.fault.HoaCause.TheVariants.{UnknownHeader}
 use Rattle.ps_hoa.specs.declared.tokens.Kind.{Kind}
-use Rattle.ps_hoa.specs.declared.tokens.Kind.TheVariants.{Header, Word, Int, Text, AliasName, And, Or as OrSign, Body}
-use Rattle.ps_hoa.proofs.Grammar.OperandLaws.{Odd, Of, false_true}
+use Rattle.ps_hoa.specs.declared.tokens.Kind.TheVariants.{Header, Int, Text, AliasName, Body}
+use Rattle.ps_hoa.proofs.Grammar.OperandLaws.{Odd, Of, false_true, Tight}
 use Rattle.ps_hoa.proofs.Grammar.KindSets.{plain, laws_value}
 use Rattle.ps_hoa.proofs.Grammar.ConditionLaws.{is_int}
 
@@ -38,15 +38,6 @@ is_alias kind = false
 abbrev pub is_body : Kind → Bool
 is_body Body = true
 is_body kind = false
-
--- the signs with which an item goes on
-abbrev pub is_argument : Kind → Bool
-is_argument Int = true
-is_argument Text = true
-is_argument Word = true
-is_argument And = true
-is_argument OrSign = true
-is_argument kind = false
 
 -- ## Names
 
@@ -121,20 +112,20 @@ other_apart name e t h k = let p = named_text name t.kind t.text h in
 
 -- ## Numbers, strings and aliases
 
-pub laws_int : (limit : ℕ) → Laws Odd (int limit) (Of is_int) Nothing ⊥
+pub laws_int : (limit : ℕ) → Tight (int limit) is_int
 laws_int limit = laws_value is_int Int [] _ refl (λ _. refl) (λ t f b. b.1)
 
-pub laws_string : Laws Odd string (Of is_string) Nothing ⊥
+pub laws_string : Tight string is_string
 laws_string = laws_value is_string Text [] _ refl (λ _. refl) (λ t f b. absurd b)
 
-pub laws_proposition_name : (names : List (List ℕ)) → Laws Odd (proposition_name names) (Of is_string) Nothing ⊥
-laws_proposition_name names = laws_mapped _ (one string_in (IsBadName names))
+pub laws_proposition_name : (names : List (List ℕ)) → Tight (proposition_name names) is_string
+laws_proposition_name names = laws_mapped _ _
     (laws_value is_string Text [] _ refl (λ _. refl) (λ t f b. b.1))
 
 abbrev pub new_alias : HeaderData → Part Sign (List ℕ) HoaCause
 new_alias h = one (λ s. alias_value s.kind s.text) (IsBadAlias h.alias_names)
 
-pub laws_new_alias : (h : HeaderData) → Laws Odd (new_alias h) (Of is_alias) Nothing ⊥
+pub laws_new_alias : (h : HeaderData) → Tight (new_alias h) is_alias
 laws_new_alias h = laws_value is_alias AliasName [] _ refl (λ _. refl) (λ t f b. b.1)
 
 pub laws_alternating : {P : Part Sign ℕ HoaCause} {First : Sign → Type 0} → Laws Odd P First Nothing ⊥ →

@@ -20,12 +20,12 @@ use Rattle.ps_hoa.specs.Inner.Items.{item_names, item_among, item_at, is_value}
 use Rattle.ps_hoa.specs.declared.fault.HoaCause.{HoaCause}
 use Rattle.ps_hoa.specs.declared.tokens.Kind.{Kind}
 use Rattle.ps_hoa.specs.declared.tokens.Kind.TheVariants.{Header, Body}
-use Rattle.ps_hoa.proofs.Grammar.KindSets.{within, apart, laws_sign}
-use Rattle.ps_hoa.proofs.Grammar.OperandLaws.{Odd, Of, false_true}
+use Rattle.ps_hoa.proofs.Grammar.KindSets.{union, within, apart, laws_sign}
+use Rattle.ps_hoa.proofs.Grammar.OperandLaws.{Odd, Of, false_true, Tight}
 use Rattle.ps_hoa.proofs.Grammar.LabelLaws.{is_connective}
 use Rattle.ps_hoa.proofs.Grammar.ConditionLaws.{is_int}
 use Rattle.ps_hoa.proofs.Grammar.ItemNames.{StartsWith, begins}
-use Rattle.ps_hoa.proofs.Grammar.SignLaws.{is_string, is_body, is_argument, Named, is_known, laws_name}
+use Rattle.ps_hoa.proofs.Grammar.SignLaws.{is_string, is_body, Named, is_known, laws_name}
 use Rattle.ps_hoa.proofs.Grammar.HeaderLaws.{laws_state_count, laws_start_name, laws_start_state, laws_counted_names}
 use Rattle.ps_hoa.proofs.Grammar.HeaderLaws.{laws_named_label, laws_counted_condition, laws_controlled, laws_strings}
 use Rattle.ps_hoa.proofs.Grammar.HeaderLaws.{laws_read_string, laws_other_name, laws_values}
@@ -33,6 +33,9 @@ use Rattle.ps_hoa.proofs.Grammar.HeaderLaws.{laws_read_string, laws_other_name, 
 -- ## Any item
 
 -- the signs with which an item goes on
+abbrev is_argument : Kind → Bool
+is_argument = union is_value is_connective
+
 abbrev pub ItemMore : Sign → Type 0
 ItemMore = Of is_argument
 
@@ -87,7 +90,7 @@ item_apart t h k = item_kind is_argument refl t k h
 pub laws_items : (h : HeaderData) → Laws Odd (many item h) ItemFirst (Or ItemMore ItemFirst) (Unit {0})
 laws_items h = laws_many item laws_item item_apart h
 
-pub laws_body_mark : (h : HeaderData) → Laws Odd (body_mark h) (Of is_body) Nothing ⊥
+pub laws_body_mark : (h : HeaderData) → Tight (body_mark h) is_body
 laws_body_mark h = laws_sign is_body Body [] h refl (λ _. refl) (λ t k. ap is_body k.1.0)
 
 item_body : Apart (Or ItemMore ItemFirst) (Of is_body)
