@@ -43,9 +43,6 @@ laws_target_number Bad = laws_value is_int Int [] _ refl (λ _. refl) (λ t f b.
 
 -- ## Sets
 
-laws_left_brace : Tight (mark is_left_brace) is_left_brace
-laws_left_brace = laws_mark is_left_brace LeftBrace refl (λ _. refl)
-
 laws_closing : (ns : List ℕ) → Tight (closing ns) is_right_brace
 laws_closing ns = laws_mapped _ _ (laws_mark is_right_brace RightBrace refl (λ _. refl))
 
@@ -64,10 +61,10 @@ module _ (count : ℕ) where
   laws_in_braces = laws_last laws_set_numbers laws_closing (apart is_int is_right_brace refl)
 
   pub joint_braces : Joint (mark is_left_brace) (λ _. then_by (many (set_number count) []) closing)
-  joint_braces = joint_tight laws_left_brace (λ _. laws_in_braces)
+  joint_braces = joint_tight (laws_mark is_left_brace LeftBrace refl (λ _. refl)) (λ _. laws_in_braces)
 
   pub laws_sets : Tight (sets count) is_left_brace
-  laws_sets = laws_tight laws_left_brace (λ _. laws_in_braces)
+  laws_sets = laws_tight (laws_mark is_left_brace LeftBrace refl (λ _. refl)) (λ _. laws_in_braces)
 
 pub laws_no_sets : Laws Odd (give {T = Sign} {V = List ℕ} {F = HoaCause} []) Nothing Nothing (Unit {0})
 laws_no_sets = laws_give Odd []
@@ -77,12 +74,8 @@ laws_marks h = laws_option (laws_sets (sets_of h)) []
 
 -- ## Labels between brackets
 
-laws_left_bracket : Tight (mark is_left_bracket) is_left_bracket
-laws_left_bracket = laws_mark is_left_bracket LeftBracket refl (λ _. refl)
-
 laws_after_label : (e : Expression) → Tight (mapped (some_label e) (mark is_right_bracket)) is_right_bracket
-laws_after_label e = laws_mapped _ _
-    (laws_mark is_right_bracket RightBracket refl (λ _. refl))
+laws_after_label e = laws_mapped _ _ (laws_mark is_right_bracket RightBracket refl (λ _. refl))
 
 pub laws_no_label : Laws Odd (give {T = Sign} {V = Option Expression} {F = HoaCause} None) Nothing Nothing (Unit {0})
 laws_no_label = laws_give Odd None
@@ -97,10 +90,10 @@ module _ (h : HeaderData) where
       (apart is_connective is_right_bracket refl)
 
   pub joint_bracket : Joint (mark is_left_bracket) (λ _. label_in_brackets h)
-  joint_bracket = joint_tight laws_left_bracket (λ _. laws_label_in_brackets)
+  joint_bracket = joint_tight (laws_mark is_left_bracket LeftBracket refl (λ _. refl)) (λ _. laws_label_in_brackets)
 
   pub laws_bracketed : Tight (then_by (mark is_left_bracket) (λ _. label_in_brackets h)) is_left_bracket
-  laws_bracketed = laws_tight laws_left_bracket (λ _. laws_label_in_brackets)
+  laws_bracketed = laws_tight (laws_mark is_left_bracket LeftBracket refl (λ _. refl)) (λ _. laws_label_in_brackets)
 
   pub laws_state_label : Known (state_label h) is_left_bracket is_left_bracket (Unit {0})
   laws_state_label = laws_option laws_bracketed None
@@ -118,17 +111,13 @@ module _ (h : HeaderData) (row : RowData) (label : Option Expression) (Bad : ℕ
   abbrev from_target : Part Sign RowData HoaCause
   from_target = then_by target (λ n. mapped (with_edge row label n) (marks h))
 
-  laws_target : Known target is_int is_and ⊥
-  laws_target = laws_alternating (laws_target_number Bad)
-
-  laws_marked : (n : ℕ) → Known (mapped (with_edge row label n) (marks h)) is_left_brace is_left_brace (Unit {0})
-  laws_marked n = laws_mapped _ _ (laws_marks h)
-
   joint_target_marks : Joint target (λ n. mapped (with_edge row label n) (marks h))
-  joint_target_marks = joint laws_target laws_marked (apart is_and is_left_brace refl)
+  joint_target_marks = joint (laws_alternating (laws_target_number Bad)) (λ n. laws_mapped _ _ (laws_marks h))
+      (apart is_and is_left_brace refl)
 
   laws_from_target : Known from_target is_int lengthens_edge ⊥
-  laws_from_target = weaker (laws_then laws_target laws_marked (apart is_and is_left_brace refl))
+  laws_from_target = weaker (laws_then (laws_alternating (laws_target_number Bad))
+      (λ n. laws_mapped _ _ (laws_marks h)) (apart is_and is_left_brace refl))
       (both_within (λ t k. k) (λ t k. absurd k.0))
       (both_within (within is_left_brace lengthens_edge refl) (λ t k. within is_and lengthens_edge refl t k.1))
       (λ n. n.0)

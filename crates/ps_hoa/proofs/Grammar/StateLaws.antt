@@ -6,9 +6,9 @@ use Rattle.std.proofs.Common.{◌≡◌, ℕ, Bool, false, List, [], codes, Opti
 use Rattle.ps_label.specs.Expression.{Expression}
 use Rattle.ps_text.specs.Parts.{Part, give, then_by, many, mapped}
 use Rattle.ps_text.proofs.Following.{laws_tight}
-use Rattle.ps_text.proofs.Laws.{Laws, Joint, Nothing, Or, Apart, weaker}
+use Rattle.ps_text.proofs.Laws.{Laws, Joint, Nothing, Or, Apart}
 use Rattle.ps_text.proofs.Joined.{joint}
-use Rattle.ps_text.proofs.Combined.{both_within, wider_more, laws_first, laws_option, laws_maybe, laws_last, joint_tight}
+use Rattle.ps_text.proofs.Combined.{both_within, wider_more, laws_first, laws_option, laws_last, joint_tight}
 use Rattle.ps_text.proofs.Simple.{Taken, laws_give, laws_mapped}
 use Rattle.ps_text.proofs.Repeated.{laws_many}
 use Rattle.ps_hoa.specs.Tokens.{Sign}
@@ -21,7 +21,7 @@ use Rattle.ps_hoa.specs.declared.fault.HoaCause.{HoaCause}
 use Rattle.ps_hoa.specs.declared.tokens.Kind.{Kind}
 use Rattle.ps_hoa.specs.declared.tokens.Kind.TheVariants.{Header, End}
 use Rattle.ps_hoa.proofs.Grammar.ConditionLaws.{is_int}
-use Rattle.ps_hoa.proofs.Grammar.KindSets.{within_both, apart, laws_sign, union}
+use Rattle.ps_hoa.proofs.Grammar.KindSets.{laws_behind_option, within_both, apart, laws_sign, union}
 use Rattle.ps_hoa.proofs.Grammar.OperandLaws.{Odd, Of, false_true, Known, Tight}
 use Rattle.ps_hoa.proofs.Grammar.SignLaws.{is_string, some_there, named_text, plain_named, laws_string}
 use Rattle.ps_hoa.proofs.Grammar.BodyLaws.{lengthens_edge, laws_target_number, laws_marks, laws_state_label, laws_edge}
@@ -55,15 +55,11 @@ laws_state_name = laws_option laws_named tt
 
 module _ (h : HeaderData) (b : BodyData) where
   laws_ended : Tight (ended h b) is_end
-  laws_ended = laws_mapped _ _
-      (laws_sign is_end End [] tt refl (λ _. refl) (λ t k. k.1.0))
+  laws_ended = laws_mapped _ _ (laws_sign is_end End [] tt refl (λ _. refl) (λ t k. k.1.0))
 
   laws_state_begins : Laws Odd (state_begins h b) IsState Nothing ⊥
   laws_state_begins = laws_first (record { kind = Header; text = codes "State:" }) tt refl
       (λ t k. plain_named (codes "State:") refl t k.1) (λ t k. k) (λ t k. (tt, some_there (state_value t) k.1.0))
-
-  laws_state_number : Tight (state_number h b) is_int
-  laws_state_number = laws_target_number (IsBadRow h b)
 
   -- the signs of a state from a part on
   module _ (label : Option Expression) (n : ℕ) where
@@ -85,17 +81,15 @@ module _ (h : HeaderData) (b : BodyData) where
     joint_marks = joint (laws_marks h) laws_from_edges (apart is_left_brace begins_edge refl)
 
     laws_from_marks : Known from_marks begins_marks lengthens_state (Unit {0})
-    laws_from_marks = weaker (laws_maybe (laws_marks h) laws_from_edges (apart is_left_brace begins_edge refl))
-        (within_both is_left_brace begins_edge begins_marks refl refl)
-        (within_both lengthens_state is_left_brace lengthens_state refl refl) (λ k. k)
+    laws_from_marks =
+        laws_behind_option is_left_brace begins_edge lengthens_state (laws_marks h) laws_from_edges refl refl
 
     pub joint_name : Joint state_name (λ _. from_marks)
     joint_name = joint laws_state_name (λ _. laws_from_marks) (apart is_string begins_marks refl)
 
     laws_from_name : Known from_name begins_name lengthens_state (Unit {0})
-    laws_from_name = weaker (laws_maybe laws_state_name (λ _. laws_from_marks) (apart is_string begins_marks refl))
-        (within_both is_string begins_marks begins_name refl refl)
-        (within_both lengthens_state is_string lengthens_state refl refl) (λ k. k)
+    laws_from_name =
+        laws_behind_option is_string begins_marks lengthens_state laws_state_name (λ _. laws_from_marks) refl refl
 
   abbrev from_number : Option Expression → Part Sign BodyData HoaCause
   from_number label = then_by (state_number h b) (from_name label)
@@ -104,18 +98,17 @@ module _ (h : HeaderData) (b : BodyData) where
   from_label = then_by (state_label h) from_number
 
   pub joint_number : (label : Option Expression) → Joint (state_number h b) (from_name label)
-  joint_number label = joint_tight laws_state_number (laws_from_name label)
+  joint_number label = joint_tight (laws_target_number (IsBadRow h b)) (laws_from_name label)
 
   laws_from_number : (label : Option Expression) → Known (from_number label) is_int lengthens_state ⊥
-  laws_from_number label = laws_tight laws_state_number (laws_from_name label)
+  laws_from_number label = laws_tight (laws_target_number (IsBadRow h b)) (laws_from_name label)
 
   pub joint_state_label : Joint (state_label h) from_number
   joint_state_label = joint (laws_state_label h) laws_from_number (apart is_left_bracket is_int refl)
 
-  laws_from_label : Known from_label begins_edge lengthens_state ⊥
-  laws_from_label = weaker (laws_maybe (laws_state_label h) laws_from_number (apart is_left_bracket is_int refl))
-      (within_both is_left_bracket is_int begins_edge refl refl)
-      (within_both lengthens_state is_left_bracket lengthens_state refl refl) (λ k. k)
+  laws_from_label : Known from_label (union is_left_bracket is_int) lengthens_state ⊥
+  laws_from_label =
+      laws_behind_option is_left_bracket is_int lengthens_state (laws_state_label h) laws_from_number refl refl
 
   pub joint_state : Joint (state_begins h b) (λ _. from_label)
   joint_state = joint_tight laws_state_begins (λ _. laws_from_label)
