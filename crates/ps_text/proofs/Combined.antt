@@ -4,7 +4,7 @@
 --     laws_forms      one of two parts, none of them empty
 --     laws_option      a part that goes on with no sign, or nothing
 --     laws_all, laws_times_all      any number of items, or so many, that go on with no sign
---     laws_maybe, laws_last      a part behind one that may be empty; and where the second one ends the whole
+--     laws_last      a part behind one that may be empty, where no sign stands behind the second one
 --     joint_tight      a part behind one that goes on with no sign
 use Rattle.std.proofs.Common.{◌≡◌, ℕ, Option, Some, inl, inr}
 use Rattle.ps_text.specs.Parts.{Part, give, one, then_by, either, times, many}
@@ -57,11 +57,6 @@ module _ {T A B F : Type 0} {odd : T → Type 0} {P : Part T A F} {Q : A → Par
   pub joint_tight : {M2 : T → Type 0} {N1 N2 : Type 0} → Laws odd P F1 Nothing N1 →
       ((a : A) → Laws odd (Q a) F2 M2 N2) → Joint P Q
   joint_tight l r = joint l r (λ t h _. h)
-
-  pub laws_maybe : {M1 M2 : T → Type 0} {Null : Type 0} → Laws odd P F1 M1 (Unit {0}) →
-      ((a : A) → Laws odd (Q a) F2 M2 Null) → Apart M1 F2 → Laws odd (then_by P Q) (Or F1 F2) (Or M2 M1) Null
-  laws_maybe l r apart = weaker (laws_then l r apart) (both_within (λ t h. inl h) (λ t h. inr h.1))
-      (both_within (λ t h. inl h) (λ t h. inr h.1)) (λ n. n.1)
 
   pub laws_last : {M1 : T → Type 0} → Laws odd P F1 M1 (Unit {0}) → ((a : A) → Laws odd (Q a) F2 Nothing ⊥) →
       Apart M1 F2 → Laws odd (then_by P Q) (Or F1 F2) Nothing ⊥

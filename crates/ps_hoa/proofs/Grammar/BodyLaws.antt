@@ -5,7 +5,7 @@
 --     joint_bracket, joint_label      `[`, a label and `]`
 --     joint_edge_label, joint_edge_target, joint_edge_marks, joint_plain_marks      the parts of an edge, from the
 --               front
-use Rattle.std.proofs.Common.{ℕ, Bool, true, false, List, [], Option, None, refl, ap}
+use Rattle.std.proofs.Common.{ℕ, Bool, List, [], Option, None, refl, ap}
 use Rattle.ps_label.specs.Expression.{Expression}
 use Rattle.ps_text.specs.Parts.{Part, give, one, then_by, many, mapped, barred}
 use Rattle.ps_text.proofs.Following.{laws_next, laws_tight}
@@ -26,36 +26,31 @@ use Rattle.ps_hoa.specs.Body.{with_edge, labelled_edge, plain_edge, edge}
 use Rattle.ps_hoa.specs.Inner.Ahead.{begins_edge}
 use Rattle.ps_hoa.specs.declared.fault.HoaCause.{HoaCause}
 use Rattle.ps_hoa.specs.declared.tokens.Kind.{Kind}
-use Rattle.ps_hoa.specs.declared.tokens.Kind.TheVariants.{Int, And, LeftBracket, RightBracket, LeftBrace, RightBrace}
+use Rattle.ps_hoa.specs.declared.tokens.Kind.TheVariants.{Int, LeftBracket, RightBracket, LeftBrace, RightBrace}
 use Rattle.ps_hoa.proofs.Grammar.ConditionLaws.{is_int}
-use Rattle.ps_hoa.proofs.Grammar.KindSets.{within, within_both, apart, laws_sign, laws_value, laws_mark}
-use Rattle.ps_hoa.proofs.Grammar.OperandLaws.{Odd, Of}
+use Rattle.ps_hoa.proofs.Grammar.KindSets.{union, within, within_both, apart, laws_sign, laws_value, laws_mark}
+use Rattle.ps_hoa.proofs.Grammar.OperandLaws.{Odd, Of, Known, Tight}
 use Rattle.ps_hoa.proofs.Grammar.LabelLaws.{is_start, is_connective, laws_label}
 use Rattle.ps_hoa.proofs.Grammar.SignLaws.{laws_alternating}
 
 -- the signs with which an edge goes on
 abbrev pub lengthens_edge : Kind → Bool
-lengthens_edge And = true
-lengthens_edge LeftBrace = true
-lengthens_edge kind = false
+lengthens_edge = union is_and is_left_brace
 
 -- an INT at which only an INT may be bad: a target, a set or a state
-pub laws_target_number : (Bad : ℕ → HoaCause → Type 0) → Laws Odd (one int_in (BadIn Bad)) (Of is_int) Nothing ⊥
+pub laws_target_number : (Bad : ℕ → HoaCause → Type 0) → Tight (one int_in (BadIn Bad)) is_int
 laws_target_number Bad = laws_value is_int Int [] _ refl (λ _. refl) (λ t f b. b.1)
 
 -- ## Sets
 
-laws_left_brace : Laws Odd (mark is_left_brace) (Of is_left_brace) Nothing ⊥
-laws_left_brace = laws_mark is_left_brace LeftBrace refl (λ _. refl)
-
-laws_closing : (ns : List ℕ) → Laws Odd (closing ns) (Of is_right_brace) Nothing ⊥
-laws_closing ns = laws_mapped _ (mark is_right_brace) (laws_mark is_right_brace RightBrace refl (λ _. refl))
+laws_closing : (ns : List ℕ) → Tight (closing ns) is_right_brace
+laws_closing ns = laws_mapped _ _ (laws_mark is_right_brace RightBrace refl (λ _. refl))
 
 module _ (count : ℕ) where
-  pub laws_set_number : (ns : List ℕ) → Laws Odd (set_number count ns) (Of is_int) Nothing ⊥
-  laws_set_number ns = laws_mapped _ (one int_in (BadIn (IsBadSet count))) (laws_target_number (IsBadSet count))
+  pub laws_set_number : (ns : List ℕ) → Tight (set_number count ns) is_int
+  laws_set_number ns = laws_mapped _ _ (laws_target_number (IsBadSet count))
 
-  laws_set_numbers : Laws Odd (many (set_number count) []) (Of is_int) (Of is_int) (Unit {0})
+  laws_set_numbers : Known (many (set_number count) []) is_int is_int (Unit {0})
   laws_set_numbers = laws_all (set_number count) laws_set_number []
 
   pub joint_sets : Joint (many (set_number count) []) closing
@@ -66,26 +61,21 @@ module _ (count : ℕ) where
   laws_in_braces = laws_last laws_set_numbers laws_closing (apart is_int is_right_brace refl)
 
   pub joint_braces : Joint (mark is_left_brace) (λ _. then_by (many (set_number count) []) closing)
-  joint_braces = joint_tight laws_left_brace (λ _. laws_in_braces)
+  joint_braces = joint_tight (laws_mark is_left_brace LeftBrace refl (λ _. refl)) (λ _. laws_in_braces)
 
-  pub laws_sets : Laws Odd (sets count) (Of is_left_brace) Nothing ⊥
-  laws_sets = laws_tight laws_left_brace (λ _. laws_in_braces)
+  pub laws_sets : Tight (sets count) is_left_brace
+  laws_sets = laws_tight (laws_mark is_left_brace LeftBrace refl (λ _. refl)) (λ _. laws_in_braces)
 
 pub laws_no_sets : Laws Odd (give {T = Sign} {V = List ℕ} {F = HoaCause} []) Nothing Nothing (Unit {0})
 laws_no_sets = laws_give Odd []
 
-pub laws_marks : (h : HeaderData) → Laws Odd (marks h) (Of is_left_brace) (Of is_left_brace) (Unit {0})
+pub laws_marks : (h : HeaderData) → Known (marks h) is_left_brace is_left_brace (Unit {0})
 laws_marks h = laws_option (laws_sets (sets_of h)) []
 
 -- ## Labels between brackets
 
-laws_left_bracket : Laws Odd (mark is_left_bracket) (Of is_left_bracket) Nothing ⊥
-laws_left_bracket = laws_mark is_left_bracket LeftBracket refl (λ _. refl)
-
-laws_after_label : (e : Expression) → Laws Odd (mapped (some_label e) (mark is_right_bracket))
-    (Of is_right_bracket) Nothing ⊥
-laws_after_label e = laws_mapped (some_label e) (mark is_right_bracket)
-    (laws_mark is_right_bracket RightBracket refl (λ _. refl))
+laws_after_label : (e : Expression) → Tight (mapped (some_label e) (mark is_right_bracket)) is_right_bracket
+laws_after_label e = laws_mapped _ _ (laws_mark is_right_bracket RightBracket refl (λ _. refl))
 
 pub laws_no_label : Laws Odd (give {T = Sign} {V = Option Expression} {F = HoaCause} None) Nothing Nothing (Unit {0})
 laws_no_label = laws_give Odd None
@@ -95,18 +85,17 @@ module _ (h : HeaderData) where
   joint_label = joint (laws_label (body_scope h) nesting_limit) laws_after_label
       (apart is_connective is_right_bracket refl)
 
-  pub laws_label_in_brackets : Laws Odd (label_in_brackets h) (Of is_start) Nothing ⊥
+  pub laws_label_in_brackets : Tight (label_in_brackets h) is_start
   laws_label_in_brackets = laws_next (laws_label (body_scope h) nesting_limit) laws_after_label
       (apart is_connective is_right_bracket refl)
 
   pub joint_bracket : Joint (mark is_left_bracket) (λ _. label_in_brackets h)
-  joint_bracket = joint_tight laws_left_bracket (λ _. laws_label_in_brackets)
+  joint_bracket = joint_tight (laws_mark is_left_bracket LeftBracket refl (λ _. refl)) (λ _. laws_label_in_brackets)
 
-  pub laws_bracketed : Laws Odd (then_by (mark is_left_bracket) (λ _. label_in_brackets h))
-      (Of is_left_bracket) Nothing ⊥
-  laws_bracketed = laws_tight laws_left_bracket (λ _. laws_label_in_brackets)
+  pub laws_bracketed : Tight (then_by (mark is_left_bracket) (λ _. label_in_brackets h)) is_left_bracket
+  laws_bracketed = laws_tight (laws_mark is_left_bracket LeftBracket refl (λ _. refl)) (λ _. laws_label_in_brackets)
 
-  pub laws_state_label : Laws Odd (state_label h) (Of is_left_bracket) (Of is_left_bracket) (Unit {0})
+  pub laws_state_label : Known (state_label h) is_left_bracket is_left_bracket (Unit {0})
   laws_state_label = laws_option laws_bracketed None
 
 -- ## Edges
@@ -122,18 +111,13 @@ module _ (h : HeaderData) (row : RowData) (label : Option Expression) (Bad : ℕ
   abbrev from_target : Part Sign RowData HoaCause
   from_target = then_by target (λ n. mapped (with_edge row label n) (marks h))
 
-  laws_target : Laws Odd target (Of is_int) (Of is_and) ⊥
-  laws_target = laws_alternating (laws_target_number Bad)
-
-  laws_marked : (n : ℕ) → Laws Odd (mapped (with_edge row label n) (marks h)) (Of is_left_brace) (Of is_left_brace)
-      (Unit {0})
-  laws_marked n = laws_mapped (with_edge row label n) (marks h) (laws_marks h)
-
   joint_target_marks : Joint target (λ n. mapped (with_edge row label n) (marks h))
-  joint_target_marks = joint laws_target laws_marked (apart is_and is_left_brace refl)
+  joint_target_marks = joint (laws_alternating (laws_target_number Bad)) (λ n. laws_mapped _ _ (laws_marks h))
+      (apart is_and is_left_brace refl)
 
-  laws_from_target : Laws Odd from_target (Of is_int) (Of lengthens_edge) ⊥
-  laws_from_target = weaker (laws_then laws_target laws_marked (apart is_and is_left_brace refl))
+  laws_from_target : Known from_target is_int lengthens_edge ⊥
+  laws_from_target = weaker (laws_then (laws_alternating (laws_target_number Bad))
+      (λ n. laws_mapped _ _ (laws_marks h)) (apart is_and is_left_brace refl))
       (both_within (λ t k. k) (λ t k. absurd k.0))
       (both_within (within is_left_brace lengthens_edge refl) (λ t k. within is_and lengthens_edge refl t k.1))
       (λ n. n.0)
@@ -150,29 +134,29 @@ module _ (h : HeaderData) (before : ℕ) (row : RowData) where
   joint_edge_target = joint_tight (laws_label_in_brackets h) (λ label.
       laws_from_target h row label (IsBadState h.states))
 
-  laws_edge_bracket : Laws Odd (one is_bracket (IsBadBracket before row)) (Of is_left_bracket) Nothing ⊥
+  laws_edge_bracket : Tight (one is_bracket (IsBadBracket before row)) is_left_bracket
   laws_edge_bracket = laws_sign is_left_bracket LeftBracket [] tt refl (λ _. refl) (λ t k. ap is_left_bracket k.1.0)
 
-  laws_from_edge_label : Laws Odd from_edge_label (Of is_start) (Of lengthens_edge) ⊥
+  laws_from_edge_label : Known from_edge_label is_start lengthens_edge ⊥
   laws_from_edge_label = laws_tight (laws_label_in_brackets h) (λ label.
       laws_from_target h row label (IsBadState h.states))
 
   pub joint_edge_label : Joint (one is_bracket (IsBadBracket before row)) (λ _. from_edge_label)
   joint_edge_label = joint_tight laws_edge_bracket (λ _. laws_from_edge_label)
 
-  pub laws_labelled_edge : Laws Odd (labelled_edge h before row) (Of is_left_bracket) (Of lengthens_edge) ⊥
+  pub laws_labelled_edge : Known (labelled_edge h before row) is_left_bracket lengthens_edge ⊥
   laws_labelled_edge = laws_tight laws_edge_bracket (λ _. laws_from_edge_label)
 
   pub joint_plain_marks : Joint (plain_target h before row) (λ n. mapped (with_edge row None n) (marks h))
   joint_plain_marks = joint_target_marks h row None (IsBadPlainTarget h.states before row)
 
-  pub laws_plain_edge : Laws Odd (plain_edge h before row) (Of is_int) (Of lengthens_edge) ⊥
+  pub laws_plain_edge : Known (plain_edge h before row) is_int lengthens_edge ⊥
   laws_plain_edge = laws_from_target h row None (IsBadPlainTarget h.states before row)
 
   pub bracket_int : Apart (Of is_left_bracket) (Of is_int)
   bracket_int = apart is_left_bracket is_int refl
 
-  pub laws_edge : Laws Odd (edge h before row) (Of begins_edge) (Of lengthens_edge) ⊥
+  pub laws_edge : Known (edge h before row) begins_edge lengthens_edge ⊥
   laws_edge = wider_first (laws_forms laws_labelled_edge laws_plain_edge bracket_int)
       (within_both is_left_bracket is_int begins_edge refl refl)
 

@@ -9,15 +9,15 @@ use Rattle.ps_text.proofs.Laws.{Laws, Joint, Nothing, Or, Within, Apart}
 use Rattle.ps_text.proofs.Combined.{both_within, wider_first, laws_first, laws_forms, joint_tight}
 use Rattle.ps_text.proofs.Simple.{Taken, BadSign, none_is_some, laws_one, laws_mapped}
 use Rattle.ps_hoa.specs.Tokens.{Sign}
-use Rattle.ps_hoa.specs.Operands.{is_not, is_left, is_right, mark}
-use Rattle.ps_hoa.specs.Conditions.{SetData, Condition, constant_of, constant_value, constant_in, often_value, often_in}
+use Rattle.ps_hoa.specs.Operands.{is_not, is_left, mark}
+use Rattle.ps_hoa.specs.Conditions.{Condition, constant_of, constant_value, constant_in, often_value, often_in}
 use Rattle.ps_hoa.specs.Conditions.{IsBadSet, set, any_set, closed_set, often_or_not, visit, IsBadStart}
 use Rattle.ps_hoa.specs.Conditions.{BadStart, atom, together, operand, condition}
 use Rattle.ps_hoa.specs.declared.fault.HoaCause.{HoaCause}
 use Rattle.ps_hoa.specs.declared.tokens.Kind.{Kind}
 use Rattle.ps_hoa.specs.declared.tokens.Kind.TheVariants.{Word, Int, LeftParen}
-use Rattle.ps_hoa.proofs.Grammar.KindSets.{within, within_both, apart, plain, laws_sign}
-use Rattle.ps_hoa.proofs.Grammar.OperandLaws.{Odd, Of, laws_behind}
+use Rattle.ps_hoa.proofs.Grammar.KindSets.{taken, within, within_both, apart, plain, laws_sign}
+use Rattle.ps_hoa.proofs.Grammar.OperandLaws.{Odd, Of, laws_behind, Tight}
 use Rattle.ps_hoa.proofs.Grammar.LabelLaws.{is_start, laws_not, laws_left, laws_right, AndOrMore, laws_rows}
 use Rattle.ps_hoa.proofs.Grammar.LabelLaws.{laws_nested}
 
@@ -29,13 +29,11 @@ abbrev pub is_int : Kind → Bool
 is_int Int = true
 is_int kind = false
 
-word_constant : (kind : Kind) (text : List ℕ) (v : Condition) → constant_value kind text ≡ Some v → is_word kind ≡ true
-word_constant Word text v e = refl
-word_constant kind text v e = absurd (none_is_some v e)
+word_constant : Within (Taken constant_in) (Of is_word)
+word_constant = taken is_word constant_in (λ _. refl)
 
-word_often : (kind : Kind) (text : List ℕ) (v : Bool) → often_value kind text ≡ Some v → is_word kind ≡ true
-word_often Word text v e = refl
-word_often kind text v e = absurd (none_is_some v e)
+word_often : Within (Taken often_in) (Of is_word)
+word_often = taken is_word often_in (λ _. refl)
 
 int_bad : (kind : Kind) (text : List ℕ) (f : HoaCause) → IsBadSet kind text f → is_int kind ≡ true
 int_bad Int text f h = refl
@@ -51,13 +49,13 @@ none_bad room kind f h = h
 
 -- ## Sets
 
-pub laws_set : (complemented : Bool) → Laws Odd (set complemented) (Of is_int) Nothing ⊥
+pub laws_set : (complemented : Bool) → Tight (set complemented) is_int
 laws_set complemented = laws_sign is_int Int [] _ refl (λ _. refl) (λ t h. int_bad t.kind t.text h.0 h.1)
 
 pub not_int : Apart (Of is_not) (Of is_int)
 not_int = apart is_not is_int refl
 
-pub laws_complement : Laws Odd (then_by (mark is_not) (λ _. set true)) (Of is_not) Nothing ⊥
+pub laws_complement : Tight (then_by (mark is_not) (λ _. set true)) is_not
 laws_complement = laws_behind is_not laws_not (laws_set true)
 
 pub laws_any_set : Laws Odd any_set (Or (Of is_not) (Of is_int)) Nothing ⊥
@@ -67,22 +65,19 @@ laws_any_set = laws_forms laws_complement (laws_set false) not_int
 
 pub laws_often : Laws Odd often_or_not (Taken often_in) Nothing ⊥
 laws_often = laws_first (record { kind = Word; text = codes "Inf" }) true refl
-    (λ t h. plain is_word (λ _. refl) t (word_often t.kind t.text h.0 h.1)) (λ t h. h) (λ t h. absurd h.1)
+    (λ t h. plain is_word (λ _. refl) t (word_often t h)) (λ t h. h) (λ t h. absurd h.1)
 
 module _ (often : Bool) where
-  laws_closing : (s : SetData) → Laws Odd (closed_set often s) (Of is_right) Nothing ⊥
-  laws_closing s = laws_mapped _ (mark is_right) laws_right
-
   pub laws_closed_set : Laws Odd (then_by any_set (closed_set often)) (Or (Of is_not) (Of is_int)) Nothing ⊥
-  laws_closed_set = laws_tight laws_any_set laws_closing
+  laws_closed_set = laws_tight laws_any_set (λ s. laws_mapped _ _ laws_right)
 
   pub joint_closed_set : Joint any_set (closed_set often)
-  joint_closed_set = joint_tight laws_any_set laws_closing
+  joint_closed_set = joint_tight laws_any_set (λ s. laws_mapped _ _ laws_right)
 
 abbrev pub behind_often : Bool → Part Sign Condition HoaCause
 behind_often often = then_by (mark is_left) (λ _. then_by any_set (closed_set often))
 
-pub laws_behind_often : (often : Bool) → Laws Odd (behind_often often) (Of is_left) Nothing ⊥
+pub laws_behind_often : (often : Bool) → Tight (behind_often often) is_left
 laws_behind_often often = laws_behind is_left laws_left (laws_closed_set often)
 
 pub joint_visit : Joint often_or_not behind_often
@@ -116,27 +111,27 @@ FirstAtom room = Or (Taken constant_in) (BadSign (BadStart room))
 
 pub laws_constant : (room : ℕ) → Laws Odd (one constant_in (BadStart room)) (FirstAtom room) Nothing ⊥
 laws_constant room = laws_one constant_in (BadStart room) Odd (record { kind = Word; text = codes "t" }) _ refl
-    (λ t h. plain is_word (λ _. refl) t (word_constant t.kind t.text h.0 h.1))
+    (λ t h. plain is_word (λ _. refl) t (word_constant t h))
     (λ t h. plain is_left (λ _. refl) t (left_bad room t.kind h.0 h.1))
 
 pub atom_often : (room : ℕ) → Apart (FirstAtom room) (Taken often_in)
 atom_often room t (inl h) k = constant_often t h k
 atom_often room t (inr h) k =
-    apart is_left is_word refl t (left_bad room t.kind h.0 h.1) (word_often t.kind t.text k.0 k.1)
+    apart is_left is_word refl t (left_bad room t.kind h.0 h.1) (word_often t k)
 
 laws_atom : (room : ℕ) (test : Kind → Bool) → Within (Of is_word) (Of test) → Within (BadSign (BadStart room)) (Of test) →
-    Laws Odd (atom room) (Of test) Nothing ⊥
+    Tight (atom room) test
 laws_atom room test word bad = wider_first (laws_forms (laws_constant room) laws_visit (atom_often room))
-    (both_within (both_within (λ t h. word t (word_constant t.kind t.text h.0 h.1)) bad)
-    (λ t h. word t (word_often t.kind t.text h.0 h.1)))
+    (both_within (both_within (λ t h. word t (word_constant t h)) bad)
+    (λ t h. word t (word_often t h)))
 
-pub laws_word : (room : ℕ) → Laws Odd (atom (suc room)) (Of is_word) Nothing ⊥
+pub laws_word : (room : ℕ) → Tight (atom (suc room)) is_word
 laws_word room = laws_atom (suc room) is_word (λ t h. h) (λ t h. absurd (none_bad room t.kind h.0 h.1))
 
 pub word_left : Apart (Of is_word) (Of is_left)
 word_left = apart is_word is_left refl
 
-pub laws_operand : (room : ℕ) → Laws Odd (operand room) (Of is_start) Nothing ⊥
+pub laws_operand : (room : ℕ) → Tight (operand room) is_start
 unfolding operand
 laws_operand zero = laws_atom 0 is_start (within is_word is_start refl)
     (λ t h. within is_left is_start refl t (left_bad 0 t.kind h.0 h.1))

@@ -2,38 +2,38 @@
 --     laws_state_count, .., laws_values      the laws, from the end of an item to its front
 --     joint_states, .., joint_other      the parts of an item, from the front
 -- proofs/Grammar/WholeHeader goes on with any item and the header.
-use Rattle.std.proofs.Common.{◌≡◌, ℕ, true, List, [], codes, refl}
+use Rattle.std.proofs.Common.{◌≡◌, ℕ, false, List, [], codes, refl}
 use Rattle.ps_text.specs.Parts.{Part, NoBad, give, one, times, many, mapped, barred}
 use Rattle.ps_text.proofs.Following.{laws_tight}
 use Rattle.ps_text.proofs.Laws.{Laws, Joint, Nothing}
 use Rattle.ps_text.proofs.Combined.{laws_first, laws_option, laws_all, laws_times_all, joint_tight}
 use Rattle.ps_text.proofs.Simple.{laws_give, laws_mapped}
 use Rattle.ps_hoa.specs.Tokens.{Sign}
-use Rattle.ps_hoa.specs.Operands.{number_limit, nesting_limit, is_and}
+use Rattle.ps_hoa.specs.Operands.{number_limit, nesting_limit}
 use Rattle.ps_hoa.specs.Labels.{label}
 use Rattle.ps_hoa.specs.Conditions.{condition}
 use Rattle.ps_hoa.specs.Header.{HeaderData, state_limit, proposition_limit, set_limit, name_value, item_name, int, string}
-use Rattle.ps_hoa.specs.Header.{with_states, state_count, IsSecondStart, IsAlternating, with_start, proposition_name}
+use Rattle.ps_hoa.specs.Header.{state_count, IsSecondStart, IsAlternating, with_start, proposition_name}
 use Rattle.ps_hoa.specs.Header.{with_names, counted_names, header_scope, with_alias, named_label, with_acceptance}
-use Rattle.ps_hoa.specs.Header.{counted_condition, index, with_controllable, controlled, unchanged, one_string}
+use Rattle.ps_hoa.specs.Header.{counted_condition, index, controlled, one_string}
 use Rattle.ps_hoa.specs.Header.{second_string, strings, other_value, read_over}
 use Rattle.ps_hoa.specs.Inner.Items.{is_value}
 use Rattle.ps_hoa.specs.declared.fault.HoaCause.{HoaCause}
 use Rattle.ps_hoa.specs.declared.tokens.Kind.TheVariants.{Header, Word}
 use Rattle.ps_hoa.proofs.Grammar.KindSets.{within, laws_sign}
-use Rattle.ps_hoa.proofs.Grammar.OperandLaws.{Odd, Of}
-use Rattle.ps_hoa.proofs.Grammar.LabelLaws.{is_start, AndOrMore, laws_label}
+use Rattle.ps_hoa.proofs.Grammar.OperandLaws.{Odd, Of, Known, Tight}
+use Rattle.ps_hoa.proofs.Grammar.LabelLaws.{AndOrMore, laws_label}
 use Rattle.ps_hoa.proofs.Grammar.ConditionLaws.{is_int, laws_condition}
-use Rattle.ps_hoa.proofs.Grammar.SignLaws.{is_string, is_alias, Named, Other, some_there, is_known, plain_named}
+use Rattle.ps_hoa.proofs.Grammar.SignLaws.{is_string, is_alias, Named, Other, some_there, is_unknown, plain_named}
 use Rattle.ps_hoa.proofs.Grammar.SignLaws.{plain_other, laws_name, laws_int, laws_string, laws_proposition_name, new_alias}
 use Rattle.ps_hoa.proofs.Grammar.SignLaws.{laws_new_alias, laws_alternating}
 
 joint_named : {V : Type 0} {Q : Part Sign V HoaCause} {First More : Sign → Type 0} {Null : Type 0} (name : List ℕ) →
-    is_known name ≡ true → Laws Odd Q First More Null → Joint (item_name name) (λ _. Q)
+    is_unknown name ≡ false → Laws Odd Q First More Null → Joint (item_name name) (λ _. Q)
 joint_named name e l = joint_tight (laws_name name e) (λ _. l)
 
-pub laws_index : (ns : List ℕ) → Laws Odd (index ns) (Of is_int) Nothing ⊥
-laws_index ns = laws_mapped _ (int number_limit) (laws_int number_limit)
+pub laws_index : (ns : List ℕ) → Tight (index ns) is_int
+laws_index ns = laws_mapped _ _ (laws_int number_limit)
 
 abbrev pub other_name : Part Sign (Unit {0}) HoaCause
 other_name = one (λ s. other_value s.kind s.text) NoBad
@@ -42,25 +42,18 @@ pub laws_other_name : Laws Odd other_name Other Nothing ⊥
 laws_other_name = laws_first (record { kind = Header; text = codes "a:" }) tt refl plain_other
     (λ t h. h.1) (λ t h. absurd h.1)
 
-pub laws_read_over : (h : HeaderData) → Laws Odd (read_over h) (Of is_value) Nothing ⊥
+pub laws_read_over : (h : HeaderData) → Tight (read_over h) is_value
 laws_read_over h = laws_sign is_value Word [] h refl (λ _. refl)
     (λ t b. within is_int is_value refl t ((laws_int number_limit).first_cause t b.0 (refl, b.1)))
 
 module _ (h : HeaderData) where
   -- `States:`
-  pub laws_state_count : Laws Odd (state_count h) (Of is_int) Nothing ⊥
-  laws_state_count = laws_mapped (with_states h) (int state_limit) (laws_int state_limit)
-
   pub joint_states : Joint (item_name (codes "States:")) (λ _. state_count h)
-  joint_states = joint_named (codes "States:") refl laws_state_count
+  joint_states = joint_named (codes "States:") refl (laws_mapped _ _ (laws_int state_limit))
 
   -- `Start:`
   abbrev pub start_state : Part Sign HeaderData HoaCause
   start_state = mapped (with_start h) (barred (int number_limit) IsAlternating)
-
-  pub laws_start_state : Laws Odd start_state (Of is_int) (Of is_and) ⊥
-  laws_start_state = laws_mapped (with_start h) (barred (int number_limit) IsAlternating)
-      (laws_alternating (laws_int number_limit))
 
   abbrev pub start_name : Part Sign (Unit {0}) HoaCause
   start_name = one (λ s. name_value (codes "Start:") s.kind s.text) (IsSecondStart h)
@@ -71,76 +64,57 @@ module _ (h : HeaderData) where
       (λ t k. some_there (name_value (codes "Start:") t.kind t.text) k.1.0)
 
   pub joint_start : Joint start_name (λ _. start_state)
-  joint_start = joint_tight laws_start_name (λ _. laws_start_state)
+  joint_start = joint_tight laws_start_name (λ _. laws_mapped _ _ (laws_alternating (laws_int number_limit)))
 
   -- `AP:`
-  laws_propositions : (n : ℕ) → Laws Odd (mapped (with_names h) (times n proposition_name [])) (Of is_string)
-      (Of is_string) (Unit {0})
-  laws_propositions n = laws_mapped (with_names h) (times n proposition_name [])
-      (laws_times_all proposition_name laws_proposition_name n [])
-
   pub joint_counted_names : Joint (int proposition_limit) (λ n. mapped (with_names h) (times n proposition_name []))
-  joint_counted_names = joint_tight (laws_int proposition_limit) laws_propositions
+  joint_counted_names = joint_tight (laws_int proposition_limit)
+      (λ n. laws_mapped _ _ (laws_times_all proposition_name laws_proposition_name n []))
 
-  pub laws_counted_names : Laws Odd (counted_names h) (Of is_int) (Of is_string) ⊥
-  laws_counted_names = laws_tight (laws_int proposition_limit) laws_propositions
+  pub laws_counted_names : Known (counted_names h) is_int is_string ⊥
+  laws_counted_names = laws_tight (laws_int proposition_limit)
+      (λ n. laws_mapped _ _ (laws_times_all proposition_name laws_proposition_name n []))
 
   pub joint_names : Joint (item_name (codes "AP:")) (λ _. counted_names h)
   joint_names = joint_named (codes "AP:") refl laws_counted_names
 
   -- `Alias:`
-  laws_alias_label : (name : List ℕ) → Laws Odd (mapped (with_alias h name) (label (header_scope h) nesting_limit))
-      (Of is_start) AndOrMore ⊥
-  laws_alias_label name = laws_mapped (with_alias h name) (label (header_scope h) nesting_limit)
-      (laws_label (header_scope h) nesting_limit)
-
   pub joint_named_label : Joint (new_alias h) (λ name.
       mapped (with_alias h name) (label (header_scope h) nesting_limit))
-  joint_named_label = joint_tight (laws_new_alias h) laws_alias_label
+  joint_named_label = joint_tight (laws_new_alias h) (λ _. laws_mapped _ _ (laws_label (header_scope h) nesting_limit))
 
   pub laws_named_label : Laws Odd (named_label h) (Of is_alias) AndOrMore ⊥
-  laws_named_label = laws_tight (laws_new_alias h) laws_alias_label
+  laws_named_label = laws_tight (laws_new_alias h) (λ _. laws_mapped _ _ (laws_label (header_scope h) nesting_limit))
 
   pub joint_alias : Joint (item_name (codes "Alias:")) (λ _. named_label h)
   joint_alias = joint_named (codes "Alias:") refl laws_named_label
 
   -- `Acceptance:`
-  laws_acceptance_condition : (n : ℕ) → Laws Odd (mapped (with_acceptance h n) (condition nesting_limit))
-      (Of is_start) AndOrMore ⊥
-  laws_acceptance_condition n =
-      laws_mapped (with_acceptance h n) (condition nesting_limit) (laws_condition nesting_limit)
-
   pub joint_counted_condition : Joint (int set_limit) (λ n. mapped (with_acceptance h n) (condition nesting_limit))
-  joint_counted_condition = joint_tight (laws_int set_limit) laws_acceptance_condition
+  joint_counted_condition = joint_tight (laws_int set_limit) (λ _. laws_mapped _ _ (laws_condition nesting_limit))
 
   pub laws_counted_condition : Laws Odd (counted_condition h) (Of is_int) AndOrMore ⊥
-  laws_counted_condition = laws_tight (laws_int set_limit) laws_acceptance_condition
+  laws_counted_condition = laws_tight (laws_int set_limit) (λ _. laws_mapped _ _ (laws_condition nesting_limit))
 
   pub joint_acceptance : Joint (item_name (codes "Acceptance:")) (λ _. counted_condition h)
   joint_acceptance = joint_named (codes "Acceptance:") refl laws_counted_condition
 
   -- `controllable-AP:`
-  pub laws_controlled : Laws Odd (controlled h) (Of is_int) (Of is_int) (Unit {0})
-  laws_controlled = laws_mapped (with_controllable h) (many index []) (laws_all index laws_index [])
-
   pub joint_controllable : Joint (item_name (codes "controllable-AP:")) (λ _. controlled h)
-  joint_controllable = joint_named (codes "controllable-AP:") refl laws_controlled
+  joint_controllable = joint_named (codes "controllable-AP:") refl (laws_mapped _ _ (laws_all index laws_index []))
 
   -- `tool:` and `name:`
-  pub laws_read_string : Laws Odd (one_string h) (Of is_string) Nothing ⊥
-  laws_read_string = laws_mapped (unchanged h) string laws_string
+  pub laws_read_string : Tight (one_string h) is_string
+  laws_read_string = laws_mapped _ _ laws_string
 
   pub laws_no_string : Laws Odd (give {T = Sign} {V = HeaderData} {F = HoaCause} h) Nothing Nothing (Unit {0})
   laws_no_string = laws_give Odd h
 
-  laws_second_string : Laws Odd (second_string h) (Of is_string) (Of is_string) (Unit {0})
-  laws_second_string = laws_option laws_read_string h
-
   pub joint_strings : Joint string (λ _. second_string h)
-  joint_strings = joint_tight laws_string (λ _. laws_second_string)
+  joint_strings = joint_tight laws_string (λ _. laws_option laws_read_string h)
 
-  pub laws_strings : Laws Odd (strings h) (Of is_string) (Of is_string) ⊥
-  laws_strings = laws_tight laws_string (λ _. laws_second_string)
+  pub laws_strings : Known (strings h) is_string is_string ⊥
+  laws_strings = laws_tight laws_string (λ _. laws_option laws_read_string h)
 
   pub joint_tool : Joint (item_name (codes "tool:")) (λ _. strings h)
   joint_tool = joint_named (codes "tool:") refl laws_strings
@@ -149,8 +123,5 @@ module _ (h : HeaderData) where
   joint_name_item = joint_named (codes "name:") refl laws_read_string
 
   -- other names
-  pub laws_values : Laws Odd (many read_over h) (Of is_value) (Of is_value) (Unit {0})
-  laws_values = laws_all read_over laws_read_over h
-
   pub joint_other : Joint other_name (λ _. many read_over h)
-  joint_other = joint_tight laws_other_name (λ _. laws_values)
+  joint_other = joint_tight laws_other_name (λ _. laws_all read_over laws_read_over h)

@@ -32,7 +32,8 @@ use Rattle.ps_hoa.proofs.Reading.HeaderExits.{behind_first}
 
 enters : {A V : Type 0} {take : Sign → Option A} {Bad : Sign → HoaCause → Type 0} {Q : A → Part Sign V HoaCause}
     {t : Sign} {v : A} → Joint (one take Bad) Q → take t ≡ Some v → Enters (then_by (one take Bad) Q) (Some t)
-enters {take = take} {Bad = Bad} {Q = Q} {t = t} {v = v} j e = enters_then (one take Bad) Q j (Some t) (enters_one take Bad t (inl (v, e)))
+enters {take = take} {Bad = Bad} {Q = Q} {t = t} {v = v} j e = enters_then (one take Bad) Q j (Some t)
+    (enters_one take Bad t (inl (v, e)))
 
 -- at its name, an item is entered
 enters_at_name : (h : HeaderData) (name : ItemName) (t : Sign) → StartsWith name t → Enters (form_of h name) (Some t)

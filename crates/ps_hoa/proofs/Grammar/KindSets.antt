@@ -4,14 +4,15 @@
 --     plain      no sign of a set is wrong by itself
 --     laws_sign, laws_value, laws_mark      the laws of a sign whose kind is of a set: that stands there or is bad, that
 --               is bad only where it has a value, that has no value
+--     laws_behind_option      a part behind one that may be empty
 use Rattle.std.proofs.Common.{◌≡◌, ℕ, zero, suc, ◌<◌, Bool, true, false, not, cond, List, [], ◌∷◌, length, get_or}
 use Rattle.std.proofs.Common.{Option, None, Some, is_some, refl, sym, ap, subst, ◌∙◌, arith}
 use denote.Enum.Bare.{sameb, same_true}
 use denote.Enum.Declared.{tag_of}
-use Rattle.ps_text.specs.Parts.{one}
-use Rattle.ps_text.proofs.Laws.{Laws, Nothing, Or, Within, Apart}
+use Rattle.ps_text.specs.Parts.{Part, one, then_by}
+use Rattle.ps_text.proofs.Laws.{Or, Within, Apart, weaker}
 use Rattle.ps_text.proofs.Combined.{both_within, laws_first}
-use Rattle.ps_text.proofs.Simple.{BadSign, none_is_some}
+use Rattle.ps_text.proofs.Simple.{Taken, BadSign, none_is_some, laws_then}
 use Rattle.ps_hoa.specs.Causes.{own_cause}
 use Rattle.ps_hoa.specs.Inner.Signs.{IsTestOf}
 use Rattle.ps_hoa.specs.Operands.{mark_in, mark}
@@ -23,7 +24,7 @@ use Rattle.ps_hoa.specs.declared.tokens.Kind.TheVariants.{Header, HeaderAgain, W
 use Rattle.ps_hoa.specs.declared.tokens.Kind.TheVariants.{And, Or as OrSign, LeftParen, RightParen, LeftBracket}
 use Rattle.ps_hoa.specs.declared.tokens.Kind.TheVariants.{RightBracket, LeftBrace, RightBrace, Body, End, Abort}
 use Rattle.ps_hoa.specs.declared.tokens.Kind.TheVariants.{OpenComment, Odd as OddSign, Behind, Finish}
-use Rattle.ps_hoa.proofs.Grammar.OperandLaws.{Odd, Of, false_true}
+use Rattle.ps_hoa.proofs.Grammar.OperandLaws.{Odd, Of, false_true, Tight, Known}
 
 abbrev kinds : List Kind
 kinds = Header ∷ HeaderAgain ∷ Word ∷ AliasName ∷ Int ∷ ZeroRun ∷ Text ∷ Not ∷ And ∷ OrSign ∷ LeftParen ∷ RightParen ∷
@@ -60,11 +61,21 @@ each p e k = subst (λ x. p x ≡ true) (place k).1 (at p kinds (tag_of the_type
 
 -- ## Sets of kinds
 
+abbrev pub union : (Kind → Bool) → (Kind → Bool) → Kind → Bool
+union p q k = cond (p k) true (q k)
+
 abbrev pub inside : (Kind → Bool) → (Kind → Bool) → Kind → Bool
 inside p q k = cond (p k) (q k) true
 
 abbrev pub beside : (Kind → Bool) → (Kind → Bool) → Kind → Bool
 beside p q k = cond (p k) (not (q k)) true
+
+in_left : {b : Bool} (c : Bool) → b ≡ true → cond b true c ≡ true
+in_left c h = rw h
+
+in_right : {c : Bool} (b : Bool) → c ≡ true → cond b true c ≡ true
+in_right true h = refl
+in_right false h = h
 
 pub within : (p q : Kind → Bool) → Each (inside p q) → Within (Of p) (Of q)
 within p q e t h = chosen (p t.kind) (q t.kind) true (each (inside p q) e t.kind) h
@@ -112,18 +123,29 @@ module _ {V : Type 0} (p : Kind → Bool) (take : Sign → Option V) (are : AreS
       go false c None e h = absurd (h refl)
       go false c (Some w) e h = absurd (false_true e)
 
+  pub taken : Taken take t → Of p t
+  taken h = has_kind (λ n. none_is_some h.0 (sym n ∙ h.1))
+
   is_right_by_itself : Of p t → Odd t → ⊥
   is_right_by_itself h o = no_some (own_cause t.kind t.text) o.0 (chosen (p t.kind) _ _ tried h) o.1
 
 module _ {V : Type 0} {take : Sign → Option V} {Bad : Sign → HoaCause → Type 0} (p : Kind → Bool) (kind : Kind)
     (text : List ℕ) (v : V) (e : take (record { kind = kind; text = text }) ≡ Some v) (are : AreSigns p take) where
-  pub laws_sign : Within (BadSign Bad) (Of p) → Laws Odd (one take Bad) (Of p) Nothing ⊥
+  pub laws_sign : Within (BadSign Bad) (Of p) → Tight (one take Bad) p
   laws_sign bad = laws_first (record { kind = kind; text = text }) v e (is_right_by_itself p take are)
-      (λ t h. has_kind p take are t (λ n. none_is_some h.0 (sym n ∙ h.1))) bad
+      (taken p take are) bad
 
-  pub laws_value : ((t : Sign) (f : HoaCause) → Bad t f → take t ≡ None → ⊥) → Laws Odd (one take Bad) (Of p) Nothing ⊥
+  pub laws_value : ((t : Sign) (f : HoaCause) → Bad t f → take t ≡ None → ⊥) → Tight (one take Bad) p
   laws_value bad = laws_sign (λ t h. has_kind p take are t (bad t h.0 h.1))
 
+-- a part behind one that may be empty, and that goes on with the signs with which it begins
+pub laws_behind_option : {A V : Type 0} {P : Part Sign A HoaCause} {Q : A → Part Sign V HoaCause} {Null : Type 0}
+    (p q m : Kind → Bool) → Known P p p (Unit {0}) → ((a : A) → Known (Q a) q m Null) → Each (beside p q) →
+    Each (inside p m) → Known (then_by P Q) (union p q) m Null
+laws_behind_option p q m l r e f = weaker (laws_then l r (apart p q e))
+    (both_within (λ t h. in_left (q t.kind) h) (λ t h. in_right (p t.kind) h.1))
+    (both_within (λ t h. h) (λ t h. within p m f t h.1)) (λ n. n.1)
+
 pub laws_mark : (p : Kind → Bool) (kind : Kind) → p kind ≡ true → AreSigns p (mark_in p) →
-    Laws Odd (mark p) (Of p) Nothing ⊥
+    Tight (mark p) p
 laws_mark p kind e are = laws_sign p kind [] tt (ap (λ (b : Bool). cond b (Some tt) None) e) are (λ t h. absurd h.1)

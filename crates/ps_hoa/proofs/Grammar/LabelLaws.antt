@@ -1,6 +1,6 @@
 -- The laws of labels, and which form of an operand stands by its first sign.
 use Rattle.std.proofs.Common.{◌≡◌, ℕ, zero, suc, Bool, true, false, List, [], refl, arith}
-use Rattle.ps_label.specs.Expression.{Expression, not_of}
+use Rattle.ps_label.specs.Expression.{Expression}
 use Rattle.ps_text.specs.Parts.{Part, either}
 use Rattle.ps_text.proofs.Laws.{Laws, Nothing, Or, Apart}
 use Rattle.ps_text.proofs.Combined.{both_within, wider_first, wider_more, laws_forms}
@@ -14,48 +14,39 @@ use Rattle.ps_hoa.specs.declared.fault.HoaCause.{HoaCause}
 use Rattle.ps_hoa.specs.declared.tokens.Kind.{Kind}
 use Rattle.ps_hoa.specs.declared.tokens.Kind.TheVariants.{Word, Int, AliasName, Not, And, Or as OrSign, LeftParen}
 use Rattle.ps_hoa.specs.declared.tokens.Kind.TheVariants.{RightParen}
-use Rattle.ps_hoa.proofs.Grammar.KindSets.{within, within_both, apart, laws_sign, laws_mark}
-use Rattle.ps_hoa.proofs.Grammar.OperandLaws.{Odd, Of, nothing_apart, laws_behind, laws_held, laws_row}
+use Rattle.ps_hoa.proofs.Grammar.KindSets.{union, within, within_both, apart, laws_sign, laws_mark}
+use Rattle.ps_hoa.proofs.Grammar.OperandLaws.{Odd, Of, nothing_apart, laws_behind, laws_held, laws_row, Tight}
 
--- the signs with which an operand begins, and those that are one by themselves
-abbrev pub is_start : Kind → Bool
-is_start Word = true
-is_start Int = true
-is_start AliasName = true
-is_start Not = true
-is_start LeftParen = true
-is_start kind = false
-
+-- the signs that are an operand by themselves, those with which one begins that nests, or any, and those between
+-- operands
 abbrev pub is_single : Kind → Bool
 is_single Word = true
 is_single Int = true
 is_single AliasName = true
 is_single kind = false
 
--- the signs of a form that nests, and those between operands
 abbrev nests : Kind → Bool
-nests Not = true
-nests LeftParen = true
-nests kind = false
+nests = union is_not is_left
+
+abbrev pub is_start : Kind → Bool
+is_start = union is_single nests
 
 abbrev pub is_connective : Kind → Bool
-is_connective And = true
-is_connective OrSign = true
-is_connective kind = false
+is_connective = union is_and is_or
 
-pub laws_not : Laws Odd (mark is_not) (Of is_not) Nothing ⊥
+pub laws_not : Tight (mark is_not) is_not
 laws_not = laws_mark is_not Not refl (λ _. refl)
 
-pub laws_and : Laws Odd (mark is_and) (Of is_and) Nothing ⊥
+pub laws_and : Tight (mark is_and) is_and
 laws_and = laws_mark is_and And refl (λ _. refl)
 
-pub laws_or : Laws Odd (mark is_or) (Of is_or) Nothing ⊥
+pub laws_or : Tight (mark is_or) is_or
 laws_or = laws_mark is_or OrSign refl (λ _. refl)
 
-pub laws_left : Laws Odd (mark is_left) (Of is_left) Nothing ⊥
+pub laws_left : Tight (mark is_left) is_left
 laws_left = laws_mark is_left LeftParen refl (λ _. refl)
 
-pub laws_right : Laws Odd (mark is_right) (Of is_right) Nothing ⊥
+pub laws_right : Tight (mark is_right) is_right
 laws_right = laws_mark is_right RightParen refl (λ _. refl)
 
 start_bad : (scope : ScopeData) (room : ℕ) (kind : Kind) (text : List ℕ) (f : HoaCause) →
@@ -74,7 +65,7 @@ single_bad scope room Not text f h = absurd (omega (arith, h.0))
 single_bad scope room LeftParen text f h = absurd (omega (arith, h.0))
 single_bad scope room kind text f h = absurd h
 
-pub laws_single : (scope : ScopeData) (room : ℕ) → Laws Odd (leaf scope (suc room)) (Of is_single) Nothing ⊥
+pub laws_single : (scope : ScopeData) (room : ℕ) → Tight (leaf scope (suc room)) is_single
 laws_single scope room = laws_sign is_single Int [] _ refl (λ _. refl)
     (λ t h. single_bad scope room t.kind t.text h.0 h.1)
 
@@ -107,19 +98,19 @@ module _ {V : Type 0} {F : Sign → Type 0} (P : Part Sign V HoaCause) (together
   laws_rows = wider_more (laws_row is_or (rows together connectives.And P) laws_or laws_both apart_or
       (together connectives.Or)) (within_both is_and is_or is_connective refl refl)
 
-  pub laws_nested : Laws Odd (inner (rows together connectives.Or P)) (Of is_left) Nothing ⊥
+  pub laws_nested : Tight (inner (rows together connectives.Or P)) is_left
   laws_nested = laws_behind is_left laws_left (laws_held laws_right laws_rows apart_right)
 
 module _ {F : Sign → Type 0} (P : Part Sign Expression HoaCause) (l : Laws Odd P F Nothing ⊥) where
-  pub laws_negation : Laws Odd (negation P) (Of is_not) Nothing ⊥
-  laws_negation = laws_behind is_not laws_not (laws_mapped not_of P l)
+  pub laws_negation : Tight (negation P) is_not
+  laws_negation = laws_behind is_not laws_not (laws_mapped _ _ l)
 
   -- the two forms that nest
   pub laws_deep : Laws Odd (either (negation P) (inner (rows together connectives.Or P))) (Or (Of is_not) (Of is_left))
       Nothing ⊥
   laws_deep = laws_forms laws_negation (laws_nested P together l) not_left
 
-pub laws_operand : (scope : ScopeData) (room : ℕ) → Laws Odd (operand scope room) (Of is_start) Nothing ⊥
+pub laws_operand : (scope : ScopeData) (room : ℕ) → Tight (operand scope room) is_start
 unfolding operand
 laws_operand scope zero = laws_sign is_start Int [] _ refl (λ _. refl)
     (λ t h. start_bad scope 0 t.kind t.text h.0 h.1)

@@ -1,6 +1,7 @@
 -- The laws of signs by themselves, of operands in parentheses and of rows, and what a reading function of a row says at
 -- its exits.
---     taken_mark, laws_mark, laws_inner, laws_row      the laws
+--     Known, Tight      the laws of a part by sets of kinds
+--     laws_behind, laws_held, laws_row      the laws
 --     joint_mark, joint_closed, joint_operands      what stands behind a sign, a `)` behind a part, further operands
 --               behind the first
 --     row_fails, row_alone, row_begins, row_goes_on, row_stops, row_ends      the exits of a row and the invariant of
@@ -22,7 +23,7 @@ use Rattle.ps_text.proofs.Branches.{many_ends, many_fails, carries_many}
 use Rattle.ps_text.proofs.Whole.{Own}
 use Rattle.ps_hoa.specs.Tokens.{Sign}
 use Rattle.ps_hoa.specs.Causes.{hoa_causes}
-use Rattle.ps_hoa.specs.Operands.{is_right, mark_in, mark, before, closed, single, with_last, joined, further, operands}
+use Rattle.ps_hoa.specs.Operands.{is_right, mark_in, mark, closed, single, with_last, joined, further, operands}
 use Rattle.ps_hoa.specs.Operands.{row}
 use Rattle.ps_hoa.specs.declared.fault.HoaCause.{HoaCause}
 use Rattle.ps_hoa.specs.declared.tokens.Kind.{Kind}
@@ -33,6 +34,14 @@ Odd = Own hoa_causes
 -- signs of a kind that passes a test
 abbrev pub Of : (Kind → Bool) → Sign → Type 0
 Of test sign = test sign.kind ≡ true
+
+-- a part by the kinds of its signs: with which it begins, with which it goes on, and if it may be empty; and one that is
+-- not empty and goes on with no sign
+abbrev pub Known : {V : Type 0} → Part Sign V HoaCause → (Kind → Bool) → (Kind → Bool) → Type 0 → Type 0
+Known part first more null = Laws Odd part (Of first) (Of more) null
+
+abbrev pub Tight : {V : Type 0} → Part Sign V HoaCause → (Kind → Bool) → Type 0
+Tight part first = Laws Odd part (Of first) Nothing ⊥
 
 pub false_true : false ≡ true → ⊥
 false_true e = let x : false ≡ true = e in cc
@@ -49,7 +58,7 @@ nothing_apart A t h k = h
 
 -- a sign and then a part, a part and then `)`
 module _ {V : Type 0} (test : Kind → Bool) {P : Part Sign V HoaCause} {First More : Sign → Type 0}
-    (m : Laws Odd (mark test) (Of test) Nothing ⊥) where
+    (m : Tight (mark test) test) where
   pub joint_mark : {Null : Type 0} → Laws Odd P First More Null → Joint (mark test) (λ _. P)
   joint_mark l = joint_tight m (λ _. l)
 
@@ -57,32 +66,32 @@ module _ {V : Type 0} (test : Kind → Bool) {P : Part Sign V HoaCause} {First M
   laws_behind l = laws_tight m (λ _. l)
 
 module _ {V : Type 0} {P : Part Sign V HoaCause} {First More : Sign → Type 0}
-    (r : Laws Odd (mark is_right) (Of is_right) Nothing ⊥) where
+    (r : Tight (mark is_right) is_right) where
   pub joint_closed : {Null : Type 0} → Laws Odd P First More Null → Apart More (Of is_right) → Joint P (λ v. closed v)
-  joint_closed l a = joint l (λ v. laws_mapped (before v) (mark is_right) r) a
+  joint_closed l a = joint l (λ v. laws_mapped _ _ r) a
 
   pub laws_held : Laws Odd P First More ⊥ → Apart More (Of is_right) →
       Laws Odd (then_by P (λ v. closed v)) First Nothing ⊥
-  laws_held l a = laws_next l (λ v. laws_mapped (before v) (mark is_right) r) a
+  laws_held l a = laws_next l (λ v. laws_mapped _ _ r) a
 
 module _ {V : Type 0} (sign : Kind → Bool) (operand : Part Sign V HoaCause) {First More : Sign → Type 0}
-    (m : Laws Odd (mark sign) (Of sign) Nothing ⊥) (l : Laws Odd operand First More ⊥) (apart : Apart More (Of sign))
+    (m : Tight (mark sign) sign) (l : Laws Odd operand First More ⊥) (apart : Apart More (Of sign))
   where
     abbrev item : List V → Part Sign (List V) HoaCause
     item vs = further sign operand vs
 
     laws_item : (vs : List V) → Laws Odd (item vs) (Of sign) More ⊥
-    laws_item vs = laws_behind sign m (laws_mapped (with_last vs) operand l)
+    laws_item vs = laws_behind sign m (laws_mapped _ _ l)
 
     laws_items : (vs : List V) → Laws Odd (many item vs) (Of sign) (Or More (Of sign)) (Unit {0})
     laws_items vs = laws_many item laws_item apart vs
 
     pub joint_operands : Joint (mapped single operand) (λ vs. many (λ ws. further sign operand ws) vs)
-    joint_operands = joint (laws_mapped single operand l) laws_items apart
+    joint_operands = joint (laws_mapped _ _ l) laws_items apart
 
     pub laws_row : (join : List V → V) → Laws Odd (row sign join operand) First (Or More (Of sign)) ⊥
-    laws_row join = laws_mapped (joined join) (operands sign operand) (weaker
-        (laws_then (laws_mapped single operand l) laws_items apart) (both_within (λ t h. h) (λ t h. absurd h.0))
+    laws_row join = laws_mapped _ _ (weaker
+        (laws_then (laws_mapped _ _ l) laws_items apart) (both_within (λ t h. h) (λ t h. absurd h.0))
         (both_within (λ t h. h) (λ t h. inl h.1)) (λ n. n.0))
 
     -- the first operand fails
@@ -109,7 +118,7 @@ module _ {V : Type 0} (sign : Kind → Bool) (operand : Part Sign V HoaCause) {F
         (reads_mapped single r)
 
     joint_item : (vs : List V) → Joint (mark sign) (λ _. mapped (with_last vs) operand)
-    joint_item vs = joint_mark sign m (laws_mapped (with_last vs) operand l)
+    joint_item vs = joint_mark sign m (laws_mapped _ _ l)
 
     pub row_goes_on : {old now mid new : Stream Sign} {vs : List V} {v : V} → InRow old vs now →
         Reads (mark sign) now tt mid → Reads operand mid v new → InRow old (with_last vs v) new

@@ -3,7 +3,7 @@
 --     laws_name, laws_int, laws_string, laws_proposition_name, laws_new_alias      the laws
 --     laws_alternating      a sign that `&` may not follow
 --     other_apart      a name that has a meaning is not read over
-use Rattle.std.proofs.Common.{◌≡◌, ℕ, ◌||◌, Bool, true, false, not, cond, List, [], Option, None, Some, refl, sym, ap}
+use Rattle.std.proofs.Common.{◌≡◌, ℕ, ◌||◌, Bool, true, false, cond, List, [], Option, None, Some, refl, sym, ap}
 use Rattle.std.proofs.Common.{◌∙◌}
 use Rattle.std.specs.Str.{bytes_eq}
 use Rattle.std.proofs.lemmas.Slice.Eq.{bytes_eq-Decides}
@@ -15,13 +15,13 @@ use Rattle.ps_text.proofs.Barred.{laws_barred}
 use Rattle.ps_hoa.specs.Tokens.{Sign}
 use Rattle.ps_hoa.specs.Causes.{begins_capital, is_spelled, is_unknown_capital, own_cause}
 use Rattle.ps_hoa.specs.Operands.{is_and}
-use Rattle.ps_hoa.specs.Header.{HeaderData, name_value, item_name, int, IsAlternating, string_in, string, IsBadName}
+use Rattle.ps_hoa.specs.Header.{HeaderData, name_value, item_name, int, IsAlternating, string}
 use Rattle.ps_hoa.specs.Header.{proposition_name, alias_value, IsBadAlias, other_value}
 use Rattle.ps_hoa.specs.declared.fault.HoaCause.{HoaCause}
 use Rattle.ps_hoa.specs.declared.fault.HoaCause.TheVariants.{UnknownHeader}
 use Rattle.ps_hoa.specs.declared.tokens.Kind.{Kind}
-use Rattle.ps_hoa.specs.declared.tokens.Kind.TheVariants.{Header, Word, Int, Text, AliasName, And, Or as OrSign, Body}
-use Rattle.ps_hoa.proofs.Grammar.OperandLaws.{Odd, Of, false_true}
+use Rattle.ps_hoa.specs.declared.tokens.Kind.TheVariants.{Header, Int, Text, AliasName, Body}
+use Rattle.ps_hoa.proofs.Grammar.OperandLaws.{Odd, Of, Tight}
 use Rattle.ps_hoa.proofs.Grammar.KindSets.{plain, laws_value}
 use Rattle.ps_hoa.proofs.Grammar.ConditionLaws.{is_int}
 
@@ -38,15 +38,6 @@ is_alias kind = false
 abbrev pub is_body : Kind → Bool
 is_body Body = true
 is_body kind = false
-
--- the signs with which an item goes on
-abbrev pub is_argument : Kind → Bool
-is_argument Int = true
-is_argument Text = true
-is_argument Word = true
-is_argument And = true
-is_argument OrSign = true
-is_argument kind = false
 
 -- ## Names
 
@@ -71,46 +62,35 @@ pub some_there : (o : Option (Unit {0})) → (o ≡ None → ⊥) → o ≡ Some
 some_there None h = absurd (h refl)
 some_there (Some v) h = refl
 
--- a name that is spelled, or does not begin with a capital
-abbrev pub is_known : List ℕ → Bool
-is_known name = is_spelled name || not (begins_capital name)
+-- a name that begins with a capital and that the grammar does not spell, as the specification has it
+abbrev pub is_unknown : List ℕ → Bool
+is_unknown name = cond (is_spelled name) false (begins_capital name)
 
-known_right : (name : List ℕ) → is_known name ≡ true → is_unknown_capital name ≡ false
+plain_header : (t : Sign) → t.kind ≡ Header → is_unknown t.text ≡ false → Odd t → ⊥
 unfolding is_unknown_capital
-known_right name e = go (is_spelled name) (begins_capital name) e
-  where
-    go : (spelled capital : Bool) → (spelled || not capital) ≡ true → cond spelled false capital ≡ false
-    go true capital e = refl
-    go false true e = absurd (false_true e)
-    go false false e = refl
+plain_header t k u o = none_is_some o.0 (ap (λ (b : Bool). cond b (Some UnknownHeader) None) (sym u)
+    ∙ ap (λ kind. own_cause kind t.text) (sym k) ∙ o.1)
 
-own_named : (name : List ℕ) (kind : Kind) (text : List ℕ) → is_known name ≡ true →
-    name_value name kind text ≡ Some tt → own_cause kind text ≡ None
-own_named name Header text e h = ap (λ z. own_cause Header z) ((named_text name Header text h).1)
-    ∙ ap (λ (b : Bool). cond b (Some UnknownHeader) None) (known_right name e)
-own_named name kind text e h = absurd (none_is_some tt h)
+pub plain_named : (name : List ℕ) → is_unknown name ≡ false → Apart (Named name) Odd
+plain_named name e t h = let p = named_text name t.kind t.text h in plain_header t p.0 (ap is_unknown p.1 ∙ e)
 
-pub plain_named : (name : List ℕ) → is_known name ≡ true → Apart (Named name) Odd
-plain_named name e t h o = none_is_some o.0 (sym (own_named name t.kind t.text e h) ∙ o.1)
-
-own_other : (kind : Kind) (text : List ℕ) → other_value kind text ≡ Some tt → own_cause kind text ≡ None
-unfolding is_unknown_capital
-own_other Header text e = go (is_spelled text) (begins_capital text) _ e
+pub plain_other : Apart Other Odd
+plain_other t h = let p = known t.kind t.text h in plain_header t p.0 p.1
   where
     go : (spelled capital : Bool) (o : Option (Unit {0})) → cond (spelled || capital) None o ≡ Some tt →
-        cond (cond spelled false capital) (Some UnknownHeader) None ≡ None
+        cond spelled false capital ≡ false
     go true capital o e = refl
     go false true o e = absurd (none_is_some tt e)
     go false false o e = refl
-own_other kind text e = absurd (none_is_some tt e)
 
-pub plain_other : Apart Other Odd
-plain_other t h o = none_is_some o.0 (sym (own_other t.kind t.text h) ∙ o.1)
+    known : (kind : Kind) (text : List ℕ) → other_value kind text ≡ Some tt → (kind ≡ Header) × (is_unknown text ≡ false)
+    known Header text e = (refl, go (is_spelled text) (begins_capital text) _ e)
+    known kind text e = absurd (none_is_some tt e)
 
 pub same_name : (name : List ℕ) → name_value name Header name ≡ Some tt
 same_name name = ap (λ (b : Bool). cond b (Some tt) None) ((bytes_eq-Decides name name).1 refl)
 
-pub laws_name : (name : List ℕ) → is_known name ≡ true → Laws Odd (item_name name) (Named name) Nothing ⊥
+pub laws_name : (name : List ℕ) → is_unknown name ≡ false → Laws Odd (item_name name) (Named name) Nothing ⊥
 laws_name name e = laws_first (record { kind = Header; text = name }) tt (same_name name) (plain_named name e)
     (λ t h. h.1) (λ t h. absurd h.1)
 
@@ -121,20 +101,19 @@ other_apart name e t h k = let p = named_text name t.kind t.text h in
 
 -- ## Numbers, strings and aliases
 
-pub laws_int : (limit : ℕ) → Laws Odd (int limit) (Of is_int) Nothing ⊥
+pub laws_int : (limit : ℕ) → Tight (int limit) is_int
 laws_int limit = laws_value is_int Int [] _ refl (λ _. refl) (λ t f b. b.1)
 
-pub laws_string : Laws Odd string (Of is_string) Nothing ⊥
+pub laws_string : Tight string is_string
 laws_string = laws_value is_string Text [] _ refl (λ _. refl) (λ t f b. absurd b)
 
-pub laws_proposition_name : (names : List (List ℕ)) → Laws Odd (proposition_name names) (Of is_string) Nothing ⊥
-laws_proposition_name names = laws_mapped _ (one string_in (IsBadName names))
-    (laws_value is_string Text [] _ refl (λ _. refl) (λ t f b. b.1))
+pub laws_proposition_name : (names : List (List ℕ)) → Tight (proposition_name names) is_string
+laws_proposition_name names = laws_mapped _ _ (laws_value is_string Text [] _ refl (λ _. refl) (λ t f b. b.1))
 
 abbrev pub new_alias : HeaderData → Part Sign (List ℕ) HoaCause
 new_alias h = one (λ s. alias_value s.kind s.text) (IsBadAlias h.alias_names)
 
-pub laws_new_alias : (h : HeaderData) → Laws Odd (new_alias h) (Of is_alias) Nothing ⊥
+pub laws_new_alias : (h : HeaderData) → Tight (new_alias h) is_alias
 laws_new_alias h = laws_value is_alias AliasName [] _ refl (λ _. refl) (λ t f b. b.1)
 
 pub laws_alternating : {P : Part Sign ℕ HoaCause} {First : Sign → Type 0} → Laws Odd P First Nothing ⊥ →

@@ -2,61 +2,64 @@
 --     laws_form, laws_item, laws_items, laws_header      the laws
 --     joint_header      the items and `--BODY--`
 -- proofs/Grammar/ItemChoice goes on with which item stands.
-use Rattle.std.proofs.Common.{◌≡◌, ℕ, Bool, true, false, List, [], codes, Some, refl, sym, ap, ◌∙◌}
+use Rattle.std.proofs.Common.{◌≡◌, ℕ, Bool, false, List, [], codes, Some, refl, sym, ap, ◌∙◌}
 use Rattle.ps_text.specs.Parts.{Part, then_by, many}
 use Rattle.ps_text.proofs.Following.{laws_tight}
 use Rattle.ps_text.proofs.Laws.{Laws, Joint, Nothing, Or, Within, Apart}
 use Rattle.ps_text.proofs.Joined.{joint}
-use Rattle.ps_text.proofs.Combined.{both_within, wider_first, wider_more, laws_last}
-use Rattle.ps_text.proofs.Simple.{none_is_some}
+use Rattle.ps_text.proofs.Combined.{laws_all, both_within, wider_first, wider_more, laws_last}
+use Rattle.ps_text.proofs.Simple.{none_is_some, laws_mapped}
 use Rattle.ps_text.proofs.Repeated.{laws_many}
 use Rattle.ps_text.proofs.Choices.{Begins, BeginsSome, laws_choice}
 use Rattle.ps_hoa.specs.Tokens.{Sign}
-use Rattle.ps_hoa.specs.Operands.{is_and}
-use Rattle.ps_hoa.specs.Header.{HeaderData, no_items, item_name, form_of, item, body_mark, header}
+use Rattle.ps_hoa.specs.Operands.{is_and, number_limit}
+use Rattle.ps_hoa.specs.Header.{HeaderData, state_limit, index, read_over, no_items, item_name, form_of, item, body_mark, header}
 use Rattle.ps_hoa.specs.ItemNames as items
 use Rattle.ps_hoa.specs.ItemNames.{ItemName}
 use Rattle.ps_hoa.specs.Inner.Items.{item_names, item_among, item_at, is_value}
 use Rattle.ps_hoa.specs.declared.fault.HoaCause.{HoaCause}
 use Rattle.ps_hoa.specs.declared.tokens.Kind.{Kind}
 use Rattle.ps_hoa.specs.declared.tokens.Kind.TheVariants.{Header, Body}
-use Rattle.ps_hoa.proofs.Grammar.KindSets.{within, apart, laws_sign}
-use Rattle.ps_hoa.proofs.Grammar.OperandLaws.{Odd, Of, false_true}
+use Rattle.ps_hoa.proofs.Grammar.KindSets.{union, within, apart, laws_sign}
+use Rattle.ps_hoa.proofs.Grammar.OperandLaws.{Odd, Of, false_true, Tight}
 use Rattle.ps_hoa.proofs.Grammar.LabelLaws.{is_connective}
 use Rattle.ps_hoa.proofs.Grammar.ConditionLaws.{is_int}
 use Rattle.ps_hoa.proofs.Grammar.ItemNames.{StartsWith, begins}
-use Rattle.ps_hoa.proofs.Grammar.SignLaws.{is_string, is_body, is_argument, Named, is_known, laws_name}
-use Rattle.ps_hoa.proofs.Grammar.HeaderLaws.{laws_state_count, laws_start_name, laws_start_state, laws_counted_names}
-use Rattle.ps_hoa.proofs.Grammar.HeaderLaws.{laws_named_label, laws_counted_condition, laws_controlled, laws_strings}
-use Rattle.ps_hoa.proofs.Grammar.HeaderLaws.{laws_read_string, laws_other_name, laws_values}
+use Rattle.ps_hoa.proofs.Grammar.SignLaws.{laws_int, laws_alternating, is_string, is_body, Named, is_unknown, laws_name}
+use Rattle.ps_hoa.proofs.Grammar.HeaderLaws.{laws_start_name, laws_counted_names}
+use Rattle.ps_hoa.proofs.Grammar.HeaderLaws.{laws_named_label, laws_counted_condition, laws_strings}
+use Rattle.ps_hoa.proofs.Grammar.HeaderLaws.{laws_index, laws_read_over, laws_read_string, laws_other_name}
 
 -- ## Any item
 
 -- the signs with which an item goes on
+abbrev is_argument : Kind → Bool
+is_argument = union is_value is_connective
+
 abbrev pub ItemMore : Sign → Type 0
 ItemMore = Of is_argument
 
 -- a name and then a part, of which only the signs with which an item goes on matter
 behind : {V : Type 0} {Q : Part Sign V HoaCause} {First More : Sign → Type 0} {Null : Type 0} (name : List ℕ) →
-    is_known name ≡ true → Laws Odd Q First More Null → Within More ItemMore →
+    is_unknown name ≡ false → Laws Odd Q First More Null → Within More ItemMore →
     Laws Odd (then_by (item_name name) (λ _. Q)) (Named name) ItemMore ⊥
 behind name e l w = wider_more (laws_tight (laws_name name e) (λ _. l)) w
 
 form_laws : (h : HeaderData) (name : ItemName) → Laws Odd (form_of h name) (StartsWith name) ItemMore ⊥
-form_laws h items.states = behind (codes "States:") refl (laws_state_count h) (λ t k. absurd k)
+form_laws h items.states = behind (codes "States:") refl (laws_mapped _ _ (laws_int state_limit)) (λ t k. absurd k)
 form_laws h items.start =
-    wider_more (laws_tight (laws_start_name h) (λ _. laws_start_state h)) (within is_and is_argument refl)
+    wider_more (laws_tight (laws_start_name h) (λ _. laws_mapped _ _ (laws_alternating (laws_int number_limit)))) (within is_and is_argument refl)
 form_laws h items.propositions =
     behind (codes "AP:") refl (laws_counted_names h) (within is_string is_argument refl)
 form_laws h items.alias = behind (codes "Alias:") refl (laws_named_label h) (within is_connective is_argument refl)
 form_laws h items.acceptance =
     behind (codes "Acceptance:") refl (laws_counted_condition h) (within is_connective is_argument refl)
 form_laws h items.controllable =
-    behind (codes "controllable-AP:") refl (laws_controlled h) (within is_int is_argument refl)
+    behind (codes "controllable-AP:") refl (laws_mapped _ _ (laws_all index laws_index [])) (within is_int is_argument refl)
 form_laws h items.tool = behind (codes "tool:") refl (laws_strings h) (within is_string is_argument refl)
 form_laws h items.name = behind (codes "name:") refl (laws_read_string h) (λ t k. absurd k)
 form_laws h items.other =
-    wider_more (laws_tight laws_other_name (λ _. laws_values h)) (within is_value is_argument refl)
+    wider_more (laws_tight laws_other_name (λ _. laws_all read_over laws_read_over h)) (within is_value is_argument refl)
 
 pub laws_form : (h : HeaderData) (name : ItemName) → Laws Odd (form_of h name) (Begins item_at name) ItemMore ⊥
 laws_form h name = wider_first (form_laws h name) (begins name)
@@ -87,7 +90,7 @@ item_apart t h k = item_kind is_argument refl t k h
 pub laws_items : (h : HeaderData) → Laws Odd (many item h) ItemFirst (Or ItemMore ItemFirst) (Unit {0})
 laws_items h = laws_many item laws_item item_apart h
 
-pub laws_body_mark : (h : HeaderData) → Laws Odd (body_mark h) (Of is_body) Nothing ⊥
+pub laws_body_mark : (h : HeaderData) → Tight (body_mark h) is_body
 laws_body_mark h = laws_sign is_body Body [] h refl (λ _. refl) (λ t k. ap is_body k.1.0)
 
 item_body : Apart (Or ItemMore ItemFirst) (Of is_body)
