@@ -177,7 +177,8 @@ module _ (file : FileData) (chain : Chain) (a : Auto) (is_chain : chain_of file.
           (priorities_repeat a (laps * length lap) (word_repeats stem lap before laps) back_here)
           (priorities_repeat a count (word_repeats stem lap accepted.before accepted.laps) returns)
           (some_letters laps some_laps) (some_letters accepted.laps accepted.some))
-          ∙ run_is_even is_chain is_auto w letters_are from count (some_letters accepted.laps accepted.some) run accepted.met
+          ∙ run_is_even is_chain is_auto w letters_are from count (some_letters accepted.laps accepted.some) run
+          accepted.met
 
 -- laps that lead back to a state decide
 pub laps_decide : (file : FileData) (chain : Chain) (a : Auto) (stem lap : List ℕ) (before laps s : ℕ) →
@@ -187,7 +188,8 @@ pub laps_decide : (file : FileData) (chain : Chain) (a : Auto) (stem lap : List 
     state_after a (state_behind a a.start stem) lap (before + laps) ≡ s →
     (is_even (greatest_of_laps a s lap laps) ≡ true) ↔ IsAccepted file stem lap
 laps_decide file chain a stem lap before laps s is_chain is_auto some in_stem in_lap some_laps begins returns =
-    let back = laps_are_read a stem lap (before + laps) ∙ returns ∙ sym begins ∙ sym (laps_are_read a stem lap before) in
+    let back = laps_are_read a stem lap (before + laps) ∙ returns ∙ sym begins
+    ∙ sym (laps_are_read a stem lap before) in
     let greatest = greatest_is_read a stem lap before laps ∙ ap (λ q. greatest_of_laps a q lap laps) begins in (
       (λ even. even_is_accepted file chain a is_chain is_auto stem lap some in_stem in_lap before laps some_laps back
           (ap is_even greatest ∙ even)),

@@ -62,7 +62,8 @@ module _ {file : FileData} (sound : IsSoundFile file) {chain : Chain} (a : Autom
 
     state_within : (q : ℕ) → q ≤ file.states → (letter : ℕ) → letter < 2 ^ length file.names →
         (step_of a q letter).state ≤ file.states
-    state_within = at_each (λ q. (letter : ℕ) → letter < 2 ^ length file.names → (step_of a q letter).state ≤ file.states)
+    state_within =
+        at_each (λ q. (letter : ℕ) → letter < 2 ^ length file.names → (step_of a q letter).state ≤ file.states)
         (λ q less letter small. elim ((draft.states q less).steps_of letter small) [
           | inl m ↦ step_within q letter _ m.named
           | inr m ↦ step_within q letter _ m.named

@@ -89,8 +89,8 @@ open_or_not aliases label (at_letter k) letter = cases_eq letter k
 module _ (file : FileData) where
   clashing_or_not : (row : RowData) (first second : ℕ) → Decided (AreClashing file row first second)
   clashing_or_not row first second =
-      let Both : EdgeData → EdgeData → ℕ → Type 0 =
-      λ one other letter. (letter < 2 ^ length file.names) × (IsTaken file row one letter × IsTaken file row other letter) in
+      let Both : EdgeData → EdgeData → ℕ → Type 0 = λ one other letter.
+      (letter < 2 ^ length file.names) × (IsTaken file row one letter × IsTaken file row other letter) in
       decide_as
       (λ h. (let d = h.1.2.2 in clash_of h.0 h.1.1 h.1.2.1 d.0.1.0 d.0.1.1.0 d.0.1.1.1 d.1))
       (λ c. (

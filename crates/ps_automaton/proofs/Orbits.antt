@@ -150,7 +150,8 @@ greatest_is_read a stem lap before (suc laps) =
     let q = state_behind a a.start stem in
     let more : suc laps * length lap ≡ laps * length lap + length lap = omega arith in
     let place : from + laps * length lap ≡ length stem + (before + laps) * length lap = omega arith in
-    let read = list_is_read a w (length stem + (before + laps) * length lap) lap (word_of_lap stem lap (before + laps)) in
+    let read =
+    list_is_read a w (length stem + (before + laps) * length lap) lap (word_of_lap stem lap (before + laps)) in
     let state = laps_are_read a stem lap (before + laps) ∙ laps_together a q lap before laps in
     rw (
       more,

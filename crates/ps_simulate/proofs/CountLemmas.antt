@@ -9,55 +9,42 @@ use Rattle.std.proofs.lemmas.Bool.{ne_eqb, eqb-true}
 use Rattle.std.proofs.lemmas.List.{length-map, get_or-map}
 use Rattle.std.proofs.lemmas.Map.Keys.{IsDistinct-from_apart}
 use Rattle.std.proofs.lemmas.Map.Steps.{length-le_from_distinct_below}
+use Rattle.std.proofs.Common.{cond}
+use Rattle.std.proofs.Common.{◌++◌, ◌⊎◌, inl, inr, length-append}
+use Rattle.std.proofs.Math.Seq.{get_or-append_seam}
+use Rattle.std.proofs.lemmas.Bool.{cases_lt}
+use Rattle.std.proofs.lemmas.List.{get_or_append_left}
 
-bit : Bool → ℕ
-bit true = 1
-bit false = 0
+-- an element of a list with one more is one of the list's, or the last
+pub at_push : {X : Type 0} (xs : List X) (x d : X) (k : ℕ) → k < length (xs ++ x ∷ []) →
+    ((k < length xs) × (get_or (xs ++ x ∷ []) k d ≡ get_or xs k d)) ⊎
+    ((k ≡ length xs) × (get_or (xs ++ x ∷ []) k d ≡ x))
+at_push xs x d k lt = elim (cases_lt k (length xs)) [
+  | inl less ↦ inl (less, get_or_append_left xs (x ∷ []) d k less)
+  | inr ge ↦ (let e : k ≡ length xs = omega (arith, length-append xs (x ∷ [])) in
+      inr (e, rw e (get_or-append_seam xs x [] d)))
+]
 
-code : List Bool → ℕ
+-- a list of bits as a number
+abbrev pub code : List Bool → ℕ
 code [] = 0
-code (b ∷ bs) = bit b + 2 * code bs
+code (b ∷ bs) = cond b 1 0 + 2 * code bs
 
-bit_lt : (b : Bool) → bit b < 2
-unfolding bit
-bit_lt true = omega arith
-bit_lt false = omega arith
-
-bit_same : (a b : Bool) → bit a ≡ bit b → a ≡ b
-unfolding bit
-bit_same true true e = refl
-bit_same false false e = refl
-bit_same true false e = absurd (omega (arith, e))
-bit_same false true e = absurd (omega (arith, e))
-
-code_lt : (bs : List Bool) → code bs < 2 ^ length bs
-unfolding code
+pub code_lt : (bs : List Bool) → code bs < 2 ^ length bs
 code_lt [] = omega arith
-code_lt (b ∷ bs) = let rest = code_lt bs in let one = bit_lt b in omega (arith, pow-suc 2 (length bs), rest, one)
+code_lt (b ∷ bs) = grind (arith, pow-suc 2 (length bs), code_lt bs)
 
-code_same : (xs ys : List Bool) → length xs ≡ length ys → code xs ≡ code ys → xs ≡ ys
-unfolding code
+pub code_same : (xs ys : List Bool) → length xs ≡ length ys → code xs ≡ code ys → xs ≡ ys
 code_same [] [] l e = refl
 code_same [] (y ∷ ys) l e = absurd (omega arith)
 code_same (x ∷ xs) [] l e = absurd (omega arith)
-code_same (x ∷ xs) (y ∷ ys) l e =
-    let a = bit_lt x in
-    let b = bit_lt y in
-    let f : bit x + 2 * code xs ≡ bit y + 2 * code ys = e in
-    let heads : bit x ≡ bit y = omega (arith, a, b, f) in
-    let tails : code xs ≡ code ys = omega (arith, heads, f) in
-    let same : x ≡ y = bit_same x y heads in
-    let rest : xs ≡ ys = code_same xs ys (omega arith) tails in
-    ap (λ (z : Bool). z ∷ xs) same ∙ ap (λ (zs : List Bool). y ∷ zs) rest
+code_same (x ∷ xs) (y ∷ ys) l e = grind (arith, code_same xs ys)
 
 below : (n : ℕ) (xs : List ℕ) → ((k : ℕ) → k < length xs → get_or xs k 0 < n) → (q : ℕ) →
     list_any (eqb q) xs ≡ true → q < n
-below n [] all q e = absurd (cc)
-below n (x ∷ xs) all q e = go (eqb q x) refl e (λ h. below n xs (λ k lt. all (suc k) (omega arith)) q h)
-  where
-    go : (b : Bool) → eqb q x ≡ b → (b || list_any (eqb q) xs) ≡ true → (list_any (eqb q) xs ≡ true → q < n) → q < n
-    go true d h rest = subst (λ m. m < n) (sym (eqb-true q x d)) (all 0 (omega arith))
-    go false d h rest = rest h
+below n [] all q e = cc
+below n (x ∷ xs) all q e =
+    grind (arith, eqb-true q x, all 0 (omega arith), below n xs (λ k lt. all (suc k) (omega arith)) q)
 
 -- different numbers below n are no more than n
 pub few_below : (n : ℕ) (xs : List ℕ) → ((k : ℕ) → k < length xs → get_or xs k 0 < n) →

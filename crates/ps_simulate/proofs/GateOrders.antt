@@ -13,39 +13,19 @@ use Rattle.ps_circuit.specs.declared.parts.Gate.{Gate}
 use Rattle.ps_circuit.specs.Circuits.{CircuitData, IsCircuit, ReadsGate}
 use Rattle.ps_circuit.specs.Literals.{variable}
 use Rattle.ps_simulate.specs.Plans.{no_gate}
-use Rattle.ps_simulate.proofs.CountLemmas.{few_below}
-
-some_same : {X : Type 0} {a b : X} → Some a ≡ Some b → a ≡ b
-some_same e = cc
+use Rattle.ps_simulate.proofs.CountLemmas.{at_push, few_below}
+use Rattle.std.proofs.lemmas.Bool.{cases_order}
+use Rattle.ps_text.proofs.Decisions.{Decided, decide_as, decide_below, decide_in, decide_one}
+use Rattle.ps_automaton.proofs.Deciding.{decide_some}
 
 abbrev Stands : List ℕ → ℕ → Type 0
 Stands xs j = (l : ℕ) × (l < length xs) × (get_or xs l 0 ≡ j)
 
-stands_or_not : (xs : List ℕ) (j : ℕ) → Stands xs j ⊎ (Stands xs j → ⊥)
-stands_or_not [] j = inr (λ s. absurd (omega (arith, s.1)))
-stands_or_not (x ∷ xs) j = elim (cases_eq x j) [
-  | inl e ↦ inl (0, omega arith, e)
-  | inr isnt ↦ elim (stands_or_not xs j) [
-    | inl s ↦ inl (suc s.0, omega (arith, s.1), s.2)
-    | inr not ↦ inr (λ s. none isnt not s.0 s.1 s.2)
-  ]
-]
-  where
-    none : (x ≡ j → ⊥) → (Stands xs j → ⊥) → (k : ℕ) → k < length (x ∷ xs) → get_or (x ∷ xs) k 0 ≡ j → ⊥
-    none isnt not zero lt e = isnt e
-    none isnt not (suc k) lt e = not (k, omega (arith, lt), e)
+stands_or_not : (xs : List ℕ) (j : ℕ) → Decided (Stands xs j)
+stands_or_not xs j = decide_as (λ c. (c.0, c.1, get_or_default xs c.0 0 j c.1 ∙ c.2))
+    (λ s. (s.0, s.1, get_or_default xs s.0 j 0 s.1 ∙ s.2)) (decide_in xs j)
 
--- the part before the last one, or the last one
-at_push : (xs : List ℕ) (i k : ℕ) → k < length (xs ++ i ∷ []) →
-    ((k < length xs) × (get_or (xs ++ i ∷ []) k 0 ≡ get_or xs k 0)) ⊎
-    ((k ≡ length xs) × (get_or (xs ++ i ∷ []) k 0 ≡ i))
-at_push xs i k lt = elim (cases_lt k (length xs)) [
-  | inl less ↦ inl (less, get_or_append_left xs (i ∷ []) 0 k less)
-  | inr ge ↦ (let e : k ≡ length xs = omega (arith, length-append xs (i ∷ [])) in
-      inr (e, subst (λ m. get_or (xs ++ i ∷ []) m 0 ≡ i) (sym e) (get_or-append_seam xs i [] 0)))
-]
-
-module _ (R : ℕ → ℕ → Type 0) (n : ℕ) (to_within : (i j : ℕ) → R i j → j < n) (decide : (i j : ℕ) → R i j ⊎ (R i j → ⊥))
+module _ (R : ℕ → ℕ → Type 0) (n : ℕ) (to_within : (i j : ℕ) → R i j → j < n) (decide : (i j : ℕ) → Decided (R i j))
     (acyclic : (i : ℕ) → Way R i i → ⊥) where
   -- numbers below n, each once, and each behind all those to which it leads
   record IsPart (xs : List ℕ) : Type 0 where
@@ -63,18 +43,18 @@ module _ (R : ℕ → ℕ → Type 0) (n : ℕ) (to_within : (i j : ℕ) → R i
   push : {xs : List ℕ} (i : ℕ) → IsPart xs → i < n → (Stands xs i → ⊥) → ((j : ℕ) → R i j → Stands xs j) →
       IsPart (xs ++ i ∷ [])
   push {xs} i is lt absent sides = record {
-    below = λ k k_lt. elim (at_push xs i k k_lt) [
+    below = λ k k_lt. elim (at_push xs i 0 k k_lt) [
       | inl old ↦ subst (λ m. m < n) (sym old.1) (is.below k old.0)
       | inr new ↦ subst (λ m. m < n) (sym new.1) lt
     ];
-    once = λ k l less l_lt e. elim (at_push xs i k (omega (arith, less, l_lt))) [
-      | inl old ↦ elim (at_push xs i l l_lt) [
+    once = λ k l less l_lt e. elim (at_push xs i 0 k (omega (arith, less, l_lt))) [
+      | inl old ↦ elim (at_push xs i 0 l l_lt) [
         | inl both ↦ is.once k l less both.0 (sym old.1 ∙ e ∙ both.1)
         | inr new ↦ absent (k, old.0, sym old.1 ∙ e ∙ new.1)
       ]
       | inr new ↦ absurd (omega (arith, less, l_lt, new.0, length-append xs (i ∷ [])))
     ];
-    behind = λ k j k_lt r. elim (at_push xs i k k_lt) [
+    behind = λ k j k_lt r. elim (at_push xs i 0 k k_lt) [
       | inl old ↦ (let b = is.behind k j old.0 (subst (λ m. R m j) old.1 r) in
           (b.0, b.1, get_or_append_left xs (i ∷ []) 0 b.0 (omega (arith, b.1, old.0)) ∙ b.2))
       | inr new ↦ (let s = sides j (subst (λ m. R m j) new.1 r) in
@@ -83,7 +63,7 @@ module _ (R : ℕ → ℕ → Type 0) (n : ℕ) (to_within : (i j : ℕ) → R i
   }
 
   -- all of a kind that are below m, where each can be put into a part
-  each_below : (P : ℕ → Type 0) → ((j : ℕ) → P j ⊎ (P j → ⊥)) →
+  each_below : (P : ℕ → Type 0) → ((j : ℕ) → Decided (P j)) →
       ((j : ℕ) → P j → (xs : List ℕ) → IsPart xs → Grown xs (λ k. j ≡ k))
       → (m : ℕ) (xs : List ℕ) → IsPart xs → Grown xs (λ k. (k < m) × P k)
   each_below P is_or_not one zero xs is =
@@ -170,19 +150,15 @@ module _ (R : ℕ → ℕ → Type 0) (n : ℕ) (to_within : (i j : ℕ) → R i
       ]
 
   all_placed : Grown [] (λ k. (k < n) × (k < n))
-  all_placed = each_below (λ k. k < n) (λ k. elim (cases_lt k n) [
-    | inl lt ↦ inl lt
-    | inr ge ↦ inr (λ lt. absurd (omega (arith, lt, ge)))
-  ]) (λ j lt. visit (suc n) [] (record {
+  all_placed = each_below (λ k. k < n) (λ k. decide_below (suc k) n) (λ j lt. visit (suc n) [] (record {
     below = λ k k_lt. absurd (omega (arith, k_lt));
     differ = λ k l d less l_lt. absurd (omega (arith, l_lt));
     leads = λ k k_lt. absurd (omega (arith, k_lt));
-  }) (omega arith) lt)
-      n [] (record {
-        below = λ k k_lt. absurd (omega (arith, k_lt));
-        once = λ k l less l_lt. absurd (omega (arith, l_lt));
-        behind = λ k j k_lt r. absurd (omega (arith, k_lt));
-      })
+  }) (omega arith) lt) n [] (record {
+    below = λ k k_lt. absurd (omega (arith, k_lt));
+    once = λ k l less l_lt. absurd (omega (arith, l_lt));
+    behind = λ k j k_lt r. absurd (omega (arith, k_lt));
+  })
 
   pub order_exists : (order : List ℕ) × IsOrder R n order
   order_exists =
@@ -192,9 +168,10 @@ module _ (R : ℕ → ℕ → Type 0) (n : ℕ) (to_within : (i j : ℕ) → R i
       let apart : (k l i : ℕ) → slice_get xs k ≡ Some i → slice_get xs l ≡ Some i → k < l → ⊥ =
       λ k l i e f less. is.once k l less (slice_get_within xs l i f) (read k i e ∙ sym (read l i f)) in
       let once : (k l i : ℕ) → slice_get xs k ≡ Some i → slice_get xs l ≡ Some i → k ≡ l =
-      λ k l i e f. elim (cases_lt k l) [
-        | inl less ↦ absurd (apart k l i e f less)
-        | inr ge ↦ elim (cases_lt l k) [ inl more ↦ absurd (apart l k i f e more) | inr le ↦ omega (arith, ge, le) ]
+      λ k l i e f. elim (cases_order k l) [
+        | inl same ↦ same
+        | inr (inl less) ↦ absurd (apart k l i e f less)
+        | inr (inr more) ↦ absurd (apart l k i f e more)
       ] in (
         xs,
         record {
@@ -202,47 +179,24 @@ module _ (R : ℕ → ℕ → Type 0) (n : ℕ) (to_within : (i j : ℕ) → R i
           once = once;
           each = λ i lt. (let s = all_placed.has i (lt, lt) in (
             s.0,
-            slice_get-get_or xs s.0 0 s.1 ∙ ap_some (get_or xs s.0 0) i s.2,
+            slice_get-get_or xs s.0 0 s.1 ∙ ap (λ (x : ℕ). Some x) s.2,
           ));
           behind = λ k l i j e f r.
               (let b = is.behind k j (slice_get_within xs k i e) (subst (λ m. R m j) (sym (read k i e)) r) in
               let there : slice_get xs b.0 ≡ Some j =
               slice_get-get_or xs b.0 0 (omega (arith, b.1, slice_get_within xs k i e))
-              ∙ ap_some (get_or xs b.0 0) j b.2 in
+              ∙ ap (λ (x : ℕ). Some x) b.2 in
               omega (arith, once b.0 l j there f, b.1));
         },
       )
-    where
-      ap_some : (a b : ℕ) → a ≡ b → Some a ≡ Some b
-      ap_some a b e = cc
 
--- the gates at two places, of which the one has a literal of the other, or hasn't
-reads_at : (gates : List Gate) (i j : ℕ) {g h : Gate} → slice_get gates i ≡ Some g → slice_get gates j ≡ Some h →
-    ReadsGate gates i j ⊎ (ReadsGate gates i j → ⊥)
-reads_at gates i j {g} {h} at_i at_j =
-    which (cases_eq (variable g.first) (variable h.literal)) (cases_eq (variable g.second) (variable h.literal))
-  where
-    which : (variable g.first ≡ variable h.literal) ⊎ (variable g.first ≡ variable h.literal → ⊥) →
-        (variable g.second ≡ variable h.literal) ⊎ (variable g.second ≡ variable h.literal → ⊥)
-        → ReadsGate gates i j ⊎ (ReadsGate gates i j → ⊥)
-    which (inl first) _ = inl (record { reader = g; read = h; at_i = at_i; at_j = at_j; side = inl first })
-    which (inr isnt) (inl second) = inl (record { reader = g; read = h; at_i = at_i; at_j = at_j; side = inr second })
-    which (inr isnt) (inr none) = inr (λ r. (let reader : r.reader ≡ g = some_same (sym r.at_i ∙ at_i) in
-        let read : variable r.read.literal ≡ variable h.literal =
-        ap (λ (x : Gate). variable x.literal) (some_same (sym r.at_j ∙ at_j)) in
-        elim r.side [
-          | inl first ↦ isnt (ap (λ (x : Gate). variable x.first) (sym reader) ∙ first ∙ read)
-          | inr second ↦ none (ap (λ (x : Gate). variable x.second) (sym reader) ∙ second ∙ read)
-        ]))
-
-reads_or_not : (gates : List Gate) (i j : ℕ) → ReadsGate gates i j ⊎ (ReadsGate gates i j → ⊥)
-reads_or_not gates i j = elim (cases_lt i (length gates)) [
-  | inr out ↦ inr (λ r. absurd (omega (arith, out, slice_get_within gates i r.reader r.at_i)))
-  | inl i_lt ↦ elim (cases_lt j (length gates)) [
-    | inr out ↦ inr (λ r. absurd (omega (arith, out, slice_get_within gates j r.read r.at_j)))
-    | inl j_lt ↦ reads_at gates i j (slice_get-get_or gates i no_gate i_lt) (slice_get-get_or gates j no_gate j_lt)
-  ]
-]
+-- the one gate has a literal of the other, or hasn't
+reads_or_not : (gates : List Gate) (i j : ℕ) → Decided (ReadsGate gates i j)
+reads_or_not gates i j =
+    decide_as (λ h. record { reader = h.0; read = h.2.0; at_i = h.1; at_j = h.2.1; side = h.2.2 })
+    (λ r. (r.reader, r.at_i, (r.read, r.at_j, r.side)))
+    (decide_some (slice_get gates i) _ (λ g. decide_some (slice_get gates j) _ (λ h.
+    decide_one (cases_eq (variable g.first) (variable h.literal)) (cases_eq (variable g.second) (variable h.literal)))))
 
 pub gates_in_order : {c : CircuitData} → IsCircuit c → (order : List ℕ) ×
     IsOrder (ReadsGate c.gates) (length c.gates) order

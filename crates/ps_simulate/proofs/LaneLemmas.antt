@@ -8,7 +8,7 @@ use Rattle.std.specs.Int.{bit_at}
 use Rattle.std.specs.Int.Bits.{bit_and, bit_xor}
 use Rattle.std.specs.Simd.Lanes.{zip2}
 use Rattle.std.proofs.Math.Seq.{drop-cons, take-suc}
-use Rattle.std.proofs.lemmas.List.{get_or-map, map-set, map-append, length-map, take_more_set}
+use Rattle.std.proofs.lemmas.List.{get_or-map, map-set, map-append, length-map, take_more, take_more_set}
 use Rattle.std.proofs.lemmas.Option.{slice_get-map, slice_get_read}
 use Rattle.std.proofs.lemmas.Nat.Bits.{bit_at-lt, bit_at_and, bit_at_xor, bit_at_ones, bit_at-zero, shr_and_one}
 use Rattle.std.proofs.lemmas.Simd.{get_or-zip2, get_or-replicate}
@@ -22,20 +22,10 @@ use Rattle.ps_simulate.proofs.RowLemmas.{no_latch}
 use Rattle.ps_simulate.proofs.WorkLemmas.{no_row}
 
 both : (x y : ℕ) → x < 2 → y < 2 → (min x y == 1) ≡ ((x == 1) && (y == 1))
-both zero zero hx hy = refl
-both zero (suc zero) hx hy = refl
-both (suc zero) zero hx hy = refl
-both (suc zero) (suc zero) hx hy = refl
-both zero (suc (suc y)) hx hy = absurd (omega arith)
-both (suc zero) (suc (suc y)) hx hy = absurd (omega arith)
-both (suc (suc x)) y hx hy = absurd (omega arith)
+both x y hx hy = grind arith
 
 flipped : (b : Bool) (x : ℕ) {m : ℕ} → x < 2 → m ≡ cond b 1 0 → ((x + m) % 2 == 1) ≡ cond b (not (x == 1)) (x == 1)
-flipped true zero lt e = ap (λ n. (0 + n) % 2 == 1) e
-flipped true (suc zero) lt e = ap (λ n. (1 + n) % 2 == 1) e
-flipped false zero lt e = ap (λ n. (0 + n) % 2 == 1) e
-flipped false (suc zero) lt e = ap (λ n. (1 + n) % 2 == 1) e
-flipped b (suc (suc x)) lt e = absurd (omega arith)
+flipped b x {m} lt e = grind arith
 
 mask_bit : (b : Bool) (i : ℕ) → i < 64 → bit_at (all_or_none b) i ≡ cond b 1 0
 mask_bit true i lt = bit_at_ones 64 i lt
@@ -59,10 +49,6 @@ bit_in-mask b lane lt =
     one : (b : Bool) → (cond b 1 0 == 1) ≡ b
     one true = refl
     one false = refl
-
-pub take_more : {A : Type 0} (xs : List A) (k : ℕ) (d : A) → k < length xs →
-    take (k + 1) xs ≡ take k xs ++ get_or xs k d ∷ []
-take_more xs k d lt = ap (λ n. take n xs) (let e : k + 1 ≡ suc k = omega arith in e) ∙ take-suc xs k d lt
 
 -- words, all of them changed by a mask
 bit_in-flipped : (a : List ℕ) (b : Bool) (lane : ℕ) → lane < 256 → length a ≡ 4

@@ -19,11 +19,12 @@ use Rattle.ps_simulate.specs.Plans.{variables, read, work_out, AreRows, IsWithin
 use Rattle.ps_simulate.specs.LanePlans.{wire_in, rows_from, moved, move_wire, move_row, AreKept, AreInOrder, AreOnce}
 use Rattle.ps_simulate.specs.LanePlans.{IsGateRow, AreMoved}
 use Rattle.ps_simulate.proofs.CountLemmas.{few_below}
-use Rattle.ps_simulate.proofs.LaneLemmas.{take_more, worked_on}
+use Rattle.ps_simulate.proofs.LaneLemmas.{worked_on}
 use Rattle.ps_simulate.proofs.PlacesLemmas.{variables_once, variables_at}
 use Rattle.ps_simulate.proofs.RowLemmas.{length-variables, gate_within, length-rows, row_of_gate, target_is}
 use Rattle.ps_simulate.proofs.RowLemmas.{IsScheduled-rows}
 use Rattle.ps_simulate.proofs.WorkLemmas.{row, no_row}
+use Rattle.std.proofs.lemmas.List.{take_more}
 
 module _ {c : CircuitData} (is : IsCircuit c) where
   -- a circuit has no more variables than literals have room for
@@ -118,16 +119,12 @@ module _ {c : CircuitData} (is : IsCircuit c) where
         record { behind = omega (arith, r.behind, same, front_is); within = omega (arith, r.within, same, size_is) }
 
     pub rows_once_at : {given : List Row} → given ≡ rows → AreOnce given
-    rows_once_at e = subst (λ (rs : List Row). AreOnce rs) (sym e) rows_once
+    rows_once_at e = rw e rows_once
 
     pub AreMoved_at : {size f : ℕ} {given : List Row} {places : List ℕ} → size ≡ length (variables c) → f ≡ front →
         given ≡ rows → length places ≡ size → AreKept f places → AreInOrder f places given → AreMoved size f places
-    AreMoved_at {f} {given} {places} size_is front_is e each kept in_order =
-        subst (λ (n : ℕ). AreMoved n f places) (sym size_is) (subst
-        (λ (n : ℕ). AreMoved (length (variables c)) n places) (sym front_is)
-        (AreMoved-rows places (each ∙ size_is) (subst (λ (n : ℕ). AreKept n places) front_is kept)
-        (subst (λ (rs : List Row). AreInOrder front places rs) e
-        (subst (λ (n : ℕ). AreInOrder n places given) front_is in_order))))
+    AreMoved_at {places} size_is front_is e each kept in_order = rw (size_is, front_is)
+        (AreMoved-rows places (each ∙ size_is) (rw front_is at kept) (rw (e, front_is) at in_order))
 
 pub moved_small : {size front : ℕ} {places : List ℕ} → AreMoved size front places → size ≤ 2 ^ 31 →
     All (λ p. p < 2 ^ 31) places
@@ -148,20 +145,20 @@ row_of_operands place g = record { target = place; first = wire_in g.first; seco
 pub rows_from_at : (place : ℕ) (gates : List Operands) (k : ℕ) → k < length gates →
     get_or (rows_from place gates) k no_row ≡ row_of_operands (place + k) (get_or gates k no_operands)
 rows_from_at place [] k lt = absurd (omega arith)
-rows_from_at place (g ∷ gates) zero lt = ap (λ n. row_of_operands n g) (let e : place ≡ place + 0 = omega arith in e)
+rows_from_at place (g ∷ gates) zero lt = ap (λ n. row_of_operands n g) (omega arith)
 rows_from_at place (g ∷ gates) (suc k) lt =
     rows_from_at (place + 1) gates k (omega arith) ∙ ap (λ n. row_of_operands n (get_or gates k no_operands))
-    (let e : place + 1 + k ≡ place + suc k = omega arith in e)
+    (omega arith)
 
 abbrev row_of_wires : ℕ → Wire → Wire → Row
 row_of_wires place a b = record { target = place; first = a; second = b }
 
 rows_from-append : (place : ℕ) (gates : List Operands) (g : Operands) →
     rows_from place (gates ++ g ∷ []) ≡ rows_from place gates ++ row_of_operands (place + length gates) g ∷ []
-rows_from-append place [] g = ap (λ n. row_of_operands n g ∷ []) (let e : place ≡ place + 0 = omega arith in e)
+rows_from-append place [] g = ap (λ n. row_of_operands n g ∷ []) (omega arith)
 rows_from-append place (h ∷ gates) g = ap (λ rs. row_of_operands place h ∷ rs) (rows_from-append (place + 1) gates g
     ∙ ap (λ n. rows_from (place + 1) gates ++ row_of_operands n g ∷ [])
-    (let e : place + 1 + length gates ≡ place + length (h ∷ gates) = omega arith in e))
+    (omega arith))
 
 -- one more row that is moved
 pub rows_more : (rows : List Row) (places : List ℕ) (gates : List Operands) {more : List Operands}

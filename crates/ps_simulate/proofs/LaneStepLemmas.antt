@@ -51,22 +51,19 @@ module _ {c : CircuitData} {p : LanePlan} {values latches : List (List ℕ)} (t 
   latches_many = sym (length-lane latches 0) ∙ first_table.latches_each
 
   plan_rows : All (IsWithin p.size) t.plan.rows.items
-  plan_rows = subst (λ (n : ℕ). All (IsWithin n) t.plan.rows.items) (sym size_is)
-      (rows_within first_table.is_circuit t.is_lane_plan.is_plan)
+  plan_rows = rw size_is (rows_within first_table.is_circuit t.is_lane_plan.is_plan)
 
   plan_outputs : All (λ w. w.place < p.size) t.plan.outputs.items
-  plan_outputs = subst (λ (n : ℕ). All (λ w. w.place < n) t.plan.outputs.items) (sym size_is)
-      (outputs_within first_table.is_circuit t.is_lane_plan.is_plan)
+  plan_outputs = rw size_is (outputs_within first_table.is_circuit t.is_lane_plan.is_plan)
 
   plan_nexts : All (λ w. w.place < p.size) t.plan.nexts.items
-  plan_nexts = subst (λ (n : ℕ). All (λ w. w.place < n) t.plan.nexts.items) (sym size_is)
-      (nexts_within first_table.is_circuit t.is_lane_plan.is_plan)
+  plan_nexts = rw size_is (nexts_within first_table.is_circuit t.is_lane_plan.is_plan)
 
   pub gates_within : All (IsWithin p.size) (rows_from p.front p.gates.items)
   gates_within =
       let are = t.is_lane_plan.are_moved in
-      subst (λ (rows : List Row). All (IsWithin p.size) rows) (sym t.is_lane_plan.gates_are)
-      (All-map (IsWithin p.size) (move_row t.places) t.plan.rows.items (λ k d lt. let r = plan_rows k d lt in record {
+      rw t.is_lane_plan.gates_are (All-map (IsWithin p.size) (move_row t.places) t.plan.rows.items (λ k d lt.
+      let r = plan_rows k d lt in record {
         target = are.within _ r.target;
         first = are.within _ r.first;
         second = are.within _ r.second;

@@ -20,23 +20,24 @@ use Rattle.ps_simulate.specs.Lassos.{IsLetterOf, AreLetters, laps_of, latches_al
 use Rattle.ps_simulate.specs.LassoRuns.{IsSeen, ReadsWord, RepeatsBy, HasRead}
 use Rattle.ps_simulate.specs.Namings.{IsNaming, names_of, bit_at_place}
 use Rattle.ps_simulate.specs.declared.naming.Naming.{Naming}
-use Rattle.ps_simulate.proofs.CountLemmas.{few_seen}
+use Rattle.ps_simulate.proofs.CountLemmas.{at_push, few_seen}
+use Rattle.std.proofs.Math.Bool.{or-false}
 
 -- ## Traces
 
-GoesOn-append : (c : CircuitData) (from between to : List Bool) (xs ys : List Moment) → GoesOn c from xs between →
+pub GoesOn-append : (c : CircuitData) (from between to : List Bool) (xs ys : List Moment) → GoesOn c from xs between →
     GoesOn c between ys to → GoesOn c from (xs ++ ys) to
 GoesOn-append c from between to [] ys on rest = subst (λ (latches : List Bool). GoesOn c latches ys to) (sym on) rest
 GoesOn-append c from between to (m ∷ ms) ys (next, at, step, on) rest =
     (next, at, step, GoesOn-append c next between to ms ys on rest)
 
-AreLetters-append : (names : List (List ℕ)) (c : CircuitData) (xs ys : List Moment) (us vs : List ℕ) →
+pub AreLetters-append : (names : List (List ℕ)) (c : CircuitData) (xs ys : List Moment) (us vs : List ℕ) →
     AreLetters names c xs us → AreLetters names c ys vs → AreLetters names c (xs ++ ys) (us ++ vs)
 AreLetters-append names c [] ys us vs a b = subst (λ (ls : List ℕ). AreLetters names c ys (ls ++ vs)) (sym a) b
 AreLetters-append names c (m ∷ ms) ys [] vs a b = absurd a
 AreLetters-append names c (m ∷ ms) ys (u ∷ us) vs a b = (a.0, AreLetters-append names c ms ys us vs a.1 b)
 
-length_letters : (names : List (List ℕ)) (c : CircuitData) (ms : List Moment) (ls : List ℕ) → AreLetters names c ms ls →
+pub length_letters : (names : List (List ℕ)) (c : CircuitData) (ms : List Moment) (ls : List ℕ) → AreLetters names c ms ls →
     length ls ≡ length ms
 length_letters names c [] ls a = ap length a
 length_letters names c (m ∷ ms) [] a = absurd a
@@ -57,10 +58,6 @@ goes_wide c from to (m ∷ ms) (next, at, step, on) e =
 
 -- ## One letter more
 
-or_false : (b : Bool) → (b || false) ≡ b
-or_false true = refl
-or_false false = refl
-
 pub letter_is : {c : CircuitData} {naming : Naming} (m : Moment) (letter : ℕ) → IsNaming c naming →
     letter < 2 ^ length naming.names.now → ((p : ℕ) → is_in p letter ≡
     (bit_at_place m.inputs (get_or naming.inputs.items p None) || bit_at_place m.outputs
@@ -71,7 +68,7 @@ letter_is {naming} m letter h few bits = record {
       ∙ ap (λ (o : Option ℕ). bit_at_place m.inputs o || bit_at_place m.outputs (get_or naming.outputs.items p None))
       (h.inputs_placed p k s)
       ∙ ap (λ (o : Option ℕ). bit_at_place m.inputs (Some k) || bit_at_place m.outputs o) (h.inputs_alone p k s)
-      ∙ or_false (get_or m.inputs k false);
+      ∙ or-false (get_or m.inputs k false);
   outputs = λ k p s. bits p
       ∙ ap (λ (o : Option ℕ). bit_at_place m.inputs o || bit_at_place m.outputs (get_or naming.outputs.items p None))
       (h.outputs_alone p k s)
@@ -156,10 +153,9 @@ length_trace stem lap trace k e = sym (length-map trace (λ (m : Moment). m.inpu
 
 -- ## The latches seen
 
-pub HasRead-start : (names : List (List ℕ)) (c : CircuitData) (stem lap : List (List Bool)) (old letters : List ℕ)
-    (from last : List Bool) → old ≡ [] → from ≡ resets c
-    → ReadsWord names c from stem old letters last → HasRead names c stem lap [] letters last
-HasRead-start names c stem lap old letters from last none same h = record {
+pub HasRead-start : {names : List (List ℕ)} {c : CircuitData} {stem : List (List Bool)} (lap : List (List Bool))
+    {old letters : List ℕ} {from last : List Bool} → old ≡ [] → from ≡ resets c → ReadsWord names c from stem old letters last → HasRead names c stem lap [] letters last
+HasRead-start {names} {c} {stem} lap {last} none same h = record {
   trace = h.trace;
   goes_on = subst (λ (latches : List Bool). GoesOn c latches h.trace last) same h.goes_on;
   reads = h.reads ∙ sym (append-nil stem);
@@ -171,11 +167,10 @@ HasRead-start names c stem lap old letters from last none same h = record {
 }
 
 -- one more lap
-pub HasRead-lap : (names : List (List ℕ)) (c : CircuitData) (stem lap seen : List (List Bool)) (old new : List ℕ)
-    (from last : List Bool)
-    → HasRead names c stem lap seen old from → ReadsWord names c from lap old new last → length from ≡ length c.latches
+pub HasRead-lap : {names : List (List ℕ)} {c : CircuitData} {stem lap seen : List (List Bool)} {old new : List ℕ}
+    {from last : List Bool} → HasRead names c stem lap seen old from → ReadsWord names c from lap old new last → length from ≡ length c.latches
     → ((k : ℕ) → k < length seen → get_or seen k [] ≢ from) → HasRead names c stem lap (seen ++ from ∷ []) new last
-HasRead-lap names c stem lap seen old new from last h r wide fresh =
+HasRead-lap {names} {c} {stem} {lap} {seen} {old} {from} {last} h r wide fresh =
     let n = length seen in
     let more : length (seen ++ from ∷ []) ≡ n + 1 = length-append seen (from ∷ []) in
     let size = length_trace stem lap h.trace n h.reads in
@@ -188,55 +183,50 @@ HasRead-lap names c stem lap seen old new from last h r wide fresh =
           ∙ ap (λ k. stem ++ laps_of lap k) (sym (more ∙ add-one n));
       are_letters = subst (λ (ls : List ℕ). AreLetters names c (h.trace ++ r.trace) ls) (sym r.new_is)
           (AreLetters-append names c h.trace r.trace old r.letters h.are_letters r.are_letters);
-      seen_is = λ k lt. elim (cases_lt k n) [
-        | inl old_one ↦ get_or-append seen (from ∷ []) [] k old_one ∙ h.seen_is k old_one
+      seen_is = λ k lt. elim (at_push seen from [] k lt) [
+        | inl old_one ↦ old_one.1 ∙ h.seen_is k old_one.0
             ∙ sym (along_more c h.trace r.trace from last (length stem + k * length lap) r.goes_on
-            (let le = mul-le-mul_right {m = k} {n = n} (length lap) (omega arith) in omega (arith, le, size)))
-        | inr new_one ↦ let same : k ≡ n = omega arith in
-            ap (λ i. get_or (seen ++ from ∷ []) i []) same ∙ get_or-append_seam seen from [] []
-            ∙ sym (at_end h.trace from) ∙ sym (along_more c h.trace r.trace from last (length h.trace) r.goes_on
-            (omega arith)) ∙ ap (λ i. get_or (latches_along (h.trace ++ r.trace) last) i [])
-            (size ∙ ap (λ i. length stem + i * length lap) (sym same))
+            (let le = mul-le-mul_right {m = k} {n = n} (length lap) (omega (arith, old_one.0)) in
+            omega (arith, le, size)))
+        | inr new_one ↦ new_one.1 ∙ sym (at_end h.trace from)
+            ∙ sym (along_more c h.trace r.trace from last (length h.trace) r.goes_on (omega arith))
+            ∙ ap (λ i. get_or (latches_along (h.trace ++ r.trace) last) i [])
+            (size ∙ ap (λ i. length stem + i * length lap) (sym new_one.0))
       ];
-      wide = λ k lt. elim (cases_lt k n) [
-        | inl old_one ↦ ap length (get_or-append seen (from ∷ []) [] k old_one) ∙ h.wide k old_one
-        | inr new_one ↦ let same : k ≡ n = omega arith in ap (λ i. length (get_or (seen ++ from ∷ []) i [])) same
-            ∙ ap length (get_or-append_seam seen from [] []) ∙ wide
+      wide = λ k lt. elim (at_push seen from [] k lt) [
+        | inl old_one ↦ rw old_one.1 (h.wide k old_one.0)
+        | inr new_one ↦ rw new_one.1 wide
       ];
-      differ = λ k l a b. elim (cases_lt l n) [
-        | inl old_one ↦ λ e. h.differ k l a old_one (sym (get_or-append seen (from ∷ []) [] k (omega arith)) ∙ e
-            ∙ get_or-append seen (from ∷ []) [] l old_one)
-        | inr new_one ↦ let same : l ≡ n = omega arith in λ e. fresh k (omega arith)
-            (sym (get_or-append seen (from ∷ []) [] k (omega arith)) ∙ e
-            ∙ ap (λ i. get_or (seen ++ from ∷ []) i []) same ∙ get_or-append_seam seen from [] [])
+      differ = λ k l a b e. elim (at_push seen from [] l b) [
+        | inl old_one ↦ h.differ k l a old_one.0
+            (sym (get_or-append seen (from ∷ []) [] k (omega (arith, a, old_one.0))) ∙ e ∙ old_one.1)
+        | inr new_one ↦ fresh k (omega (arith, a, new_one.0))
+            (sym (get_or-append seen (from ∷ []) [] k (omega (arith, a, new_one.0))) ∙ e ∙ new_one.1)
       ];
     }
 
-pub HasRead-next : (names : List (List ℕ)) (c d : CircuitData) (stem lap seen seen' : List (List Bool))
-    (old new : List ℕ) (from latches last : List Bool) → d ≡ c → latches ≡ from →
+pub HasRead-next : {names : List (List ℕ)} {c d : CircuitData} {stem lap seen : List (List Bool)}
+    (seen' : List (List Bool)) {old new : List ℕ} {from latches last : List Bool} → d ≡ c → latches ≡ from →
     HasRead names c stem lap seen old from → IsSeen seen seen' latches None → ReadsWord names d from lap old new last →
     length from ≡ length c.latches → HasRead names c stem lap seen' new last
-HasRead-next names c d stem lap seen seen' old new from latches last same at h s r wide =
-    subst (λ (ls : List (List Bool)). HasRead names c stem lap ls new last)
-    (sym (s.1 ∙ ap (λ (l : List Bool). seen ++ l ∷ []) at)) (HasRead-lap names c stem lap seen old new from last h
-    (subst (λ (e : CircuitData). ReadsWord names e from lap old new last) same r) wide
-    (λ k lt e. s.0 k lt (e ∙ sym at)))
+HasRead-next seen' same at h s r wide =
+    rw (s.1, at) (HasRead-lap h (rw same at r) wide (λ k lt e. s.0 k lt (e ∙ sym at)))
 
 -- the lists of bits that are left grow fewer
-pub fewer : (names : List (List ℕ)) (c : CircuitData) (stem lap seen seen' : List (List Bool)) (new : List ℕ)
-    (latches last : List Bool) → HasRead names c stem lap seen' new last → IsSeen seen seen' latches None →
+pub fewer : {names : List (List ℕ)} {c : CircuitData} {stem lap seen' : List (List Bool)} {new : List ℕ}
+    {last : List Bool} (seen : List (List Bool)) (latches : List Bool) → HasRead names c stem lap seen' new last → IsSeen seen seen' latches None →
     2 ^ length c.latches - length seen' < 2 ^ length c.latches - length seen
-fewer names c stem lap seen seen' new latches last h s =
+fewer {c} {seen'} seen latches h s =
     let le = few_seen (length c.latches) seen' h.wide h.differ in
     let size : length seen' ≡ length seen + 1 = ap length s.1 ∙ length-append seen (latches ∷ []) in
     omega arith
 
 -- ## The first repetition
 
-pub repeats : (names : List (List ℕ)) (c : CircuitData) (stem lap seen : List (List Bool)) (letters : List ℕ)
-    (last : List Bool) (i : ℕ) → 0 < length lap → HasRead names c stem lap seen letters last → i < length seen →
+pub repeats : {names : List (List ℕ)} {c : CircuitData} {stem lap seen : List (List Bool)} {letters : List ℕ}
+    {last : List Bool} (i : ℕ) → 0 < length lap → HasRead names c stem lap seen letters last → i < length seen →
     get_or seen i [] ≡ last → RepeatsBy names c stem lap i letters
-repeats names c stem lap seen letters last i some h lt same = record {
+repeats {seen} {last} i some h lt same = record {
   j = length seen;
   trace = h.trace;
   repeats = record {
@@ -267,9 +257,9 @@ times_more : (i l : ℕ) → suc i * l ≡ i * l + l
 times_more i l = grind arith
 
 -- the first of the two laps ends behind its begin, and no later than the second begins
-pub lap_within : (names : List (List ℕ)) (c : CircuitData) (stem lap : List (List Bool)) (i : ℕ) (letters : List ℕ)
+pub lap_within : {names : List (List ℕ)} {c : CircuitData} {stem lap : List (List Bool)} {i : ℕ} {letters : List ℕ}
     (h : RepeatsBy names c stem lap i letters) → length stem + i * length lap + length lap ≤ length letters
-lap_within names c stem lap i letters h =
+lap_within {lap} {i} h =
     let le = mul-le-mul_right {m = suc i} {n = h.j} (length lap) h.repeats.earlier in
     omega (arith, le, times_more i (length lap), length_of_letters h)
 
@@ -286,11 +276,11 @@ lap_length {names} {c} {stem} {lap} {i} count {letters} h e =
 pub lap_within_items : {names : List (List ℕ)} {c : CircuitData} (stem lap : List (Vec Bool Global)) {i : ℕ}
     {letters : List ℕ} (h : RepeatsBy names c (letters_of stem) (letters_of lap) i letters)
     → length stem + i * length lap + length lap ≤ length letters
-lap_within_items {names} {c} stem lap {i} {letters} h =
+lap_within_items stem lap {i} {letters} h =
     subst (λ n. n + i * length lap + length lap ≤ length letters) (length-map stem (λ (l : Vec Bool Global). l.items))
     (subst (λ n. length (letters_of stem) + i * n + n ≤ length letters)
     (length-map lap (λ (l : Vec Bool Global). l.items))
-    (lap_within names c (letters_of stem) (letters_of lap) i letters h))
+    (lap_within h))
 
 pub verdict : (file : FileData) {names all : List (List ℕ)} {c : CircuitData} (stem lap : List (Vec Bool Global))
     {letters before behind : List ℕ} {i : ℕ} (accepted : Bool) → names ≡ all → all ≡ file.names →

@@ -6,26 +6,19 @@ use Rattle.std.proofs.lemmas.Bool.{eq-eqb, ne_eqb}
 use Rattle.std.proofs.lemmas.Nat.{one_shl, or_lt, pow_below}
 use Rattle.ps_label.specs.Truth.{is_in}
 use Rattle.ps_automaton.proofs.Bits.{one_set_more}
-
-or_false : (b : Bool) → (b || false) ≡ b
-or_false true = refl
-or_false false = refl
+use Rattle.std.proofs.Math.Bool.{or-false}
+use Rattle.std.proofs.Common.{arith}
 
 with_one : (letter p q : ℕ) {b : Bool} → p < 64 → nat_eq q p ≡ b →
     is_in q (bit_or letter (1 * 2 ^ p % 2 ^ 64)) ≡ (is_in q letter || b)
 with_one letter p q {b} small e =
-    sym (or_false (is_in q (bit_or letter (1 * 2 ^ p % 2 ^ 64)))) ∙ one_set_more q letter p [] small
-    ∙ ap (λ (x : Bool). is_in q letter || cond x true false) e ∙ ap (λ (x : Bool). is_in q letter || x) (one b)
-  where
-    one : (b : Bool) → cond b true false ≡ b
-    one true = refl
-    one false = refl
+    sym (or-false (is_in q (bit_or letter (1 * 2 ^ p % 2 ^ 64)))) ∙ one_set_more q letter p [] small ∙ grind arith
 
 pub bit_put : (letter p : ℕ) → p < 64 → is_in p letter ≡ false → is_in p (bit_or letter (1 * 2 ^ p % 2 ^ 64)) ≡ true
 bit_put letter p small e = with_one letter p p small (eq-eqb p p refl) ∙ ap (λ (b : Bool). b || true) e
 
 pub bit_kept : (letter p q : ℕ) → p < 64 → q ≢ p → is_in q (bit_or letter (1 * 2 ^ p % 2 ^ 64)) ≡ is_in q letter
-bit_kept letter p q small other = with_one letter p q small (ne_eqb q p other) ∙ or_false (is_in q letter)
+bit_kept letter p q small other = with_one letter p q small (ne_eqb q p other) ∙ or-false (is_in q letter)
 
 pub bit_few : (letter p count : ℕ) → p < 64 → p < count → letter < 2 ^ count →
     bit_or letter (1 * 2 ^ p % 2 ^ 64) < 2 ^ count

@@ -29,8 +29,8 @@ not_among (x ∷ xs) name p lt h e = go (bytes_eq name x) refl h p lt e (λ q lq
     go : (b : Bool) → bytes_eq name x ≡ b → cond b true (is_name_among name xs) ≡ false → (p : ℕ) →
         p < length (x ∷ xs) → get_or (x ∷ xs) p [] ≡ name
         → ((q : ℕ) → q < length xs → is_name_among name xs ≡ false → get_or xs q [] ≢ name) → ⊥
-    go true d h p lt e rest = absurd (cc)
-    go false d h zero lt e rest = let t : bytes_eq name x ≡ true = (bytes_eq-Decides name x).1 (sym e) in cc
+    go true d h p lt e rest = cc
+    go false d h zero lt e rest = cc ((bytes_eq-Decides name x).1 (sym e))
     go false d h (suc p) lt e rest = rest p (omega arith) h e
 
 pub names_differ : (names : List (List ℕ)) → AreNames names → (p q : ℕ) → p < length names → q < length names →
@@ -169,27 +169,20 @@ module _ (names : List (List ℕ)) (controllable : List ℕ) (wanted : Bool) (sy
 -- ## What the code tests
 
 pub beq_same : (a b : Bool) → beq a b ≡ true → a ≡ b
-beq_same true true e = refl
-beq_same false false e = refl
-beq_same true false e = absurd (cc)
-beq_same false true e = absurd (cc)
+beq_same a b e = grind arith
 
 pub beq_other : (a b : Bool) → beq a b ≡ false → a ≢ b
-beq_other true true e same = absurd (cc)
-beq_other false false e same = absurd (cc)
-beq_other true false e same = absurd (cc)
-beq_other false true e same = absurd (cc)
+beq_other a b e = grind arith
 
 pub is_free : (places : List (Option ℕ)) (p : ℕ) (there : Option ℕ) {b : Bool} → p < length places →
     there ≡ get_or places p there → is_some there ≡ not b → b ≡ true → get_or places p None ≡ None
 is_free places p None lt at e free = sym at
-is_free places p (Some k) lt at e free = absurd (cc)
+is_free places p (Some k) lt at e free = cc
 
 pub is_full : (places : List (Option ℕ)) (p : ℕ) (there : Option ℕ) {b : Bool} → p < length places →
     there ≡ get_or places p there → is_some there ≡ not b → b ≡ false → get_or places p None ≢ None
-is_full places p None lt at e no_one free = absurd (cc)
-is_full places p (Some k) lt at e no_one free = let same : get_or places p None ≡ get_or places p (Some k) =
-    get_or_default places p None (Some k) lt in absurd (cc)
+is_full places p None lt at e no_one free = cc
+is_full places p (Some k) lt at e no_one free = cc (get_or_default places p None (Some k) lt)
 
 pub name_at : (names : List (Vec ℕ Global)) (p : ℕ) {name : Vec ℕ Global} → p < length names →
     name ≡ get_or names p name → get_or (map bytes_of names) p [] ≡ name.items
@@ -214,5 +207,5 @@ apart {rest} differ a b {p} {k} s = go (get_or rest p None) refl
     go (Some j) e = absurd (differ (sym (a.side p k (a.placed p k s)) ∙ b.side p j e))
 
 pub role_apart : (role : Role) → reads_controllable role ≢ sets_controllable role
-role_apart Controller e = absurd (cc)
-role_apart Environment e = absurd (cc)
+role_apart Controller e = cc
+role_apart Environment e = cc

@@ -13,9 +13,6 @@ use Rattle.ps_circuit.specs.Literals.{variable}
 use Rattle.ps_simulate.specs.Plans.{variables, place_of}
 
 module _ {c : CircuitData} (is : IsCircuit c) where
-  defined : (k d : ℕ) → k < length (definitions c) → IsDefinition c.most (get_or (definitions c) k d)
-  defined k d lt = is.draft.defined k d lt
-
   pub variables_at : (k d : ℕ) → k < length (definitions c) →
       get_or (variables c) (suc k) d ≡ variable (get_or (definitions c) k d)
   variables_at k d lt = get_or-map variable (definitions c) k d d lt
@@ -29,7 +26,7 @@ module _ {c : CircuitData} (is : IsCircuit c) where
   variables_once zero (suc j) d less lt e =
       let within : j < length (definitions c) = omega (arith, many) in
       let at = variables_at j d within in
-      let is_definition = defined j d within in
+      let is_definition = is.draft.defined j d within in
       omega (arith, at, is_definition.1)
   variables_once (suc i) (suc j) d less lt e =
       let within : j < length (definitions c) = omega (arith, many) in

@@ -24,14 +24,11 @@ abbrev pub values_by : CircuitData → List Bool → List Bool
 values_by c table = map (λ v. get_or table (place_of c v) false) (range_with_len 0 (c.most + 1))
 
 module _ {c : CircuitData} (is : IsCircuit c) where
-  defined : (k : ℕ) → k < length (definitions c) → IsDefinition c.most (get_or (definitions c) k 0)
-  defined k lt = is.draft.defined k 0 lt
-
   variable-le_most : (literal : ℕ) → IsKnown (definitions c) literal → variable literal < c.most + 1
   variable-le_most literal (inl e) = omega arith
   variable-le_most literal (inr (k, lt, e)) =
       let within : k < length (definitions c) = omega (arith, length-map (definitions c) variable) in
-      let is_definition = defined k within in
+      let is_definition = is.draft.defined k 0 within in
       let same : variable (get_or (definitions c) k 0) ≡ variable literal =
       sym (get_or-map variable (definitions c) k 0 (variable literal) within) ∙ e in
       omega (arith, is_definition.2, same)
@@ -47,7 +44,7 @@ module _ {c : CircuitData} (is : IsCircuit c) where
   pub bit_of-definition : (values : List Bool) (k : ℕ) {literal : ℕ} → k < length (definitions c) →
       get_or (definitions c) k 0 ≡ literal → bit_of values literal ≡ value_of values (variable literal)
   bit_of-definition values k {literal} lt e =
-      let is_definition = defined k lt in
+      let is_definition = is.draft.defined k 0 lt in
       let even : literal % 2 ≡ 0 = ap (λ n. n % 2) (sym e) ∙ is_definition.0 in
       ap (λ (t : Bool). cond t (not (value_of values (variable literal))) (value_of values (variable literal)))
       (ne_eqb (literal % 2) 1 (λ one. omega arith))
@@ -55,7 +52,7 @@ module _ {c : CircuitData} (is : IsCircuit c) where
   value_at : (table : List Bool) (k : ℕ) {literal : ℕ} → k < length (definitions c) →
       get_or (definitions c) k 0 ≡ literal → bit_of (values_by c table) literal ≡ get_or table (suc k) false
   value_at table k {literal} lt e =
-      let is_definition = defined k lt in
+      let is_definition = is.draft.defined k 0 lt in
       let small : variable literal < c.most + 1 = omega (arith, is_definition.2, ap variable e) in
       bit_of-definition (values_by c table) k lt e ∙ get_or-map-range_with_len (λ v. get_or table (place_of c v) false)
       0 (c.most + 1) (variable literal) (variable literal) false small (omega arith)
@@ -77,7 +74,7 @@ module _ {c : CircuitData} (is : IsCircuit c) where
             ≡ get_or inputs k false
         at k lt = get_or-map (bit_of (values_by c (work_out rows table))) c.inputs k 0 false lt
             ∙ value_at (work_out rows table) k (omega (arith, length-definitions c)) (definitions_input c k lt)
-            ∙ kept (suc k) (omega arith) ∙ ap (λ p. get_or table p false) (let e : suc k ≡ 1 + k = omega arith in e)
+            ∙ kept (suc k) (omega arith) ∙ ap (λ p. get_or table p false) (omega arith)
             ∙ holds.inputs_there k (omega arith)
 
     latches_hold : map (λ l. bit_of (values_by c (work_out rows table)) l.literal) c.latches ≡ latches
@@ -92,8 +89,7 @@ module _ {c : CircuitData} (is : IsCircuit c) where
             get_or-map (λ (l : Latch). bit_of (values_by c (work_out rows table)) l.literal) c.latches k no_latch false
             lt ∙ value_at (work_out rows table) (length c.inputs + k) (omega (arith, length-definitions c))
             (definitions_latch c k lt) ∙ kept (suc (length c.inputs + k)) (omega arith)
-            ∙ ap (λ p. get_or table p false) (let e : suc (length c.inputs + k) ≡ 1 + length inputs + k = omega arith in
-            e) ∙ holds.latches_there k (omega arith)
+            ∙ ap (λ p. get_or table p false) (omega arith) ∙ holds.latches_there k (omega arith)
 
     gate_holds : (i : ℕ) → i < length c.gates → MeetsGate (values_by c (work_out rows table)) (get_or c.gates i no_gate)
     gate_holds i lt =

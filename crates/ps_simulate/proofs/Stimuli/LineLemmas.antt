@@ -69,6 +69,12 @@ lines_of-drop_last text start lt none =
     last [] some none = absurd (omega arith)
     last (b ∷ bytes) some none = lines_of-last b bytes none
 
+-- a line ends where it was found to end
+pub line_length : (text : List ℕ) (start end : ℕ) → start ≤ end → end ≤ length text →
+    start + length (take (end - start) (drop start text)) ≡ end
+line_length text start end from within =
+    omega (arith, length-take (end - start) (drop start text), length-drop start text)
+
 -- a line ends before each later one begins
 pub start_of-later : (lines : List (List ℕ)) (k m : ℕ) {line : List ℕ} → slice_get lines k ≡ Some line → k < m →
     m ≤ length lines → start_of lines k + length line + 1 ≤ start_of lines m

@@ -14,28 +14,21 @@ use Rattle.ps_simulate.proofs.Stimuli.LineLemmas.{digits_of-divider}
 use Rattle.ps_simulate.proofs.Stimuli.StimulusLemmas.{divides_at, no_cause}
 
 digit_of-injective : (x y : Bool) → digit_of x ≡ digit_of y → x ≡ y
-digit_of-injective true true e = refl
-digit_of-injective false false e = refl
-digit_of-injective true false e = absurd (omega arith)
-digit_of-injective false true e = absurd (omega arith)
+digit_of-injective x y e = grind arith
 
 digits_of-injective : (xs ys : List Bool) → digits_of xs ≡ digits_of ys → xs ≡ ys
 digits_of-injective [] [] e = refl
 digits_of-injective [] (y ∷ ys) e = cc
 digits_of-injective (x ∷ xs) [] e = cc
 digits_of-injective (x ∷ xs) (y ∷ ys) e =
-    let head : digit_of x ≡ digit_of y = cc in
-    let tail : digits_of xs ≡ digits_of ys = cc in
-    ap₂ ◌∷◌ (digit_of-injective x y head) (digits_of-injective xs ys tail)
+    grind (arith, digit_of-injective x y, digits_of-injective xs ys)
 
 letters_same : (xs ys : List (List Bool)) → map digits_of xs ≡ map digits_of ys → xs ≡ ys
 letters_same [] [] e = refl
 letters_same [] (y ∷ ys) e = cc
 letters_same (x ∷ xs) [] e = cc
 letters_same (x ∷ xs) (y ∷ ys) e =
-    let head : digits_of x ≡ digits_of y = cc in
-    let tail : map digits_of xs ≡ map digits_of ys = cc in
-    ap₂ ◌∷◌ (digits_of-injective x y head) (letters_same xs ys tail)
+    grind (arith, digits_of-injective x y, letters_same xs ys)
 
 parts_same : (xs ys as' bs : List (List Bool)) → map digits_of xs ++ divider ∷ map digits_of as' ≡ map digits_of ys ++
     divider ∷ map digits_of bs → (xs ≡ ys) × (as' ≡ bs)
@@ -49,9 +42,7 @@ parts_same (x ∷ xs) (y ∷ ys) as' bs e =
     (ap₂ ◌∷◌ (digits_of-injective x y head) rest.0, rest.1)
 
 stimulus_same : (s t : StimulusData) → s.stem ≡ t.stem → s.lap ≡ t.lap → s ≡ t
-stimulus_same s t stem lap =
-    let made : List (List Bool) → List (List Bool) → StimulusData = λ a b. record { stem = a; lap = b } in
-    ap₂ made stem lap
+stimulus_same s t stem lap = λ i. record { stem = stem i; lap = lap i }
 
 one_stimulus : {text : List ℕ} {width : ℕ} (split : Bool) {s t : StimulusData} → IsStimulus text width split s →
     IsStimulus text width split t → s ≡ t
@@ -61,25 +52,14 @@ one_stimulus true {s} {t} a b =
     let parts = parts_same s.stem t.stem s.lap t.lap (sym a.lines ∙ b.lines) in stimulus_same s t parts.0 parts.1
 
 rank-injective : (c d : StimulusCause) → rank c ≡ rank d → c ≡ d
-rank-injective Width Width e = refl
-rank-injective Stimulus Stimulus e = refl
-rank-injective Width Stimulus e = absurd (omega arith)
-rank-injective Stimulus Width e = absurd (omega arith)
+rank-injective c d e = grind arith
 
 one_first : (S : StimulusCause → ℕ → Type 0) (a b : Found StimulusCause) → IsFirst S a.cause a.offset →
     IsFirst S b.cause b.offset → a ≡ b
 one_first S a b first other =
-    which (first.least b.cause b.offset other.stands) (other.least a.cause a.offset first.stands)
-  where
-    made : StimulusCause → ℕ → Found StimulusCause
-    made cause offset = record { cause = cause; offset = offset }
-
-    which : (a.offset < b.offset) ⊎ ((a.offset ≡ b.offset) × (rank a.cause ≤ rank b.cause)) →
-        (b.offset < a.offset) ⊎ ((b.offset ≡ a.offset) × (rank b.cause ≤ rank a.cause)) → a ≡ b
-    which (inl less) (inl more) = absurd (omega arith)
-    which (inl less) (inr (e, le)) = absurd (omega arith)
-    which (inr (e, le)) (inl more) = absurd (omega arith)
-    which (inr (e, le)) (inr (e', ge)) = ap₂ made (rank-injective a.cause b.cause (omega arith)) e
+    let least = first.least b.cause b.offset other.stands in
+    let low = other.least a.cause a.offset first.stands in
+    grind (arith, rank-injective a.cause b.cause)
 
 none_stands : {text : List ℕ} {width : ℕ} (split : Bool) {s : StimulusData} → IsStimulus text width split s →
     {cause : StimulusCause} {offset : ℕ} → Stands text width split cause offset → ⊥

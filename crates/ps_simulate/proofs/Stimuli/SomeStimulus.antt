@@ -149,7 +149,7 @@ module _ (text : List ℕ) (width : ℕ) (split : Bool) where
 
     next : lines_of (drop start text) ≡ line ∷ lines_of (drop (start + size + 1) text)
     next = first.1 ∙ ap (λ rest. line ∷ lines_of rest) (drop-drop (suc size) start text
-        ∙ ap (λ n. drop n text) (let e : start + suc size ≡ start + size + 1 = omega arith in e))
+        ∙ ap (λ n. drop n text) (omega arith))
 
     ends : start + length line ≡ start + size
     ends = omega (arith, length-take-le size (drop start text) first.0)

@@ -19,7 +19,7 @@ slice_get-left (x ∷ xs) ys (suc k) lt = slice_get-left xs ys k (omega arith)
 
 pub slice_get-right : {X : Type 0} (xs ys : List X) (k m : ℕ) → k ≡ length xs + m →
     slice_get (xs ++ ys) k ≡ slice_get ys m
-slice_get-right [] ys k m e = ap (slice_get ys) (let same : k ≡ m = omega arith in same)
+slice_get-right [] ys k m e = ap (slice_get ys) (omega arith)
 slice_get-right (x ∷ xs) ys zero m e = absurd (omega arith)
 slice_get-right (x ∷ xs) ys (suc k) m e = slice_get-right xs ys k m (omega arith)
 

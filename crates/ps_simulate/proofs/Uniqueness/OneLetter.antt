@@ -10,15 +10,7 @@ use Rattle.ps_simulate.specs.declared.role.Role.{Role}
 use Rattle.ps_simulate.specs.declared.role.Role.TheVariants.{Controller, Environment}
 use Rattle.ps_simulate.specs.Symbols.{HasSymbols, reads_controllable, sets_controllable}
 use Rattle.ps_simulate.specs.Lassos.{IsLetterOf, AreLetters}
-
-pub one_bit : (x y : ℕ) → x < 2 → y < 2 → nat_eq x 1 ≡ nat_eq y 1 → x ≡ y
-one_bit zero zero a b e = refl
-one_bit zero (suc zero) a b e = absurd (cc)
-one_bit (suc zero) zero a b e = absurd (cc)
-one_bit (suc zero) (suc zero) a b e = refl
-one_bit (suc (suc x)) y a b e = absurd (omega (arith, a))
-one_bit zero (suc (suc y)) a b e = absurd (omega (arith, b))
-one_bit (suc zero) (suc (suc y)) a b e = absurd (omega (arith, b))
+use Rattle.ps_automaton.proofs.Bits.{same_bit}
 
 -- a proposition is an input's or an output's
 pub side : (role : Role) (b : Bool) → (b ≡ reads_controllable role) ⊎ (b ≡ sets_controllable role)
@@ -27,11 +19,11 @@ side Controller false = inl refl
 side Environment true = inl refl
 side Environment false = inr refl
 
-module _ (role : Role) (names : List (List ℕ)) (controllable : List ℕ) (c : CircuitData)
+module _ {role : Role} {names : List (List ℕ)} {controllable : List ℕ} {c : CircuitData}
     (has : HasSymbols role names controllable c) where
   one_letter : {m : Moment} {a b : ℕ} → IsLetterOf names c m a → IsLetterOf names c m b → a ≡ b
   one_letter {a} {b} h k = same_from_bits_below (length names) a b h.few k.few
-      (λ p lt. one_bit (bit_at a p) (bit_at b p) (bit_at-lt a p) (bit_at-lt b p)
+      (λ p lt. same_bit (bit_at a p) (bit_at b p) (bit_at-lt a p) (bit_at-lt b p)
       (elim (side role (is_among p controllable)) [
         | inl input ↦ let s = has.inputs.each p lt input in h.inputs s.0 p s.1 ∙ sym (k.inputs s.0 p s.1)
         | inr output ↦ let s = has.outputs.each p lt output in h.outputs s.0 p s.1 ∙ sym (k.outputs s.0 p s.1)
@@ -41,4 +33,4 @@ module _ (role : Role) (names : List (List ℕ)) (controllable : List ℕ) (c : 
   one_letters [] us vs a b = a ∙ sym b
   one_letters (m ∷ ms) [] vs a b = absurd a
   one_letters (m ∷ ms) (u ∷ us) [] a b = absurd b
-  one_letters (m ∷ ms) (u ∷ us) (v ∷ vs) a b = ap₂ (λ x xs. x ∷ xs) (one_letter a.0 b.0) (one_letters ms us vs a.1 b.1)
+  one_letters (m ∷ ms) (u ∷ us) (v ∷ vs) a b = cc (one_letter a.0 b.0, one_letters ms us vs a.1 b.1)

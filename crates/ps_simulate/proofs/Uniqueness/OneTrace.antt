@@ -9,19 +9,6 @@ use Rattle.ps_simulate.proofs.RowLemmas.{no_latch}
 
 -- ---- lists
 
-pub heads_same : {X : Type 0} {x y : X} {xs ys : List X} → x ∷ xs ≡ y ∷ ys → x ≡ y
-heads_same {x} e = ap (λ l. get_or l 0 x) e
-
-pub tails_same : {X : Type 0} {x y : X} {xs ys : List X} → x ∷ xs ≡ y ∷ ys → xs ≡ ys
-tails_same e = ap (drop 1) e
-
-abbrev has_some : {X : Type 0} → List X → Bool
-has_some [] = false
-has_some (x ∷ xs) = true
-
-empty_is_not_more : {X : Type 0} {x : X} {xs : List X} → [] ≡ x ∷ xs → ⊥
-empty_is_not_more e = let bad : false ≡ true = ap (λ l. has_some l) e in cc
-
 maps_agree : {A : Type 0} (f g : A → Bool) (xs : List A) (d : A) →
     ((k : ℕ) → k < length xs → f (get_or xs k d) ≡ g (get_or xs k d)) → map f xs ≡ map g xs
 maps_agree f g [] d same = refl
@@ -50,19 +37,17 @@ module _ (c : CircuitData) (is : IsCircuit c) (one : HasOneValues c) where
       Steps c latches m.inputs m.outputs next → Steps c latches n.inputs n.outputs next' → m.inputs ≡ n.inputs →
       (m ≡ n) × (next ≡ next')
   firsts_agree latches next next' m n at at' steps steps' same =
-      let there : Steps c latches m.inputs n.outputs next' =
-      subst (λ (inputs : List Bool). Steps c latches inputs n.outputs next') (sym same) steps' in
-      let agree = steps_agree latches m.inputs m.outputs next n.outputs next' steps there in
-      let moments = ap₂ (λ ls is. moment ls is m.outputs) (at ∙ sym at') same in
-      (moments ∙ ap (moment n.latches n.inputs) agree.0, agree.1)
+      let agree = steps_agree latches m.inputs m.outputs next n.outputs next' steps (rw same steps') in
+      (λ i. record { latches = (at ∙ sym at') i; inputs = same i; outputs = agree.0 i }, agree.1)
 
   pub runs_agree : (latches last last' : List Bool) (ms ns : List Moment) → GoesOn c latches ms last →
       GoesOn c latches ns last' → map (λ m. m.inputs) ms ≡ map (λ m. m.inputs) ns → (ms ≡ ns) × (last ≡ last')
   runs_agree latches last last' [] [] a b same = (refl, sym a ∙ b)
-  runs_agree latches last last' [] (n ∷ ns) a b same = absurd (empty_is_not_more same)
-  runs_agree latches last last' (m ∷ ms) [] a b same = absurd (empty_is_not_more (sym same))
+  runs_agree latches last last' [] (n ∷ ns) a b same = cc
+  runs_agree latches last last' (m ∷ ms) [] a b same = cc
   runs_agree latches last last' (m ∷ ms) (n ∷ ns) (next, at, steps, rest) (next', at', steps', rest') same =
-      let first = firsts_agree latches next next' m n at at' steps steps' (heads_same same) in
-      let there = subst (λ (from : List Bool). GoesOn c from ns last') (sym first.1) rest' in
-      let others = runs_agree next last last' ms ns rest there (tails_same same) in
-      (ap₂ (λ x xs. x ∷ xs) first.0 others.0, others.1)
+      let inputs : m.inputs ≡ n.inputs = cc in
+      let tails : map (λ (m : Moment). m.inputs) ms ≡ map (λ (m : Moment). m.inputs) ns = cc in
+      let first = firsts_agree latches next next' m n at at' steps steps' inputs in
+      let others = runs_agree next last last' ms ns rest (rw first.1 rest') tails in
+      (cc (first.0, others.0), others.1)

@@ -14,7 +14,7 @@ use Rattle.ps_simulate.specs.declared.role.Role.{Role}
 use Rattle.ps_simulate.specs.declared.lassos.Verdict.{Verdict}
 use Rattle.ps_simulate.specs.Symbols.{HasSymbols}
 use Rattle.ps_simulate.specs.Lassos.{AreLetters, laps_of, latches_along, latches_before, Repeats, IsVerdictOf}
-use Rattle.ps_simulate.proofs.Uniqueness.OneTrace.{heads_same, tails_same, firsts_agree}
+use Rattle.ps_simulate.proofs.Uniqueness.OneTrace.{firsts_agree}
 use Rattle.ps_simulate.proofs.Uniqueness.OneLetter.{one_letters}
 use Rattle.ps_simulate.proofs.LassoLemmas.{along_more, at_end, length_trace}
 
@@ -39,14 +39,14 @@ module _ {c : CircuitData} (is_circuit : IsCircuit c) (one : HasOneValues c) whe
       GoesOn c latches ms last → GoesOn c latches ns last'
       → map (λ m. m.inputs) ns ≡ map (λ m. m.inputs) ms ++ more → Behind ms last ns last' more
   goes_behind latches last last' [] ns more a b same =
-      (ns, refl, subst (λ (from : List Bool). GoesOn c from ns last') a b, same)
-  goes_behind latches last last' (m ∷ ms) [] more a b same = absurd (cc)
+      (ns, refl, rw a at b, same)
+  goes_behind latches last last' (m ∷ ms) [] more a b same = cc
   goes_behind latches last last' (m ∷ ms) (n ∷ ns) more (next, at, steps, rest) (next', at', steps', rest') same =
-      let inputs_same : m.inputs ≡ n.inputs = sym (heads_same same) in
-      let first = firsts_agree c is_circuit one latches next next' m n at at' steps steps' inputs_same in
-      let there = subst (λ (from : List Bool). GoesOn c from ns last') (sym first.1) rest' in
-      let others : Behind ms last ns last' more = goes_behind next last last' ms ns more rest there (tails_same same) in
-      (others.0, ap₂ (λ x xs. x ∷ xs) (sym first.0) others.1, others.2, others.3)
+      let inputs : m.inputs ≡ n.inputs = cc in
+      let tails : map (λ (m : Moment). m.inputs) ns ≡ map (λ (m : Moment). m.inputs) ms ++ more = cc in
+      let first = firsts_agree c is_circuit one latches next next' m n at at' steps steps' inputs in
+      let others : Behind ms last ns last' more = goes_behind next last last' ms ns more rest (rw first.1 rest') tails in
+      (others.0, cc (first.0, others.1), others.2, others.3)
 
   no_letters : (ms : List Moment) → map (λ m. m.inputs) ms ≡ [] → ms ≡ []
   no_letters [] e = refl
@@ -118,7 +118,7 @@ pub one_verdict : {role : Role} {file : FileData} {c : CircuitData} {stem lap : 
 one_verdict {role} {file} {c} {stem} {lap} {v} {w} is one has a b =
     let same = one_repetition is one stem lap a.i a.j b.i b.j a.trace b.trace a.repeats b.repeats in
     let letters : a.letters ≡ b.letters =
-    one_letters role file.names file.controllable c has b.trace a.letters b.letters
+    one_letters has b.trace a.letters b.letters
     (subst (λ (ms : List Moment). AreLetters file.names c ms a.letters) same.2 a.are_letters) b.are_letters in
     let stems : v.stem ≡ w.stem = a.stem_is ∙ ap (λ i. length stem + i * length lap) same.0 ∙ sym b.stem_is in
     let laps : v.lap ≡ w.lap = a.lap_is ∙ ap₂ (λ i j. (j - i) * length lap) same.0 same.1 ∙ sym b.lap_is in

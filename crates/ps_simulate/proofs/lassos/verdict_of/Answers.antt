@@ -54,28 +54,21 @@ accepts-requires-clause-some c =
 pub accepts-requires-clause-stem : goal.accepts-requires-clause-stem
 accepts-requires-clause-stem c =
     let n = length c.args.stem.now + c.in_ok-repetition.repetition.first * length c.args.lap.now in
-    let names = c.requires.names in
-    let all = few names c.in_ok-repetition.ensures in
-    subst (λ (ls : List ℕ). All (λ letter. letter < 2 ^ length c.args.automaton.now.names) ls)
-    (sym (c.split_at.ensures.front ∙ ap (take n) c.as_slice-letters.ensures.value))
+    rw (c.split_at.ensures.front, c.as_slice-letters.ensures.value)
     (All-take (λ letter. letter < 2 ^ length c.args.automaton.now.names) n
-    c.in_ok-repetition.repetition.letters.items all)
+    c.in_ok-repetition.repetition.letters.items (few c.requires.names c.in_ok-repetition.ensures))
 
 pub accepts-requires-clause-lap : goal.accepts-requires-clause-lap
 accepts-requires-clause-lap c =
     let n = length c.args.stem.now + c.in_ok-repetition.repetition.first * length c.args.lap.now in
-    let names = c.requires.names in
-    let all = few names c.in_ok-repetition.ensures in
-    subst (λ (ls : List ℕ). All (λ letter. letter < 2 ^ length c.args.automaton.now.names) ls)
-    (sym (c.split_at.ensures.back ∙ ap (drop n) c.as_slice-letters.ensures.value))
+    rw (c.split_at.ensures.back, c.as_slice-letters.ensures.value)
     (All-drop (λ letter. letter < 2 ^ length c.args.automaton.now.names) n
-    c.in_ok-repetition.repetition.letters.items all)
+    c.in_ok-repetition.repetition.letters.items (few c.requires.names c.in_ok-repetition.ensures))
 
 pub returns : goal.returns
 returns c = λ file chain built.
     let n = length c.args.stem.now + c.in_ok-repetition.repetition.first * length c.args.lap.now in
-    let names = c.requires.names in
-    verdict file c.args.stem.now c.args.lap.now c.in_ok-accepts.field-0 names built.names c.in_ok-repetition.ensures
+    verdict file c.args.stem.now c.args.lap.now c.in_ok-accepts.field-0 c.requires.names built.names c.in_ok-repetition.ensures
     (c.split_at.ensures.front ∙ ap (take n) c.as_slice-letters.ensures.value)
     (c.split_at.ensures.back ∙ ap (drop n) c.as_slice-letters.ensures.value)
     (c.split_at.ensures.back_len ∙ ap length c.as_slice-letters.ensures.value)

@@ -1,5 +1,5 @@
 use Rattle.std.proofs.Common.{◌≡◌, ◌∙◌, ◌+◌, ◌-◌, ◌*◌, ◌≤◌, ◌++◌, [], ◌∷◌, ℕ, suc, List, Bool, false, sym, ap, subst}
-use Rattle.std.proofs.Common.{take, drop, length, arith, length-take, length-drop}
+use Rattle.std.proofs.Common.{take, drop, length, arith}
 use Rattle.std.proofs.lemmas.Result.{err_from_is_err_and}
 use Rattle.std.proofs.lemmas.List.{length-map}
 use Rattle.ps_simulate.specs.Stimuli.{letters_in, stem_of}
@@ -7,20 +7,15 @@ use Rattle.ps_simulate.specs.StimulusTexts.{digit_of}
 use Rattle.ps_simulate.specs.StimulusReading.{HasRead}
 use Rattle.ps_simulate.proofs.LetterLists.{letters_in-push, whole-push, IsLettersAnswer-line}
 use Rattle.ps_simulate.proofs.Stimuli.StimulusSteps.{HasRead-letter}
+use Rattle.ps_simulate.proofs.Stimuli.LineLemmas.{line_length}
 use Rattle.ps_simulate.proofs.letters.parse_letters.Goals as goal
-
--- the line ends where it was found to end
-length_is : (text : List ℕ) (start end : ℕ) → start ≤ end → end ≤ length text →
-    start + length (take (end - start) (drop start text)) ≡ end
-length_is text start end from within =
-    omega (arith, length-take (end - start) (drop start text), length-drop start text)
 
 pub returns-in_err-letter : goal.returns-in_err-letter
 returns-in_err-letter c =
     let text = c.args.text.now in
     let start = c.loop-start.start in
     let end = c.line_end-end.result in
-    let ends = length_is text start end c.line_end-end.ensures.from c.line_end-end.ensures.within in
+    let ends = line_length text start end c.line_end-end.ensures.from c.line_end-end.ensures.within in
     let p = err_from_is_err_and c.from_residual.result c.from_residual.ensures.1 in
     rw (p.1, p.2) (IsLettersAnswer-line c.loop-start.invariant.read c.line_end-end.ensures.lines ends
     c.loop-start-test.true c.line_end-end.ensures.within c.in_err-letter.field-0.0 c.in_err-letter.ensures)
@@ -35,7 +30,7 @@ loop-start-preserved c =
     let bits = c.loop-start.bits.items in
     let letter = c.in_ok-letter.letter.items in
     let line = take (end - start) (drop start text) in
-    let ends = length_is text start end c.line_end-end.ensures.from c.line_end-end.ensures.within in
+    let ends = line_length text start end c.line_end-end.ensures.from c.line_end-end.ensures.within in
     let fits : length letter ≡ width = sym (length-map letter digit_of) ∙ sym (ap length c.in_ok-letter.ensures.0)
     ∙ c.in_ok-letter.ensures.1 in
     let now : c.extend_from_slice.new.self.items ≡ bits ++ letter = c.in_ok-extend_from_slice.ensures.items

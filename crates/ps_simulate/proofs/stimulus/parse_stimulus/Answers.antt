@@ -1,5 +1,5 @@
 use Rattle.std.proofs.Common.{◌≡◌, ◌∙◌, ◌+◌, ◌-◌, ◌≤◌, ◌⊎◌, ℕ, Bool, List, Some, Err, Vec, true, false, refl, inl, inr}
-use Rattle.std.proofs.Common.{sym, ap, subst, take, drop, length, slice_get, arith, length-take, length-drop}
+use Rattle.std.proofs.Common.{sym, ap, subst, take, drop, length, slice_get, arith}
 use Rattle.std.specs.Global.{Global}
 use Rattle.std.proofs.lemmas.Result.{err_from_is_err_and}
 use Rattle.ps_simulate.specs.Stimuli.{StimulusData, letters_of}
@@ -7,6 +7,7 @@ use Rattle.ps_simulate.specs.Faults.{StimulusFault}
 use Rattle.ps_simulate.specs.StimulusTexts.{lines_of, spelled, divider, IsStimulusAnswer}
 use Rattle.ps_simulate.proofs.Stimuli.StimulusSteps.{HasRead-letter, HasRead-divider, HasRead-same, IsFirst-end}
 use Rattle.ps_simulate.proofs.Stimuli.StimulusSteps.{IsStimulusAnswer-line, at_line, letters_of-push}
+use Rattle.ps_simulate.proofs.Stimuli.LineLemmas.{line_length}
 use Rattle.ps_simulate.proofs.stimulus.parse_stimulus.Goals as goal
 use Rattle.ps_simulate.proofs.stimulus.parse_stimulus.Goals.{then-split+then-not-in_lap+then-is_divider}
 use Rattle.ps_simulate.proofs.stimulus.parse_stimulus.Goals.{else-split+in_ok-letter+then-in_lap+in_ok-push}
@@ -14,12 +15,6 @@ use Rattle.ps_simulate.proofs.stimulus.parse_stimulus.Goals.{else-split-via-then
 use Rattle.ps_simulate.proofs.stimulus.parse_stimulus.Goals.{else-split-via-then-split+else-not-in_lap}
 use Rattle.ps_simulate.proofs.stimulus.parse_stimulus.Goals.{else-split-via-else-split}
 use Rattle.ps_simulate.proofs.stimulus.parse_stimulus.Goals.{else-split+in_ok-letter+else-in_lap+in_ok-push-2}
-
--- the line ends where it was found to end
-length_is : (text : List ℕ) (start end : ℕ) → start ≤ end → end ≤ length text →
-    start + length (take (end - start) (drop start text)) ≡ end
-length_is text start end from within =
-    omega (arith, length-take (end - start) (drop start text), length-drop start text)
 
 pub returns-then-not-in_lap-2 : goal.returns-then-not-in_lap-2
 returns-then-not-in_lap-2 c =
@@ -35,7 +30,7 @@ loop-start-preserved c =
     let line = take (end - start) (drop start text) in
     let stem = letters_of c.loop-start.stem.items in
     let lap = letters_of c.loop-start.lap.items in
-    let ends = length_is text start end c.line_end-end.ensures.from c.line_end-end.ensures.within in
+    let ends = line_length text start end c.line_end-end.ensures.from c.line_end-end.ensures.within in
     elim c.if-split.branch [
       | then-split+then-not-in_lap+then-is_divider w ↦ HasRead-same text c.args.width c.args.split true
           c.if-split.in_lap (end + 1) stem _ lap _ (sym w.in_lap-is)
@@ -72,7 +67,7 @@ returns-in_err-letter c =
     let line = take (end - start) (drop start text) in
     let s : StimulusData =
     record { stem = letters_of c.loop-start.stem.items; lap = letters_of c.loop-start.lap.items } in
-    let ends = length_is text start end c.line_end-end.ensures.from c.line_end-end.ensures.within in
+    let ends = line_length text start end c.line_end-end.ensures.from c.line_end-end.ensures.within in
     let here = at_line c.loop-start.invariant c.line_end-end.ensures.lines ends in
     let plain : (c.loop-start.in_lap ≡ true) ⊎ (¬ (slice_get (lines_of text) (length (spelled c.loop-start.in_lap s)) ≡
     Some divider) ⊎ (c.args.split ≡ false)) =

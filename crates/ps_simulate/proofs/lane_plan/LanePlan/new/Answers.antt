@@ -31,25 +31,12 @@ are_moved c =
     )) c.deref.ensures.value c.in_ok-places.ensures.size c.in_ok-places.ensures.kept c.in_ok-places.ensures.in_order
 
 -- the places of the table have room in literals
-small : (c : After-deref-2) (given : List ℕ) → given ≡ c.in_ok-places.places.items → All (λ p. p < 2 ^ 31) given
-small c given e =
-    let few : length (variables c.args.circuit.now) ≤ 2 ^ 31 = few_variables c.gates-gates.ensures.well_formed in
-    subst (λ (ps : List ℕ). All (λ p. p < 2 ^ 31) ps) (sym e) (moved_small (are_moved c)
-    (omega (arith, few, c.in_ok-plan.ensures.size_is)))
+small : (c : After-deref-2) → All (λ p. p < 2 ^ 31) c.in_ok-places.places.items
+small c = moved_small (are_moved c)
+    (omega (arith, few_variables c.gates-gates.ensures.well_formed, c.in_ok-plan.ensures.size_is))
 
-many : (c : After-deref-2) (given : List ℕ) → given ≡ c.in_ok-places.places.items →
-    length (variables c.args.circuit.now) ≡ length given
-many c given e = sym (ap length e ∙ c.in_ok-places.ensures.size ∙ c.in_ok-plan.ensures.size_is)
-
--- wires and rows within the table, as the calls have them
-wires_fit : {wires given : List Wire} {m n : ℕ} → given ≡ wires → m ≡ n → All (λ w. w.place < m) wires →
-    All (λ w. w.place < n) given
-wires_fit {wires} {n} e same within = subst (λ (ws : List Wire). All (λ w. w.place < n) ws) (sym e)
-    (subst (λ (k : ℕ). All (λ w. w.place < k) wires) same within)
-
-rows_fit : {rows given : List Row} {m n : ℕ} → given ≡ rows → m ≡ n → All (IsWithin m) rows → All (IsWithin n) given
-rows_fit {rows} {n} e same within =
-    subst (λ (rs : List Row). All (IsWithin n) rs) (sym e) (subst (λ (k : ℕ). All (IsWithin k) rows) same within)
+many : (c : After-deref-2) → length c.in_ok-places.places.items ≡ length (variables c.args.circuit.now)
+many c = c.in_ok-places.ensures.size ∙ c.in_ok-plan.ensures.size_is
 
 pub moved_places-requires-clause-fit : goal.moved_places-requires-clause-fit
 moved_places-requires-clause-fit c =
@@ -77,58 +64,57 @@ moved_places-requires-clause-once c = rows_once_at c.gates-gates.ensures.well_fo
 
 pub gates_of-requires-clause-places : goal.gates_of-requires-clause-places
 gates_of-requires-clause-places c =
-    small (goal.at.gates_of-requires-clause-places c).After-deref-2 c.deref-2.result.now c.deref-2.ensures.value
+    rw c.deref-2.ensures.value (small (goal.at.gates_of-requires-clause-places c).After-deref-2)
 
 pub gates_of-requires-clause-within : goal.gates_of-requires-clause-within
-gates_of-requires-clause-within c =
-    rows_fit c.deref-3.ensures.value (many (goal.at.gates_of-requires-clause-within c).After-deref-2
-    c.deref-2.result.now c.deref-2.ensures.value) (rows_within c.gates-gates.ensures.well_formed c.in_ok-plan.ensures)
+gates_of-requires-clause-within c = rw (
+  c.deref-3.ensures.value,
+  c.deref-2.ensures.value,
+  many (goal.at.gates_of-requires-clause-within c).After-deref-2,
+)
+    (rows_within c.gates-gates.ensures.well_formed c.in_ok-plan.ensures)
 
 pub literals-requires-clause-places : goal.literals-requires-clause-places
 literals-requires-clause-places c =
-    small (goal.at.literals-requires-clause-places c).After-deref-2 c.deref-4.result.now c.deref-4.ensures.value
+    rw c.deref-4.ensures.value (small (goal.at.literals-requires-clause-places c).After-deref-2)
 
 pub literals-requires-clause-within : goal.literals-requires-clause-within
-literals-requires-clause-within c =
-    wires_fit c.deref-5.ensures.value (many (goal.at.literals-requires-clause-within c).After-deref-2
-    c.deref-4.result.now c.deref-4.ensures.value) (outputs_within c.gates-gates.ensures.well_formed
-    c.in_ok-plan.ensures)
+literals-requires-clause-within c = rw (
+  c.deref-5.ensures.value,
+  c.deref-4.ensures.value,
+  many (goal.at.literals-requires-clause-within c).After-deref-2,
+)
+    (outputs_within c.gates-gates.ensures.well_formed c.in_ok-plan.ensures)
 
 pub literals-requires-2-clause-places : goal.literals-requires-2-clause-places
 literals-requires-2-clause-places c =
-    small (goal.at.literals-requires-2-clause-places c).After-deref-2 c.deref-6.result.now c.deref-6.ensures.value
+    rw c.deref-6.ensures.value (small (goal.at.literals-requires-2-clause-places c).After-deref-2)
 
 pub literals-requires-2-clause-within : goal.literals-requires-2-clause-within
-literals-requires-2-clause-within c =
-    wires_fit c.deref-7.ensures.value (many (goal.at.literals-requires-2-clause-within c).After-deref-2
-    c.deref-6.result.now c.deref-6.ensures.value) (nexts_within c.gates-gates.ensures.well_formed c.in_ok-plan.ensures)
-
--- what a call wrote for the wires that it was given
-written : {places given : List ℕ} {wires taken found : List Wire} → found ≡ map (move_wire given) taken →
-    given ≡ places → taken ≡ wires → found ≡ map (move_wire places) wires
-written e same same_wires = e ∙ ap₂ (λ (ps : List ℕ) (ws : List Wire). map (move_wire ps) ws) same same_wires
+literals-requires-2-clause-within c = rw (
+  c.deref-7.ensures.value,
+  c.deref-6.ensures.value,
+  many (goal.at.literals-requires-2-clause-within c).After-deref-2,
+)
+    (nexts_within c.gates-gates.ensures.well_formed c.in_ok-plan.ensures)
 
 pub returns-clause-plan : goal.returns-clause-plan
 returns-clause-plan c =
     let b = (goal.at.returns-clause-plan c).After-deref-2 in
     let a = (goal.at.returns-clause-plan c).After-deref in
     let p = c.in_ok-plan.plan in
-    let places = c.in_ok-places.places.items in
     let f = p.size - length c.gates-gates.result.now in
     let order : AreInOrder f c.deref-2.result.now c.deref-3.result.now =
-    subst (λ (ps : List ℕ). AreInOrder f ps c.deref-3.result.now) (sym c.deref-2.ensures.value)
-    (subst (λ (rs : List Row). AreInOrder f places rs) (c.deref.ensures.value ∙ sym c.deref-3.ensures.value)
-    c.in_ok-places.ensures.in_order) in (
+    rw (c.deref-2.ensures.value, c.deref-3.ensures.value, ← c.deref.ensures.value) c.in_ok-places.ensures.in_order in (
       p,
-      places,
+      c.in_ok-places.places.items,
       record {
         is_plan = c.in_ok-plan.ensures;
         are_moved = are_moved b;
         size_is = refl;
         front_is = front_is a;
-        gates_are = c.in_ok-gates_of.ensures f order ∙ ap₂ (λ (ps : List ℕ) (rs : List Row). map (move_row ps) rs)
-            c.deref-2.ensures.value c.deref-3.ensures.value;
-        outputs_are = written c.in_ok-literals.ensures c.deref-4.ensures.value c.deref-5.ensures.value;
-        nexts_are = written c.in_ok-literals-2.ensures c.deref-6.ensures.value c.deref-7.ensures.value;
+        gates_are = rw (c.deref-2.ensures.value, c.deref-3.ensures.value) at (c.in_ok-gates_of.ensures f order);
+        outputs_are = rw (c.deref-4.ensures.value, c.deref-5.ensures.value) at c.in_ok-literals.ensures;
+        nexts_are = rw (c.deref-6.ensures.value, c.deref-7.ensures.value) at c.in_ok-literals-2.ensures;
       },
     )

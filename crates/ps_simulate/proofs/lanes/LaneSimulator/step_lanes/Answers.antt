@@ -12,15 +12,11 @@ use Rattle.ps_simulate.proofs.LaneStepLemmas.{IsTable-lane}
 use Rattle.ps_simulate.proofs.lanes.LaneSimulator.step_lanes.Goals as goal
 use Rattle.ps_simulate.proofs.lanes.LaneSimulator.step_lanes.Goals.{After-fill_words, After-read_words-2}
 
--- a list that takes a vector's place in full
-replaced : (new old : List (List ℕ)) {n : ℕ} → length new ≡ n → take n (new ++ drop (length new) old) ≡ new
-replaced new old {n} each = take_at new _ n each
-
 -- the table behind the gates
 table_is : (c : After-fill_words) → take c.self.inside.values.len
     (c.fill_words.new.values ++ drop (length c.fill_words.new.values) c.self.inside.values.items) ≡
     c.fill_words.new.values
-table_is c = replaced c.fill_words.new.values c.self.inside.values.items
+table_is c = take_at c.fill_words.new.values _ _
     (omega (arith, c.fill_words.auto.values, c.deref_mut.ensures.len))
 
 size_is : (c : After-fill_words) → length c.deref_mut.result.now ≡ c.self.inside.plan.size
@@ -32,47 +28,17 @@ table_size c = c.fill_words.auto.values ∙ size_is c
 worked : (c : After-fill_words) (lane : ℕ) → lane < 256 → IsWorkedOut
     (rows_from c.self.inside.plan.front c.self.inside.plan.gates.items) (lane_of c.args.inputs.now lane)
     (lane_of c.self.inside.latches.items lane) c.self.inside.plan.size (lane_of c.fill_words.new.values lane)
-worked c lane lt =
-    let P : List Operands → List (List ℕ) → ℕ → Type 0 = λ gates latches size.
-    IsWorkedOut (rows_from c.self.inside.plan.front gates) (lane_of c.args.inputs.now lane) (lane_of latches lane) size
-    (lane_of c.fill_words.new.values lane) in
-    let by_gates : P c.self.inside.plan.gates.items c.deref-2.result.now (length c.deref_mut.result.now) =
-    subst (λ (gates : List Operands). P gates c.deref-2.result.now (length c.deref_mut.result.now))
-    c.deref.ensures.value (c.fill_words.ensures lane lt) in
-    let by_latches : P c.self.inside.plan.gates.items c.self.inside.latches.items (length c.deref_mut.result.now) =
-    subst (λ (latches : List (List ℕ)). P c.self.inside.plan.gates.items latches (length c.deref_mut.result.now))
-    c.deref-2.ensures.value by_gates in
-    subst (λ (size : ℕ). P c.self.inside.plan.gates.items c.self.inside.latches.items size) (size_is c) by_latches
-
--- literals within the table, as the calls have them
-fits : {literals given : List ℕ} {m n : ℕ} → given ≡ literals → m ≡ n → All (λ l. l / 2 < n) literals →
-    All (λ l. l / 2 < m) given
-fits {literals} same size within k d lt =
-    let there : k < length literals = omega (arith, lt, ap length same) in
-    omega (arith, within k d there, size, ap (λ (ls : List ℕ). get_or ls k d / 2) same)
+worked c lane lt = rw (c.deref.ensures.value, c.deref-2.ensures.value, size_is c) at (c.fill_words.ensures lane lt)
 
 next_is : (c : After-read_words-2) → take c.self.inside.latches.len
     (c.read_words-2.new.words ++ drop (length c.read_words-2.new.words) c.self.inside.latches.items) ≡
     c.read_words-2.new.words
-next_is c = replaced c.read_words-2.new.words c.self.inside.latches.items
+next_is c = take_at c.read_words-2.new.words _ _
     (omega (arith, c.read_words-2.auto.words, c.deref_mut-2.ensures.len))
 
--- the bits that a call read
-bits_are : (lane : ℕ) {bits : List Bool} {values given : List (List ℕ)} {literals taken : List ℕ} →
-    bits ≡ map (λ l. read (lane_of given lane) (wire_in l)) taken → given ≡ values → taken ≡ literals
-    → bits ≡ map (λ l. read (lane_of values lane) (wire_in l)) literals
-bits_are lane is same same_literals =
-    is ∙ ap₂ (λ (v : List (List ℕ)) (ls : List ℕ). map (λ l. read (lane_of v lane) (wire_in l)) ls) same same_literals
-
 pub fill_words-requires-clause-within : goal.fill_words-requires-clause-within
-fill_words-requires-clause-within c =
-    let s = c.self.inside in
-    let size : s.plan.size ≡ length c.deref_mut.result.now =
-    sym (ap length c.deref_mut.ensures.value ∙ c.self.invariant.values_each) in
-    let P : List Operands → Type 0 =
-    λ gates. All (IsWithin (length c.deref_mut.result.now)) (rows_from s.plan.front gates) in
-    subst P (sym c.deref.ensures.value) (subst (λ (n : ℕ). All (IsWithin n) (rows_from s.plan.front s.plan.gates.items))
-    size (gates_within c.self.invariant))
+fill_words-requires-clause-within c = rw (c.deref.ensures.value, c.deref_mut.ensures.value, c.self.invariant.values_each)
+    (gates_within c.self.invariant)
 
 pub fill_words-requires-clause-fit : goal.fill_words-requires-clause-fit
 fill_words-requires-clause-fit c = omega (
@@ -99,14 +65,12 @@ fill_words-requires-clause-room c =
 
 pub fill_words-requires-clause-constant : goal.fill_words-requires-clause-constant
 fill_words-requires-clause-constant c lane lt =
-    ap (λ (v : List (List ℕ)). get_or (lane_of v lane) 0 Rattle.std.proofs.Common.false) c.deref_mut.ensures.value
-    ∙ constant_there c.self.invariant lane lt
+    rw c.deref_mut.ensures.value (constant_there c.self.invariant lane lt)
 
 pub read_words-requires-clause-within : goal.read_words-requires-clause-within
 read_words-requires-clause-within c =
     let a = (goal.at.read_words-requires-clause-within c).After-fill_words in
-    fits c.deref-3.ensures.value (ap length (c.deref-4.ensures.value ∙ table_is a) ∙ table_size a)
-    (outputs_in_table c.self.invariant)
+    rw (c.deref-3.ensures.value, c.deref-4.ensures.value, table_is a, table_size a) (outputs_in_table c.self.invariant)
 
 pub read_words-requires-clause-fit : goal.read_words-requires-clause-fit
 read_words-requires-clause-fit c = omega (
@@ -120,8 +84,7 @@ read_words-requires-clause-fit c = omega (
 pub read_words-requires-2-clause-within : goal.read_words-requires-2-clause-within
 read_words-requires-2-clause-within c =
     let a = (goal.at.read_words-requires-2-clause-within c).After-fill_words in
-    fits c.deref-5.ensures.value (ap length (c.deref-6.ensures.value ∙ table_is a) ∙ table_size a)
-    (nexts_in_table c.self.invariant)
+    rw (c.deref-5.ensures.value, c.deref-6.ensures.value, table_is a, table_size a) (nexts_in_table c.self.invariant)
 
 pub read_words-requires-2-clause-fit : goal.read_words-requires-2-clause-fit
 read_words-requires-2-clause-fit c =
@@ -145,12 +108,8 @@ pub invariant_of-self : goal.invariant_of-self
 invariant_of-self c =
     let a = (goal.at.invariant_of-self c).After-fill_words in
     let b = (goal.at.invariant_of-self c).After-read_words-2 in
-    let s = c.self.inside in
     let t = c.self.invariant in
-    let P : List (List ℕ) → List (List ℕ) → Type 0 = λ values latches. AreTables s.circuit.now s.plan values latches in
-    subst (λ (values : List (List ℕ)). P values (take s.latches.len
-    (c.read_words-2.new.words ++ drop (length c.read_words-2.new.words) s.latches.items))) (sym (table_is a))
-    (subst (P c.fill_words.new.values) (sym (next_is b)) (record {
+    rw (table_is a, next_is b) (record {
       plan = t.plan;
       places = t.places;
       is_lane_plan = t.is_lane_plan;
@@ -158,7 +117,7 @@ invariant_of-self c =
       tables =
           λ lane lt. IsTable-lane t c.args.inputs.now c.fill_words.new.values lane lt (letters_fit b) (worked a lane lt)
           c.read_words-2.new.words (next_length b);
-    }))
+    })
 
 pub returns-clause-steps : goal.returns-clause-steps
 returns-clause-steps c lane lt =
@@ -170,7 +129,7 @@ returns-clause-steps c lane lt =
     subst (λ (v : LaneSimulation). Steps v.circuit (lane_of v.latches lane) (lane_of c.args.inputs.now lane)
     (lane_of c.read_words.new.words lane) (lane_of next lane)) c.self.view_is
     (Steps-lane c.self.invariant c.args.inputs.now c.fill_words.new.values lane lt (letters_fit b)
-    (worked a lane lt) c.read_words.new.words next (bits_are lane (c.read_words.ensures lane lt)
-    (c.deref-4.ensures.value ∙ table_is a) c.deref-3.ensures.value)
-    (ap (λ (ws : List (List ℕ)). lane_of ws lane) (next_is b) ∙ bits_are lane (c.read_words-2.ensures lane lt)
-    (c.deref-6.ensures.value ∙ table_is a) c.deref-5.ensures.value))
+    (worked a lane lt) c.read_words.new.words next
+    (rw (c.deref-4.ensures.value, table_is a, c.deref-3.ensures.value) at (c.read_words.ensures lane lt))
+    (ap (λ (ws : List (List ℕ)). lane_of ws lane) (next_is b)
+    ∙ rw (c.deref-6.ensures.value, table_is a, c.deref-5.ensures.value) at (c.read_words-2.ensures lane lt)))

@@ -12,15 +12,11 @@ use Rattle.ps_simulate.proofs.StepLemmas.{IsTable-worked_out}
 use Rattle.ps_simulate.proofs.simulator.Simulator.step.Goals as goal
 use Rattle.ps_simulate.proofs.simulator.Simulator.step.Goals.{After-fill, After-read_all-2}
 
--- a list that takes a vector's place in full
-replaced : (new old : List Bool) {n : ℕ} → length new ≡ n → take n (new ++ drop (length new) old) ≡ new
-replaced new old {n} each = take_at new _ n each
-
 -- the table behind the rows
 table_is : (c : After-fill) → take c.self.inside.values.len (c.fill.new.values ++
     drop (length c.fill.new.values) c.self.inside.values.items) ≡ c.fill.new.values
 table_is c =
-    replaced c.fill.new.values c.self.inside.values.items (omega (arith, c.fill.auto.values, c.deref_mut.ensures.len))
+    take_at c.fill.new.values _ _ (omega (arith, c.fill.auto.values, c.deref_mut.ensures.len))
 
 size_is : (c : After-fill) → length c.deref_mut.result.now ≡ length (variables c.self.inside.circuit.now)
 size_is c = ap length c.deref_mut.ensures.value ∙ c.self.invariant.values_each
@@ -30,54 +26,27 @@ table_size c = c.fill.auto.values ∙ size_is c
 
 worked : (c : After-fill) → IsWorkedOut c.self.inside.plan.rows.items c.args.inputs.now c.self.inside.latches.items
     (length (variables c.self.inside.circuit.now)) c.fill.new.values
-worked c =
-    let P : List Row → List Bool → ℕ → Type 0 =
-    λ rows latches size. IsWorkedOut rows c.args.inputs.now latches size c.fill.new.values in
-    let by_rows : P c.self.inside.plan.rows.items c.deref-2.result.now (length c.deref_mut.result.now) =
-    subst (λ (rows : List Row). P rows c.deref-2.result.now (length c.deref_mut.result.now)) c.deref.ensures.value
-    c.fill.ensures in
-    let by_latches : P c.self.inside.plan.rows.items c.self.inside.latches.items (length c.deref_mut.result.now) =
-    subst (λ (latches : List Bool). P c.self.inside.plan.rows.items latches (length c.deref_mut.result.now))
-    c.deref-2.ensures.value by_rows in
-    subst (λ (size : ℕ). P c.self.inside.plan.rows.items c.self.inside.latches.items size) (size_is c) by_latches
-
--- wires within the table, as the calls have them
-fits : {wires given : List Wire} {m n : ℕ} → given ≡ wires → m ≡ n → All (λ w. w.place < n) wires →
-    All (λ w. w.place < m) given
-fits {wires} same size within k d lt =
-    let there : k < length wires = omega (arith, lt, ap length same) in
-    let h = within k d there in
-    omega (arith, h, size, ap (λ (ws : List Wire). (get_or ws k d).place) same)
+worked c = rw (c.deref.ensures.value, c.deref-2.ensures.value, size_is c) at c.fill.ensures
 
 next_is : (c : After-read_all-2) → take c.self.inside.latches.len
     (c.read_all-2.new.bits ++ drop (length c.read_all-2.new.bits) c.self.inside.latches.items) ≡ c.read_all-2.new.bits
-next_is c = replaced c.read_all-2.new.bits c.self.inside.latches.items
+next_is c = take_at c.read_all-2.new.bits _ _
     (omega (arith, c.read_all-2.auto.bits, c.deref_mut-2.ensures.len))
 
--- the bits that a call read
-bits_are : {bits values given : List Bool} {wires taken : List Wire} → bits ≡ map (read given) taken → given ≡ values →
-    taken ≡ wires → bits ≡ map (read values) wires
-bits_are is same same_wires = is ∙ ap₂ (λ (v : List Bool) (ws : List Wire). map (read v) ws) same same_wires
-
 pub fill-requires-clause-within : goal.fill-requires-clause-within
-fill-requires-clause-within c =
-    let circuit = c.self.inside.circuit.now in
-    let size : length (variables circuit) ≡ length c.deref_mut.result.now = sym c.self.invariant.values_each
-    ∙ sym (ap length c.deref_mut.ensures.value) in
-    let P : List Row → Type 0 = λ rows. All (IsWithin (length c.deref_mut.result.now)) rows in
-    subst P (sym c.deref.ensures.value) (subst (λ (n : ℕ). All (IsWithin n) c.self.inside.plan.rows.items) size
-    (rows_within c.self.invariant.is_circuit c.self.invariant.is_plan))
+fill-requires-clause-within c = rw (c.deref.ensures.value, c.deref_mut.ensures.value, c.self.invariant.values_each)
+    (rows_within c.self.invariant.is_circuit c.self.invariant.is_plan)
 
 pub read_all-requires-clause-within : goal.read_all-requires-clause-within
 read_all-requires-clause-within c =
     let a = (goal.at.read_all-requires-clause-within c).After-fill in
-    fits c.deref-3.ensures.value (ap length (c.deref-4.ensures.value ∙ table_is a) ∙ table_size a)
+    rw (c.deref-3.ensures.value, c.deref-4.ensures.value, table_is a, table_size a)
     (outputs_within c.self.invariant.is_circuit c.self.invariant.is_plan)
 
 pub read_all-requires-2-clause-within : goal.read_all-requires-2-clause-within
 read_all-requires-2-clause-within c =
     let a = (goal.at.read_all-requires-2-clause-within c).After-fill in
-    fits c.deref-5.ensures.value (ap length (c.deref-6.ensures.value ∙ table_is a) ∙ table_size a)
+    rw (c.deref-5.ensures.value, c.deref-6.ensures.value, table_is a, table_size a)
     (nexts_within c.self.invariant.is_circuit c.self.invariant.is_plan)
 
 next_length : (c : After-read_all-2) → length c.read_all-2.new.bits ≡ length c.self.inside.circuit.now.latches
@@ -87,12 +56,7 @@ pub invariant_of-self : goal.invariant_of-self
 invariant_of-self c =
     let a = (goal.at.invariant_of-self c).After-fill in
     let b = (goal.at.invariant_of-self c).After-read_all-2 in
-    let P : List Bool → List Bool → Type 0 =
-    λ values latches. IsTable c.self.inside.circuit.now c.self.inside.plan values latches in
-    subst (λ (values : List Bool). P values (take c.self.inside.latches.len
-    (c.read_all-2.new.bits ++ drop (length c.read_all-2.new.bits) c.self.inside.latches.items))) (sym (table_is a))
-    (subst (P c.fill.new.values) (sym (next_is b)) (IsTable-worked_out c.read_all-2.new.bits c.self.invariant
-    (worked a) (next_length b)))
+    rw (table_is a, next_is b) (IsTable-worked_out c.read_all-2.new.bits c.self.invariant (worked a) (next_length b))
 
 pub returns-clause-steps : goal.returns-clause-steps
 returns-clause-steps c =
@@ -103,6 +67,6 @@ returns-clause-steps c =
     subst (λ (s : Simulation). Steps s.circuit s.latches c.args.inputs.now c.read_all.new.bits next) c.self.view_is
     (Steps-worked_out c.self.invariant.is_circuit c.self.invariant.is_plan
     (c.requires.inputs_fit ∙ sym (ap (λ (s : Simulation). length s.circuit.inputs) c.self.view_is))
-    c.self.invariant.latches_each (worked a) (bits_are c.read_all.ensures (c.deref-4.ensures.value ∙ table_is a)
-    c.deref-3.ensures.value) (next_is b ∙ bits_are c.read_all-2.ensures (c.deref-6.ensures.value ∙ table_is a)
-    c.deref-5.ensures.value))
+    c.self.invariant.latches_each (worked a)
+    (rw (c.deref-4.ensures.value, table_is a, c.deref-3.ensures.value) at c.read_all.ensures)
+    (next_is b ∙ rw (c.deref-6.ensures.value, table_is a, c.deref-5.ensures.value) at c.read_all-2.ensures))
