@@ -12,12 +12,12 @@ operands-items : {n : _} (k : Row_of-Label n) → operands k ≡ row_of (express
 operands-items end_of-Label = refl
 operands-items (more_of-Label l k) = ap (more (expression l)) (operands-items k)
 
+operands-vec : (v : Vec Label Global) → operands (hidden-the_row-Label-0 v) ≡ row_of (expressions v.items)
+operands-vec v = operands-items (hidden-the_row-Label-0 v)
+    ∙ ap (λ (ls : List Label). row_of (expressions ls)) (items_hidden-the_row-Label-0 v)
+
 pub expression-Both : (v : Vec Label Global) → expression (Both v) ≡ all_of (row_of (expressions v.items))
-expression-Both v =
-    ap all_of (operands-items (hidden-the_row-Label-0 v) ∙ ap (λ (ls : List Label). row_of (expressions ls))
-    (items_hidden-the_row-Label-0 v))
+expression-Both v = ap all_of (operands-vec v)
 
 pub expression-Either : (v : Vec Label Global) → expression (Either v) ≡ any_of (row_of (expressions v.items))
-expression-Either v =
-    ap any_of (operands-items (hidden-the_row-Label-0 v) ∙ ap (λ (ls : List Label). row_of (expressions ls))
-    (items_hidden-the_row-Label-0 v))
+expression-Either v = ap any_of (operands-vec v)

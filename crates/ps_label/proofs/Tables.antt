@@ -30,11 +30,10 @@ mutual
   any-front known x letter last h = refl
   any-front known x letter (more e es) h = rw (truth-front known x letter e h.0, any-front known x letter es h.1) refl
 
-pub push_ordered : (k : ℕ) (es : List Expression) (e : Expression) → AreOrderedFrom k es → IsWithin (k + length es) e →
-    AreOrderedFrom k (es ++ e ∷ [])
-push_ordered k [] e o h = ((let g : IsWithin k e = rw add-zero at h in g), tt)
-push_ordered k (x ∷ xs) e o h =
-    (o.0, push_ordered (k + 1) xs e o.1 (let g : k + suc (length xs) ≡ (k + 1) + length xs = omega arith in rw g at h))
+pub push_ordered : (k n : ℕ) (es : List Expression) (e : Expression) → AreOrderedFrom k es → n ≡ k + length es →
+    IsWithin n e → AreOrderedFrom k (es ++ e ∷ [])
+push_ordered k n [] e o is h = (let z : n ≡ k = omega arith in rw z at h, tt)
+push_ordered k n (x ∷ xs) e o is h = (o.0, push_ordered (k + 1) n xs e o.1 (omega arith) h)
 
 -- what the truths of the aliases from some place on look like
 truths_grow : (known : List Bool) (letter : ℕ) (es : List Expression) →
@@ -60,8 +59,7 @@ table_from known letter (e ∷ es) o (suc k) h =
     let len : length (known ++ b ∷ []) ≡ length known + 1 = length-append known (b ∷ []) in
     let here : length known + suc k ≡ length (known ++ b ∷ []) + k = omega arith in
     let o' : AreOrderedFrom (length (known ++ b ∷ [])) es = rw len o.1 in
-    let below : k < length es = omega arith in
-    rw here (table_from (known ++ b ∷ []) letter es o' k below)
+    rw here (table_from (known ++ b ∷ []) letter es o' k (omega arith))
 
 pub table : (aliases : List Expression) (letter : ℕ) → AreOrdered aliases →
     AreTruths aliases letter (alias_truths aliases letter)
@@ -70,7 +68,7 @@ table aliases letter o =
     let r = truths_grow [] letter aliases in
     record {
       one_each = ap length r.1 ∙ r.2;
-      each = λ k h. let g = table_from [] letter aliases o k h in rw zero-add at g;
+      each = λ k h. rw zero-add at (table_from [] letter aliases o k h);
     }
 
 -- a table that fits the aliases from some place on is what the definition makes of its front
@@ -80,22 +78,19 @@ only_from : (front back : List Bool) (letter : ℕ) (es : List Expression) → A
     (get_or es k (constant false))) →
     front ++ back ≡ truths_behind front letter es
 only_from front [] letter [] o len fits = append-nil front
-only_from front (b ∷ back) letter [] o len fits = absurd (let n : suc (length back) ≡ 0 = len in omega arith)
-only_from front [] letter (e ∷ es) o len fits = absurd (let n : 0 ≡ suc (length es) = len in omega arith)
+only_from front (b ∷ back) letter [] o len fits = absurd (omega arith)
+only_from front [] letter (e ∷ es) o len fits = absurd (omega arith)
 only_from front (b ∷ back) letter (e ∷ es) o len fits =
-    let some : 0 < suc (length es) = omega arith in
-    let first : b ≡ truth front letter e = sym (get_or-append-add front (b ∷ back) 0 false) ∙ fits 0 some
+    let first : b ≡ truth front letter e = sym (get_or-append-add front (b ∷ back) 0 false) ∙ fits 0 (omega arith)
     ∙ truth-front front (b ∷ back) letter e o.0 in
     let joined : (front ++ b ∷ []) ++ back ≡ front ++ b ∷ back = append_assoc front (b ∷ []) back in
     let longer : length (front ++ b ∷ []) ≡ length front + 1 = length-append front (b ∷ []) in
     let o' : AreOrderedFrom (length (front ++ b ∷ [])) es = rw longer o.1 in
-    let len' : length back ≡ length es = omega (arith, len) in
     let later : (k : ℕ) → k < length es → get_or ((front ++ b ∷ []) ++ back) (length (front ++ b ∷ []) + k) false ≡
     truth ((front ++ b ∷ []) ++ back) letter (get_or es k (constant false)) =
-    λ k h. let below : suc k < suc (length es) = omega arith in
-    let there : length (front ++ b ∷ []) + k ≡ length front + suc k = omega arith in
-    rw (joined, there) (fits (suc k) below) in
-    sym joined ∙ only_from (front ++ b ∷ []) back letter es o' len' later
+    λ k h. let there : length (front ++ b ∷ []) + k ≡ length front + suc k = omega arith in
+    rw (joined, there) (fits (suc k) (omega arith)) in
+    sym joined ∙ only_from (front ++ b ∷ []) back letter es o' (omega arith) later
     ∙ ap (λ (x : Bool). truths_behind (front ++ x ∷ []) letter es) first
 
 pub only_table : (aliases : List Expression) (letter : ℕ) (known : List Bool) → AreOrdered aliases →

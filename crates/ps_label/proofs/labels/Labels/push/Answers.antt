@@ -1,4 +1,4 @@
-use Rattle.std.proofs.Common.{◌+◌, length, zero-add}
+use Rattle.std.proofs.Common.{length, arith}
 use Rattle.std.proofs.lemmas.List.{map-append, length-map}
 use Rattle.ps_label.specs.Expression.{expression, IsWithin}
 use Rattle.ps_label.specs.Truth.{expressions}
@@ -7,7 +7,7 @@ use Rattle.ps_label.proofs.labels.Labels.push.Goals as goal
 
 pub invariant_of-self-2 : goal.invariant_of-self-2
 invariant_of-self-2 c =
-    let within : IsWithin (0 + length (expressions c.self.inside.aliases.items)) (expression c.args.label) =
-    rw (zero-add, length-map, c.self.view_is) c.requires.within in
-    rw (c.in_ok-push.ensures.items, map-append) (push_ordered 0 (expressions c.self.inside.aliases.items)
-    (expression c.args.label) c.self.invariant within)
+    let within : IsWithin (length (expressions c.self.inside.aliases.items)) (expression c.args.label) =
+    rw (length-map, c.self.view_is) c.requires.within in
+    rw (c.in_ok-push.ensures.items, map-append) (push_ordered 0 _ (expressions c.self.inside.aliases.items)
+    (expression c.args.label) c.self.invariant (omega arith) within)
