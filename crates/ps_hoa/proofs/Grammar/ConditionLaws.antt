@@ -11,8 +11,8 @@ use Rattle.ps_text.proofs.Simple.{Taken, BadSign, none_is_some, laws_one, laws_m
 use Rattle.ps_hoa.specs.Tokens.{Sign}
 use Rattle.ps_hoa.specs.Operands.{is_not, is_left, mark}
 use Rattle.ps_hoa.specs.Conditions.{Condition, constant_of, constant_value, constant_in, often_value, often_in}
-use Rattle.ps_hoa.specs.Conditions.{IsBadSet, set, any_set, closed_set, often_or_not, visit, IsBadStart}
-use Rattle.ps_hoa.specs.Conditions.{BadStart, atom, together, operand, condition}
+use Rattle.ps_hoa.specs.Conditions.{IsBadSet, set, any_set, closed_set, often_or_not, visit, IsBadStart, BadStart, atom}
+use Rattle.ps_hoa.specs.Conditions.{together, operand, condition}
 use Rattle.ps_hoa.specs.declared.fault.HoaCause.{HoaCause}
 use Rattle.ps_hoa.specs.declared.tokens.Kind.{Kind}
 use Rattle.ps_hoa.specs.declared.tokens.Kind.TheVariants.{Word, Int, LeftParen}
@@ -116,14 +116,12 @@ laws_constant room = laws_one constant_in (BadStart room) Odd (record { kind = W
 
 pub atom_often : (room : ℕ) → Apart (FirstAtom room) (Taken often_in)
 atom_often room t (inl h) k = constant_often t h k
-atom_often room t (inr h) k =
-    apart is_left is_word refl t (left_bad room t.kind h.0 h.1) (word_often t k)
+atom_often room t (inr h) k = apart is_left is_word refl t (left_bad room t.kind h.0 h.1) (word_often t k)
 
-laws_atom : (room : ℕ) (test : Kind → Bool) → Within (Of is_word) (Of test) → Within (BadSign (BadStart room)) (Of test) →
-    Tight (atom room) test
+laws_atom : (room : ℕ) (test : Kind → Bool) → Within (Of is_word) (Of test) →
+    Within (BadSign (BadStart room)) (Of test) → Tight (atom room) test
 laws_atom room test word bad = wider_first (laws_forms (laws_constant room) laws_visit (atom_often room))
-    (both_within (both_within (λ t h. word t (word_constant t h)) bad)
-    (λ t h. word t (word_often t h)))
+    (both_within (both_within (λ t h. word t (word_constant t h)) bad) (λ t h. word t (word_often t h)))
 
 pub laws_word : (room : ℕ) → Tight (atom (suc room)) is_word
 laws_word room = laws_atom (suc room) is_word (λ t h. h) (λ t h. absurd (none_bad room t.kind h.0 h.1))

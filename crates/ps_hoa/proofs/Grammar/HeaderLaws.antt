@@ -1,5 +1,5 @@
 -- The laws of what stands behind the name of each of the header's items, and how the parts of an item are joined.
---     laws_state_count, .., laws_values      the laws, from the end of an item to its front
+--     laws_counted_names, .., laws_strings      the laws, where an item has more than one part behind its name
 --     joint_states, .., joint_other      the parts of an item, from the front
 -- proofs/Grammar/WholeHeader goes on with any item and the header.
 use Rattle.std.proofs.Common.{◌≡◌, ℕ, false, List, [], codes, refl}
@@ -12,11 +12,11 @@ use Rattle.ps_hoa.specs.Tokens.{Sign}
 use Rattle.ps_hoa.specs.Operands.{number_limit, nesting_limit}
 use Rattle.ps_hoa.specs.Labels.{label}
 use Rattle.ps_hoa.specs.Conditions.{condition}
-use Rattle.ps_hoa.specs.Header.{HeaderData, state_limit, proposition_limit, set_limit, name_value, item_name, int, string}
-use Rattle.ps_hoa.specs.Header.{state_count, IsSecondStart, IsAlternating, with_start, proposition_name}
+use Rattle.ps_hoa.specs.Header.{HeaderData, state_limit, proposition_limit, set_limit, name_value, item_name, int}
+use Rattle.ps_hoa.specs.Header.{string, state_count, IsSecondStart, IsAlternating, with_start, proposition_name}
 use Rattle.ps_hoa.specs.Header.{with_names, counted_names, header_scope, with_alias, named_label, with_acceptance}
-use Rattle.ps_hoa.specs.Header.{counted_condition, index, controlled, one_string}
-use Rattle.ps_hoa.specs.Header.{second_string, strings, other_value, read_over}
+use Rattle.ps_hoa.specs.Header.{counted_condition, index, controlled, one_string, second_string, strings, other_value}
+use Rattle.ps_hoa.specs.Header.{read_over}
 use Rattle.ps_hoa.specs.Inner.Items.{is_value}
 use Rattle.ps_hoa.specs.declared.fault.HoaCause.{HoaCause}
 use Rattle.ps_hoa.specs.declared.tokens.Kind.TheVariants.{Header, Word}
@@ -25,8 +25,8 @@ use Rattle.ps_hoa.proofs.Grammar.OperandLaws.{Odd, Of, Known, Tight}
 use Rattle.ps_hoa.proofs.Grammar.LabelLaws.{AndOrMore, laws_label}
 use Rattle.ps_hoa.proofs.Grammar.ConditionLaws.{is_int, laws_condition}
 use Rattle.ps_hoa.proofs.Grammar.SignLaws.{is_string, is_alias, Named, Other, some_there, is_unknown, plain_named}
-use Rattle.ps_hoa.proofs.Grammar.SignLaws.{plain_other, laws_name, laws_int, laws_string, laws_proposition_name, new_alias}
-use Rattle.ps_hoa.proofs.Grammar.SignLaws.{laws_new_alias, laws_alternating}
+use Rattle.ps_hoa.proofs.Grammar.SignLaws.{plain_other, laws_name, laws_int, laws_string, laws_proposition_name}
+use Rattle.ps_hoa.proofs.Grammar.SignLaws.{new_alias, laws_new_alias, laws_alternating}
 
 joint_named : {V : Type 0} {Q : Part Sign V HoaCause} {First More : Sign → Type 0} {Null : Type 0} (name : List ℕ) →
     is_unknown name ≡ false → Laws Odd Q First More Null → Joint (item_name name) (λ _. Q)

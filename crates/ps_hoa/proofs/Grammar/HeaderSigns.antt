@@ -8,7 +8,7 @@ use Rattle.ps_hoa.proofs.Grammar.SignLaws.{same_name}
 use Rattle.ps_text.specs.Answers.{Piece, Stream}
 use Rattle.ps_text.specs.Parts.{one, NoBad, refusal_of}
 use Rattle.ps_text.specs.Readers.{Meets}
-use Rattle.ps_hoa.specs.Causes.{cause_number, hoa_causes, found_of}
+use Rattle.ps_hoa.specs.Causes.{cause_number, hoa_causes, found_of, HoaFault}
 use Rattle.ps_hoa.specs.Inner.Flaws.{body_in}
 use Rattle.ps_hoa.specs.Header.{HeaderData, int_in, IsAbove, string_in, IsBadName, IsBadAlias, IsSecondStart, IsBadBody}
 use Rattle.ps_hoa.specs.Inner.Items.{start_name_in, alias_name_in, read_over_in, other_in}
@@ -18,7 +18,6 @@ use Rattle.ps_hoa.specs.Scan.{next_of, behind_next}
 use Rattle.ps_hoa.specs.Inner.Signs.{IsTestOf, name_in}
 use Rattle.ps_hoa.specs.Tokens.{Sign}
 use Rattle.ps_hoa.specs.declared.fault.HoaCause.{HoaCause}
-use Rattle.ps_hoa.specs.Causes.{HoaFault}
 use Rattle.ps_text.specs.declared.faults.Fault.TheVariants.{Text as Fault}
 use Rattle.ps_hoa.specs.declared.tokens.Kind.{Kind}
 use Rattle.ps_hoa.specs.declared.tokens.Kind.TheVariants.{Header, Int, Text, Word, AliasName, Body, Finish}
@@ -89,17 +88,12 @@ module _ {V X : Type 0} (view : X → V) (take : Sign → Option V) (Bad : Sign 
     (e : HoaFault) where
   pub takes_refused : take piece.sign ≡ None → ((g : HoaCause) → Bad piece.sign g → ⊥) →
       e ≡ Fault (refusal_of hoa_causes (Some piece.sign)) piece.start → Takes view take Bad piece (Err e)
-  takes_refused none good is =
-      subst (λ f. Takes view take Bad piece (Err f)) (sym is) (
-        refl,
-        inr (record { none = none; good = good; cause = refl }),
-      )
+  takes_refused none good is = rw is (refl, inr (record { none = none; good = good; cause = refl }))
 
   pub takes_bad : (f : HoaCause) → Bad piece.sign f → ((g : HoaCause) → Bad piece.sign g →
       cause_number f ≤ cause_number g) → e ≡ Fault f piece.start → Takes view take Bad piece (Err e)
-  takes_bad f bad least is =
-      subst (λ y. Takes view take Bad piece (Err y)) (sym is) (refl, inl (record { stands = bad; least = least }))
+  takes_bad f bad least is = rw is (refl, inl (record { stands = bad; least = least }))
 
 -- the only cause that there is
 pub least_same : (f g : HoaCause) → g ≡ f → cause_number f ≤ cause_number g
-least_same f g e = subst (λ z. cause_number f ≤ cause_number z) (sym e) (omega arith)
+least_same f g e = rw e (omega arith)

@@ -1,26 +1,23 @@
 -- Which item stands at the next sign.
 --     stands_next      that item is read in place of any item
 --     enters_next, avoids_next      an item is entered, or none begins
-use Rattle.std.proofs.Common.{◌≡◌, ℕ, List, Option, None, Some, Result, Ok, sym, ap, subst, inl, ◌∙◌}
+use Rattle.std.proofs.Common.{◌≡◌, ℕ, List, None, Some, Result, Ok, sym, ap, subst, ◌∙◌}
 use Rattle.ps_text.specs.Answers.{Stream, next_of as next_sign}
-use Rattle.ps_text.specs.Parts.{Part, one, then_by}
+use Rattle.ps_text.specs.Parts.{Part, then_by}
 use Rattle.ps_text.proofs.Laws.{Joint}
 use Rattle.ps_text.proofs.Simple.{none_is_some}
-use Rattle.ps_text.proofs.Covered.{Avoids, Enters, enters_one, enters_then}
+use Rattle.ps_text.proofs.Covered.{Avoids, Enters}
 use Rattle.ps_text.proofs.Branches.{Stands}
 use Rattle.ps_text.proofs.Choices.{stands_form, enters_form}
 use Rattle.ps_hoa.specs.Header.{HeaderData, item_name, form_of, item}
-use Rattle.ps_hoa.specs.ItemNames as items
 use Rattle.ps_hoa.specs.ItemNames.{ItemName}
 use Rattle.ps_hoa.specs.Inner.Items.{item_at}
 use Rattle.ps_hoa.specs.Scan.{next_of, behind_next}
 use Rattle.ps_hoa.specs.Tokens.{Sign}
 use Rattle.ps_hoa.specs.declared.fault.HoaCause.{HoaCause}
 use Rattle.ps_hoa.specs.declared.tokens.Kind.TheVariants.{Header, Finish}
-use Rattle.ps_hoa.proofs.Grammar.HeaderLaws.{joint_states, joint_start, joint_names, joint_alias}
-use Rattle.ps_hoa.proofs.Grammar.HeaderLaws.{joint_acceptance}
-use Rattle.ps_hoa.proofs.Grammar.HeaderLaws.{joint_controllable, joint_tool, joint_name_item, other_name, joint_other}
-use Rattle.ps_hoa.proofs.Grammar.WholeHeader.{laws_form, ItemFirst, first_header}
+use Rattle.ps_hoa.proofs.Grammar.HeaderLaws.{other_name}
+use Rattle.ps_hoa.proofs.Grammar.WholeHeader.{form, laws_form, ItemFirst, first_header}
 use Rattle.ps_hoa.proofs.Grammar.ItemNames.{StartsWith, begun}
 use Rattle.ps_hoa.proofs.Reading.NextSign.{next_there, next_same}
 use Rattle.ps_hoa.proofs.Grammar.SignLaws.{Named, Other}
@@ -29,23 +26,6 @@ use Rattle.ps_hoa.proofs.Reading.SingleSigns.{reads_one}
 use Rattle.ps_text.specs.Readers.{Reads, Meets}
 use Rattle.ps_hoa.specs.Causes.{HoaFault, found_of, hoa_causes}
 use Rattle.ps_hoa.proofs.Reading.HeaderExits.{behind_first}
-
-enters : {A V : Type 0} {take : Sign → Option A} {Bad : Sign → HoaCause → Type 0} {Q : A → Part Sign V HoaCause}
-    {t : Sign} {v : A} → Joint (one take Bad) Q → take t ≡ Some v → Enters (then_by (one take Bad) Q) (Some t)
-enters {take = take} {Bad = Bad} {Q = Q} {t = t} {v = v} j e = enters_then (one take Bad) Q j (Some t)
-    (enters_one take Bad t (inl (v, e)))
-
--- at its name, an item is entered
-enters_at_name : (h : HeaderData) (name : ItemName) (t : Sign) → StartsWith name t → Enters (form_of h name) (Some t)
-enters_at_name h items.states t n = enters (joint_states h) n
-enters_at_name h items.start t n = enters (joint_start h) n
-enters_at_name h items.propositions t n = enters (joint_names h) n
-enters_at_name h items.alias t n = enters (joint_alias h) n
-enters_at_name h items.acceptance t n = enters (joint_acceptance h) n
-enters_at_name h items.controllable t n = enters (joint_controllable h) n
-enters_at_name h items.tool t n = enters (joint_tool h) n
-enters_at_name h items.name t n = enters (joint_name_item h) n
-enters_at_name h items.other t n = enters (joint_other h) n
 
 module _ (s : Stream Sign) where
   -- an item is never the end of the text
@@ -77,7 +57,7 @@ module _ (s : Stream Sign) where
       Enters (item h) (next_sign s)
   enters_next h name e = subst (Enters (item h)) (sym (item_there name e))
       (enters_form (form_of h) item_at (laws_form h) name (Some (next_of s).sign)
-      (enters_at_name h name (next_of s).sign (begun name (next_of s).sign e)))
+      ((form h name).enters (next_of s).sign (begun name (next_of s).sign e)))
 
   pub avoids_next : item_at (next_of s).sign ≡ None → Avoids ItemFirst (next_sign s)
   avoids_next e t x k = none_is_some k.0 (sym e ∙ ap item_at (next_same s t x) ∙ k.1)

@@ -1,7 +1,8 @@
 -- Which item begins with a sign, by the table of names.
 --     StartsWith item t      the sign is that item's name
 --     begins, begun      so it is exactly where the table tells that item
-use Rattle.std.proofs.Common.{◌⊎◌, inl, inr, ◌≡◌, ℕ, cond, List, [], ◌∷◌, codes, Option, None, Some, is_some, refl, ap, subst, ◌∙◌}
+use Rattle.std.proofs.Common.{◌⊎◌, inl, inr, ◌≡◌, ℕ, cond, List, [], ◌∷◌, codes, Option, None, Some, is_some, refl, ap}
+use Rattle.std.proofs.Common.{subst, ◌∙◌}
 use Rattle.ps_text.proofs.Simple.{none_is_some, same_some}
 use Rattle.ps_hoa.specs.Header.{name_value, other_value}
 use Rattle.ps_hoa.specs.ItemNames as items

@@ -2,8 +2,8 @@
 --     within, within_both, apart      the signs of a set, or of two, are in another one, or none is
 --     test_of      a set has one kind
 --     plain      no sign of a set is wrong by itself
---     laws_sign, laws_value, laws_mark      the laws of a sign whose kind is of a set: that stands there or is bad, that
---               is bad only where it has a value, that has no value
+--     laws_sign, laws_value, laws_mark      the laws of a sign whose kind is of a set: of any, of one that is bad only
+--               where it has a value, of one without a value
 --     laws_behind_option      a part behind one that may be empty
 use Rattle.std.proofs.Common.{◌≡◌, ℕ, zero, suc, ◌<◌, Bool, true, false, not, cond, List, [], ◌∷◌, length, get_or}
 use Rattle.std.proofs.Common.{Option, None, Some, is_some, refl, sym, ap, subst, ◌∙◌, arith}

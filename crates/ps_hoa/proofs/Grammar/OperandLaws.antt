@@ -23,8 +23,7 @@ use Rattle.ps_text.proofs.Branches.{many_ends, many_fails, carries_many}
 use Rattle.ps_text.proofs.Whole.{Own}
 use Rattle.ps_hoa.specs.Tokens.{Sign}
 use Rattle.ps_hoa.specs.Causes.{hoa_causes}
-use Rattle.ps_hoa.specs.Operands.{is_right, mark_in, mark, closed, single, with_last, joined, further, operands}
-use Rattle.ps_hoa.specs.Operands.{row}
+use Rattle.ps_hoa.specs.Operands.{is_right, mark_in, mark, closed, single, with_last, joined, further, operands, row}
 use Rattle.ps_hoa.specs.declared.fault.HoaCause.{HoaCause}
 use Rattle.ps_hoa.specs.declared.tokens.Kind.{Kind}
 
@@ -35,8 +34,8 @@ Odd = Own hoa_causes
 abbrev pub Of : (Kind → Bool) → Sign → Type 0
 Of test sign = test sign.kind ≡ true
 
--- a part by the kinds of its signs: with which it begins, with which it goes on, and if it may be empty; and one that is
--- not empty and goes on with no sign
+-- a part by the kinds of its signs: with which it begins, with which it goes on, and if it may be empty; and one that
+-- is not empty and goes on with no sign
 abbrev pub Known : {V : Type 0} → Part Sign V HoaCause → (Kind → Bool) → (Kind → Bool) → Type 0 → Type 0
 Known part first more null = Laws Odd part (Of first) (Of more) null
 
@@ -75,69 +74,68 @@ module _ {V : Type 0} {P : Part Sign V HoaCause} {First More : Sign → Type 0}
   laws_held l a = laws_next l (λ v. laws_mapped _ _ r) a
 
 module _ {V : Type 0} (sign : Kind → Bool) (operand : Part Sign V HoaCause) {First More : Sign → Type 0}
-    (m : Tight (mark sign) sign) (l : Laws Odd operand First More ⊥) (apart : Apart More (Of sign))
-  where
-    abbrev item : List V → Part Sign (List V) HoaCause
-    item vs = further sign operand vs
+    (m : Tight (mark sign) sign) (l : Laws Odd operand First More ⊥) (apart : Apart More (Of sign)) where
+  abbrev item : List V → Part Sign (List V) HoaCause
+  item vs = further sign operand vs
 
-    laws_item : (vs : List V) → Laws Odd (item vs) (Of sign) More ⊥
-    laws_item vs = laws_behind sign m (laws_mapped _ _ l)
+  laws_item : (vs : List V) → Laws Odd (item vs) (Of sign) More ⊥
+  laws_item vs = laws_behind sign m (laws_mapped _ _ l)
 
-    laws_items : (vs : List V) → Laws Odd (many item vs) (Of sign) (Or More (Of sign)) (Unit {0})
-    laws_items vs = laws_many item laws_item apart vs
+  laws_items : (vs : List V) → Laws Odd (many item vs) (Of sign) (Or More (Of sign)) (Unit {0})
+  laws_items vs = laws_many item laws_item apart vs
 
-    pub joint_operands : Joint (mapped single operand) (λ vs. many (λ ws. further sign operand ws) vs)
-    joint_operands = joint (laws_mapped _ _ l) laws_items apart
+  pub joint_operands : Joint (mapped single operand) (λ vs. many (λ ws. further sign operand ws) vs)
+  joint_operands = joint (laws_mapped _ _ l) laws_items apart
 
-    pub laws_row : (join : List V → V) → Laws Odd (row sign join operand) First (Or More (Of sign)) ⊥
-    laws_row join = laws_mapped _ _ (weaker
-        (laws_then (laws_mapped _ _ l) laws_items apart) (both_within (λ t h. h) (λ t h. absurd h.0))
-        (both_within (λ t h. h) (λ t h. inl h.1)) (λ n. n.0))
+  pub laws_row : (join : List V → V) → Laws Odd (row sign join operand) First (Or More (Of sign)) ⊥
+  laws_row join = laws_mapped _ _ (weaker
+      (laws_then (laws_mapped _ _ l) laws_items apart) (both_within (λ t h. h) (λ t h. absurd h.0))
+      (both_within (λ t h. h) (λ t h. inl h.1)) (λ n. n.0))
 
-    -- the first operand fails
-    pub row_fails : (join : List V → V) (old : Stream Sign) (o : Option (Found HoaCause)) →
-        Stops hoa_causes operand old o → Stops hoa_causes (row sign join operand) old o
-    row_fails join old o s =
-        stops_mapped hoa_causes (joined join) (operands sign operand) old o
-        (stops_first hoa_causes joint_operands old o (stops_mapped hoa_causes single operand old o s))
+  -- the first operand fails
+  pub row_fails : (join : List V → V) (old : Stream Sign) (o : Option (Found HoaCause)) →
+      Stops hoa_causes operand old o → Stops hoa_causes (row sign join operand) old o
+  row_fails join old o s =
+      stops_mapped hoa_causes (joined join) (operands sign operand) old o
+      (stops_first hoa_causes joint_operands old o (stops_mapped hoa_causes single operand old o s))
 
-    -- no further one stands behind it
-    pub row_alone : (join : List V → V) {old new : Stream Sign} {v : V} → Reads operand old v new →
-        Avoids (Of sign) (next_of new) → Reads (row sign join operand) old v new
-    row_alone join {new = new} {v = v} r a =
-        reads_mapped (joined join) (reads_then joint_operands (reads_mapped single r)
-        (many_ends item laws_item apart (single v) new a))
+  -- no further one stands behind it
+  pub row_alone : (join : List V → V) {old new : Stream Sign} {v : V} → Reads operand old v new →
+      Avoids (Of sign) (next_of new) → Reads (row sign join operand) old v new
+  row_alone join {new = new} {v = v} r a =
+      reads_mapped (joined join) (reads_then joint_operands (reads_mapped single r)
+      (many_ends item laws_item apart (single v) new a))
 
-    -- behind some operands
-    abbrev pub InRow : Stream Sign → List V → Stream Sign → Type 0
-    InRow old vs now = Carries hoa_causes (operands sign operand) old (many (λ ws. further sign operand ws) vs) now
+  -- behind some operands
+  abbrev pub InRow : Stream Sign → List V → Stream Sign → Type 0
+  InRow old vs now = Carries hoa_causes (operands sign operand) old (many (λ ws. further sign operand ws) vs) now
 
-    pub row_begins : {old now : Stream Sign} {v : V} → Reads operand old v now → InRow old (single v) now
-    row_begins {old = old} r =
-        carries_then hoa_causes joint_operands (carries_start hoa_causes (operands sign operand) old)
-        (reads_mapped single r)
+  pub row_begins : {old now : Stream Sign} {v : V} → Reads operand old v now → InRow old (single v) now
+  row_begins {old = old} r =
+      carries_then hoa_causes joint_operands (carries_start hoa_causes (operands sign operand) old)
+      (reads_mapped single r)
 
-    joint_item : (vs : List V) → Joint (mark sign) (λ _. mapped (with_last vs) operand)
-    joint_item vs = joint_mark sign m (laws_mapped _ _ l)
+  joint_item : (vs : List V) → Joint (mark sign) (λ _. mapped (with_last vs) operand)
+  joint_item vs = joint_mark sign m (laws_mapped _ _ l)
 
-    pub row_goes_on : {old now mid new : Stream Sign} {vs : List V} {v : V} → InRow old vs now →
-        Reads (mark sign) now tt mid → Reads operand mid v new → InRow old (with_last vs v) new
-    row_goes_on {vs = vs} k r n =
-        carries_many item laws_item apart hoa_causes k (reads_then (joint_item vs) r (reads_mapped (with_last vs) n))
+  pub row_goes_on : {old now mid new : Stream Sign} {vs : List V} {v : V} → InRow old vs now →
+      Reads (mark sign) now tt mid → Reads operand mid v new → InRow old (with_last vs v) new
+  row_goes_on {vs = vs} k r n =
+      carries_many item laws_item apart hoa_causes k (reads_then (joint_item vs) r (reads_mapped (with_last vs) n))
 
-    -- a further operand fails
-    pub row_stops : (join : List V → V) {old now mid : Stream Sign} {vs : List V} (o : Option (Found HoaCause)) →
-        InRow old vs now → Reads (mark sign) now tt mid → Stops hoa_causes operand mid o →
-        Stops hoa_causes (row sign join operand) old o
-    row_stops join {old} {now} {mid} {vs} o k r s = stops_mapped hoa_causes (joined join) (operands sign operand) old o
-        (carries_stops hoa_causes (operands sign operand) (many item vs) old now o k
-        (many_fails item laws_item apart hoa_causes vs now o
-        (enters_then (mark sign) (λ _. mapped (with_last vs) operand) (joint_item vs) (next_of now)
-        (enters_read (mark sign) (signs now.pieces) (signs mid.pieces) tt (λ w h. m.null w h) r.1))
-        (stops_behind hoa_causes (joint_item vs) r o (stops_mapped hoa_causes (with_last vs) operand mid o s))))
+  -- a further operand fails
+  pub row_stops : (join : List V → V) {old now mid : Stream Sign} {vs : List V} (o : Option (Found HoaCause)) →
+      InRow old vs now → Reads (mark sign) now tt mid → Stops hoa_causes operand mid o →
+      Stops hoa_causes (row sign join operand) old o
+  row_stops join {old} {now} {mid} {vs} o k r s = stops_mapped hoa_causes (joined join) (operands sign operand) old o
+      (carries_stops hoa_causes (operands sign operand) (many item vs) old now o k
+      (many_fails item laws_item apart hoa_causes vs now o
+      (enters_then (mark sign) (λ _. mapped (with_last vs) operand) (joint_item vs) (next_of now)
+      (enters_read (mark sign) (signs now.pieces) (signs mid.pieces) tt (λ w h. m.null w h) r.1))
+      (stops_behind hoa_causes (joint_item vs) r o (stops_mapped hoa_causes (with_last vs) operand mid o s))))
 
-    -- no further one stands here
-    pub row_ends : (join : List V → V) {old now : Stream Sign} {vs : List V} → InRow old vs now →
-        Avoids (Of sign) (next_of now) → Reads (row sign join operand) old (joined join vs) now
-    row_ends join {now = now} {vs = vs} k a =
-        reads_mapped (joined join) (carries_reads hoa_causes k (many_ends item laws_item apart vs now a))
+  -- no further one stands here
+  pub row_ends : (join : List V → V) {old now : Stream Sign} {vs : List V} → InRow old vs now →
+      Avoids (Of sign) (next_of now) → Reads (row sign join operand) old (joined join vs) now
+  row_ends join {now = now} {vs = vs} k a =
+      reads_mapped (joined join) (carries_reads hoa_causes k (many_ends item laws_item apart vs now a))

@@ -3,8 +3,7 @@
 --     laws_name, laws_int, laws_string, laws_proposition_name, laws_new_alias      the laws
 --     laws_alternating      a sign that `&` may not follow
 --     other_apart      a name that has a meaning is not read over
-use Rattle.std.proofs.Common.{◌≡◌, ℕ, ◌||◌, Bool, true, false, cond, List, [], Option, None, Some, refl, sym, ap}
-use Rattle.std.proofs.Common.{◌∙◌}
+use Rattle.std.proofs.Common.{◌≡◌, ℕ, ◌||◌, Bool, true, false, cond, List, [], Option, None, Some, refl, sym, ap, ◌∙◌}
 use Rattle.std.specs.Str.{bytes_eq}
 use Rattle.std.proofs.lemmas.Slice.Eq.{bytes_eq-Decides}
 use Rattle.ps_text.specs.Parts.{Part, one, barred}
@@ -15,8 +14,8 @@ use Rattle.ps_text.proofs.Barred.{laws_barred}
 use Rattle.ps_hoa.specs.Tokens.{Sign}
 use Rattle.ps_hoa.specs.Causes.{begins_capital, is_spelled, is_unknown_capital, own_cause}
 use Rattle.ps_hoa.specs.Operands.{is_and}
-use Rattle.ps_hoa.specs.Header.{HeaderData, name_value, item_name, int, IsAlternating, string}
-use Rattle.ps_hoa.specs.Header.{proposition_name, alias_value, IsBadAlias, other_value}
+use Rattle.ps_hoa.specs.Header.{HeaderData, name_value, item_name, int, IsAlternating, string, proposition_name}
+use Rattle.ps_hoa.specs.Header.{alias_value, IsBadAlias, other_value}
 use Rattle.ps_hoa.specs.declared.fault.HoaCause.{HoaCause}
 use Rattle.ps_hoa.specs.declared.fault.HoaCause.TheVariants.{UnknownHeader}
 use Rattle.ps_hoa.specs.declared.tokens.Kind.{Kind}
@@ -83,7 +82,8 @@ plain_other t h = let p = known t.kind t.text h in plain_header t p.0 p.1
     go false true o e = absurd (none_is_some tt e)
     go false false o e = refl
 
-    known : (kind : Kind) (text : List ℕ) → other_value kind text ≡ Some tt → (kind ≡ Header) × (is_unknown text ≡ false)
+    known : (kind : Kind) (text : List ℕ) → other_value kind text ≡ Some tt →
+        (kind ≡ Header) × (is_unknown text ≡ false)
     known Header text e = (refl, go (is_spelled text) (begins_capital text) _ e)
     known kind text e = absurd (none_is_some tt e)
 

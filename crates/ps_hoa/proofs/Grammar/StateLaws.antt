@@ -13,9 +13,9 @@ use Rattle.ps_text.proofs.Simple.{Taken, laws_give, laws_mapped}
 use Rattle.ps_text.proofs.Repeated.{laws_many}
 use Rattle.ps_hoa.specs.Tokens.{Sign}
 use Rattle.ps_hoa.specs.Header.{HeaderData, name_value, string}
-use Rattle.ps_hoa.specs.Body.{BodyData, no_rows, is_left_brace, marks, is_left_bracket, state_label, edge, edges, IsBadRow}
-use Rattle.ps_hoa.specs.Body.{state_number, nothing_of, state_name, empty_row, with_row, state_value, state_begins, state}
-use Rattle.ps_hoa.specs.Body.{is_end, ended, body}
+use Rattle.ps_hoa.specs.Body.{BodyData, no_rows, is_left_brace, marks, is_left_bracket, state_label, edge, edges}
+use Rattle.ps_hoa.specs.Body.{IsBadRow, state_number, nothing_of, state_name, empty_row, with_row, state_value}
+use Rattle.ps_hoa.specs.Body.{state_begins, state, is_end, ended, body}
 use Rattle.ps_hoa.specs.Inner.Ahead.{begins_edge}
 use Rattle.ps_hoa.specs.declared.fault.HoaCause.{HoaCause}
 use Rattle.ps_hoa.specs.declared.tokens.Kind.{Kind}

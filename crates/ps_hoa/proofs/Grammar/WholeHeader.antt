@@ -1,19 +1,21 @@
 -- The laws of any item of the header, and of the header.
+--     form      each form of an item: its laws, and where it is entered
 --     laws_form, laws_item, laws_items, laws_header      the laws
 --     joint_header      the items and `--BODY--`
 -- proofs/Grammar/ItemChoice goes on with which item stands.
-use Rattle.std.proofs.Common.{◌≡◌, ℕ, Bool, false, List, [], codes, Some, refl, sym, ap, ◌∙◌}
-use Rattle.ps_text.specs.Parts.{Part, then_by, many}
+use Rattle.std.proofs.Common.{◌≡◌, ℕ, Bool, false, List, [], codes, Option, Some, inl, refl, sym, ap, ◌∙◌}
+use Rattle.ps_text.specs.Parts.{Part, one, then_by, many}
 use Rattle.ps_text.proofs.Following.{laws_tight}
 use Rattle.ps_text.proofs.Laws.{Laws, Joint, Nothing, Or, Within, Apart}
 use Rattle.ps_text.proofs.Joined.{joint}
-use Rattle.ps_text.proofs.Combined.{laws_all, both_within, wider_first, wider_more, laws_last}
+use Rattle.ps_text.proofs.Combined.{joint_tight, laws_all, both_within, wider_first, wider_more, laws_last}
 use Rattle.ps_text.proofs.Simple.{none_is_some, laws_mapped}
+use Rattle.ps_text.proofs.Covered.{Enters, enters_one, enters_then}
 use Rattle.ps_text.proofs.Repeated.{laws_many}
 use Rattle.ps_text.proofs.Choices.{Begins, BeginsSome, laws_choice}
 use Rattle.ps_hoa.specs.Tokens.{Sign}
 use Rattle.ps_hoa.specs.Operands.{is_and, number_limit}
-use Rattle.ps_hoa.specs.Header.{HeaderData, state_limit, index, read_over, no_items, item_name, form_of, item, body_mark, header}
+use Rattle.ps_hoa.specs.Header.{HeaderData, state_limit, index, read_over, no_items, form_of, item, body_mark, header}
 use Rattle.ps_hoa.specs.ItemNames as items
 use Rattle.ps_hoa.specs.ItemNames.{ItemName}
 use Rattle.ps_hoa.specs.Inner.Items.{item_names, item_among, item_at, is_value}
@@ -25,10 +27,10 @@ use Rattle.ps_hoa.proofs.Grammar.OperandLaws.{Odd, Of, false_true, Tight}
 use Rattle.ps_hoa.proofs.Grammar.LabelLaws.{is_connective}
 use Rattle.ps_hoa.proofs.Grammar.ConditionLaws.{is_int}
 use Rattle.ps_hoa.proofs.Grammar.ItemNames.{StartsWith, begins}
-use Rattle.ps_hoa.proofs.Grammar.SignLaws.{laws_int, laws_alternating, is_string, is_body, Named, is_unknown, laws_name}
-use Rattle.ps_hoa.proofs.Grammar.HeaderLaws.{laws_start_name, laws_counted_names}
-use Rattle.ps_hoa.proofs.Grammar.HeaderLaws.{laws_named_label, laws_counted_condition, laws_strings}
-use Rattle.ps_hoa.proofs.Grammar.HeaderLaws.{laws_index, laws_read_over, laws_read_string, laws_other_name}
+use Rattle.ps_hoa.proofs.Grammar.SignLaws.{laws_int, laws_alternating, is_string, is_body, laws_name}
+use Rattle.ps_hoa.proofs.Grammar.HeaderLaws.{laws_start_name, laws_counted_names, laws_named_label}
+use Rattle.ps_hoa.proofs.Grammar.HeaderLaws.{laws_counted_condition, laws_strings, laws_index, laws_read_over}
+use Rattle.ps_hoa.proofs.Grammar.HeaderLaws.{laws_read_string, laws_other_name}
 
 -- ## Any item
 
@@ -39,30 +41,43 @@ is_argument = union is_value is_connective
 abbrev pub ItemMore : Sign → Type 0
 ItemMore = Of is_argument
 
--- a name and then a part, of which only the signs with which an item goes on matter
-behind : {V : Type 0} {Q : Part Sign V HoaCause} {First More : Sign → Type 0} {Null : Type 0} (name : List ℕ) →
-    is_unknown name ≡ false → Laws Odd Q First More Null → Within More ItemMore →
-    Laws Odd (then_by (item_name name) (λ _. Q)) (Named name) ItemMore ⊥
-behind name e l w = wider_more (laws_tight (laws_name name e) (λ _. l)) w
+-- a form of an item: its laws, and at its name it is entered
+pub record IsForm (form : Part Sign HeaderData HoaCause) (First : Sign → Type 0) : Type 0 where
+  pub laws : Laws Odd form First ItemMore ⊥
+  pub enters : (t : Sign) → First t → Enters form (Some t)
 
-form_laws : (h : HeaderData) (name : ItemName) → Laws Odd (form_of h name) (StartsWith name) ItemMore ⊥
-form_laws h items.states = behind (codes "States:") refl (laws_mapped _ _ (laws_int state_limit)) (λ t k. absurd k)
-form_laws h items.start =
-    wider_more (laws_tight (laws_start_name h) (λ _. laws_mapped _ _ (laws_alternating (laws_int number_limit)))) (within is_and is_argument refl)
-form_laws h items.propositions =
-    behind (codes "AP:") refl (laws_counted_names h) (within is_string is_argument refl)
-form_laws h items.alias = behind (codes "Alias:") refl (laws_named_label h) (within is_connective is_argument refl)
-form_laws h items.acceptance =
-    behind (codes "Acceptance:") refl (laws_counted_condition h) (within is_connective is_argument refl)
-form_laws h items.controllable =
-    behind (codes "controllable-AP:") refl (laws_mapped _ _ (laws_all index laws_index [])) (within is_int is_argument refl)
-form_laws h items.tool = behind (codes "tool:") refl (laws_strings h) (within is_string is_argument refl)
-form_laws h items.name = behind (codes "name:") refl (laws_read_string h) (λ t k. absurd k)
-form_laws h items.other =
-    wider_more (laws_tight laws_other_name (λ _. laws_all read_over laws_read_over h)) (within is_value is_argument refl)
+-- a name and then a part, of which only the signs with which an item goes on matter
+behind : {take : Sign → Option (Unit {0})} {Bad : Sign → HoaCause → Type 0} {Q : Part Sign HeaderData HoaCause}
+    {First More : Sign → Type 0} {Null : Type 0} → Laws Odd (one take Bad) (λ t. take t ≡ Some tt) Nothing ⊥ →
+    Laws Odd Q First More Null → Within More ItemMore → IsForm (then_by (one take Bad) (λ _. Q)) (λ t. take t ≡ Some tt)
+behind {take = take} {Bad = Bad} {Q = Q} m l w = record {
+  laws = wider_more (laws_tight m (λ _. l)) w;
+  enters = λ t e. enters_then (one take Bad) (λ _. Q) (joint_tight m (λ _. l)) (Some t)
+      (enters_one take Bad t (inl (tt, e)));
+}
+
+pub form : (h : HeaderData) (name : ItemName) → IsForm (form_of h name) (StartsWith name)
+form h items.states =
+    behind (laws_name (codes "States:") refl) (laws_mapped _ _ (laws_int state_limit)) (λ t k. absurd k)
+form h items.start =
+    behind (laws_start_name h) (laws_mapped _ _ (laws_alternating (laws_int number_limit)))
+    (within is_and is_argument refl)
+form h items.propositions =
+    behind (laws_name (codes "AP:") refl) (laws_counted_names h) (within is_string is_argument refl)
+form h items.alias =
+    behind (laws_name (codes "Alias:") refl) (laws_named_label h) (within is_connective is_argument refl)
+form h items.acceptance =
+    behind (laws_name (codes "Acceptance:") refl) (laws_counted_condition h) (within is_connective is_argument refl)
+form h items.controllable =
+    behind (laws_name (codes "controllable-AP:") refl) (laws_mapped _ _ (laws_all index laws_index []))
+    (within is_int is_argument refl)
+form h items.tool = behind (laws_name (codes "tool:") refl) (laws_strings h) (within is_string is_argument refl)
+form h items.name = behind (laws_name (codes "name:") refl) (laws_read_string h) (λ t k. absurd k)
+form h items.other =
+    behind laws_other_name (laws_all read_over laws_read_over h) (within is_value is_argument refl)
 
 pub laws_form : (h : HeaderData) (name : ItemName) → Laws Odd (form_of h name) (Begins item_at name) ItemMore ⊥
-laws_form h name = wider_first (form_laws h name) (begins name)
+laws_form h name = wider_first (form h name).laws (begins name)
 
 -- the names of items
 abbrev pub ItemFirst : Sign → Type 0
