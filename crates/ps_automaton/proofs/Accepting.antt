@@ -1,7 +1,7 @@
 -- The deterministic automaton of a file accepts what the file does: along a part that returns, the greatest priority is
 -- even exactly where some run of the file accepts.
-use Rattle.std.proofs.Common.{◌≡◌, ℕ, ◌+◌, ◌-◌, ◌*◌, ◌%◌, ◌^◌, ◌<◌, ◌≤◌, ◌⊎◌, inl, inr, max, suc, zero, Bool, true}
-use Rattle.std.proofs.Common.{false, List, length, Some, refl, ap, sym, ◌∙◌, subst, arith, add-one, add-zero}
+use Rattle.std.proofs.Common.{◌≡◌, ℕ, ◌+◌, ◌-◌, ◌*◌, ◌%◌, ◌^◌, ◌<◌, ◌≤◌, inl, inr, suc, zero, Bool, true}
+use Rattle.std.proofs.Common.{false, List, length, Some, refl, ap, sym, ◌∙◌, arith, add-one, add-zero}
 use Rattle.std.specs.Prelude.{◌↔◌, IsTrue, All}
 use Rattle.std.proofs.Math.Nat.{eq-or-lt_of_le, mod-lt, mul-le-mul_left}
 use Rattle.std.proofs.lemmas.Bool.{cases_lt}
@@ -15,16 +15,17 @@ use Rattle.ps_automaton.specs.Acceptance.{IsRun, IsAccepted, part}
 use Rattle.ps_automaton.proofs.ChainLaws.{greatest_decides}
 use Rattle.ps_automaton.proofs.Orbits.{any_return_decides, priorities_repeat, word_repeats, word_within, word_behind}
 use Rattle.ps_automaton.proofs.Orbits.{all_below, place_below, laps_are_read, greatest_is_read}
+use Rattle.std.proofs.Math.Nat.{add-suc}
 
 -- levels and sets at the same places
 levels_are : (chain : Chain) (f : ℕ → ℕ) (sets : ℕ → ℕ → Bool) (from count : ℕ) →
     ((t : ℕ) → from ≤ t → t < from + count → f t ≡ level chain (sets t)) →
     greatest_level chain (part sets from count) ≡ greatest_from f from count
 levels_are chain f sets from zero each = refl
-levels_are chain f sets from (suc count) each =
-    let here : f from ≡ level chain (sets from) = each from (omega arith) (omega arith) in
-    let later = levels_are chain f sets (from + 1) count (λ t low high. each t (omega arith) (omega arith)) in
-    ap (λ n. max n (greatest_level chain (part sets (from + 1) count))) (sym here) ∙ ap (λ n. max (f from) n) later
+levels_are chain f sets from (suc count) each = cc (
+  each from (omega arith) (omega arith),
+  levels_are chain f sets (from + 1) count (λ t low high. each t (omega arith) (omega arith)),
+)
 
 part_length : (sets : ℕ → ℕ → Bool) (from count : ℕ) → length (part sets from count) ≡ count
 part_length sets from zero = refl
@@ -37,128 +38,101 @@ module _ {file : FileData} {chain : Chain} {a : Auto} (is_chain : chain_of file.
   state_within (suc t) = is_auto.within (state_at a w t) (w t) (state_within t) (letters t)
 
   sink_stays_from : (t : ℕ) → state_at a w t ≡ file.states → (n : ℕ) → state_at a w (t + n) ≡ file.states
-  sink_stays_from t is zero = ap (state_at a w) (add-zero t) ∙ is
+  sink_stays_from t is zero = rw (add-zero t) is
   sink_stays_from t is (suc n) =
-      let place : t + suc n ≡ suc (t + n) = omega arith in
-      ap (state_at a w) place ∙ ap (λ q. a.next q (w (t + n))) (sink_stays_from t is n)
-      ∙ (is_auto.sink_stays (w (t + n)) (letters (t + n))).0
+      rw add-suc (cc (sink_stays_from t is n, (is_auto.sink_stays (w (t + n)) (letters (t + n))).0))
 
   -- in a part that begins in the sink each priority is 1
   priority_in_sink : (t : ℕ) → state_at a w t ≡ file.states → priority_at a w t ≡ 1
-  priority_in_sink t is = ap (λ q. a.priority q (w t)) is ∙ (is_auto.sink_stays (w t) (letters t)).1
+  priority_in_sink t is = cc (is, (is_auto.sink_stays (w t) (letters t)).1)
 
   module _ (from count : ℕ) (some : 0 < count) (back : state_at a w (from + count) ≡ state_at a w from) where
     odd_in_sink : state_at a w from ≡ file.states → greatest_from (priority_at a w) from count ≡ 1
     odd_in_sink is =
         let each : (t : ℕ) → from ≤ t → priority_at a w t ≡ 1 = λ t low.
-        let place : from + (t - from) ≡ t = omega arith in
-        priority_in_sink t (ap (state_at a w) (sym place) ∙ sink_stays_from from is (t - from)) in
-        let above = all_below (priority_at a w) from count 1 (λ t low high. let e = each t low in omega (arith, e)) in
-        let first = each from (omega arith) in
-        let below = place_below (priority_at a w) from count from (omega arith) (omega arith) in
-        omega (arith, above, first, below)
+        priority_in_sink t (ap (state_at a w) (omega arith) ∙ sink_stays_from from is (t - from)) in
+        omega (
+          arith,
+          all_below (priority_at a w) from count 1 (λ t low high. omega (arith, each t low)),
+          each from (omega arith),
+          place_below (priority_at a w) from count from (omega arith) (omega arith),
+        )
 
     -- where the greatest priority is even the sink is not reached
     outside_sink : is_even (greatest_from (priority_at a w) from count) ≡ true → (t : ℕ) → t ≤ from + count →
         state_at a w t ≡ file.states → ⊥
     outside_sink even t before is =
-        let place : t + (from + count - t) ≡ from + count = omega arith in
-        let last : state_at a w (from + count) ≡ file.states = ap (state_at a w) (sym place)
-        ∙ sink_stays_from t is (from + count - t) in
-        let one = odd_in_sink (sym back ∙ last) in
-        let wrong : false ≡ true = sym (ap is_even one) ∙ even in cc
+        let one = odd_in_sink (sym back ∙ ap (state_at a w) (omega arith) ∙ sink_stays_from t is (from + count - t)) in
+        cc
 
     module _ (even : is_even (greatest_from (priority_at a w) from count) ≡ true) where
       edge_at : (t : ℕ) → t < from + count → TakesEdge file chain a (state_at a w t) (w t)
-      edge_at t before =
-          let inside : state_at a w t < file.states = elim (eq-or-lt_of_le (state_within t)) [
-            | inl e ↦ absurd (outside_sink even t (omega arith) e)
-            | inr lt ↦ lt
-          ] in
-          elim (is_auto.steps (state_at a w t) (w t) inside (letters t)) [
-            | inl taken ↦ taken
-            | inr none ↦ absurd (outside_sink even (suc t) (omega arith) none.to_sink)
-          ]
+      edge_at t before = elim (eq-or-lt_of_le (state_within t)) [
+        | inl e ↦ absurd (outside_sink even t (omega arith) e)
+        | inr inside ↦ elim (is_auto.steps (state_at a w t) (w t) inside (letters t)) [
+          | inl taken ↦ taken
+          | inr none ↦ absurd (outside_sink even (suc t) (omega arith) none.to_sink)
+        ]
+      ]
 
-      pub sets_by : (t : ℕ) → (t < from + count) ⊎ (from + count ≤ t) → ℕ → Bool
-      sets_by t (inl before) = (edge_at t before).sets
-      sets_by t (inr behind) = λ set. false
+      edges : (t : ℕ) → (sets : ℕ → Bool) × (t < from + count → Goes file (state_at a w t) (w t) sets
+          (state_at a w (t + 1)) × (priority_at a w t ≡ level chain sets))
+      edges t = elim (cases_lt t (from + count)) [
+        | inl before ↦ (let e = edge_at t before in (e.sets, λ h. (rw add-one e.goes, e.priority)))
+        | inr behind ↦ (λ set. false, λ h. absurd (omega arith))
+      ]
 
-      pub sets_at : ℕ → ℕ → Bool
-      sets_at t = sets_by t (cases_lt t (from + count))
-
-      goes_by : (t : ℕ) → t < from + count → (d : (t < from + count) ⊎ (from + count ≤ t)) →
-          Goes file (state_at a w t) (w t) (sets_by t d) (state_at a w (t + 1))
-      unfolding sets_by
-      goes_by t before (inl h) =
-          subst (λ q. Goes file (state_at a w t) (w t) ((edge_at t h).sets) q) (ap (state_at a w) (sym (add-one t)))
-          (edge_at t h).goes
-      goes_by t before (inr h) = absurd (omega arith)
-
-      level_by_edge : (t : ℕ) → t < from + count → (d : (t < from + count) ⊎ (from + count ≤ t)) →
-          priority_at a w t ≡ level chain (sets_by t d)
-      unfolding sets_by
-      level_by_edge t before (inl h) = (edge_at t h).priority
-      level_by_edge t before (inr h) = absurd (omega arith)
-
-      pub run_of_auto : IsRun file w (from + count) (state_at a w) sets_at
-      unfolding sets_at
-      run_of_auto = record { begins = is_auto.start; goes = λ t before. goes_by t before (cases_lt t (from + count)) }
-
-      pub met_by_auto : IsTrue (holds (is_met (part sets_at from count)) file.condition)
-      unfolding sets_at
-      met_by_auto =
-          let levels = levels_are chain (priority_at a w) sets_at from count
-          (λ t low high. level_by_edge t high (cases_lt t (from + count))) in
-          let long : 0 < length (part sets_at from count) =
-          (let is = part_length sets_at from count in omega (arith, is)) in
-          sym (greatest_decides file.condition chain (part sets_at from count) is_chain long) ∙ ap is_even levels ∙ even
+      -- the run of the automaton, and that the condition is true of its sets
+      pub run_of_auto : (sets : ℕ → ℕ → Bool) × IsRun file w (from + count) (state_at a w) sets ×
+          IsTrue (holds (is_met (part sets from count)) file.condition)
+      run_of_auto =
+          let sets : ℕ → ℕ → Bool = λ t. (edges t).0 in
+          let levels =
+          levels_are chain (priority_at a w) sets from count (λ t low high. ((edges t).1 high).1) in (
+            sets,
+            record { begins = is_auto.start; goes = λ t before. ((edges t).1 before).0 },
+            sym (greatest_decides file.condition chain (part sets from count) is_chain
+                (omega (arith, part_length sets from count))) ∙ ap is_even levels ∙ even,
+          )
 
   -- a run of the file goes as the automaton does
   run_states : {count : ℕ} {states : ℕ → ℕ} {sets : ℕ → ℕ → Bool} → IsRun file w count states sets → (t : ℕ) →
       t ≤ count → states t ≡ state_at a w t
   run_states run zero within = run.begins ∙ sym is_auto.start
-  run_states {count} {states} {sets} run (suc t) within =
-      let before = run_states run t (omega arith) in
-      let goes = is_auto.by_edge (states t) (w t) (sets t) (states (t + 1)) (run.goes t (omega arith)) in
-      ap states (sym (add-one t)) ∙ sym goes.0 ∙ ap (λ q. a.next q (w t)) before
+  run_states run (suc t) within = cc (
+    add-one t,
+    run_states run t (omega arith),
+    (is_auto.by_edge _ _ _ _ (run.goes t (omega arith))).0,
+  )
 
   run_levels : {count : ℕ} {states : ℕ → ℕ} {sets : ℕ → ℕ → Bool} → IsRun file w count states sets → (t : ℕ) →
       t < count → priority_at a w t ≡ level chain (sets t)
-  run_levels {count} {states} {sets} run t within =
-      let before = run_states run t (omega arith) in
-      let goes = is_auto.by_edge (states t) (w t) (sets t) (states (t + 1)) (run.goes t within) in
-      ap (λ q. a.priority q (w t)) (sym before) ∙ goes.1
+  run_levels run t within =
+      cc (run_states run t (omega arith), (is_auto.by_edge _ _ _ _ (run.goes t within)).1)
 
   pub run_is_even : (from count : ℕ) {states : ℕ → ℕ} {sets : ℕ → ℕ → Bool} → 0 < count →
       IsRun file w (from + count) states sets → IsTrue (holds (is_met (part sets from count)) file.condition) →
       is_even (greatest_from (priority_at a w) from count) ≡ true
   run_is_even from count {states} {sets} some run met =
-      let levels = levels_are chain (priority_at a w) sets from count (λ t low high. run_levels run t high) in
-      let long : 0 < length (part sets from count) = (let is = part_length sets from count in omega (arith, is)) in
-      ap is_even (sym levels) ∙ greatest_decides file.condition chain (part sets from count) is_chain long ∙ met
+      ap is_even (sym (levels_are chain (priority_at a w) sets from count (λ t low high. run_levels run t high)))
+      ∙ greatest_decides file.condition chain (part sets from count) is_chain
+      (omega (arith, part_length sets from count)) ∙ met
 
 -- ## Lassos
-
-letters_of_word : (n : ℕ) (stem lap : List ℕ) → 0 < length lap → All (λ letter. letter < n) stem →
-    All (λ letter. letter < n) lap → (t : ℕ) → word stem lap t < n
-letters_of_word n stem lap some in_stem in_lap t =
-    let P : ℕ → Type 0 = λ letter. letter < n in
-    elim (cases_lt t (length stem)) [
-      | inl before ↦ subst P (sym (word_within stem lap t before)) (in_stem t 0 before)
-      | inr behind ↦ subst P (sym (word_behind stem lap t behind))
-          (in_lap ((t - length stem) % length lap) 0 (mod-lt (t - length stem) some))
-    ]
 
 module _ (file : FileData) (chain : Chain) (a : Auto) (is_chain : chain_of file.condition ≡ Some chain)
     (is_auto : IsAutoOf file chain a) (stem lap : List ℕ) (some : 0 < length lap)
     (in_stem : All (λ letter. letter < 2 ^ length file.names) stem)
     (in_lap : All (λ letter. letter < 2 ^ length file.names) lap) where
   letters_are : (t : ℕ) → word stem lap t < 2 ^ length file.names
-  letters_are = letters_of_word (2 ^ length file.names) stem lap some in_stem in_lap
+  letters_are t = elim (cases_lt t (length stem)) [
+    | inl before ↦ rw (word_within stem lap t before) (in_stem t 0 before)
+    | inr behind ↦ rw (word_behind stem lap t behind)
+        (in_lap ((t - length stem) % length lap) 0 (mod-lt (t - length stem) some))
+  ]
 
   some_letters : (laps : ℕ) → 0 < laps → 0 < laps * length lap
-  some_letters laps h = (let many : laps * 1 ≤ laps * length lap = mul-le-mul_left laps some in omega (arith, many))
+  some_letters laps h = omega (arith, mul-le-mul_left laps some)
 
   end_is : (before laps : ℕ) → length stem + before * length lap + laps * length lap ≡ length stem +
       (before + laps) * length lap
@@ -169,29 +143,23 @@ module _ (file : FileData) (chain : Chain) (a : Auto) (is_chain : chain_of file.
     where
       back_here : state_at a (word stem lap) (length stem + before * length lap + laps * length lap) ≡ state_at a
           (word stem lap) (length stem + before * length lap)
-      back_here = ap (state_at a (word stem lap)) (end_is before laps) ∙ back
+      back_here = rw (end_is before laps) back
 
       pub even_is_accepted : is_even (greatest_from (priority_at a (word stem lap)) (length stem + before * length lap)
           (laps * length lap)) ≡ true → IsAccepted file stem lap
       even_is_accepted even =
-          let from = length stem + before * length lap in
-          let count = laps * length lap in
-          let run = run_of_auto is_chain is_auto (word stem lap) letters_are from count
-          (some_letters laps some_laps) back_here even in
+          let run = run_of_auto is_chain is_auto (word stem lap) letters_are (length stem + before * length lap)
+          (laps * length lap) (some_letters laps some_laps) back_here even in
           record {
             has_letter = some;
             before = before;
             laps = laps;
             some = some_laps;
             states = state_at a (word stem lap);
-            sets = sets_at is_chain is_auto (word stem lap) letters_are from count (some_letters laps some_laps)
-                back_here even;
-            run = subst (λ n. IsRun file (word stem lap) n (state_at a (word stem lap))
-                (sets_at is_chain is_auto (word stem lap) letters_are from count
-                (some_letters laps some_laps) back_here even)) (end_is before laps) run;
+            sets = run.0;
+            run = rw (end_is before laps) at run.1;
             returns = sym back;
-            met = met_by_auto is_chain is_auto (word stem lap) letters_are from count
-                (some_letters laps some_laps) back_here even;
+            met = run.2;
           }
 
       pub accepted_is_even : IsAccepted file stem lap → is_even (greatest_from (priority_at a (word stem lap))
@@ -200,20 +168,16 @@ module _ (file : FileData) (chain : Chain) (a : Auto) (is_chain : chain_of file.
           let w = word stem lap in
           let from = length stem + accepted.before * length lap in
           let count = accepted.laps * length lap in
-          let run : IsRun file w (from + count) accepted.states accepted.sets =
-          subst (λ n. IsRun file w n accepted.states accepted.sets) (sym (end_is accepted.before accepted.laps))
-          accepted.run in
-          let even = run_is_even is_chain is_auto w letters_are from count
-          (some_letters accepted.laps accepted.some) run accepted.met in
+          let end = end_is accepted.before accepted.laps in
+          let run : IsRun file w (from + count) accepted.states accepted.sets = rw end accepted.run in
           let there = run_states is_chain is_auto w letters_are run in
-          let returns : state_at a w (from + count) ≡ state_at a w from =
-          sym (there (from + count) (omega arith)) ∙ ap accepted.states (end_is accepted.before accepted.laps)
-          ∙ sym accepted.returns ∙ there from (omega arith) in
-          let same =
-          any_return_decides (priorities_repeat a (laps * length lap) (word_repeats stem lap before laps) back_here)
+          let returns : state_at a w (from + count) ≡ state_at a w from = sym (there (from + count) (omega arith))
+          ∙ ap accepted.states end ∙ sym accepted.returns ∙ there from (omega arith) in
+          ap is_even (any_return_decides
+          (priorities_repeat a (laps * length lap) (word_repeats stem lap before laps) back_here)
           (priorities_repeat a count (word_repeats stem lap accepted.before accepted.laps) returns)
-          (some_letters laps some_laps) (some_letters accepted.laps accepted.some) in
-          ap is_even same ∙ even
+          (some_letters laps some_laps) (some_letters accepted.laps accepted.some))
+          ∙ run_is_even is_chain is_auto w letters_are from count (some_letters accepted.laps accepted.some) run accepted.met
 
 -- laps that lead back to a state decide
 pub laps_decide : (file : FileData) (chain : Chain) (a : Auto) (stem lap : List ℕ) (before laps s : ℕ) →
@@ -223,13 +187,8 @@ pub laps_decide : (file : FileData) (chain : Chain) (a : Auto) (stem lap : List 
     state_after a (state_behind a a.start stem) lap (before + laps) ≡ s →
     (is_even (greatest_of_laps a s lap laps) ≡ true) ↔ IsAccepted file stem lap
 laps_decide file chain a stem lap before laps s is_chain is_auto some in_stem in_lap some_laps begins returns =
-    let w = word stem lap in
-    let back : state_at a w (length stem + (before + laps) * length lap) ≡ state_at a w
-    (length stem + before * length lap) =
-    laps_are_read a stem lap (before + laps) ∙ returns ∙ sym begins ∙ sym (laps_are_read a stem lap before) in
-    let greatest : greatest_from (priority_at a w) (length stem + before * length lap) (laps * length lap) ≡
-    greatest_of_laps a s lap laps =
-    greatest_is_read a stem lap before laps ∙ ap (λ q. greatest_of_laps a q lap laps) begins in (
+    let back = laps_are_read a stem lap (before + laps) ∙ returns ∙ sym begins ∙ sym (laps_are_read a stem lap before) in
+    let greatest = greatest_is_read a stem lap before laps ∙ ap (λ q. greatest_of_laps a q lap laps) begins in (
       (λ even. even_is_accepted file chain a is_chain is_auto stem lap some in_stem in_lap before laps some_laps back
           (ap is_even greatest ∙ even)),
       (λ accepted. ap is_even (sym greatest) ∙ accepted_is_even file chain a is_chain is_auto stem lap some in_stem

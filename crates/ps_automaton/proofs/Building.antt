@@ -3,7 +3,7 @@ use Rattle.std.proofs.Common.{◌≡◌, ℕ, ◌+◌, ◌^◌, ◌<◌, ◌≤�
 use Rattle.std.proofs.Common.{ap, subst, ◌∙◌, arith}
 use Rattle.std.specs.List.{IsDistinct}
 use Rattle.std.specs.Option.{IsSomeAnd, unwrap_or}
-use Rattle.std.proofs.lemmas.Bool.{cases_lt}
+use Rattle.std.proofs.Math.Nat.{eq-or-lt_of_le}
 use Rattle.std.proofs.lemmas.Option.{slice_get_within, slice_get-get_or, get_or_from_slice_get}
 use Rattle.ps_diagram.specs.Table.{Table, IsNode, leaf_of}
 use Rattle.ps_hoa.specs.Edges.{Goes}
@@ -14,7 +14,7 @@ use Rattle.ps_automaton.specs.Answers.{IsDeterministic, IsRefused}
 use Rattle.ps_automaton.specs.Automata.{AutomatonData, IsWhole, auto_of, node_of, pair_of, step_of}
 use Rattle.ps_automaton.specs.Autos.{IsAutoOf, TakesEdge, TakesNone}
 use Rattle.ps_automaton.specs.Chains.{Chain, chain_of, has_complement, level}
-use Rattle.ps_automaton.specs.Drafts.{AreSteps, IsDraft, IsDraftFault, Moves, Names, Stops}
+use Rattle.ps_automaton.specs.Drafts.{AreSteps, IsDraft, IsDraftFault, Names}
 use Rattle.ps_automaton.specs.declared.fault.AutomatonFault.{AutomatonFault}
 use Rattle.ps_automaton.specs.declared.fault.AutomatonFault.TheVariants.{ComplementedSet, NonParity, Nondeterministic}
 use Rattle.ps_automaton.specs.declared.fault.AutomatonFault.TheVariants.{OutOfMemory}
@@ -49,59 +49,45 @@ module _ {file : FileData} (sound : IsSoundFile file) {chain : Chain} (a : Autom
     sink_named : (letter : ℕ) → Names a.steps (leaf_of a.store (node_of a file.states) letter)
         (record { state = file.states; priority = 1 })
     sink_named letter =
-        subst (λ o. Names a.steps o (record { state = file.states; priority = 1 })) (sym (draft.sink letter))
-        draft.all_steps.sink
+        rw (draft.sink letter) draft.all_steps.sink
 
-    below : (q : ℕ) → q ≤ file.states → (q < file.states) ⊎ (q ≡ file.states)
-    below q low = elim (cases_lt q file.states) [ inl less ↦ inl less | inr high ↦ inr (omega arith) ]
+    -- what holds of each state and of the sink
+    at_each : (P : ℕ → Type 0) → ((q : ℕ) → q < file.states → P q) → P file.states → (q : ℕ) → q ≤ file.states → P q
+    at_each P states sink q low = elim (eq-or-lt_of_le low) [ inl e ↦ rw e sink | inr less ↦ states q less ]
 
-    state_within : (q letter : ℕ) → q ≤ file.states → letter < 2 ^ length file.names →
+    step_within : (q letter : ℕ) (step : Step) → Names a.steps (leaf_of a.store (node_of a q) letter) step →
         (step_of a q letter).state ≤ file.states
-    state_within q letter low small = by_size (below q low)
-      where
-        by_step : (step : Step) → Names a.steps (leaf_of a.store (node_of a q) letter) step →
-            (step_of a q letter).state ≤ file.states
-        by_step step h = subst (λ (s : Step). s.state ≤ file.states) (sym (named_step q letter step h))
-            (named_within draft.all_steps (leaf_of a.store (node_of a q) letter) step h)
+    step_within q letter step h = rw (named_step q letter step h)
+        (named_within draft.all_steps (leaf_of a.store (node_of a q) letter) step h)
 
-        by_kind : Moves file chain q letter a.steps (leaf_of a.store (node_of a q) letter) ⊎
-            Stops file q letter a.steps (leaf_of a.store (node_of a q) letter) →
-            (step_of a q letter).state ≤ file.states
-        by_kind (inl m) = by_step _ m.named
-        by_kind (inr m) = by_step _ m.named
-
-        by_size : (q < file.states) ⊎ (q ≡ file.states) → (step_of a q letter).state ≤ file.states
-        by_size (inl less) = by_kind ((draft.states q less).steps_of letter small)
-        by_size (inr is) = by_step _ (subst (λ p. Names a.steps (leaf_of a.store (node_of a p) letter)
-            (record { state = file.states; priority = 1 })) (sym is) (sink_named letter))
+    state_within : (q : ℕ) → q ≤ file.states → (letter : ℕ) → letter < 2 ^ length file.names →
+        (step_of a q letter).state ≤ file.states
+    state_within = at_each (λ q. (letter : ℕ) → letter < 2 ^ length file.names → (step_of a q letter).state ≤ file.states)
+        (λ q less letter small. elim ((draft.states q less).steps_of letter small) [
+          | inl m ↦ step_within q letter _ m.named
+          | inr m ↦ step_within q letter _ m.named
+        ]) (λ letter small. step_within file.states letter _ (sink_named letter))
 
     takes : (q letter : ℕ) → q < file.states → letter < 2 ^ length file.names →
         TakesEdge file chain (auto_of a) q letter ⊎ TakesNone file (auto_of a) q letter
-    takes q letter low small = by_kind ((draft.states q low).steps_of letter small)
-      where
-        by_kind : Moves file chain q letter a.steps (leaf_of a.store (node_of a q) letter) ⊎
-            Stops file q letter a.steps (leaf_of a.store (node_of a q) letter) →
-            TakesEdge file chain (auto_of a) q letter ⊎ TakesNone file (auto_of a) q letter
-        by_kind (inl m) =
-            let is = named_step q letter (record { state = m.next; priority = level chain m.sets }) m.named in
-            inl (record {
-              sets = m.sets;
-              goes = subst (Goes file q letter m.sets) (sym (ap (λ (s : Step). s.state) is)) m.goes;
-              priority = ap (λ (s : Step). s.priority) is;
-            })
-        by_kind (inr m) =
-            let is = named_step q letter (record { state = file.states; priority = 1 }) m.named in
-            inr (record {
-              none = m.none;
-              to_sink = ap (λ (s : Step). s.state) is;
-              priority = ap (λ (s : Step). s.priority) is;
-            })
+    takes q letter low small = elim ((draft.states q low).steps_of letter small) [
+      | inl m ↦ (let is = named_step q letter _ m.named in inl (record {
+        sets = m.sets;
+        goes = subst (Goes file q letter m.sets) (sym (ap (λ (s : Step). s.state) is)) m.goes;
+        priority = ap (λ (s : Step). s.priority) is;
+      }))
+      | inr m ↦ (let is = named_step q letter _ m.named in inr (record {
+        none = m.none;
+        to_sink = ap (λ (s : Step). s.state) is;
+        priority = ap (λ (s : Step). s.priority) is;
+      }))
+    ]
 
     pub auto_built : IsAutoOf file chain (auto_of a)
     auto_built = record {
       start = start;
       start_within = (let s = sound.start in omega (arith, start, s));
-      within = state_within;
+      within = λ q letter low small. state_within q low letter small;
       steps = takes;
       by_edge = λ q letter sets next g.
           let row = row_of_state file sound q g.row g.of_state in
@@ -114,24 +100,14 @@ module _ {file : FileData} (sound : IsSoundFile file) {chain : Chain} (a : Autom
           (ap (λ (s : Step). s.state) is, ap (λ (s : Step). s.priority) is);
     }
 
-    leaves_within : (q letter : ℕ) → q ≤ file.states → IsSomeAnd (leaf_of a.store (node_of a q) letter)
+    leaves_within : (q : ℕ) → q ≤ file.states → (letter : ℕ) → IsSomeAnd (leaf_of a.store (node_of a q) letter)
         (λ leaf. leaf < length a.steps)
-    leaves_within q letter low = by_size (below q low)
-      where
-        by_size : (q < file.states) ⊎ (q ≡ file.states) → IsSomeAnd (leaf_of a.store (node_of a q) letter)
-            (λ leaf. leaf < length a.steps)
-        by_size (inl less) = (draft.states q less).leaves letter
-        by_size (inr is) =
-            subst (λ p. IsSomeAnd (leaf_of a.store (node_of a p) letter) (λ leaf. leaf < length a.steps)) (sym is)
-            (subst (λ o. IsSomeAnd o (λ leaf. leaf < length a.steps)) (sym (draft.sink letter))
-            (slice_get_within a.steps 0 _ draft.all_steps.sink))
+    leaves_within = at_each (λ q. (letter : ℕ) → IsSomeAnd (leaf_of a.store (node_of a q) letter)
+        (λ leaf. leaf < length a.steps)) (λ q less. (draft.states q less).leaves)
+        (λ letter. rw (draft.sink letter) (slice_get_within a.steps 0 _ draft.all_steps.sink))
 
     held_within : (q : ℕ) → q ≤ file.states → IsNode a.store (node_of a q)
-    held_within q low = by_size (below q low)
-      where
-        by_size : (q < file.states) ⊎ (q ≡ file.states) → IsNode a.store (node_of a q)
-        by_size (inl less) = (draft.states q less).held
-        by_size (inr is) = subst (λ p. IsNode a.store (node_of a p)) (sym is) draft.sink_held
+    held_within = at_each (λ q. IsNode a.store (node_of a q)) (λ q less. (draft.states q less).held) draft.sink_held
 
     pub whole_built : IsDistinct step_eq a.steps → IsWhole a
     whole_built distinct = record {
@@ -144,7 +120,7 @@ module _ {file : FileData} (sound : IsSoundFile file) {chain : Chain} (a : Autom
       start = (let s = sound.start in omega (arith, start, states, s));
       nodes = draft.one_each ∙ sym (ap (λ n. n + 1) states);
       held = λ q low. held_within q (omega (arith, low, states));
-      leaves = λ q letter low. leaves_within q letter (omega (arith, low, states));
+      leaves = λ q letter low. leaves_within q (omega (arith, low, states)) letter;
       targets = λ leaf low.
           let step = pair_of a leaf in
           let at = slice_get-get_or a.steps leaf (record { state = a.states; priority = 1 }) low in

@@ -1,5 +1,5 @@
 -- The links of a chain are to sets of its condition.
-use Rattle.std.proofs.Common.{◌≡◌, ℕ, ◌<◌, ◌≤◌, Bool, true, false, cond, List, [], ◌∷◌, ◌++◌, Option, Some, None, subst}
+use Rattle.std.proofs.Common.{◌≡◌, ℕ, ◌<◌, ◌≤◌, Bool, true, false, List, [], ◌∷◌, ◌++◌, Option, Some, None, subst}
 use Rattle.std.proofs.Common.{arith}
 use Rattle.std.specs.List.{AllByRecursion}
 use Rattle.ps_hoa.specs.Conditions.{SetData, Condition, Conditions, constant, infinitely, finitely, all_hold, any_holds}
@@ -32,38 +32,25 @@ module _ (n : ℕ) where
   both_under (x ∷ xs) ys a b = (a.0, both_under xs ys a.1 b)
 
   front_under : (ls : Option (List Link)) (c : Option Chain) → LinksUnder ls → ChainUnder c → ChainUnder (in_front ls c)
-  front_under None c a b = tt
-  front_under (Some ls) None a b = tt
   front_under (Some ls) (Some c) a b = both_under ls c.links a b
+  front_under ls c a b = tt
 
   link_to_under : (accepts : Bool) (set : SetData) → set.number < n → MaybeUnder (link_to accepts set)
-  link_to_under accepts set small = by_flag set.complemented
-    where
-      by_flag : (b : Bool) → MaybeUnder (cond b None (Some (record { colour = set.number; accepts = accepts })))
-      by_flag true = tt
-      by_flag false = small
+  link_to_under accepts set small = grind arith
 
   one_under : (l : Option Link) → MaybeUnder l → LinksUnder (one_link l)
   one_under None h = tt
   one_under (Some l) h = (h, tt)
 
   link_under : (accepts : Bool) (c : Condition) → IsCondition n c → MaybeUnder (link_of accepts c)
-  link_under true (constant b) i = tt
-  link_under false (constant b) i = tt
   link_under true (infinitely set) i = link_to_under true set i
-  link_under false (infinitely set) i = tt
-  link_under true (finitely set) i = tt
   link_under false (finitely set) i = link_to_under false set i
-  link_under true (all_hold cs) i = tt
-  link_under false (all_hold cs) i = tt
-  link_under true (any_holds cs) i = tt
-  link_under false (any_holds cs) i = tt
+  link_under accepts c i = tt
 
   joined_under : (l : Option Link) (ls : Option (List Link)) → MaybeUnder l → LinksUnder ls →
       LinksUnder (elim l [ None ↦ None | Some link ↦ elim ls [ None ↦ None | Some links ↦ Some (link ∷ links) ] ])
-  joined_under None ls a b = tt
-  joined_under (Some l) None a b = tt
   joined_under (Some l) (Some ls) a b = (a, b)
+  joined_under l ls a b = tt
 
   links_under : (accepts : Bool) (cs : Conditions) → AreConditions n cs → LinksUnder (links_of accepts cs)
   links_under accepts last i = tt

@@ -1,8 +1,9 @@
 -- A file is admitted or refused: each cause can be told, and of the edges that clash the first ones are found.
-use Rattle.std.proofs.Common.{◌≡◌, ◌≢◌, ◌∙◌, ℕ, zero, suc, ◌+◌, ◌^◌, ◌<◌, ◌≤◌, ◌⊎◌, inl, inr, Bool, true, false, nat_eq}
+use Rattle.std.proofs.Common.{◌≡◌, ◌≢◌, ◌∙◌, ℕ, zero, suc, ◌+◌, ◌^◌, ◌<◌, ◌≤◌, ◌⊎◌, inl, inr, Bool, true, false}
 use Rattle.std.proofs.Common.{List, [], ◌∷◌, length, Option, Some, None, slice_get, refl, sym, subst, arith}
-use Rattle.std.proofs.lemmas.Bool.{cases_eq, cases_lt, ne_eqb}
+use Rattle.std.proofs.lemmas.Bool.{cases_eq, cases_lt}
 use Rattle.std.proofs.lemmas.Option.{slice_get_within}
+use Rattle.ps_text.proofs.Decisions.{Decided, decide_as, decide_below, decide_both, decide_not, decide_true}
 use Rattle.ps_label.specs.Expression.{Expression}
 use Rattle.ps_label.specs.Truth.{label_truth}
 use Rattle.ps_hoa.specs.Files.{GuardData, EdgeData, RowData, FileData, stated, of_state, at_letter, is_among}
@@ -12,9 +13,11 @@ use Rattle.ps_automaton.specs.Chains.{Chain, chain_of, has_complement}
 use Rattle.ps_automaton.specs.declared.fault.AutomatonFault.{AutomatonFault}
 use Rattle.ps_automaton.specs.declared.fault.AutomatonFault.TheVariants.{ComplementedSet, NonParity, Nondeterministic}
 use Rattle.ps_automaton.specs.declared.fault.AutomatonFault.TheVariants.{OutOfMemory}
+use Rattle.ps_text.proofs.Simple.{same_some}
+use Rattle.ps_automaton.proofs.TakenEdges.{clash_of}
 
 -- what can be told of each number can be told of those below a bound, and the least is found
-pub least_below : (P : ℕ → Type 0) → ((k : ℕ) → P k ⊎ (P k → ⊥)) → (n : ℕ) →
+least_below : (P : ℕ → Type 0) → ((k : ℕ) → Decided (P k)) → (n : ℕ) →
     ((m : ℕ) × P m × ((k : ℕ) → P k → m ≤ k)) ⊎ ((k : ℕ) → k < n → P k → ⊥)
 least_below P tell zero = inr (λ k lt h. absurd (omega arith))
 least_below P tell (suc n) = elim (least_below P tell n) [
@@ -29,24 +32,34 @@ least_below P tell (suc n) = elim (least_below P tell n) [
 ]
 
 -- where all that have a property are below a bound, some one has it or none
-pub some_or_none : (P : ℕ → Type 0) → ((k : ℕ) → P k ⊎ (P k → ⊥)) → (n : ℕ) → ((k : ℕ) → P k → k < n) →
-    ((k : ℕ) × P k) ⊎ ((k : ℕ) × P k → ⊥)
+pub some_or_none : (P : ℕ → Type 0) → ((k : ℕ) → Decided (P k)) → (n : ℕ) → ((k : ℕ) → P k → k < n) →
+    Decided ((k : ℕ) × P k)
 some_or_none P tell n within =
     elim (least_below P tell n) [ inl m ↦ inl (m.0, m.1) | inr none ↦ inr (λ h. none h.0 (within h.0 h.1) h.1) ]
 
 -- and of those that have it the least is found
-least_of : (P : ℕ → Type 0) → ((k : ℕ) → P k ⊎ (P k → ⊥)) → (k : ℕ) → P k → (m : ℕ) × P m × ((k : ℕ) → P k → m ≤ k)
+least_of : (P : ℕ → Type 0) → ((k : ℕ) → Decided (P k)) → (k : ℕ) → P k → (m : ℕ) × P m × ((k : ℕ) → P k → m ≤ k)
 least_of P tell k h = elim (least_below P tell (suc k)) [ inl m ↦ m | inr none ↦ absurd (none k (omega arith) h) ]
 
-true_or_not : (b : Bool) → (b ≡ true) ⊎ (b ≡ true → ⊥)
-true_or_not true = inl refl
-true_or_not false = inr (λ e. cc)
+-- what can be told of each value can be told of the value that there is, if there is one
+pub decide_some : {X : Type 0} (o : Option X) (P : X → Type 0) → ((x : X) → Decided (P x)) →
+    Decided ((x : X) × (o ≡ Some x) × P x)
+decide_some None P tell = inr (λ h. (let e = h.1 in cc))
+decide_some (Some x) P tell = decide_as (λ p. (x, refl, p)) (λ h. subst P (sym (same_some x h.0 h.1)) h.2) (tell x)
 
-same_or_not : (a b : Bool) → (a ≡ b) ⊎ (a ≡ b → ⊥)
-same_or_not true true = inl refl
-same_or_not true false = inr (λ e. cc)
-same_or_not false true = inr (λ e. cc)
-same_or_not false false = inl refl
+same_or_not : (a b : Bool) → Decided (a ≡ b)
+same_or_not a b = grind arith
+
+-- tests that agree from a bound on
+same_tests : (f g : ℕ → Bool) (n : ℕ) → ((k : ℕ) → n ≤ k → f k ≡ g k) → Decided ((k : ℕ) → f k ≡ g k)
+same_tests f g n far =
+    elim (least_below (λ k. f k ≢ g k) (λ k. decide_not (same_or_not (f k) (g k))) n) [
+      | inl m ↦ inr (λ same. m.1 (same m.0))
+      | inr none ↦ inl (λ k. elim (same_or_not (f k) (g k)) [
+        | inl same ↦ same
+        | inr differ ↦ elim (cases_lt k n) [ inl lt ↦ absurd (none k lt differ) | inr le ↦ far k le ]
+      ])
+    ]
 
 -- a number above all of a list
 abbrev above : List ℕ → ℕ
@@ -55,157 +68,81 @@ above (m ∷ ms) = suc m + above ms
 
 among-above : (n : ℕ) (ms : List ℕ) → above ms ≤ n → is_among n ms ≡ false
 among-above n [] le = refl
-among-above n (m ∷ ms) le =
-    let far : n ≢ m = omega arith in
-    let test : nat_eq n m ≡ false = ne_eqb n m far in
-    rw test (among-above n ms (omega arith))
+among-above n (m ∷ ms) le = grind (arith, among-above n ms)
 
-marked-above : (row : RowData) (edge : EdgeData) (n : ℕ) → above row.marks ≤ n → above edge.marks ≤ n →
+marked-above : (row : RowData) (edge : EdgeData) (n : ℕ) → above row.marks + above edge.marks ≤ n →
     is_marked row edge n ≡ false
-marked-above row edge n le le' = let a = among-above n row.marks le in let b = among-above n edge.marks le' in rw (a, b)
+marked-above row edge n le = rw (among-above n row.marks (omega arith), among-above n edge.marks (omega arith))
 
-module _ (row : RowData) (one other : EdgeData) where
-  abbrev Differ : ℕ → Type 0
-  Differ set = is_marked row one set ≢ is_marked row other set
-
-  abbrev bound : ℕ
-  bound = above row.marks + above one.marks + above other.marks
-
-  differ_or_not : (set : ℕ) → Differ set ⊎ (Differ set → ⊥)
-  differ_or_not set = elim (same_or_not (is_marked row one set) (is_marked row other set))
-      [ inl e ↦ inr (λ ne. ne e) | inr ne ↦ inl ne ]
-
-  same_marks : ((set : ℕ) → set < bound → Differ set → ⊥) → (set : ℕ) → is_marked row one set ≡ is_marked row other set
-  same_marks none set = elim (same_or_not (is_marked row one set) (is_marked row other set)) [
-    | inl is ↦ is
-    | inr ne ↦ elim (cases_lt set (bound)) [
-      | inl lt ↦ absurd (none set lt ne)
-      | inr le ↦ absurd (ne (marked-above row one set (omega arith) (omega arith)
-          ∙ sym (marked-above row other set (omega arith) (omega arith))))
-    ]
-  ]
-
-  pub alike_or_not : AreAlike row one other ⊎ (AreAlike row one other → ⊥)
-  alike_or_not = elim (cases_eq one.target other.target) [
-    | inr ne ↦ inr (λ a. ne a.0)
-    | inl e ↦ elim (least_below Differ differ_or_not (bound)) [
-      | inl m ↦ inr (λ a. m.1 (a.1 m.0))
-      | inr none ↦ inl (e, same_marks none)
-    ]
-  ]
+pub alike_or_not : (row : RowData) (one other : EdgeData) → Decided (AreAlike row one other)
+alike_or_not row one other = decide_both (cases_eq one.target other.target)
+    (same_tests (is_marked row one) (is_marked row other) (above row.marks + above one.marks + above other.marks)
+    (λ set le. marked-above row one set (omega arith) ∙ sym (marked-above row other set (omega arith))))
 
 pub open_or_not : (aliases : List Expression) (label : Option Expression) (guard : GuardData) (letter : ℕ) →
-    IsOpen aliases label guard letter ⊎ (IsOpen aliases label guard letter → ⊥)
-open_or_not aliases label (stated e) letter = true_or_not (label_truth aliases letter e)
+    Decided (IsOpen aliases label guard letter)
+open_or_not aliases label (stated e) letter = decide_true (label_truth aliases letter e)
 open_or_not aliases None of_state letter = inr (λ h. h)
-open_or_not aliases (Some e) of_state letter = true_or_not (label_truth aliases letter e)
+open_or_not aliases (Some e) of_state letter = decide_true (label_truth aliases letter e)
 open_or_not aliases label (at_letter k) letter = cases_eq letter k
 
-module _ (file : FileData) (row : RowData) (first second : ℕ) where
-  abbrev Both : EdgeData → EdgeData → ℕ → Type 0
-  Both one other letter = (letter < 2 ^ length file.names) × IsTaken file row one letter × IsTaken file row other letter
-
-  both_or_not : (one other : EdgeData) (letter : ℕ) → Both one other letter ⊎ (Both one other letter → ⊥)
-  both_or_not one other letter = elim (cases_lt letter (2 ^ length file.names)) [
-    | inr le ↦ inr (λ h. omega (arith, h.0))
-    | inl lt ↦ elim (open_or_not file.aliases row.label one.guard letter) [
-      | inr never ↦ inr (λ h. never h.1)
-      | inl a ↦ elim (open_or_not file.aliases row.label other.guard letter)
-          [ inr never ↦ inr (λ h. never h.2) | inl b ↦ inl (lt, a, b) ]
-    ]
-  ]
-
-  -- the edges at these places, as the clash has them
-  of_places : {one other : EdgeData} → slice_get row.edges first ≡ Some one → slice_get row.edges second ≡ Some other →
-      AreClashing file row first second → ((letter : ℕ) × Both one other letter) × (AreAlike row one other → ⊥)
-  of_places {one} {other} at_first at_second c =
-      let same : c.one ≡ one = (let a = c.at_first in cc) in
-      let same' : c.other ≡ other = (let a = c.at_second in cc) in (
+module _ (file : FileData) where
+  clashing_or_not : (row : RowData) (first second : ℕ) → Decided (AreClashing file row first second)
+  clashing_or_not row first second =
+      let Both : EdgeData → EdgeData → ℕ → Type 0 =
+      λ one other letter. (letter < 2 ^ length file.names) × (IsTaken file row one letter × IsTaken file row other letter) in
+      decide_as
+      (λ h. (let d = h.1.2.2 in clash_of h.0 h.1.1 h.1.2.1 d.0.1.0 d.0.1.1.0 d.0.1.1.1 d.1))
+      (λ c. (
+        c.earlier,
         (
-          c.letter,
+          c.one,
+          c.at_first,
           (
-            c.is_letter,
-            subst (λ e. IsTaken file row e c.letter) same c.one_taken,
-            subst (λ e. IsTaken file row e c.letter) same' c.other_taken,
+            c.other,
+            c.at_second,
+            ((c.letter, (c.is_letter, (c.one_taken, c.other_taken))), c.differ),
           ),
         ),
-        subst (λ e. AreAlike row one e → ⊥) same' (subst (λ e. AreAlike row e c.other → ⊥) same c.differ),
-      )
+      ))
+      (decide_both (decide_below (suc first) second) (decide_some (slice_get row.edges first) _ (λ one.
+      decide_some (slice_get row.edges second) _ (λ other. decide_both
+      (some_or_none (Both one other) (λ letter. decide_both (decide_below (suc letter) (2 ^ length file.names))
+      (decide_both (open_or_not file.aliases row.label one.guard letter)
+      (open_or_not file.aliases row.label other.guard letter))) (2 ^ length file.names) (λ letter h. h.0))
+      (decide_not (alike_or_not row one other))))))
 
-  pub clashing_or_not : AreClashing file row first second ⊎ (AreClashing file row first second → ⊥)
-  clashing_or_not = elim (cases_lt first second) [
-    | inr le ↦ inr (λ c. omega (arith, c.earlier))
-    | inl lt ↦ at lt (slice_get row.edges first) (slice_get row.edges second) refl refl
-  ]
-    where
-      at : first < second → (o o' : Option EdgeData) → slice_get row.edges first ≡ o → slice_get row.edges second ≡ o' →
-          AreClashing file row first second ⊎ (AreClashing file row first second → ⊥)
-      at lt None o' e e' = inr (λ c. (let a = c.at_first in cc))
-      at lt (Some one) None e e' = inr (λ c. (let a = c.at_second in cc))
-      at lt (Some one) (Some other) e e' =
-          elim (some_or_none (Both one other) (both_or_not one other) (2 ^ length file.names) (λ k h. h.0)) [
-            | inr none ↦ inr (λ c. none (of_places e e' c).0)
-            | inl l ↦ elim (alike_or_not row one other) [
-              | inl same ↦ inr (λ c. (of_places e e' c).1 same)
-              | inr differ ↦ inl (record {
-                earlier = lt;
-                one = one;
-                other = other;
-                at_first = e;
-                at_second = e';
-                letter = l.0;
-                is_letter = l.1.0;
-                one_taken = l.1.1;
-                other_taken = l.1.2;
-                differ = differ;
-              })
-            ]
-          ]
-
-abbrev states_bound : List RowData → ℕ
-states_bound [] = 0
-states_bound (row ∷ rows) = suc row.state + states_bound rows
-
-module _ (file : FileData) where
-  clash_or_not : (q first second : ℕ) → Clash file q first second ⊎ (Clash file q first second → ⊥)
-  clash_or_not q first second = at (row_of file q) refl
-    where
-      at : (o : Option RowData) → row_of file q ≡ o → Clash file q first second ⊎ (Clash file q first second → ⊥)
-      at None e = inr (λ c. (let is = c.of_state in cc))
-      at (Some row) e = elim (clashing_or_not file row first second) [
-        | inl c ↦ inl (record { row = row; of_state = e; clashing = c })
-        | inr never ↦ inr (λ c. (let same : c.row ≡ row = (let is = c.of_state in cc) in
-            never (subst (λ r. AreClashing file r first second) same c.clashing)))
-      ]
+  clash_or_not : (q first second : ℕ) → Decided (Clash file q first second)
+  clash_or_not q first second = decide_as (λ h. record { row = h.0; of_state = h.1; clashing = h.2 })
+      (λ c. (c.row, c.of_state, c.clashing))
+      (decide_some (row_of file q) (λ row. AreClashing file row first second) (λ row. clashing_or_not row first second))
 
   abbrev WithFirst : ℕ → ℕ → Type 0
   WithFirst q second = (first : ℕ) × Clash file q first second
 
-  with_first_or_not : (q second : ℕ) → WithFirst q second ⊎ (WithFirst q second → ⊥)
-  with_first_or_not q second =
-      some_or_none (λ first. Clash file q first second) (λ first. clash_or_not q first second) second
-      (λ first c. c.clashing.earlier)
+  with_first_or_not : (q second : ℕ) → Decided (WithFirst q second)
+  with_first_or_not q second = some_or_none (λ first. Clash file q first second)
+      (λ first. clash_or_not q first second) second (λ first c. c.clashing.earlier)
 
   abbrev WithSecond : ℕ → Type 0
   WithSecond q = (second : ℕ) × WithFirst q second
 
-  with_second_or_not : (q : ℕ) → WithSecond q ⊎ (WithSecond q → ⊥)
-  with_second_or_not q = at (row_of file q) refl
-    where
-      at : (o : Option RowData) → row_of file q ≡ o → WithSecond q ⊎ (WithSecond q → ⊥)
-      at None e = inr (λ w. (let c = w.1.1 in let is = c.of_state in cc))
-      at (Some row) e = some_or_none (WithFirst q) (with_first_or_not q) (length row.edges) (λ second f. (let c = f.1 in
-          let same : c.row ≡ row = (let is = c.of_state in cc) in
-          slice_get_within row.edges second c.clashing.other (subst
-          (λ r. slice_get r.edges second ≡ Some c.clashing.other) same c.clashing.at_second)))
+  abbrev edges_in : Option RowData → ℕ
+  edges_in None = 0
+  edges_in (Some row) = length row.edges
+
+  with_second_or_not : (q : ℕ) → Decided (WithSecond q)
+  with_second_or_not q = some_or_none (WithFirst q) (with_first_or_not q) (edges_in (row_of file q)) (λ second f.
+      let c = f.1 in subst (λ o. second < edges_in o) (sym c.of_state)
+      (slice_get_within c.row.edges second c.clashing.other c.clashing.at_second))
+
+  abbrev states_bound : List RowData → ℕ
+  states_bound [] = 0
+  states_bound (row ∷ rows) = suc row.state + states_bound rows
 
   row_within : (rows : List RowData) (q : ℕ) {row : RowData} → row_among rows q ≡ Some row → q < states_bound rows
   row_within [] q e = cc
-  row_within (r ∷ rows) q {row} e = elim (cases_eq q r.state) [
-    | inl same ↦ omega arith
-    | inr ne ↦ (let test : nat_eq q r.state ≡ false = ne_eqb q r.state ne in
-        omega (arith, row_within rows q (rw test at e)))
-  ]
+  row_within (r ∷ rows) q {row} e = grind (arith, row_within rows q {row = row})
 
   deterministic_or_first : ((q first second : ℕ) → Clash file q first second → ⊥) ⊎
       ((q : ℕ) × (first : ℕ) × (second : ℕ) × IsFirstClash file q first second)
@@ -225,27 +162,20 @@ module _ (file : FileData) where
                 clash = first.1;
                 least_state = λ p a b c. q.2 p (b, (a, c));
                 least_second = λ a b c. second.2 b (a, c);
-                least_first = λ a c. first.2 a c;
+                least_first = first.2;
               },
             )
       ]
 
   pub admitted_or_refused : IsAdmitted file ⊎ ((fault : AutomatonFault) × (fault ≢ OutOfMemory) × IsRefused file fault)
-  admitted_or_refused = by_complement (has_complement file.condition) refl
+  admitted_or_refused = by (has_complement file.condition) refl (chain_of file.condition) refl deterministic_or_first
     where
-      by_clash : has_complement file.condition ≡ false → (chain : Chain) → chain_of file.condition ≡ Some chain →
+      by : (b : Bool) → has_complement file.condition ≡ b → (o : Option Chain) → chain_of file.condition ≡ o →
+          ((q first second : ℕ) → Clash file q first second → ⊥) ⊎
+          ((q : ℕ) × (first : ℕ) × (second : ℕ) × IsFirstClash file q first second) →
           IsAdmitted file ⊎ ((fault : AutomatonFault) × (fault ≢ OutOfMemory) × IsRefused file fault)
-      by_clash plain chain is = elim deterministic_or_first [
-        | inl none ↦ inl (record { plain = plain; chain = chain; is_chain = is; deterministic = none })
-        | inr c ↦ inr (Nondeterministic c.0 c.1 c.2, (λ e. cc), (plain, chain, is, c.3))
-      ]
-
-      by_chain : has_complement file.condition ≡ false → (o : Option Chain) → chain_of file.condition ≡ o →
-          IsAdmitted file ⊎ ((fault : AutomatonFault) × (fault ≢ OutOfMemory) × IsRefused file fault)
-      by_chain plain None is = inr (NonParity, (λ e. cc), (plain, is))
-      by_chain plain (Some chain) is = by_clash plain chain is
-
-      by_complement : (b : Bool) → has_complement file.condition ≡ b →
-          IsAdmitted file ⊎ ((fault : AutomatonFault) × (fault ≢ OutOfMemory) × IsRefused file fault)
-      by_complement true is = inr (ComplementedSet, (λ e. cc), is)
-      by_complement false is = by_chain is (chain_of file.condition) refl
+      by true is o e d = inr (ComplementedSet, (λ f. cc), is)
+      by false plain None is d = inr (NonParity, (λ f. cc), (plain, is))
+      by false plain (Some chain) is (inl none) =
+          inl (record { plain = plain; chain = chain; is_chain = is; deterministic = none })
+      by false plain (Some chain) is (inr c) = inr (Nondeterministic c.0 c.1 c.2, (λ f. cc), (plain, chain, is, c.3))

@@ -13,14 +13,10 @@ use Rattle.ps_hoa.proofs.Soundness.SoundLaws.{sound_edge}
 use Rattle.ps_automaton.specs.Drafts.{AreJoined, AreTargets, IsByLetters, IsTargetAt}
 use Rattle.ps_automaton.specs.Targets.{IsTargetOf}
 use Rattle.ps_automaton.specs.declared.targets.Target.{Target}
-use Rattle.ps_automaton.proofs.Distinct.{at_left}
+use Rattle.ps_automaton.proofs.Distinct.{at_end, at_left}
 use Rattle.ps_automaton.proofs.Fitting.{by_letter}
 
 -- ## Targets, one by one
-
-pushed : {X : Type 0} (xs : List X) (x : X) → slice_get (xs ++ x ∷ []) (length xs) ≡ Some x
-pushed [] x = refl
-pushed (y ∷ xs) x = pushed xs x
 
 -- the first so many edges have their targets
 abbrev pub HaveTargets : RowData → ℕ → List Target → Type 0
@@ -41,7 +37,7 @@ targets_more {row} targets {more} {count} {edge} {target} size is at is_target h
         let here : count ≡ k = omega (arith, within, high) in
         let same : edge ≡ e = same_some edge e (sym at ∙ ap (slice_get row.edges) here ∙ there) in
         let last : slice_get more k ≡ Some target = ap (λ (ts : List Target). slice_get ts k) is
-        ∙ ap (slice_get (targets ++ target ∷ [])) (sym here ∙ sym size) ∙ pushed targets target in
+        ∙ ap (slice_get (targets ++ target ∷ [])) (sym here ∙ sym size) ∙ at_end targets target in
         (target, last, subst (λ d. IsTargetOf row d target) same is_target)
 
 -- ## The row

@@ -5,6 +5,7 @@ pub mod Accepting
 pub mod Bits
 pub mod NumberTables
 pub mod Fitting
+pub mod TakenEdges
 pub mod Meeting
 pub mod Ready
 pub mod Distinct

@@ -3,7 +3,7 @@ use Rattle.std.proofs.Common.{◌≡◌, ℕ, ◌^◌, ◌<◌, inl, inr, Bool, 
 use Rattle.std.proofs.Common.{sym, ap, subst, ◌∙◌}
 use Rattle.std.specs.List.{slice_get}
 use Rattle.std.specs.Option.{option_map}
-use Rattle.ps_text.proofs.Simple.{none_is_some, same_some}
+use Rattle.ps_text.proofs.Simple.{none_is_some}
 use Rattle.ps_label.specs.Expression.{Expression}
 use Rattle.ps_label.specs.Truth.{label_truth}
 use Rattle.ps_diagram.specs.Labels.{one_where}
@@ -14,6 +14,7 @@ use Rattle.ps_hoa.specs.Edges.{IsOpen, IsTaken}
 use Rattle.ps_hoa.specs.Files.{EdgeData, RowData, FileData, of_state}
 use Rattle.ps_automaton.specs.Answers.{AreAlike, AreClashing}
 use Rattle.ps_automaton.specs.Drafts.{IsLabelNode, IsWhere, Meet, ShowsEdge}
+use Rattle.ps_automaton.proofs.TakenEdges.{clash_at, clash_of}
 
 pub kept_leaf : {t u : Table} → Keeps t u → {node : ℕ} (letter : ℕ) → IsNode t node →
     leaf_of u node letter ≡ leaf_of t node letter
@@ -69,46 +70,26 @@ taken_is_shown leaf value (inl a) p = a.0
 taken_is_shown leaf value (inr a) p = absurd (a.1 p)
 
 -- edges of a row that clash: both are taken somewhere, and they are not alike
-module _ (file : FileData) (row : RowData) (first second : ℕ) {one other : EdgeData}
-    (at_first : slice_get row.edges first ≡ Some one) (at_second : slice_get row.edges second ≡ Some other) where
-  pub clash_differs : AreClashing file row first second → AreAlike row one other → ⊥
-  clash_differs k alike =
-      let a : one ≡ k.one = same_some one k.one (sym at_first ∙ k.at_first) in
-      let b : other ≡ k.other = same_some other k.other (sym at_second ∙ k.at_second) in
-      k.differ (subst (AreAlike row k.one) b (subst (λ e. AreAlike row e other) a alike))
-
-  pub clash_meets : (t : Table) (a b : ℕ) → t.propositions ≡ length file.names → ShowsEdge file row one t a 1 →
-      ShowsEdge file row other t b 1 → AreClashing file row first second → Meet t a b
-  clash_meets t a b letters shows_one shows_other k =
-      let one_is : k.one ≡ one = same_some k.one one (sym k.at_first ∙ at_first) in
-      let other_is : k.other ≡ other = same_some k.other other (sym k.at_second ∙ at_second) in
-      let taken = subst (λ e. IsTaken file row e k.letter) one_is k.one_taken in
-      let taken_too = subst (λ e. IsTaken file row e k.letter) other_is k.other_taken in (
-        k.letter,
-        subst (λ n. k.letter < 2 ^ n) (sym letters) k.is_letter,
+module _ {file : FileData} {row : RowData} {first second : ℕ} {one other : EdgeData}
+    (at_first : slice_get row.edges first ≡ Some one) (at_second : slice_get row.edges second ≡ Some other) (t : Table)
+    (a b : ℕ) (letters : t.propositions ≡ length file.names) (shows_one : ShowsEdge file row one t a 1)
+    (shows_other : ShowsEdge file row other t b 1) where
+  pub clash_meets : AreClashing file row first second → Meet t a b
+  clash_meets k =
+      let c = clash_at at_first at_second k in (
+        c.0,
+        rw letters c.1,
         1,
         1,
-        taken_is_shown (leaf_of t a k.letter) 1 (shows_one k.letter k.is_letter) taken,
-        taken_is_shown (leaf_of t b k.letter) 1 (shows_other k.letter k.is_letter) taken_too,
+        taken_is_shown (leaf_of t a c.0) 1 (shows_one c.0 c.1) c.2,
+        taken_is_shown (leaf_of t b c.0) 1 (shows_other c.0 c.1) c.3,
       )
 
-  pub meets_clash : (t : Table) (a b : ℕ) → first < second → t.propositions ≡ length file.names →
-      ShowsEdge file row one t a 1 → ShowsEdge file row other t b 1 → (AreAlike row one other → ⊥) → Meet t a b →
-      AreClashing file row first second
-  meets_clash t a b earlier letters shows_one shows_other differ m =
-      let small = subst (λ n. m.0 < 2 ^ n) letters m.1 in
-      record {
-        earlier = earlier;
-        one = one;
-        other = other;
-        at_first = at_first;
-        at_second = at_second;
-        letter = m.0;
-        is_letter = small;
-        one_taken = shown_is_taken 1 (shows_one m.0 small) m.4;
-        other_taken = shown_is_taken 1 (shows_other m.0 small) m.5;
-        differ = differ;
-      }
+  pub meets_clash : first < second → (AreAlike row one other → ⊥) → Meet t a b → AreClashing file row first second
+  meets_clash earlier differ m =
+      let small = rw letters at m.1 in
+      clash_of earlier at_first at_second small (shown_is_taken 1 (shows_one m.0 small) m.4)
+      (shown_is_taken 1 (shows_other m.0 small) m.5) differ
 
 pub kept_shows : (file : FileData) (row : RowData) (edge : EdgeData) {t u : Table} {node : ℕ} (value : ℕ) → Keeps t u →
     IsNode t node → ShowsEdge file row edge t node value → ShowsEdge file row edge u node value

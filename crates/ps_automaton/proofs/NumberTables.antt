@@ -3,11 +3,10 @@ use Rattle.std.proofs.Common.{◌≡◌, ℕ, ◌+◌, ◌-◌, ◌<◌, ◌≤�
 use Rattle.std.proofs.Common.{[], ◌∷◌, length, map, drop, set, drop-cons, get_or, get_or-set_same, get_or-set_other}
 use Rattle.std.proofs.Common.{refl, ap, sym, ◌∙◌, subst, arith}
 use Rattle.std.specs.Prelude.{nat_eq}
-use Rattle.std.proofs.Math.Nat.{le-max_left, le-max_right, max-le, le_antisymm, eq-or-lt_of_le}
+use Rattle.std.proofs.Math.Nat.{le_antisymm}
 use Rattle.std.proofs.lemmas.List.{length-map, drop-map, drop_all}
 use Rattle.std.proofs.Math.ListN.{get_or-map}
-use Rattle.std.proofs.lemmas.Bool.{eqb-true, eqb-false, eq-eqb, ne_eqb}
-use Rattle.ps_automaton.specs.Chains.{Link, Chain, base_number, first_number, raised, level_by, level, is_even}
+use Rattle.ps_automaton.specs.Chains.{Link, Chain, base_number, first_number, raised, level_by, level}
 use Rattle.ps_automaton.specs.Numbering.{AreSetsBelow, IsTable}
 use Rattle.ps_automaton.specs.Views.{link_data}
 use Rattle.ps_automaton.specs.declared.chain.Link as code
@@ -23,45 +22,16 @@ most_below : (base : ℕ) (numbers : List ℕ) (has : ℕ → Bool) (k bound : �
     ((s : ℕ) → s < k → has s ≡ true → get_or numbers s 0 ≤ bound) → most base numbers has k ≤ bound
 most_below base numbers has zero bound low each = low
 most_below base numbers has (suc k) bound low each =
-    let before = most_below base numbers has k bound low (λ s h is. each s (omega arith) is) in
-    by_set (has k) (λ is. each k (omega arith) is) before
-  where
-    by_set : (b : Bool) → (b ≡ true → get_or numbers k 0 ≤ bound) → most base numbers has k ≤ bound →
-        cond b (max (most base numbers has k) (get_or numbers k 0)) (most base numbers has k) ≤ bound
-    by_set true here before = max-le before (here refl)
-    by_set false here before = before
-
-most_grows : (base : ℕ) (numbers : List ℕ) (has : ℕ → Bool) (k : ℕ) →
-    most base numbers has k ≤ most base numbers has (suc k)
-most_grows base numbers has k = by_set (has k)
-  where
-    by_set : (b : Bool) → most base numbers has k ≤ cond b (max (most base numbers has k) (get_or numbers k 0))
-        (most base numbers has k)
-    by_set true = le-max_left (most base numbers has k) (get_or numbers k 0)
-    by_set false = omega arith
+    grind (arith, most_below base numbers has k bound low (λ s h. each s (omega arith)), each k (omega arith))
 
 base_below_most : (base : ℕ) (numbers : List ℕ) (has : ℕ → Bool) (k : ℕ) → base ≤ most base numbers has k
 base_below_most base numbers has zero = omega arith
-base_below_most base numbers has (suc k) =
-    (let a = base_below_most base numbers has k in let b = most_grows base numbers has k in omega (arith, a, b))
+base_below_most base numbers has (suc k) = grind (arith, base_below_most base numbers has k)
 
 set_below_most : (base : ℕ) (numbers : List ℕ) (has : ℕ → Bool) (k s : ℕ) → s < k → has s ≡ true →
     get_or numbers s 0 ≤ most base numbers has k
 set_below_most base numbers has zero s h is = absurd (omega arith)
-set_below_most base numbers has (suc k) s h is =
-    let within : s ≤ k = omega arith in
-    elim (eq-or-lt_of_le within) [
-      | inl same ↦ (
-          let there : has k ≡ true = ap has (sym same) ∙ is in
-          let value : most base numbers has (suc k) ≡ max (most base numbers has k) (get_or numbers k 0) =
-          ap (λ (b : Bool). cond b (max (most base numbers has k) (get_or numbers k 0)) (most base numbers has k))
-          there in
-          let here : get_or numbers s 0 ≡ get_or numbers k 0 = ap (λ n. get_or numbers n 0) same in
-          let below = le-max_right (most base numbers has k) (get_or numbers k 0) in
-          omega (arith, value, here, below))
-      | inr lt ↦ (let a = set_below_most base numbers has k s lt is in let b = most_grows base numbers has k in
-          omega (arith, a, b))
-    ]
+set_below_most base numbers has (suc k) s h is = grind (arith, set_below_most base numbers has k s)
 
 -- ## The numbers of a chain
 
@@ -70,35 +40,23 @@ alone base links s = level_by base links (λ x. nat_eq x s)
 
 base_below_level : (base : Bool) (links : List Link) (has : ℕ → Bool) → base_number base ≤ level_by base links has
 base_below_level base [] has = omega arith
-base_below_level base (link ∷ links) has =
-    let before = base_below_level base links has in
-    let first = level_below_first base links has in
-    let more_first = raised_more link.accepts (first_number base links) in
-    elim (has link.colour) as (λ b. base_number base ≤ cond b (first_number base (link ∷ links))
-    (level_by base links has)) [ true ↦ omega (arith, before, first, more_first) | false ↦ before ]
+base_below_level base (link ∷ links) has = grind (
+  arith,
+  base_below_level base links has,
+  level_below_first base links has,
+  raised_more link.accepts (first_number base links),
+)
 
 level_grows : (base : Bool) (link : Link) (links : List Link) (has : ℕ → Bool) →
     level_by base links has ≤ level_by base (link ∷ links) has
 level_grows base link links has =
-    let first = level_below_first base links has in
-    let more_first = raised_more link.accepts (first_number base links) in
-    elim (has link.colour) as (λ b. level_by base links has ≤ cond b (first_number base (link ∷ links))
-    (level_by base links has)) [ true ↦ omega (arith, first, more_first) | false ↦ omega arith ]
+    grind (arith, level_below_first base links has, raised_more link.accepts (first_number base links))
 
 alone_below_level : (base : Bool) (links : List Link) (has : ℕ → Bool) (s : ℕ) → has s ≡ true →
     alone base links s ≤ level_by base links has
 alone_below_level base [] has s is = omega arith
 alone_below_level base (link ∷ links) has s is =
-    by_colour (nat_eq link.colour s) refl (alone_below_level base links has s is)
-  where
-    by_colour : (b : Bool) → nat_eq link.colour s ≡ b → alone base links s ≤ level_by base links has →
-        cond b (first_number base (link ∷ links)) (alone base links s) ≤ level_by base (link ∷ links) has
-    by_colour true same before =
-        let there : has link.colour ≡ true = ap has (eqb-true link.colour s same) ∙ is in
-        let value : level_by base (link ∷ links) has ≡ first_number base (link ∷ links) =
-        ap (λ (b : Bool). cond b (first_number base (link ∷ links)) (level_by base links has)) there in
-        omega (arith, value)
-    by_colour false other before = (let more = level_grows base link links has in omega (arith, before, more))
+    grind (arith, alone_below_level base links has s is, level_grows base link links has)
 
 -- one of the edge's sets alone has its number, or the base has
 record Attained (base : Bool) (links : List Link) (has : ℕ → Bool) : Type 0 where
@@ -112,57 +70,40 @@ attained : (base : Bool) (links : List Link) (has : ℕ → Bool) → AreSetsBel
     (level_by base links has ≡ base_number base) ⊎ Attained base links has
 attained base [] has small = inl refl
 attained base (link ∷ links) has small =
-    by_first (has link.colour) refl (attained base links has (λ k d h. small (suc k) d (omega arith)))
+    at (has link.colour) refl (attained base links has (λ k d h. small (suc k) d (omega arith)))
   where
-    by_set : (set : ℕ) → has link.colour ≡ false → has set ≡ true → alone base (link ∷ links) set ≡ alone base links set
-    by_set set not_first is =
-        let other : nat_eq link.colour set ≡ false =
-        ne_eqb link.colour set (λ e. let wrong : false ≡ true = sym not_first ∙ ap has e ∙ is in cc) in
-        ap (λ (b : Bool). cond b (first_number base (link ∷ links)) (alone base links set)) other
-
-    by_first : (b : Bool) → has link.colour ≡ b → (level_by base links has ≡ base_number base) ⊎
-        Attained base links has → (cond b (first_number base (link ∷ links)) (level_by base links has) ≡ base_number
-        base) ⊎ Attained base (link ∷ links) has
-    by_first true first before = inr (record {
+    at : (b : Bool) → has link.colour ≡ b → (level_by base links has ≡ base_number base) ⊎ Attained base links has →
+        (level_by base (link ∷ links) has ≡ base_number base) ⊎ Attained base (link ∷ links) has
+    at true first before = inr (record {
       set = link.colour;
       small = small 0 link (omega arith);
       has_it = first;
-      is = ap (λ (b : Bool). cond b (first_number base (link ∷ links)) (level_by base links has)) first
-          ∙ sym (ap (λ (b : Bool). cond b (first_number base (link ∷ links)) (alone base links link.colour))
-          (eq-eqb link.colour link.colour refl));
+      is = grind arith;
     })
-    by_first false not_first (inl is_base) = inl is_base
-    by_first false not_first (inr a) = inr (record {
+    at false other (inl is) = inl (rw other is)
+    at false other (inr a) = inr (record {
       set = a.set;
       small = a.small;
       has_it = a.has_it;
-      is = ap (λ (b : Bool). cond b (first_number base (link ∷ links)) (level_by base links has)) not_first ∙ a.is
-          ∙ sym (by_set a.set not_first a.has_it);
+      is = grind (arith, a.is, a.has_it);
     })
 
 pub most_is_level : {chain : Chain} {base : ℕ} {numbers : List ℕ} (has : ℕ → Bool) → AreSetsBelow 64 chain.links →
     IsTable chain base numbers → most base numbers has 64 ≡ level chain has
-most_is_level {chain} {base} {numbers} has small table =
-    let low : base ≤ level chain has =
-    (let is = table.base_is in let below = base_below_level chain.base chain.links has in omega (arith, is, below)) in
-    let above : most base numbers has 64 ≤ level chain has =
-    most_below base numbers has 64 (level chain has) low (λ s h is.
-    let value = table.by_set_is s h in let below = alone_below_level chain.base chain.links has s is in
-    omega (arith, value, below)) in
-    let below : level chain has ≤ most base numbers has 64 = elim (attained chain.base chain.links has small) [
-      | inl is ↦ (let e = table.base_is in let l = base_below_most base numbers has 64 in omega (arith, is, e, l))
-      | inr a ↦ (let e = table.by_set_is a.set a.small in let l = set_below_most base numbers has 64 a.set a.small
-          a.has_it in let is = a.is in omega (arith, is, e, l))
-    ] in
-    le_antisymm above below
+most_is_level {chain} {base} {numbers} has small table = le_antisymm
+    (most_below base numbers has 64 (level chain has)
+    (let is = table.base_is in omega (arith, base_below_level chain.base chain.links has))
+    (λ s h is. omega (arith, table.by_set_is s h, alone_below_level chain.base chain.links has s is)))
+    (elim (attained chain.base chain.links has small) [
+      | inl is ↦ (let e = table.base_is in omega (arith, base_below_most base numbers has 64))
+      | inr a ↦ (let e = table.by_set_is a.set a.small in
+          omega (arith, set_below_most base numbers has 64 a.set a.small a.has_it))
+    ])
 
 -- ## The table is filled from the end of the chain
 
 pub raised_at_most : (accepts : Bool) (next : ℕ) → raised accepts next ≤ next + 1
-raised_at_most true next =
-    elim (is_even next) as (λ b. cond b next (next + 1) ≤ next + 1) [ true ↦ omega arith | false ↦ omega arith ]
-raised_at_most false next =
-    elim (is_even next) as (λ b. cond b (next + 1) next ≤ next + 1) [ true ↦ omega arith | false ↦ omega arith ]
+raised_at_most accepts next = grind arith
 
 pub none_behind : (links : List code.Link) (k : ℕ) → length links ≤ k → drop k (map link_data links) ≡ []
 none_behind links k done = drop_all k (map link_data links) (let len = length-map links link_data in omega (arith, len))
@@ -189,21 +130,8 @@ set_of_link links k {link} small within is =
 pub table_step : (base : Bool) (link : Link) (rest : List Link) (numbers : List ℕ) {number : ℕ} (s : ℕ) →
     length numbers ≡ 64 → link.colour < 64 → number ≡ first_number base (link ∷ rest) →
     get_or numbers s 0 ≡ alone base rest s → get_or (set numbers link.colour number) s 0 ≡ alone base (link ∷ rest) s
-table_step base link rest numbers {number} s size small is before = by_colour (nat_eq link.colour s) refl
-  where
-    inside : link.colour < length numbers
-    inside = omega (arith, size, small)
-
-    by_colour : (b : Bool) → nat_eq link.colour s ≡ b → get_or (set numbers link.colour number) s 0 ≡ cond b
-        (first_number base (link ∷ rest)) (alone base rest s)
-    by_colour true same =
-        let e : s ≡ link.colour = sym (eqb-true link.colour s same) in
-        ap (λ n. get_or (set numbers link.colour number) n 0) e ∙ get_or-set_same numbers link.colour number 0 inside
-        ∙ is
-    by_colour false other =
-        let ne : s ≡ link.colour → ⊥ = λ e. eqb-false link.colour s other (sym e) in
-        get_or-set_other numbers link.colour s number 0 ne ∙ before
+table_step base link rest numbers {number} s size small is before =
+    grind (arith, get_or-set_same numbers link.colour number 0, get_or-set_other numbers link.colour s number 0)
 
 pub base_at_most : (base : Bool) → base_number base ≤ 1
-base_at_most true = omega arith
-base_at_most false = omega arith
+base_at_most base = grind arith

@@ -1,5 +1,5 @@
 -- The leaves of a joined row, changed to the places of steps.
-use Rattle.std.proofs.Common.{◌≡◌, ℕ, suc, ◌^◌, ◌<◌, ◌⊎◌, inl, inr, Bool, cond, List, [], ◌∷◌, length, get_or, Option}
+use Rattle.std.proofs.Common.{◌≡◌, ℕ, suc, ◌^◌, ◌<◌, ◌⊎◌, inl, inr, Bool, List, [], ◌∷◌, length, get_or, Option}
 use Rattle.std.proofs.Common.{Some, None, refl, sym, ap, subst, ◌∙◌, arith}
 use Rattle.std.specs.List.{slice_get}
 use Rattle.std.specs.Option.{option_map, unwrap_or, IsSomeAnd, IfSome}
@@ -10,28 +10,27 @@ use Rattle.std.proofs.lemmas.List.{get_or_past}
 use Rattle.ps_text.proofs.Simple.{same_some}
 use Rattle.ps_label.specs.Truth.{is_in}
 use Rattle.ps_diagram.specs.Table.{Table, IsNode, leaf_of}
-use Rattle.ps_hoa.specs.Edges.{Goes, IsTaken, is_marked, row_of}
+use Rattle.ps_hoa.specs.Edges.{Goes, is_marked, row_of}
 use Rattle.ps_hoa.specs.Files.{RowData, FileData}
 use Rattle.ps_hoa.specs.Sound.{IsSoundFile, IsSoundRow}
 use Rattle.ps_automaton.specs.Answers.{AreClashing}
-use Rattle.ps_automaton.specs.Chains.{Chain, Link, first_number, level, level_by}
+use Rattle.ps_automaton.specs.Chains.{Chain, Link, level, level_by}
 use Rattle.ps_automaton.specs.Drafts.{AreJoined, ArePlaces, AreSteps, IsStepsOf, IsTargetAt, IsUnion, Moves, Names}
 use Rattle.ps_automaton.specs.Drafts.{Stops, TakenEdge, step_of_target}
 use Rattle.ps_automaton.specs.Numbering.{AreSetsBelow}
 use Rattle.ps_automaton.specs.declared.step.Step.{Step}
 use Rattle.ps_automaton.specs.declared.targets.Target.{Target}
+use Rattle.ps_automaton.proofs.TakenEdges.{edge_of, goes_of}
 use Rattle.ps_automaton.proofs.Unions.{at_leaf, union_clear}
 
 -- a number depends on the sets below 64 alone
 level_by_same : (base : Bool) (links : List Link) (f g : ℕ → Bool) → AreSetsBelow 64 links →
     ((set : ℕ) → set < 64 → f set ≡ g set) → level_by base links f ≡ level_by base links g
 level_by_same base [] f g few same = refl
-level_by_same base (link ∷ links) f g few same =
-    let first = first_number base (link ∷ links) in
-    let rest : level_by base links f ≡ level_by base links g =
-    level_by_same base links f g (λ k d l. few (suc k) d (omega (arith, l))) same in
-    ap (λ (b : Bool). cond b first (level_by base links f)) (same link.colour (few 0 link (omega arith)))
-    ∙ ap (λ n. cond (g link.colour) first n) rest
+level_by_same base (link ∷ links) f g few same = cc (
+  same link.colour (few 0 link (omega arith)),
+  level_by_same base links f g (λ k d l. few (suc k) d (omega arith)) same,
+)
 
 -- each leaf of joined edges is the place of a target
 pub leaf_within : {file : FileData} {row : RowData} {count : ℕ} {targets : List Target} {t : Table} {node : ℕ} →
@@ -98,30 +97,14 @@ module _ {file : FileData} (sound : IsSoundFile file) {row : RowData} (row_sound
 
   module _ (q : ℕ) (of_state : row_of file q ≡ Some row) (after : Table) {made : ℕ} (held : IsNode after made)
       (leaf : (letter : ℕ) → leaf_of after made letter ≡ Some (made_of (place_at letter))) where
-    edge_of : {letter : ℕ} {sets : ℕ → Bool} {next : ℕ} (g : Goes file q letter sets next) →
-        (e : TakenEdge file row (length row.edges) letter) × ((set : ℕ) → sets set ≡ is_marked row e.edge set) ×
-        (e.edge.target ≡ next)
-    edge_of {letter} g =
-        let same : g.row ≡ row = same_some g.row row (sym g.of_state ∙ of_state) in
-        let at : slice_get row.edges g.place ≡ Some g.edge = ap (λ (r : RowData). slice_get r.edges g.place) (sym same)
-        ∙ g.at_place in
-        let e : TakenEdge file row (length row.edges) letter = record {
-          place = g.place;
-          within = slice_get_within row.edges g.place g.edge at;
-          edge = g.edge;
-          at_place = at;
-          taken = subst (λ r. IsTaken file r g.edge letter) same g.taken;
-        } in
-        (e, λ set. g.marked set ∙ ap (λ (r : RowData). is_marked r g.edge set) same, g.target)
-
     names_at : (letter : ℕ) {step : Step} → slice_get steps (made_of (place_at letter)) ≡ Some step →
         Names steps (leaf_of after made letter) step
-    names_at letter {step} e = subst (λ o. Names steps o step) (sym (leaf letter)) e
+    names_at letter e = rw (leaf letter) e
 
     by_edge_of : (letter : ℕ) (sets : ℕ → Bool) (next : ℕ) → Goes file q letter sets next →
         Names steps (leaf_of after made letter) (record { state = next; priority = level chain sets })
     by_edge_of letter sets next g =
-        let e = edge_of g in
+        let e = edge_of of_state g in
         let step = edge_step e.0 (place_at letter) (joined.there letter g.is_letter e.0) sets e.1 in
         subst (λ n. Names steps (leaf_of after made letter) (record { state = n; priority = level chain sets })) e.2
         (names_at letter step)
@@ -135,23 +118,13 @@ module _ {file : FileData} (sound : IsSoundFile file) {row : RowData} (row_sound
             Stops file q letter steps (leaf_of after made letter)
         by_leaf None e = inr (record {
           none = λ sets next g.
-              let taken = edge_of g in
+              let taken = edge_of of_state g in
               subst (λ o. IsSomeAnd o (IsTargetAt row taken.0.edge targets)) e (joined.there letter small taken.0);
           named = names_at letter (ap (λ o. slice_get steps (made_of o)) e ∙ all_steps.sink);
         })
         by_leaf (Some k) e =
             let taken = joined.from letter k small e in
-            let goes : Goes file q letter (is_marked row taken.edge) taken.edge.target = record {
-              is_letter = small;
-              row = row;
-              of_state = of_state;
-              place = taken.place;
-              edge = taken.edge;
-              at_place = taken.at_place;
-              taken = taken.taken;
-              marked = λ set. refl;
-              target = refl;
-            } in
+            let goes = goes_of of_state small taken in
             inl (record {
               next = taken.edge.target;
               sets = is_marked row taken.edge;

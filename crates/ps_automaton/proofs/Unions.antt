@@ -17,6 +17,7 @@ use Rattle.ps_automaton.specs.Places.{AreDistinct}
 use Rattle.ps_automaton.specs.Targets.{IsTargetOf}
 use Rattle.ps_automaton.specs.declared.targets.Target.{Target}
 use Rattle.ps_automaton.proofs.Fitting.{alike_of_target, target_of_alike}
+use Rattle.ps_automaton.proofs.TakenEdges.{clash_of}
 use Rattle.ps_automaton.proofs.Meeting.{kept_leaf, shown_is_taken, taken_is_shown}
 
 where_marked : {P : Type 0} (leaf : Option ℕ) (value : ℕ) → IsWhere leaf 1 P →
@@ -29,8 +30,7 @@ pub marked_shows : (file : FileData) (row : RowData) (edge : EdgeData) (t u : Ta
     ShowsEdge file row edge t node 1 → ((letter : ℕ) → leaf_of u marked letter ≡ option_map (λ _. value)
     (leaf_of t node letter)) → ShowsEdge file row edge u marked value
 marked_shows file row edge t u node marked value shows is letter small =
-    subst (λ leaf. IsWhere leaf value (IsTaken file row edge letter)) (sym (is letter))
-    (where_marked (leaf_of t node letter) value (shows letter small))
+    rw (is letter) (where_marked (leaf_of t node letter) value (shows letter small))
 
 joined_first : (P Q : ℕ → Type 0) (o m : Option ℕ) → IsSomeAnd o P → ((x : ℕ) → P x → Q x) → IsSomeAnd (joined o m) Q
 joined_first P Q None m h f = absurd h
@@ -46,8 +46,7 @@ joined_from None m e = inr e
 joined_from (Some y) m e = inl e
 
 pub at_leaf : (P : ℕ → Type 0) (o : Option ℕ) {x : ℕ} → o ≡ Some x → IsSomeAnd o P → P x
-at_leaf P None e h = absurd h
-at_leaf P (Some y) {x} e h = subst P (same_some y x e) h
+at_leaf P o e h = rw e at h
 
 pub wider : {file : FileData} {row : RowData} {count letter : ℕ} → TakenEdge file row count letter →
     TakenEdge file row (count + 1) letter
@@ -159,33 +158,21 @@ module _ {file : FileData} (sound : IsSoundFile file) {row : RowData} (row_sound
         same_some place y (sym (taken_is_shown (leaf_of t marked letter) place (shows letter small) taken) ∙ second)
         in (
           e.place,
-          record {
-            earlier = e.within;
-            one = e.edge;
-            other = edge;
-            at_first = e.at_place;
-            at_second = at;
-            letter = letter;
-            is_letter = small;
-            one_taken = e.taken;
-            other_taken = taken;
-            differ = λ alike.
-                let same : there.0 ≡ target = target_of_alike there.2 is alike in
-                let at_x : slice_get new x ≡ Some target = grows x there.0 there.1 ∙ ap (λ (z : Target). Some z) same in
-                differ (distinct x place target at_x stored ∙ mark);
-          },
+          clash_of e.within e.at_place at small e.taken taken (λ alike.
+              let same : there.0 ≡ target = target_of_alike there.2 is alike in
+              let at_x : slice_get new x ≡ Some target = grows x there.0 there.1 ∙ ap (λ (z : Target). Some z) same in
+              differ (distinct x place target at_x stored ∙ mark)),
         )
 
   -- the first clash of the row
   pub first_of_row : {count : ℕ} {targets : List Target} {t : Table} {node : ℕ} →
       IsUnion file row count targets t node → {first : ℕ} → AreClashing file row first count →
       ((a : ℕ) → AreClashing file row a count → first ≤ a) → IsFirstOfRow file row first count
-  first_of_row {count} {targets} {t} {node} u k least = record {
+  first_of_row {count} u k least = record {
     clashing = k;
-    least_second = λ a b other. by_size a b other (cases_lt b count);
+    least_second = λ a b other. elim (cases_lt b count) [
+      | inl low ↦ absurd (union_clear u.joined low other)
+      | inr high ↦ high
+    ];
     least_first = least;
   }
-    where
-      by_size : (a b : ℕ) → AreClashing file row a b → (b < count) ⊎ (count ≤ b) → count ≤ b
-      by_size a b other (inl low) = absurd (union_clear u.joined low other)
-      by_size a b other (inr high) = high

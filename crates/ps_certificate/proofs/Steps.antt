@@ -90,7 +90,7 @@ module _ {V : Type 0} (take : Seen → Option V) (Bad : Seen → CertCause → T
       go (c ∷ bytes) h =
           let same : b ≡ c = sym (eqb-true c b h) in (
             record { taken = record { sign = sees c bytes; start = old.at } ∷ []; split = refl; end = omega arith },
-            read_one take Bad (sees c bytes) (signs (pieces_at (old.at + 1) bytes)) v
+            read_one take Bad
                 (subst (λ x. take (sees x bytes) ≡ Some v) same (takes bytes)) (subst (λ x. (f : CertCause)
                 → Bad (sees x bytes) f → ⊥) same (good bytes)),
           )

@@ -12,7 +12,7 @@ use Rattle.ps_components.specs.ComponentLists.{ComponentsData, IsIn, AreComponen
 use Rattle.ps_components.specs.Searching.{IsSoundSearch, AreListed, number_of}
 use Rattle.ps_components.proofs.Reaching.{met_is_reached}
 
-module _ (g : Digraph) (marks : List Mark) (active bounds : List ℕ) (pending : List Pending) (order : List ℕ)
+module _ {g : Digraph} {marks : List Mark} {active bounds : List ℕ} {pending : List Pending} {order : List ℕ}
     (s : IsSoundSearch g marks active bounds pending order) where
   abbrev found : ComponentsData
   found = record { numbers = map number_of marks; order = order }
@@ -28,7 +28,7 @@ module _ (g : Digraph) (marks : List Mark) (active bounds : List ℕ) (pending :
       which None is e = cc
       which (Some Unseen) is e = cc
       which (Some (Active p)) is e = cc
-      which (Some (Closed m)) is e = let same : m ≡ k = cc in is ∙ ap (λ x. Some (Closed x)) same
+      which (Some (Closed m)) is e = cc
 
   pub components-sound : AreComponents g found
   components-sound = record {
@@ -44,7 +44,13 @@ module _ (g : Digraph) (marks : List Mark) (active bounds : List ℕ) (pending :
     once = s.once;
   }
 
-  -- with an empty path, what was seen stands in order
+  -- with an empty path nothing is active
+  none_active : length bounds ≡ 0 → (p v : ℕ) → slice_get marks v ≡ Some (Active p) → ⊥
+  none_active none p v at =
+      let start = s.bounds_start (omega (arith, slice_get_within active p v (s.marked_active p v at))) in
+      omega (arith, none, slice_get_within bounds 0 0 start)
+
+  -- and what was seen stands in order
   pub all_listed : length bounds ≡ 0 → AreListed marks order
   all_listed none = record {
     within = λ i v at. (let found = s.ordered i v at in slice_get_within marks v (Closed found.0) found.1);
@@ -53,28 +59,16 @@ module _ (g : Digraph) (marks : List Mark) (active bounds : List ℕ) (pending :
     where
       which : (v : ℕ) (m : Mark) → slice_get marks v ≡ Some m → (m ≡ Unseen) ⊎ ((i : ℕ) × (slice_get order i ≡ Some v))
       which v Unseen at = inl refl
-      which v (Active p) at =
-          absurd (omega (
-            arith,
-            none,
-            slice_get_within bounds 0 0
-                (s.bounds_start (omega (arith, slice_get_within active p v (s.marked_active p v at)))),
-          ))
+      which v (Active p) at = absurd (none_active none p v at)
       which v (Closed k) at = inr (s.listed v k at)
 
-  -- with an empty path, what was seen has a number
+  -- and it has a number
   met : length bounds ≡ 0 → (v : ℕ) → v < g.count → (slice_get marks v ≡ Some Unseen → ⊥) → (k : ℕ) × IsIn found v k
   met none v lt seen = which (get_or marks v Unseen) (slice_get-get_or marks v Unseen (omega (arith, s.marked)))
     where
       which : (m : Mark) → slice_get marks v ≡ Some m → (k : ℕ) × IsIn found v k
       which Unseen h = absurd (seen h)
-      which (Active p) h =
-          absurd (omega (
-            arith,
-            none,
-            slice_get_within bounds 0 0
-                (s.bounds_start (omega (arith, slice_get_within active p v (s.marked_active p v h)))),
-          ))
+      which (Active p) h = absurd (none_active none p v h)
       which (Closed k) h = (k, closed-in v k h)
 
   pub all_met : length bounds ≡ 0 → ((v : ℕ) → v < g.count → slice_get marks v ≡ Some Unseen → ⊥) → AreAllMet g found
@@ -84,5 +78,5 @@ module _ (g : Digraph) (marks : List Mark) (active bounds : List ℕ) (pending :
       ((i v : ℕ) → slice_get roots i ≡ Some v → slice_get marks v ≡ Some Unseen → ⊥) →
       ((v k : ℕ) → slice_get marks v ≡ Some (Closed k) → IsReached g roots v) → AreMet g roots found
   roots_met none roots within seen only =
-      met_is_reached g roots found components-sound (λ i v h. met none v (within i v h) (seen i v h))
+      met_is_reached roots components-sound (λ i v h. met none v (within i v h) (seen i v h))
       (λ v k h. only v k (in-closed v k h))

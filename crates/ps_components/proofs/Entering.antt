@@ -1,7 +1,7 @@
 -- An item put at the end of the path keeps the lists sound.
-use Rattle.std.proofs.Common.{◌≡◌, ℕ, ◌+◌, ◌<◌, ◌≤◌, ◌⊎◌, inl, inr, List, [], ◌∷◌, ◌++◌, length, refl, sym, ap, subst}
-use Rattle.std.proofs.Common.{◌∙◌, arith, Some, None, Option, slice_get, set, suc, zero, add-zero, length-append}
-use Rattle.std.proofs.Common.{length-set}
+use Rattle.std.proofs.Common.{◌≡◌, ◌≢◌, ℕ, ◌+◌, ◌<◌, ◌≤◌, ◌⊎◌, inl, inr, List, [], ◌∷◌, ◌++◌, length, refl, sym, ap}
+use Rattle.std.proofs.Common.{◌∙◌, arith, Some, Option, slice_get, set, suc, zero, add-zero, zero-add, rules}
+use Rattle.std.proofs.Common.{length-append, length-set}
 use Rattle.std.proofs.lemmas.Option.{slice_get_within}
 use Rattle.std.proofs.lemmas.Bool.{cases_eq, cases_lt}
 use Rattle.ps_components.specs.declared.marks.Mark.{Mark}
@@ -11,48 +11,38 @@ use Rattle.ps_components.specs.Graphs.{Digraph, Link, SameOrWay, Way}
 use Rattle.ps_components.specs.Searching.{NoLater, IsSettled, closed, active as settled_active, IsPending}
 use Rattle.ps_components.specs.Searching.{IsSoundSearch, IsSoundBut, wait_of, waits, turns, turns_of, turns_from}
 use Rattle.ps_components.proofs.Places.{slice_get-append_left, slice_get-append_cases, slice_get-append_right}
-use Rattle.ps_components.proofs.Places.{slice_get-push, slice_get-push_cases, slice_get-set_same, slice_get-set_other}
+use Rattle.ps_components.proofs.Places.{slice_get-push, slice_get-push_cases, slice_get-set_cases}
 
 -- one more place of an item
 wait_of-length : (n : ℕ) (side : Option ℕ) → length (wait_of n side) ≤ 1
-wait_of-length n None = omega arith
-wait_of-length n (Some to) = omega arith
+wait_of-length n side = search rules
 
 wait_of-only : (n : ℕ) (side : Option ℕ) (i : ℕ) (e : Pending) → slice_get (wait_of n side) i ≡ Some e →
     (e.from ≡ n) × (side ≡ Some e.to)
-wait_of-only n None i e h = cc
-wait_of-only n (Some to) zero e h =
-    let same : record { from = n; to = to } ≡ e = cc in (ap (λ x. x.from) (sym same), ap (λ x. Some x.to) same)
-wait_of-only n (Some to) (suc i) e h = cc
+wait_of-only n side i e h1 = search rules
 
 wait_of-there : (n to : ℕ) (side : Option ℕ) → side ≡ Some to →
     slice_get (wait_of n side) 0 ≡ Some (record { from = n; to = to })
-wait_of-there n to None h = cc
-wait_of-there n to (Some t) h = let same : t ≡ to = cc in ap (λ x. Some (record { from = n; to = x })) same
+wait_of-there n to side h = rw h
 
-pub waits-length : (g : Digraph) (p item n : ℕ) → length (waits g p item n) ≤ n
+waits-length : (g : Digraph) (p item n : ℕ) → length (waits g p item n) ≤ n
 waits-length g p item zero = omega arith
 waits-length g p item (suc n) =
-    omega (
-      arith,
-      waits-length g p item n,
-      wait_of-length p (g.target item n),
-      length-append (waits g p item n) (wait_of p (g.target item n)),
-    )
+    let one = wait_of-length p (g.target item n) in
+    omega (arith, waits-length g p item n, one, length-append (waits g p item n) (wait_of p (g.target item n)))
 
 -- what waits comes from a link
-pub waits-link : (g : Digraph) (p item n : ℕ) → item < g.count → n ≤ g.degree item → (i : ℕ) (e : Pending) →
+waits-link : (g : Digraph) (p item n : ℕ) → item < g.count → n ≤ g.degree item → (i : ℕ) (e : Pending) →
     slice_get (waits g p item n) i ≡ Some e → (e.from ≡ p) × Link g item e.to
 waits-link g p item zero lt le i e h = cc
 waits-link g p item (suc n) lt le i e h =
     elim (slice_get-append_cases (waits g p item n) (wait_of p (g.target item n)) i e h) [
       | inl k ↦ waits-link g p item n lt (omega arith) i e k
-      | inr k ↦ (let o = wait_of-only p (g.target item n) k.0 e k.2 in
-          (o.0, record { from = lt; place = n; at = omega arith; target = o.1 }))
+      | inr k ↦ search (rules, wait_of-only)
     ]
 
 -- each place with a target waits
-pub waits-there : (g : Digraph) (p item n place w : ℕ) → place < n → g.target item place ≡ Some w →
+waits-there : (g : Digraph) (p item n place w : ℕ) → place < n → g.target item place ≡ Some w →
     (i : ℕ) × (slice_get (waits g p item n) i ≡ Some (record { from = p; to = w }))
 waits-there g p item zero place w lt h = absurd (omega arith)
 waits-there g p item (suc n) place w lt h =
@@ -61,13 +51,12 @@ waits-there g p item (suc n) place w lt h =
           (t.0, slice_get-append_left (waits g p item n) _ t.0 _ t.1))
       | inr le ↦ (let e : place ≡ n = omega arith in (
         length (waits g p item n) + 0,
-        slice_get-append_right (waits g p item n) _ 0 _ (wait_of-there p w (g.target item n)
-            (subst (λ x. g.target item x ≡ Some w) e h)),
+        slice_get-append_right (waits g p item n) _ 0 _ (wait_of-there p w (g.target item n) (rw e at h)),
       ))
     ]
 
 -- the turns of the marks, with one changed
-pub turns_from-set : (g : Digraph) (first : ℕ) (marks : List Mark) (i : ℕ) (old new : Mark) →
+turns_from-set : (g : Digraph) (first : ℕ) (marks : List Mark) (i : ℕ) (old new : Mark) →
     slice_get marks i ≡ Some old → turns_from g first (set marks i new) + turns_of g (first + i) old ≡ turns_from g
     first marks + turns_of g (first + i) new
 turns_from-set g first [] i old new h = cc
@@ -76,213 +65,170 @@ turns_from-set g first (m ∷ ms) (suc i) old new h =
     let e : first + suc i ≡ suc first + i = omega arith in
     rw e (omega (arith, turns_from-set g (suc first) ms i old new h))
 
-pub IsPending-append : (pending more : List Pending) (p w : ℕ) → IsPending pending p w → IsPending (pending ++ more) p w
-IsPending-append pending more p w h =
-    record {
-      at = h.at;
-      step = h.step;
-      is = slice_get-append_left pending more h.at h.step h.is;
-      from_is = h.from_is;
-      to_is = h.to_is;
-    }
-
-module _ (g : Digraph) (marks : List Mark) (active bounds : List ℕ) (pending : List Pending) (order : List ℕ)
-    (item : ℕ) (but : IsSoundBut g item marks active bounds pending order) (within : item < g.count)
-    (unseen : slice_get marks item ≡ Some Unseen) (reached : (p v : ℕ) → slice_get active p ≡ Some v →
-    Way (Link g) v item) where
+module _ {g : Digraph} {marks : List Mark} {active bounds : List ℕ} {pending : List Pending} {order : List ℕ}
+    {item : ℕ} (but : IsSoundBut g item marks active bounds pending order) (within : item < g.count)
+    (unseen : slice_get marks item ≡ Some Unseen)
+    (reached : (p v : ℕ) → slice_get active p ≡ Some v → Way (Link g) v item) where
   abbrev s : IsSoundSearch g marks active bounds (pending ++ but.skipped) order
   s = but.sound
 
-  there_too : (i : ℕ) (e : Pending) → slice_get pending i ≡ Some e → slice_get (pending ++ but.skipped) i ≡ Some e
-  there_too i e h = slice_get-append_left pending but.skipped i e h
+  abbrev place : ℕ
+  place = length active
 
   abbrev marks' : List Mark
-  marks' = set marks item (Active (length active))
+  marks' = set marks item (Active place)
+
+  abbrev active' : List ℕ
+  active' = active ++ item ∷ []
+
+  abbrev bounds' : List ℕ
+  bounds' = bounds ++ place ∷ []
 
   abbrev more : List Pending
-  more = waits g (length active) item (g.degree item)
+  more = waits g place item (g.degree item)
 
   abbrev pending' : List Pending
   pending' = pending ++ more
 
-  mark_back : (v : ℕ) (m : Mark) → slice_get marks' v ≡ Some m →
-      ((v ≡ item) × (m ≡ Active (length active))) ⊎ (slice_get marks v ≡ Some m)
-  mark_back v m h =
-      elim (cases_eq v item) [
-        | inl e ↦ (let same = slice_get-set_same marks item (Active (length active))
-            (slice_get_within marks item Unseen unseen) in let there' : slice_get marks' item ≡ Some m =
-            subst (λ x. slice_get marks' x ≡ Some m) e h in inl (e, cc))
-        | inr ne ↦ inr (sym (slice_get-set_other marks item v (Active (length active)) ne) ∙ h)
-      ]
+  -- ---- marks
+
+  mark_cases : (v : ℕ) → ((v ≡ item) × (slice_get marks' v ≡ Some (Active place))) ⊎
+      ((v ≢ item) × (slice_get marks' v ≡ slice_get marks v))
+  mark_cases v = search (rules, slice_get-set_cases, slice_get_within)
 
   mark_on : (v : ℕ) (m : Mark) → (m ≡ Unseen → ⊥) → slice_get marks v ≡ Some m → slice_get marks' v ≡ Some m
-  mark_on v m seen h =
-      elim (cases_eq v item) [
-        | inl e ↦ (let here : slice_get marks item ≡ Some m = subst (λ x. slice_get marks x ≡ Some m) e h in
-            absurd (seen cc))
-        | inr ne ↦ slice_get-set_other marks item v (Active (length active)) ne ∙ h
-      ]
+  mark_on v m seen h = grind (arith, mark_cases v)
 
   closed_on : (v k : ℕ) → slice_get marks v ≡ Some (Closed k) → slice_get marks' v ≡ Some (Closed k)
   closed_on v k h = mark_on v (Closed k) (λ e. cc) h
 
-  active_on : (v p : ℕ) → slice_get marks v ≡ Some (Active p) → slice_get marks' v ≡ Some (Active p)
-  active_on v p h = mark_on v (Active p) (λ e. cc) h
-
   closed_back : (v k : ℕ) → slice_get marks' v ≡ Some (Closed k) → slice_get marks v ≡ Some (Closed k)
-  closed_back v k h = elim (mark_back v (Closed k) h) [ inl e ↦ (let no = e.1 in cc) | inr y ↦ y ]
+  closed_back v k h = grind (arith, mark_cases v)
 
-  mark_item : slice_get marks' item ≡ Some (Active (length active))
-  mark_item = slice_get-set_same marks item (Active (length active)) (slice_get_within marks item Unseen unseen)
+  pub kept-entered : (v : ℕ) → slice_get marks' v ≡ Some Unseen → slice_get marks v ≡ Some Unseen
+  kept-entered v h = grind (arith, mark_cases v)
 
-  kept : (v : ℕ) → slice_get marks' v ≡ Some Unseen → slice_get marks v ≡ Some Unseen
-  kept v h = elim (mark_back v Unseen h) [ inl e ↦ (let no = e.1 in cc) | inr y ↦ y ]
+  -- ---- the path and its bounds
 
-  entered-active_marked : (p v : ℕ) → slice_get (active ++ item ∷ []) p ≡ Some v → slice_get marks' v ≡ Some (Active p)
-  entered-active_marked p v h =
-      elim (slice_get-push_cases active item p v h) [
-        | inl k ↦ active_on v p (s.active_marked p v k)
-        | inr k ↦ subst (λ x. slice_get marks' v ≡ Some (Active x)) (sym k.0)
-            (subst (λ x. slice_get marks' x ≡ Some (Active (length active))) k.1 mark_item)
-      ]
+  path_cases : (p v : ℕ) → slice_get active' p ≡ Some v → ((slice_get active p ≡ Some v) × (p < place)) ⊎
+      ((p ≡ place) × (item ≡ v))
+  path_cases p v h = search (rules, slice_get-push_cases, slice_get_within)
 
-  entered-marked_active : (p v : ℕ) → slice_get marks' v ≡ Some (Active p) → slice_get (active ++ item ∷ []) p ≡ Some v
+  bound_cases : (i b : ℕ) → slice_get bounds' i ≡ Some b →
+      ((slice_get bounds i ≡ Some b) × (i < length bounds) × (b < place)) ⊎ ((i ≡ length bounds) × (place ≡ b))
+  bound_cases i b h = search (rules, slice_get-push_cases, slice_get_within)
+
+  entered-active_marked : (p v : ℕ) → slice_get active' p ≡ Some v → slice_get marks' v ≡ Some (Active p)
+  entered-active_marked p v h = grind (arith, path_cases p v h, mark_cases v, s.active_marked p v)
+
+  entered-marked_active : (p v : ℕ) → slice_get marks' v ≡ Some (Active p) → slice_get active' p ≡ Some v
   entered-marked_active p v h =
-      elim (mark_back v (Active p) h) [
-        | inl e ↦ (let n : p ≡ length active = (let o = e.1 in cc) in rw (n, e.0) (slice_get-push active item))
-        | inr k ↦ slice_get-append_left active _ p v (s.marked_active p v k)
-      ]
+      grind (
+        arith,
+        mark_cases v,
+        slice_get-push active item,
+        slice_get-append_left active (item ∷ []) p v,
+        s.marked_active p v,
+      )
 
-  entered-bounds_rise : (i j b c : ℕ) → slice_get (bounds ++ length active ∷ []) i ≡ Some b →
-      slice_get (bounds ++ length active ∷ []) j ≡ Some c → i < j → b < c
+  entered-bounds_rise : (i j b c : ℕ) → slice_get bounds' i ≡ Some b → slice_get bounds' j ≡ Some c → i < j → b < c
   entered-bounds_rise i j b c hi hj lt =
-      elim (slice_get-push_cases bounds _ i b hi) [
-        | inl ki ↦ elim (slice_get-push_cases bounds _ j c hj) [
-          | inl kj ↦ s.bounds_rise i j b c ki kj lt
-          | inr kj ↦ omega (arith, s.bounds_within i b ki, kj.1)
-        ]
-        | inr ki ↦ elim (slice_get-push_cases bounds _ j c hj) [
-          | inl kj ↦ absurd (omega (arith, slice_get_within bounds j c kj, ki.0))
-          | inr kj ↦ absurd (omega (arith, ki.0, kj.0))
-        ]
-      ]
+      grind (arith, bound_cases i b hi, bound_cases j c hj, s.bounds_rise i j b c)
 
-  entered-bounds_within : (i b : ℕ) → slice_get (bounds ++ length active ∷ []) i ≡ Some b →
-      b < length (active ++ item ∷ [])
-  entered-bounds_within i b h =
-      elim (slice_get-push_cases bounds _ i b h) [
-        | inl k ↦ omega
-            (arith, s.bounds_within i b k, length-append active (item ∷ []))
-        | inr k ↦ omega (arith, k.1, length-append active (item ∷ []))
-      ]
+  entered-bounds_within : (i b : ℕ) → slice_get bounds' i ≡ Some b → b < length active'
+  entered-bounds_within i b h = omega (arith, bound_cases i b h, length-append active (item ∷ []))
 
-  entered-bounds_start : slice_get (bounds ++ length active ∷ []) 0 ≡ Some 0
-  entered-bounds_start =
-      elim (cases_eq (length active) 0) [
-        | inl e ↦ elim bounds as (λ bs. ((i b : ℕ) → slice_get bs i ≡ Some b → b < length active) →
-            slice_get (bs ++ length active ∷ []) 0 ≡ Some 0) [
-              | [] ↦ (λ _. ap Some e)
-              | b ∷ bs ↦ (λ w. absurd (omega (arith, w 0 b refl)))
-            ] s.bounds_within
-        | inr ne ↦ slice_get-append_left bounds _ 0 0 (s.bounds_start (omega arith))
-      ]
+  entered-bounds_start : slice_get bounds' 0 ≡ Some 0
+  entered-bounds_start = elim (cases_eq place 0) [
+    | inl e ↦ by bounds s.bounds_within e
+    | inr ne ↦ slice_get-append_left bounds _ 0 0 (s.bounds_start (omega arith))
+  ]
+    where
+      by : (bs : List ℕ) → ((i b : ℕ) → slice_get bs i ≡ Some b → b < place) → place ≡ 0 →
+          slice_get (bs ++ place ∷ []) 0 ≡ Some 0
+      by [] below e = ap Some e
+      by (b ∷ bs) below e = absurd (omega (arith, below 0 b refl, e))
 
+  entered-together : (p q v w : ℕ) → slice_get active' p ≡ Some v → slice_get active' q ≡ Some w →
+      NoLater bounds' p q → SameOrWay g v w
+  entered-together p q v w hp hq later = elim (path_cases p v hp) [
+    | inl kp ↦ elim (path_cases q w hq) [
+      | inl kq ↦ s.together p q v w kp.0 kq.0 (λ k b h. later k b (slice_get-append_left bounds _ k b h))
+      | inr kq ↦ inr (rw kq.1 at (reached p v kp.0))
+    ]
+    | inr kp ↦ elim (path_cases q w hq) [
+      | inl kq ↦ absurd (omega (arith, later _ place (slice_get-push bounds place) (omega (arith, kp.0)), kq.1))
+      | inr kq ↦ inl (sym kp.1 ∙ kq.1)
+    ]
+  ]
+
+  -- ---- what waits
+
+  there_too : (i : ℕ) (e : Pending) → slice_get pending i ≡ Some e → slice_get (pending ++ but.skipped) i ≡ Some e
+  there_too i e h = slice_get-append_left pending but.skipped i e h
+
+  -- a link waited before, from an earlier place, or is one of the item
   entry_cases : (i : ℕ) (e : Pending) → slice_get pending' i ≡ Some e →
-      (slice_get pending i ≡ Some e) ⊎ ((length pending ≤ i) × (e.from ≡ length active) × Link g item e.to)
-  entry_cases i e h =
-      elim (slice_get-append_cases pending more i e h) [
-        | inl k ↦ inl k
-        | inr k ↦ (let l = waits-link g (length active) item (g.degree item) within (omega arith) k.0 e k.2 in
-            inr (omega (arith, k.1), l.0, l.1))
-      ]
+      ((slice_get pending i ≡ Some e) × (i < length pending) × (e.from < place))
+      ⊎ ((length pending ≤ i) × (e.from ≡ place) × Link g item e.to)
+  entry_cases i e h = search (rules, slice_get-append_cases, there_too, slice_get_within, waits-link)
 
   entered-pending_links : (i : ℕ) (e : Pending) → slice_get pending' i ≡ Some e →
-      (v : ℕ) × (slice_get (active ++ item ∷ []) e.from ≡ Some v) × Link g v e.to
-  entered-pending_links i e h =
-      elim (entry_cases i e h) [
-        | inl k ↦ (let l = s.pending_links i e (there_too i e k) in (l.0, slice_get-append_left active _ _ _ l.1, l.2))
-        | inr k ↦ (
-          item,
-          subst (λ x. slice_get (active ++ item ∷ []) x ≡ Some item) (sym k.1)
-              (slice_get-push active item),
-          k.2,
-        )
-      ]
+      (v : ℕ) × (slice_get active' e.from ≡ Some v) × Link g v e.to
+  entered-pending_links i e h = elim (entry_cases i e h) [
+    | inl k ↦ search (rules, there_too, slice_get-append_left)
+    | inr k ↦ (item, rw k.1 (slice_get-push active item), k.2)
+  ]
 
   entered-pending_rise : (i j : ℕ) (e f : Pending) → slice_get pending' i ≡ Some e → slice_get pending' j ≡ Some f →
       i < j → e.from ≤ f.from
-  entered-pending_rise i j e f hi hj lt =
-      elim (entry_cases i e hi) [
-        | inl ki ↦ elim (entry_cases j f hj) [
-          | inl kj ↦ s.pending_rise i j e f (there_too i e ki) (there_too j f kj) lt
-          | inr kj ↦ (let l = s.pending_links i e (there_too i e ki) in
-              omega (arith, slice_get_within active _ _ l.1, kj.1))
-        ]
-        | inr ki ↦ elim (entry_cases j f hj) [
-          | inl kj ↦ absurd (omega (arith, slice_get_within pending j f kj, ki.0))
-          | inr kj ↦ omega (arith, ki.1, kj.1)
-        ]
-      ]
+  entered-pending_rise i j e f hi hj lt = elim (entry_cases i e hi) [
+    | inl ki ↦ elim (entry_cases j f hj) [
+      | inl kj ↦ s.pending_rise i j e f (there_too i e ki.0) (there_too j f kj.0) lt
+      | inr kj ↦ omega (arith, ki.2, kj.1)
+    ]
+    | inr ki ↦ omega (arith, ki, entry_cases j f hj, lt)
+  ]
 
-  entered-together : (p q v w : ℕ) → slice_get (active ++ item ∷ []) p ≡ Some v →
-      slice_get (active ++ item ∷ []) q ≡ Some w → NoLater (bounds ++ length active ∷ []) p q → SameOrWay g v w
-  entered-together p q v w hp hq later =
-      elim (slice_get-push_cases active item p v hp) [
-        | inl kp ↦ elim (slice_get-push_cases active item q w hq) [
-          | inl kq ↦ s.together p q v w kp kq (λ k b h. later k b (slice_get-append_left bounds _ k b h))
-          | inr kq ↦ inr (subst (λ x. Way (Link g) v x) kq.1 (reached p v kp))
-        ]
-        | inr kp ↦ elim (slice_get-push_cases active item q w hq) [
-          | inl kq ↦ absurd (omega (
-            arith,
-            later (length bounds) (length active) (slice_get-push bounds _)
-                (omega (arith, kp.0)),
-            slice_get_within active q w kq,
-          ))
-          | inr kq ↦ inl (sym kp.1 ∙ kq.1)
-        ]
-      ]
-
-  waiting : (w : ℕ) → Link g item w → IsPending pending' (length active) w
+  waiting : (w : ℕ) → Link g item w → IsPending pending' place w
   waiting w l =
-      let t = waits-there g (length active) item (g.degree item) l.place w l.at l.target in
+      let t = waits-there g place item (g.degree item) l.place w l.at l.target in
       record {
         at = length pending + t.0;
-        step = record { from = length active; to = w };
+        step = record { from = place; to = w };
         is = slice_get-append_right pending more t.0 _ t.1;
         from_is = refl;
         to_is = refl;
       }
 
-  entered-looked_at : (p v w : ℕ) → slice_get (active ++ item ∷ []) p ≡ Some v → Link g v w →
-      IsPending pending' p w ⊎ IsSettled marks' (bounds ++ length active ∷ []) p w
-  entered-looked_at p v w h l =
-      elim (slice_get-push_cases active item p v h) [
-        | inl k ↦ elim (s.looked_at p v w k l) [
-          | inl y ↦ elim (slice_get-append_cases pending but.skipped y.at y.step y.is) [
-            | inl old ↦ inl (IsPending-append pending _ p w
-                (record { at = y.at; step = y.step; is = old; from_is = y.from_is; to_is = y.to_is }))
-            | inr gone ↦ inr (entered p w (slice_get_within active p v k)
-                (sym y.to_is ∙ but.lead gone.0 y.step gone.2))
-          ]
-          | inr y ↦ inr (still p w (slice_get_within active p v k) y)
-        ]
-        | inr k ↦ inl (subst (λ x. IsPending pending' x w) (sym k.0) (waiting w (subst (λ x. Link g x w) (sym k.1) l)))
+  entered : (p w : ℕ) → p < place → w ≡ item → IsSettled marks' bounds' p w
+  entered p w lt same = settled_active place (grind (arith, mark_cases w)) (λ k b h le. omega arith)
+
+  still : (p w : ℕ) → p < place → IsSettled marks bounds p w → IsSettled marks' bounds' p w
+  still p w lt (closed k c) = closed k (closed_on w k c)
+  still p w lt (settled_active q a later) = settled_active q (mark_on w (Active q) (λ e. cc) a)
+      (λ k b h le. elim (bound_cases k b h) [ inl y ↦ later k b y.0 le | inr y ↦ absurd (omega (arith, y.1)) ])
+
+  entered-looked_at : (p v w : ℕ) → slice_get active' p ≡ Some v → Link g v w →
+      IsPending pending' p w ⊎ IsSettled marks' bounds' p w
+  entered-looked_at p v w h l = elim (path_cases p v h) [
+    | inl k ↦ elim (s.looked_at p v w k.0 l) [
+      | inl y ↦ elim (slice_get-append_cases pending but.skipped y.at y.step y.is) [
+        | inl old ↦ inl (record {
+          at = y.at;
+          step = y.step;
+          is = slice_get-append_left pending more y.at y.step old;
+          from_is = y.from_is;
+          to_is = y.to_is;
+        })
+        | inr gone ↦ inr (entered p w k.1 (sym y.to_is ∙ but.lead gone.0 y.step gone.2))
       ]
-    where
-      entered : (p w : ℕ) → p < length active → w ≡ item → IsSettled marks' (bounds ++ length active ∷ []) p w
-      entered p w lt same =
-          settled_active (length active) (subst (λ x. slice_get marks' x ≡ Some (Active (length active)))
-          (sym same) mark_item) (λ k b h le. omega arith)
+      | inr y ↦ inr (still p w k.1 y)
+    ]
+    | inr k ↦ inl (rw k.0 (waiting w (rw (← k.1) at l)))
+  ]
 
-      still : (p w : ℕ) → p < length active → IsSettled marks bounds p w →
-          IsSettled marks' (bounds ++ length active ∷ []) p w
-      still p w lt (closed k c) = closed k (closed_on w k c)
-      still p w lt (settled_active q a later) =
-          settled_active q (active_on w q a) (λ k b h le. elim (slice_get-push_cases bounds _ k b h)
-          [ inl y ↦ later k b y le | inr y ↦ absurd (omega (arith, y.1)) ])
-
-  pub sound-entered : IsSoundSearch g marks' (active ++ item ∷ []) (bounds ++ length active ∷ []) pending' order
+  pub sound-entered : IsSoundSearch g marks' active' bounds' pending' order
   sound-entered = record {
     within = s.within;
     marked = length-set marks item _ ∙ s.marked;
@@ -302,23 +248,19 @@ module _ (g : Digraph) (marks : List Mark) (active bounds : List ℕ) (pending :
     starts = λ i v k h hv. s.starts i v k h (closed_back v k hv);
     listed = λ v k h. s.listed v k (closed_back v k h);
     ordered = λ i v h. (let c = s.ordered i v h in (c.0, closed_on v c.0 c.1));
-    rises = λ i j v w k m lt hi hj hv hw. s.rises i j v w k m lt hi hj (closed_back v k hv) (closed_back w m hw);
+    rises = search (rules, closed_back);
     once = s.once;
   }
 
-  pub kept-entered : (v : ℕ) → slice_get marks' v ≡ Some Unseen → slice_get marks v ≡ Some Unseen
-  kept-entered = kept
-
-  pub fewer-entered : turns g marks' (bounds ++ length active ∷ []) pending' < turns g marks bounds pending
+  pub fewer-entered : turns g marks' bounds' pending' < turns g marks bounds pending
   fewer-entered =
-      let sums = turns_from-set g 0 marks item Unseen (Active (length active)) unseen in
-      let at : 0 + item ≡ item = omega arith in
-      let was : turns_of g (0 + item) Unseen ≡ g.degree item + 2 = ap (λ i. g.degree i + 2) at in
+      let sums = turns_from-set g 0 marks item Unseen (Active place) unseen in
+      let was : turns_of g (0 + item) Unseen ≡ g.degree item + 2 = rw zero-add in
       omega (
         arith,
         sums,
         was,
-        length-append bounds (length active ∷ []),
+        length-append bounds (place ∷ []),
         length-append pending more,
-        waits-length g (length active) item (g.degree item),
+        waits-length g place item (g.degree item),
       )

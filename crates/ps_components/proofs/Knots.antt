@@ -1,5 +1,5 @@
 -- A vertex leads back to itself where a link leads into its own component.
-use Rattle.std.proofs.Common.{◌≡◌, ℕ, ◌<◌, ◌≤◌, inl, inr, refl, sym, subst, arith, Some, slice_get}
+use Rattle.std.proofs.Common.{◌≡◌, ℕ, ◌<◌, ◌≤◌, inl, inr, refl, arith, Some, slice_get, rules}
 use Rattle.std.proofs.lemmas.Option.{slice_get_within}
 use Rattle.std.proofs.lemmas.Bool.{cases_lt, cases_eq}
 use Rattle.ps_components.specs.Graphs.{Digraph, Link, Way, last, next}
@@ -7,70 +7,51 @@ use Rattle.ps_components.specs.ComponentLists.{ComponentsData, IsIn, AreComponen
 use Rattle.ps_components.specs.Orders.{IsOrder, IsFirstOnCycle, IsKnot}
 
 -- a way leads to no later component
-pub way_falls : (g : Digraph) (c : ComponentsData) → AreComponents g c → (i j k : ℕ) → Way (Link g) i j → IsIn c i k →
+pub way_falls : {g : Digraph} {c : ComponentsData} → AreComponents g c → {i j k : ℕ} → Way (Link g) i j → IsIn c i k →
     (m : ℕ) × IsIn c j m × (m ≤ k)
-way_falls g c a i j k (last r) h = a.falls i k j h r
-way_falls g c a i j k (next {j = x} r w) h =
+way_falls a {i} {j} {k} (last r) h = a.falls i k j h r
+way_falls a {i} {j} {k} (next {j = x} r w) h =
     let m = a.falls i k x h r in
-    let n = way_falls g c a x j m.0 w m.1 in
+    let n = way_falls a w m.1 in
     (n.0, n.1, omega (arith, n.2, m.2))
 
-module _ (g : Digraph) (c : ComponentsData) (a : AreComponents g c) (met : AreAllMet g c) where
-  knot_at : (i j k m : ℕ) → Link g i j → IsIn c i k → IsIn c j m → m ≡ k → IsKnot g c i
-  knot_at i j k m l hi hj e = record { to = j; link = l; number = k; here = hi; there = subst (λ x. IsIn c j x) e hj }
+module _ {g : Digraph} {c : ComponentsData} (a : AreComponents g c) (met : AreAllMet g c) where
+  knot_at : {i j k m : ℕ} → Link g i j → IsIn c i k → IsIn c j m → m ≡ k → IsKnot g c i
+  knot_at {k = k} l hi hj e = record { to = _; link = l; number = k; here = hi; there = rw e at hj }
 
   pub knot_of_cycle : (i : ℕ) → Way (Link g) i i → IsKnot g c i
   knot_of_cycle i w = first i i w refl
     where
       first : (i j : ℕ) → Way (Link g) i j → i ≡ j → IsKnot g c i
-      first i j (last r) e =
-          let k = met i r.from in
-          knot_at i j k.0 k.0 r k.1 (subst (λ x. IsIn c x k.0) e k.1) refl
+      first i j (last r) e = (let k = met i r.from in knot_at r k.1 (cc (k.1)) refl)
       first i j (next {j = x} r v) e =
           let k = met i r.from in
           let m = a.falls i k.0 x k.1 r in
-          let n = way_falls g c a x j m.0 v m.1 in
-          let there : IsIn c i n.0 = subst (λ y. IsIn c y n.0) (sym e) n.1 in
-          let same : n.0 ≡ k.0 = (let was = k.1 in cc) in
-          knot_at i x k.0 m.0 r k.1 m.1 (omega (arith, m.2, n.2, same))
+          let n = way_falls a v m.1 in
+          let same : n.0 ≡ k.0 = cc (n.1, k.1) in
+          knot_at r k.1 m.1 (omega (arith, m.2, n.2, same))
 
   pub cycle_of_knot : (i : ℕ) → IsKnot g c i → Way (Link g) i i
-  cycle_of_knot i k =
-      elim (a.same k.to i k.number k.there k.here) [
-        | inl e ↦ subst (λ x. Way (Link g) i x) e (last k.link)
-        | inr w ↦ next k.link w
-      ]
+  cycle_of_knot i k = elim (a.same k.to i k.number k.there k.here) [
+    | inl e ↦ (let w : Way (Link g) i k.to = last k.link in rw e at w)
+    | inr w ↦ next k.link w
+  ]
 
   pub first-knot : (i : ℕ) → IsKnot g c i → ((j : ℕ) → j < i → IsKnot g c j → ⊥) → IsFirstOnCycle (Link g) i
-  first-knot i k none = record {
-    cyclic = cycle_of_knot i k;
-    first = λ j w. elim (cases_lt j i) [ inl lt ↦ absurd (none j lt (knot_of_cycle j w)) | inr le ↦ le ];
-  }
+  first-knot i k none = search (rules, cycle_of_knot, cases_lt, knot_of_cycle)
 
   pub no_cycle : ((i : ℕ) → i < g.count → IsKnot g c i → ⊥) → (i : ℕ) → Way (Link g) i i → ⊥
   no_cycle none i w = (let k = knot_of_cycle i w in none i k.link.from k)
 
+  -- of two places the one with the lesser number stands first
+  lower_first : (k l i j n m : ℕ) → slice_get c.order k ≡ Some i → slice_get c.order l ≡ Some j → IsIn c i n →
+      IsIn c j m → m < n → l < k
+  lower_first k l i j n m hk hl hi hj less = grind (arith, a.rises k l i j n m)
+
   pub order-of_components : ((i : ℕ) → i < g.count → IsKnot g c i → ⊥) → IsOrder (Link g) g.count c.order
   order-of_components none = record {
     within = λ k i h. (let o = a.ordered k i h in omega (arith, a.counted, slice_get_within c.numbers i _ o.1));
-    once = λ k l i hk hl. a.once k l i hk hl;
+    once = a.once;
     each = λ i lt. (let k = met i lt in a.listed i k.0 k.1);
-    behind = λ k l i j hk hl r.
-        (let o = a.ordered k i hk in
-        let m = a.falls i o.0 j o.1 r in
-        let knot : m.0 ≡ o.0 → IsKnot g c i = λ e. knot_at i j o.0 m.0 r o.1 m.1 e in
-        elim (cases_lt l k) [
-          | inl lt ↦ lt
-          | inr le ↦ elim (cases_eq k l) [
-            | inl e ↦ (let here : slice_get c.order l ≡ Some i = subst (λ x. slice_get c.order x ≡ Some i) e hk in
-                let same : i ≡ j = cc in
-                let at : IsIn c i m.0 = subst (λ x. IsIn c x m.0) (sym same) m.1 in
-                absurd (none i r.from (knot (let was = o.1 in cc))))
-            | inr ne ↦ absurd (none i r.from (knot (omega (
-              arith,
-              m.2,
-              a.rises k l i j o.0 m.0 (omega arith) hk hl o.1 m.1,
-            ))))
-          ]
-        ]);
+    behind = search (rules, cases_eq, knot_at, lower_first);
   }

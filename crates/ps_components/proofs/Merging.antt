@@ -1,34 +1,32 @@
 -- Segments joined at the end of the path, and a link taken off, keep the lists sound.
-use Rattle.std.proofs.Common.{◌≡◌, ℕ, ◌≤◌, ◌⊎◌, inl, inr, List, [], ◌∷◌, ◌++◌, ap, subst, ◌∙◌, arith, Some, slice_get}
+use Rattle.std.proofs.Common.{◌≡◌, ℕ, ◌-◌, ◌≤◌, ◌⊎◌, inl, inr, List, length, take, arith, Some, slice_get}
 use Rattle.std.proofs.lemmas.Bool.{cases_lt}
 use Rattle.ps_components.specs.declared.marks.Mark.{Mark}
 use Rattle.ps_components.specs.declared.marks.Mark.TheVariants.{Active}
 use Rattle.ps_components.specs.declared.search.Pending.{Pending}
 use Rattle.ps_components.specs.Graphs.{Digraph, Link}
 use Rattle.ps_components.specs.Searching.{IsSettled, closed, active as settled_active, IsPending, IsSoundSearch, IsCut}
-use Rattle.ps_components.proofs.Places.{slice_get-append_left, slice_get-push_cases}
+use Rattle.ps_components.proofs.Places.{slice_get-take_back, slice_get-but_last}
 use Rattle.ps_components.proofs.Ways.{across}
 
-module _ (g : Digraph) (marks : List Mark) (active bounds : List ℕ) (pending : List Pending) (order : List ℕ)
+module _ {g : Digraph} {marks : List Mark} {active bounds : List ℕ} {pending : List Pending} {order : List ℕ}
     (s : IsSoundSearch g marks active bounds pending order) where
   -- the last segment and those behind the place of w are joined, where the last one has a link to w
-  pub sound-merged : (from place v w : ℕ) (fewer : List ℕ) → slice_get active from ≡ Some v → Link g v w →
+  pub sound-merged : {from place v w : ℕ} {fewer : List ℕ} → slice_get active from ≡ Some v → Link g v w →
       slice_get marks w ≡ Some (Active place) → ((k b : ℕ) → slice_get bounds k ≡ Some b → b ≤ from) →
       IsCut bounds place fewer → IsSoundSearch g marks active fewer pending order
-  sound-merged from place v w fewer hv l hw last cut = record {
+  sound-merged {from} {place} {v} {w} {fewer} hv l hw last cut = record {
     within = s.within;
     marked = s.marked;
     active_marked = s.active_marked;
     marked_active = s.marked_active;
-    bounds_rise = λ i j b c hi hj lt. s.bounds_rise i j b c (cut.part i b hi) (cut.part j c hj) lt;
+    bounds_rise = λ i j b c hi hj. s.bounds_rise i j b c (cut.part i b hi) (cut.part j c hj);
     bounds_within = λ i b h. s.bounds_within i b (cut.part i b h);
     bounds_start = λ h. cut.kept 0 0 (s.bounds_start h) (omega arith);
     pending_links = s.pending_links;
     pending_rise = s.pending_rise;
     together = λ p q a b hp hq later. elim (cases_lt place p) [
-      | inl lt ↦ inr (across g a v w b
-          (s.together p from a v hp hv (λ k c h _. last k c h))
-          l
+      | inl lt ↦ inr (across (s.together p from a v hp hv (λ k c h _. last k c h)) l
           (s.together place q w b (s.marked_active place w hw) hq
           (λ k c h le. later k c (cut.kept k c h le) (omega arith))))
       | inr le ↦ s.together p q a b hp hq (λ k c h lc. later k c (cut.kept k c h (omega arith)) lc)
@@ -47,41 +45,41 @@ module _ (g : Digraph) (marks : List Mark) (active bounds : List ℕ) (pending :
     where
       still : (p w : ℕ) → IsSettled marks bounds p w → IsSettled marks fewer p w
       still p w (closed k c) = closed k c
-      still p w (settled_active q a later) = settled_active q a (λ k b h le. later k b (cut.part k b h) le)
+      still p w (settled_active q a later) = settled_active q a (λ k b h. later k b (cut.part k b h))
 
--- a link that leads to what is settled need wait no more
-pub sound-taken : (g : Digraph) (marks : List Mark) (active bounds : List ℕ) (pending : List Pending) (order : List ℕ)
-    (e : Pending) → IsSoundSearch g marks active bounds (pending ++ e ∷ []) order → IsSettled marks bounds e.from e.to →
-    IsSoundSearch g marks active bounds pending order
-sound-taken g marks active bounds pending order e s settled = record {
-  within = s.within;
-  marked = s.marked;
-  active_marked = s.active_marked;
-  marked_active = s.marked_active;
-  bounds_rise = s.bounds_rise;
-  bounds_within = s.bounds_within;
-  bounds_start = s.bounds_start;
-  pending_links = λ i f h. s.pending_links i f (slice_get-append_left pending _ i f h);
-  pending_rise =
-      λ i j f g hi hj lt. s.pending_rise i j f g (slice_get-append_left pending _ i f hi)
-      (slice_get-append_left pending _ j g hj) lt;
-  together = s.together;
-  looked_at = λ p v w h l. elim (s.looked_at p v w h l) [ inl y ↦ still p w y | inr y ↦ inr y ];
-  closed_links = s.closed_links;
-  same = s.same;
-  numbered = s.numbered;
-  begins = s.begins;
-  starts = s.starts;
-  listed = s.listed;
-  ordered = s.ordered;
-  rises = s.rises;
-  once = s.once;
-}
-  where
-    still : (p w : ℕ) → IsPending (pending ++ e ∷ []) p w → IsPending pending p w ⊎ IsSettled marks bounds p w
-    still p w y =
-        elim (slice_get-push_cases pending e y.at y.step y.is) [
-          | inl k ↦ inl (record { at = y.at; step = y.step; is = k; from_is = y.from_is; to_is = y.to_is })
-          | inr k ↦ inr (subst (λ x. IsSettled marks bounds p x) (ap (λ x. x.to) k.1 ∙ y.to_is)
-              (subst (λ x. IsSettled marks bounds x e.to) (ap (λ x. x.from) k.1 ∙ y.from_is) settled))
-        ]
+  -- a link that leads to what is settled need wait no more
+  pub sound-taken : {e : Pending} → slice_get pending (length pending - 1) ≡ Some e →
+      IsSettled marks bounds e.from e.to → IsSoundSearch g marks active bounds (take (length pending - 1) pending) order
+  sound-taken {e} last settled = record {
+    within = s.within;
+    marked = s.marked;
+    active_marked = s.active_marked;
+    marked_active = s.marked_active;
+    bounds_rise = s.bounds_rise;
+    bounds_within = s.bounds_within;
+    bounds_start = s.bounds_start;
+    pending_links = λ i f h. s.pending_links i f (back i f h);
+    pending_rise = λ i j f g hi hj. s.pending_rise i j f g (back i f hi) (back j g hj);
+    together = s.together;
+    looked_at = λ p v w h l. elim (s.looked_at p v w h l) [ inl y ↦ still p w y | inr y ↦ inr y ];
+    closed_links = s.closed_links;
+    same = s.same;
+    numbered = s.numbered;
+    begins = s.begins;
+    starts = s.starts;
+    listed = s.listed;
+    ordered = s.ordered;
+    rises = s.rises;
+    once = s.once;
+  }
+    where
+      back : (i : ℕ) (f : Pending) → slice_get (take (length pending - 1) pending) i ≡ Some f →
+          slice_get pending i ≡ Some f
+      back i f h = slice_get-take_back (length pending - 1) pending i f h
+
+      still : (p w : ℕ) → IsPending pending p w → IsPending (take (length pending - 1) pending) p w ⊎
+          IsSettled marks bounds p w
+      still p w y = elim (slice_get-but_last pending last y.at y.step y.is) [
+        | inl k ↦ inl (record { at = y.at; step = y.step; is = k; from_is = y.from_is; to_is = y.to_is })
+        | inr k ↦ inr (rw (← y.from_is, ← y.to_is, ← k) settled)
+      ]

@@ -1,7 +1,9 @@
 -- Lemmas on `slice_get`.
 use Rattle.std.proofs.Common.{◌≡◌, ◌≢◌, ℕ, ◌+◌, ◌-◌, ◌<◌, ◌⊎◌, inl, inr, List, [], ◌∷◌, ◌++◌, length, take, drop, refl}
-use Rattle.std.proofs.Common.{ap, subst, arith, Some, slice_get, set, suc, zero, zero-add}
+use Rattle.std.proofs.Common.{ap, arith, Some, slice_get, set, suc, zero, zero-add, suc-add, rules}
 use Rattle.std.proofs.lemmas.Option.{slice_get_within}
+use Rattle.std.proofs.lemmas.Bool.{cases_eq}
+use Rattle.std.proofs.lemmas.List.{length-take-le}
 
 pub slice_get-append_left : {X : Type 0} (xs ys : List X) (i : ℕ) (x : X) → slice_get xs i ≡ Some x →
     slice_get (xs ++ ys) i ≡ Some x
@@ -18,8 +20,7 @@ pub slice_get-push_cases : {X : Type 0} (xs : List X) (y : X) (i : ℕ) (x : X) 
 slice_get-push_cases [] y zero x h = inr (refl, cc)
 slice_get-push_cases [] y (suc i) x h = cc
 slice_get-push_cases (z ∷ xs) y zero x h = inl h
-slice_get-push_cases (z ∷ xs) y (suc i) x h =
-    elim (slice_get-push_cases xs y i x h) [ inl k ↦ inl k | inr k ↦ inr (ap suc k.0, k.1) ]
+slice_get-push_cases (z ∷ xs) y (suc i) x h = grind (arith, slice_get-push_cases xs y i x h)
 
 pub slice_get-set_same : {X : Type 0} (xs : List X) (i : ℕ) (y : X) → i < length xs → slice_get (set xs i y) i ≡ Some y
 slice_get-set_same [] i y h = absurd (omega arith)
@@ -34,6 +35,12 @@ slice_get-set_other (x ∷ xs) zero (suc j) y h = refl
 slice_get-set_other (x ∷ xs) (suc i) zero y h = refl
 slice_get-set_other (x ∷ xs) (suc i) (suc j) y h = slice_get-set_other xs i j y (λ e. h (ap suc e))
 
+-- after a write the new item stands at its place, and at any other one what stood there
+pub slice_get-set_cases : {X : Type 0} (xs : List X) (i j : ℕ) (y : X) →
+    ((j ≡ i) × (i < length xs → slice_get (set xs i y) j ≡ Some y)) ⊎
+    ((j ≢ i) × (slice_get (set xs i y) j ≡ slice_get xs j))
+slice_get-set_cases xs i j y = search (rules, cases_eq, slice_get-set_same, slice_get-set_other)
+
 pub slice_get-take_back : {X : Type 0} (n : ℕ) (xs : List X) (i : ℕ) (x : X) → slice_get (take n xs) i ≡ Some x →
     slice_get xs i ≡ Some x
 slice_get-take_back zero xs i x h = cc
@@ -47,14 +54,10 @@ slice_get-take (suc n) [] i h = refl
 slice_get-take (suc n) (y ∷ xs) zero h = refl
 slice_get-take (suc n) (y ∷ xs) (suc i) h = slice_get-take n xs i (omega arith)
 
-suc-add_swap : (n i : ℕ) → suc (n + i) ≡ suc n + i
-suc-add_swap n i = omega arith
-
 pub slice_get-drop : {X : Type 0} (n : ℕ) (xs : List X) (i : ℕ) → slice_get (drop n xs) i ≡ slice_get xs (n + i)
 slice_get-drop zero xs i = rw zero-add
 slice_get-drop (suc n) [] i = refl
-slice_get-drop (suc n) (x ∷ xs) i =
-    subst (λ k. slice_get (drop n xs) i ≡ slice_get (x ∷ xs) k) (suc-add_swap n i) (slice_get-drop n xs i)
+slice_get-drop (suc n) (x ∷ xs) i = rw (suc-add n i) (slice_get-drop n xs i)
 
 last_split_at : {X : Type 0} (xs : List X) (x : X) (n : ℕ) → length xs ≡ suc n → slice_get xs n ≡ Some x →
     xs ≡ take n xs ++ x ∷ []
@@ -63,9 +66,21 @@ last_split_at (y ∷ []) x zero e h = let same : y ≡ x = cc in ap (λ z. z ∷
 last_split_at (y ∷ z ∷ ys) x zero e h = absurd (omega arith)
 last_split_at (y ∷ ys) x (suc n) e h = ap (λ zs. y ∷ zs) (last_split_at ys x n (omega arith) h)
 
-pub last_split : {X : Type 0} (xs : List X) (x : X) → slice_get xs (length xs - 1) ≡ Some x →
+pub last_split : {X : Type 0} (xs : List X) {x : X} → slice_get xs (length xs - 1) ≡ Some x →
     xs ≡ take (length xs - 1) xs ++ x ∷ []
-last_split xs x h = last_split_at xs x (length xs - 1) (omega (arith, slice_get_within xs _ x h)) h
+last_split xs {x} h = last_split_at xs x (length xs - 1) (omega (arith, slice_get_within xs _ x h)) h
+
+pub length-but_last : {X : Type 0} (xs : List X) {x : X} → slice_get xs (length xs - 1) ≡ Some x →
+    length (take (length xs - 1) xs) + 1 ≡ length xs
+length-but_last xs h =
+    omega (arith, slice_get_within xs _ _ h, length-take-le (length xs - 1) xs (omega arith))
+
+-- what stands in a list stands in it without its last item, or is that item
+pub slice_get-but_last : {X : Type 0} (xs : List X) {x : X} → slice_get xs (length xs - 1) ≡ Some x → (i : ℕ) (y : X) →
+    slice_get xs i ≡ Some y → (slice_get (take (length xs - 1) xs) i ≡ Some y) ⊎ (x ≡ y)
+slice_get-but_last xs {x} last i y h =
+    elim (slice_get-push_cases (take (length xs - 1) xs) x i y (rw (last_split xs last) at h))
+    [ inl k ↦ inl k | inr k ↦ inr k.1 ]
 
 -- what stands in two lists joined stands in the first, or in the second
 pub slice_get-append_cases : {X : Type 0} (xs ys : List X) (i : ℕ) (x : X) → slice_get (xs ++ ys) i ≡ Some x →
@@ -78,5 +93,4 @@ slice_get-append_cases (y ∷ xs) ys (suc i) x h =
 pub slice_get-append_right : {X : Type 0} (xs ys : List X) (j : ℕ) (x : X) → slice_get ys j ≡ Some x →
     slice_get (xs ++ ys) (length xs + j) ≡ Some x
 slice_get-append_right [] ys j x h = rw zero-add h
-slice_get-append_right (y ∷ xs) ys j x h =
-    subst (λ k. slice_get (y ∷ (xs ++ ys)) k ≡ Some x) (suc-add_swap (length xs) j) (slice_get-append_right xs ys j x h)
+slice_get-append_right (y ∷ xs) ys j x h = rw (suc-add (length xs) j) (slice_get-append_right xs ys j x h)

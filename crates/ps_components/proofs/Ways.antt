@@ -1,5 +1,5 @@
 -- Ways joined, and what an order says of ways.
-use Rattle.std.proofs.Common.{ℕ, inl, inr, sym, subst}
+use Rattle.std.proofs.Common.{ℕ, inl, inr}
 use Rattle.ps_components.specs.Graphs.{Digraph, Link, SameOrWay, Way, last, next}
 
 pub Way-join : {R : ℕ → ℕ → Type 0} {i j k : ℕ} → Way R i j → Way R j k → Way R i k
@@ -10,9 +10,17 @@ pub Way-map : {R S : ℕ → ℕ → Type 0} {i j : ℕ} → ((i j : ℕ) → R 
 Way-map f (last r) = last (f _ _ r)
 Way-map f (next r w) = next (f _ _ r) (Way-map f w)
 
+pub SameOrWay-join : {g : Digraph} {u v w : ℕ} → SameOrWay g u v → SameOrWay g v w → SameOrWay g u w
+SameOrWay-join (inl e) y = rw e y
+SameOrWay-join (inr x) (inl e) = inr (rw e at x)
+SameOrWay-join (inr x) (inr y) = inr (Way-join x y)
+
+-- by a link, then by a way or by none
+before : {g : Digraph} {u w b : ℕ} → Link g u w → SameOrWay g w b → Way (Link g) u b
+before l (inl f) = rw (← f) (last l)
+before l (inr y) = next l y
+
 -- by a way or by none, then by a link, then by a way or by none
-pub across : (g : Digraph) (a u w b : ℕ) → SameOrWay g a u → Link g u w → SameOrWay g w b → Way (Link g) a b
-across g a u w b (inl e) l (inl f) = subst (λ x. Way (Link g) x b) (sym e) (subst (λ x. Way (Link g) u x) f (last l))
-across g a u w b (inl e) l (inr y) = subst (λ x. Way (Link g) x b) (sym e) (next l y)
-across g a u w b (inr x) l (inl f) = Way-join x (subst (λ x. Way (Link g) u x) f (last l))
-across g a u w b (inr x) l (inr y) = Way-join x (next l y)
+pub across : {g : Digraph} {a u w b : ℕ} → SameOrWay g a u → Link g u w → SameOrWay g w b → Way (Link g) a b
+across (inl e) l y = rw e (before l y)
+across (inr x) l y = Way-join x (before l y)

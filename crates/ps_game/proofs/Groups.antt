@@ -11,55 +11,36 @@ use Rattle.std.proofs.lemmas.Nat.{le_or_l, le_or_r}
 use Rattle.std.proofs.lemmas.Simd.{get_or-put_chunk_below, get_or-put_chunk_at, get_or-put_chunk_above, get_or-zip2}
 use Rattle.std.proofs.lemmas.Simd.{get_or-chunk, length-chunk, length-zip2}
 
--- a group is written, behind those in front of it
-group_written : (words values : List ℕ) (f : ℕ → ℕ) (group : ℕ) → length values ≡ 8 → (group + 1) * 8 ≤ length words
-    → ((j : ℕ) → j < 8 → get_or values j 0 ≡ f (group * 8 + j)) → ((k : ℕ) → k < group * 8 → get_or words k 0 ≡ f k)
-    → (k : ℕ) → k < (group + 1) * 8 → get_or (put_chunk (group * 8) words values) k 0 ≡ f k
-group_written words values f group eight room here before k lt = elim (cases_lt k (group * 8)) [
-  | inl less ↦ get_or-put_chunk_below (group * 8) words values k 0 less ∙ before k less
-  | inr beyond ↦
-      let j = k - group * 8 in
-      let e : group * 8 + j ≡ k = omega arith in
-      ap (λ n. get_or (put_chunk (group * 8) words values) n 0) (sym e)
-      ∙ get_or-put_chunk_at (group * 8) words values j 0 (omega (arith, eight)) (omega (arith, eight))
-      ∙ here j (omega arith) ∙ ap f e
-]
+-- the first n words are combined with numbers, and the others are as they were
+pub record AreCombined (f : ℕ → ℕ → ℕ) (h : ℕ → ℕ) (old words : List ℕ) (n : ℕ) : Type 0 where
+  pub done : (k : ℕ) → k < n → get_or words k 0 ≡ f (get_or old k 0) (h k)
+  pub rest : (k : ℕ) → n ≤ k → get_or words k 0 ≡ get_or old k 0
 
 -- a group of words is combined with the lanes of a vector
-pub group_combined : (f : ℕ → ℕ → ℕ) (old words lanes : List ℕ) (h : ℕ → ℕ) (group : ℕ) →
-    (group + 1) * 8 ≤ length words → length lanes ≡ 8
-    → ((j : ℕ) → j < 8 → get_or lanes j 0 ≡ h (group * 8 + j))
-    → ((k : ℕ) → k < group * 8 → get_or words k 0 ≡ f (get_or old k 0) (h k)) →
-    ((k : ℕ) → group * 8 ≤ k → get_or words k 0 ≡ get_or old k 0)
-    → (k : ℕ) → k < (group + 1) * 8 → get_or (put_chunk (group * 8) words (zip2 f (chunk (group * 8) 8 words) lanes)) k
-    0 ≡ f (get_or old k 0) (h k)
-group_combined f old words lanes h group room eight values before rest =
+pub group_combined : {f : ℕ → ℕ → ℕ} {h : ℕ → ℕ} {old words : List ℕ} (lanes : List ℕ) (group : ℕ) →
+    AreCombined f h old words (group * 8) → (group + 1) * 8 ≤ length words → length lanes ≡ 8 →
+    ((j : ℕ) → j < 8 → get_or lanes j 0 ≡ h (group * 8 + j)) →
+    AreCombined f h old (put_chunk (group * 8) words (zip2 f (chunk (group * 8) 8 words) lanes)) ((group + 1) * 8)
+group_combined {f = f} {h = h} {old = old} {words = words} lanes group before room eight values =
     let start = group * 8 in
     let loaded = chunk start 8 words in
     let long : length loaded ≡ 8 = length-chunk start 8 words (omega arith) in
-    group_written words (zip2 f loaded lanes) (λ k. f (get_or old k 0) (h k)) group
-    (length-zip2 f loaded lanes (long ∙ sym eight) ∙ long) room
-    (λ j less. get_or-zip2 f loaded lanes j 0 0 0 (omega (arith, long)) (omega (arith, eight))
-    ∙ ap₂ f (get_or-chunk start 8 words j 0 less ∙ rest (start + j) (omega arith)) (values j less))
-    before
-
--- the words behind a group stay
-pub group_rest : (f : ℕ → ℕ → ℕ) (old words lanes : List ℕ) (group : ℕ) → (group + 1) * 8 ≤ length words →
-    length lanes ≡ 8
-    → ((k : ℕ) → group * 8 ≤ k → get_or words k 0 ≡ get_or old k 0)
-    → (k : ℕ) → (group + 1) * 8 ≤ k → get_or (put_chunk (group * 8) words (zip2 f (chunk (group * 8) 8 words) lanes)) k
-    0 ≡ get_or old k 0
-group_rest f old words lanes group room eight rest k beyond =
-    let start = group * 8 in
-    let loaded = chunk start 8 words in
-    let long : length loaded ≡ 8 = length-chunk start 8 words (omega arith) in
-    let same : length (zip2 f loaded lanes) ≡ 8 = length-zip2 f loaded lanes (long ∙ sym eight) ∙ long in
-    get_or-put_chunk_above start words (zip2 f loaded lanes) k 0 (omega (arith, same)) ∙ rest k (omega arith)
-
--- the lanes of a group of other words
-pub lanes_are : (others : List ℕ) (group j : ℕ) → j < 8 → get_or (chunk (group * 8) 8 others) j 0 ≡ get_or others
-    (group * 8 + j) 0
-lanes_are others group j less = get_or-chunk (group * 8) 8 others j 0 less
+    let made = zip2 f loaded lanes in
+    let same : length made ≡ 8 = length-zip2 f loaded lanes (long ∙ sym eight) ∙ long in
+    record {
+      done = λ k lt. elim (cases_lt k start) [
+        | inl less ↦ get_or-put_chunk_below start words made k 0 less ∙ before.done k less
+        | inr beyond ↦
+            let j = k - start in
+            let e : start + j ≡ k = omega arith in
+            rw (← e) (get_or-put_chunk_at start words made j 0 (omega arith) (omega arith)
+            ∙ get_or-zip2 f loaded lanes j 0 0 0 (omega arith) (omega arith)
+            ∙ ap₂ f (get_or-chunk start 8 words j 0 (omega arith) ∙ before.rest (start + j) (omega arith))
+            (values j (omega arith)))
+      ];
+      rest = λ k beyond.
+          get_or-put_chunk_above start words made k 0 (omega arith) ∙ before.rest k (omega arith);
+    }
 
 -- ---- a disjunction of lanes is 0 where each of them is
 
@@ -86,8 +67,8 @@ group_clear words group none before k lt = elim (cases_lt k (group * 8)) [
   | inr beyond ↦
       let j = k - group * 8 in
       let e : group * 8 + j ≡ k = omega arith in
-      ap (λ n. get_or words n 0) (sym e) ∙ sym (lanes_are words group j (omega arith))
-      ∙ clear_from_or (chunk (group * 8) 8 words) 0 none j
+      rw (← e) (sym (get_or-chunk (group * 8) 8 words j 0 (omega arith))
+      ∙ clear_from_or (chunk (group * 8) 8 words) 0 none j)
 ]
 
 -- where no word up to the end of a group has a bit, its disjunction is 0
@@ -96,8 +77,7 @@ pub clear_group : (words : List ℕ) (group groups : ℕ) → group < groups →
 clear_group words group groups lt room clear =
     let long : length (chunk (group * 8) 8 words) ≡ 8 = length-chunk (group * 8) 8 words (omega arith) in
     or_of_clear (chunk (group * 8) 8 words) 0 refl
-    (λ j less. let inside : j < 8 = omega (arith, long) in lanes_are words group j inside
-    ∙ clear (group * 8 + j) (omega arith))
+    (λ j less. get_or-chunk (group * 8) 8 words j 0 (omega arith) ∙ clear (group * 8 + j) (omega arith))
 
 -- ---- sums over lanes
 

@@ -7,16 +7,25 @@ use Rattle.std.proofs.lemmas.Grind.{get_or-set_at}
 use Rattle.std.proofs.lemmas.List.{get_or-set_other, get_or-replicate, length-replicate}
 use Rattle.std.proofs.lemmas.List.FromFn.{get_or-map-range_with_len, length-map-range_with_len, fill_by_all}
 use Rattle.ps_game.specs.Moves.{move_in, moves_of}
+use Rattle.ps_game.specs.Regions.{has, move_at}
 
 pub length-moves_of : (chosen : List Bool) (moves : List ℕ) → length (moves_of chosen moves) ≡ length moves
 unfolding moves_of
 length-moves_of chosen moves = length-map-range_with_len (move_in chosen moves) 0 (length moves)
 
-pub move_inside : (chosen : List Bool) (moves : List ℕ) (v : ℕ) → v < length moves →
+move_inside : (chosen : List Bool) (moves : List ℕ) (v : ℕ) → v < length moves →
     get_or (moves_of chosen moves) v None ≡ move_in chosen moves v
 unfolding moves_of
 move_inside chosen moves v lt =
     get_or-map-range_with_len (move_in chosen moves) 0 (length moves) v v None lt (omega arith)
+
+-- what is read from the table of two lists
+pub move_read : (chosen : List Bool) (moves : List ℕ) {table : List (Option ℕ)} {v : ℕ} {b : Bool} →
+    moves_of chosen moves ≡ table → v < length table → has chosen v ≡ b →
+    move_at table v ≡ cond b (Some (get_or moves v 0)) None
+move_read chosen moves {v = v} is lt there =
+    rw (← is) (move_inside chosen moves v (omega (arith, ap length is, length-moves_of chosen moves))
+    ∙ ap (λ b. cond b (Some (get_or moves v 0)) None) there)
 
 -- a table is that of two lists where it says what they say
 moves_are : (chosen : List Bool) (moves : List ℕ) (table : List (Option ℕ)) → length table ≡ length moves

@@ -1,6 +1,6 @@
 -- From what is held within a subgame to what is held on paths.
 use Rattle.std.proofs.Common.{◌≡◌, ℕ, zero, suc, ◌+◌, ◌-◌, ◌<◌, ◌≤◌, inl, inr, List, length, get_or, Bool, IsTrue}
-use Rattle.std.proofs.Common.{Option, Some, None, IsSomeAnd, subst, sym, ap, ◌∙◌, arith}
+use Rattle.std.proofs.Common.{Option, Some, None, IsSomeAnd, sym, ap, ◌∙◌, arith}
 use Rattle.std.proofs.lemmas.Bool.{cases_eq}
 use Rattle.ps_game.specs.Games.{ParityGame, vertex_count, owner_of, priority_of, HasEdge}
 use Rattle.ps_game.specs.Plays.{IsPath, IsLoop, Follows, Holds, loop_priority}
@@ -14,80 +14,63 @@ from_place path i t = get_or path (i + t) 0
 pub loop_priority_top : (game : ParityGame) (path : List ℕ) (i j : ℕ) → i < j → j ≤ length path →
     IsTop game (from_place path i) (j - i) (loop_priority game path i j)
 loop_priority_top game path i j rises within =
-    let found = loop_priority_stands game path i j rises within in
-    let after : i ≤ found.0 = found.1 in
-    let before : found.0 < j = found.2 in
-    let there : i + (found.0 - i) ≡ found.0 = omega arith in
+    let (k, after, before, is) = loop_priority_stands game path i j rises within in
+    let there : i + (k - i) ≡ k = omega arith in
     record {
       bounds = λ t below. le-loop_priority game path i j (i + t) (omega arith) (omega arith) within;
-      stands = (found.0 - i, omega arith, ap (λ k. priority_of game (get_or path k 0)) there ∙ found.3);
+      stands = (k - i, omega arith, ap (λ n. priority_of game (get_or path n 0)) there ∙ is);
     }
-
--- a move that is there, and where it leads
-moved : (P : ℕ → Type 0) (o : Option ℕ) (w : ℕ) → IsSomeAnd o P → o ≡ Some w → P w
-moved P o w there is = let There : Option ℕ → Type 0 = λ o. IsSomeAnd o P in subst There is there
 
 some_more : (P Q : ℕ → Type 0) (o : Option ℕ) → ((w : ℕ) → P w → Q w) → IsSomeAnd o P → IsSomeAnd o Q
 some_more P Q (Some w) more there = more w there
 some_more P Q None more there = absurd there
-
-stays_on : (game : ParityGame) (player : ℕ) (subgame set : ℕ → Bool) (table : ℕ → Option ℕ) →
-    ((v : ℕ) → v < vertex_count game → IsTrue (subgame v)) → HoldsWithin game subgame player set table →
-    (path : List ℕ) → IsPath game path → IsTrue (set (get_or path 0 0)) → Follows game player table path → (k : ℕ) →
-    k < length path → IsTrue (set (get_or path k 0))
-stays_on game player subgame set table all holds path is_path begins follows zero within = begins
-stays_on game player subgame set table all holds path is_path begins follows (suc k) within =
-    let next : k + 1 ≡ suc k = omega arith in
-    let In : ℕ → Type 0 = λ n. IsTrue (set (get_or path n 0)) in
-    let here = stays_on game player subgame set table all holds path is_path begins follows k (omega arith) in
-    let step : k + 1 < length path = omega arith in
-    subst In next (elim (cases_eq (owner_of game (get_or path k 0)) player) [
-      | inl owns ↦ (
-          let leads : LeadsInto game set (get_or path k 0) (get_or path (k + 1) 0) =
-          moved (LeadsInto game set (get_or path k 0)) (table (get_or path k 0)) (get_or path (k + 1) 0)
-          (holds.moves (get_or path k 0) here owns) (follows k step owns) in
-          leads.inside)
-      | inr others ↦ holds.stays (get_or path k 0) (get_or path (k + 1) 0) here others
-          (record { edge = is_path.edges k step; inside = all (get_or path (k + 1) 0) (is_path.vertices (k + 1) step) })
-    ])
 
 -- a loop of a path that stays in the set is a round
 loop_round : (game : ParityGame) (player : ℕ) (set : ℕ → Bool) (table : ℕ → Option ℕ) (path : List ℕ) (i j : ℕ) →
     IsPath game path → ((k : ℕ) → k < length path → IsTrue (set (get_or path k 0))) → Follows game player table path →
     IsLoop path i j → IsRound game player set table (from_place path i) (j - i)
 loop_round game player set table path i j is_path inside follows is_loop =
-    let rises : i < j = is_loop.rises in
-    let within : j < length path = is_loop.within in
+    let rises = is_loop.rises in
+    let within = is_loop.within in
     let last : i + (j - i) ≡ j = omega arith in
     let first : i ≡ i + 0 = omega arith in
-    let step = λ (t : ℕ). (let e : i + t + 1 ≡ i + (t + 1) = omega arith in e) in
+    let step : (t : ℕ) → i + t + 1 ≡ i + (t + 1) = λ t. omega arith in
     record {
       some = omega arith;
       closes = ap (λ k. get_or path k 0) last ∙ sym is_loop.same ∙ ap (λ k. get_or path k 0) first;
       inside = λ t below. inside (i + t) (omega arith);
-      edges = λ t below. (
-          let Edge : ℕ → Type 0 = λ n. HasEdge game (get_or path (i + t) 0) (get_or path n 0) in
-          subst Edge (step t) (is_path.edges (i + t) (omega arith)));
-      follows = λ t below owns. follows (i + t) (omega arith) owns ∙ ap (λ n. Some (get_or path n 0)) (step t);
+      edges = λ t below. rw (step t) at (is_path.edges (i + t) (omega arith));
+      follows = λ t below owns. rw (step t) at (follows (i + t) (omega arith) owns);
     }
 
-pub Holds-HoldsWithin : (game : ParityGame) (player : ℕ) (subgame set : ℕ → Bool) (table : ℕ → Option ℕ) →
-    ((v : ℕ) → v < vertex_count game → IsTrue (subgame v)) → HoldsWithin game subgame player set table →
-    Holds game player set table
-Holds-HoldsWithin game player subgame set table all holds =
-    let stays = stays_on game player subgame set table all holds in
-    record {
+module _ (game : ParityGame) (player : ℕ) (subgame set : ℕ → Bool) (table : ℕ → Option ℕ)
+    (all : (v : ℕ) → v < vertex_count game → IsTrue (subgame v)) (holds : HoldsWithin game subgame player set table)
+  where
+    stays_on : (path : List ℕ) → IsPath game path → IsTrue (set (get_or path 0 0)) → Follows game player table path →
+        (k : ℕ) → k < length path → IsTrue (set (get_or path k 0))
+    stays_on path is_path begins follows zero within = begins
+    stays_on path is_path begins follows (suc k) within =
+        let next : k + 1 ≡ suc k = omega arith in
+        let here = stays_on path is_path begins follows k (omega arith) in
+        let step : k + 1 < length path = omega arith in
+        rw (← next) (elim (cases_eq (owner_of game (get_or path k 0)) player) [
+          | inl owns ↦ (rw (follows k step owns) at (holds.moves (get_or path k 0) here owns)).inside
+          | inr others ↦ holds.stays (get_or path k 0) (get_or path (k + 1) 0) here others
+              (record { edge = is_path.edges k step; inside = all _ (is_path.vertices (k + 1) step) })
+        ])
+
+    pub Holds-HoldsWithin : Holds game player set table
+    Holds-HoldsWithin = record {
       keeps = record {
         moves =
             λ v is_vertex inside owns. some_more (LeadsInto game set v) (HasEdge game v) (table v)
             (λ w leads. leads.edge) (holds.moves v inside owns);
-        stays = stays;
+        stays = stays_on;
       };
-      wins = λ path i j is_path begins follows is_loop. (
-          let within : j < length path = is_loop.within in
+      wins = λ path i j is_path begins follows is_loop.
           holds.wins (from_place path i) (j - i) (loop_priority game path i j)
-          (loop_round game player set table path i j is_path (stays path is_path begins follows) follows is_loop)
-          (loop_priority_top game path i j is_loop.rises (omega arith)));
+          (loop_round game player set table path i j is_path (stays_on path is_path begins follows) follows is_loop)
+          (loop_priority_top game path i j is_loop.rises (omega (arith, is_loop.within)));
     }
 
 pub HoldsWithin-same_moves : (game : ParityGame) (player : ℕ) (subgame set : ℕ → Bool) (table other : ℕ → Option ℕ) →
@@ -95,9 +78,7 @@ pub HoldsWithin-same_moves : (game : ParityGame) (player : ℕ) (subgame set : �
     HoldsWithin game subgame player set table → HoldsWithin game subgame player set other
 HoldsWithin-same_moves game player subgame set table other same holds = record {
   within = holds.within;
-  moves = λ v inside owns. (
-      let There : Option ℕ → Type 0 = λ o. IsSomeAnd o (LeadsInto game set v) in
-      subst There (sym (same v inside owns)) (holds.moves v inside owns));
+  moves = λ v inside owns. rw (same v inside owns) (holds.moves v inside owns);
   stays = holds.stays;
   wins = λ walk k top round is_top. holds.wins walk k top (record {
     some = round.some;

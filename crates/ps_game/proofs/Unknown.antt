@@ -1,10 +1,10 @@
 -- What the search for an unknown successor finds.
-use Rattle.std.proofs.Common.{inl, inr, ◌≤◌, ap, sym, ◌∙◌, ◌≡◌, ℕ, zero, suc, ◌<◌, List, [], ◌∷◌, find, Option, None}
+use Rattle.std.proofs.Common.{inl, inr, ◌≤◌, sym, ◌∙◌, ◌≡◌, ℕ, zero, suc, ◌<◌, List, [], ◌∷◌, find, Option, None}
 use Rattle.std.proofs.Common.{Some, nat_le, cond, arith}
 use Rattle.std.specs.List.{All}
 use Rattle.std.proofs.lemmas.Bool.{cases_lt}
 use Rattle.std.proofs.lemmas.Bool.Decides.{nat_tests}
-use Rattle.ps_game.specs.Games.{ParityGame, vertex_count, successors_of}
+use Rattle.ps_game.specs.Games.{ParityGame}
 use Rattle.ps_game.specs.Drafts.{IsFirstUnknown, NoneUnknown}
 
 -- the head is smaller, and nothing is found behind it
@@ -27,26 +27,20 @@ none_found n w [] found small = cc
 none_found n w (x ∷ xs) found small =
     none_found n w xs (behind n x w _ found (small 0 0 (omega arith))) (λ k d within. small (suc k) d (omega arith))
 
+not_before : {draft : ParityGame} {v w u x : ℕ} → IsFirstUnknown draft v w → IsFirstUnknown draft u x → v ≤ u
+not_before {v = v} {u = u} first second = elim (cases_lt u v) [
+  | inl less ↦ absurd (none_found _ _ _ second.unknown (first.before u less))
+  | inr more ↦ more
+]
+
 -- the least vertex with an unknown successor, and its first such successor, are determined
-pub first_unknown_once : (draft : ParityGame) (v w u x : ℕ) → IsFirstUnknown draft v w → IsFirstUnknown draft u x →
+pub first_unknown_once : {draft : ParityGame} {v w u x : ℕ} → IsFirstUnknown draft v w → IsFirstUnknown draft u x →
     (v ≡ u) × (w ≡ x)
-first_unknown_once draft v w u x first second =
-    let not_above : v ≤ u =
-    elim (cases_lt u v) [
-      | inl less ↦ absurd (none_found _ _ _ second.unknown (first.before u less))
-      | inr more ↦ more
-    ] in
-    let not_below : u ≤ v =
-    elim (cases_lt v u) [
-      | inl less ↦ absurd (none_found _ _ _ first.unknown (second.before v less))
-      | inr more ↦ more
-    ] in
-    let same : v ≡ u = omega arith in
-    let found : ℕ → Option ℕ =
-    λ number. find (λ successor. nat_le (vertex_count draft) successor) (successors_of draft number) in
-    let both : Some w ≡ Some x = sym first.unknown ∙ ap found same ∙ second.unknown in
+first_unknown_once {v = v} {w = w} {u = u} {x = x} first second =
+    let same : v ≡ u = omega (arith, not_before first second, not_before second first) in
+    let both : Some w ≡ Some x = sym first.unknown ∙ rw same second.unknown in
     (same, cc)
 
 -- there is none where each successor is a vertex
-pub no_first_unknown : (draft : ParityGame) (v w : ℕ) → NoneUnknown draft → IsFirstUnknown draft v w → ⊥
-no_first_unknown draft v w known first = none_found _ _ _ first.unknown (known v first.is_vertex)
+pub no_first_unknown : {draft : ParityGame} {v w : ℕ} → NoneUnknown draft → IsFirstUnknown draft v w → ⊥
+no_first_unknown {v = v} known first = none_found _ _ _ first.unknown (known v first.is_vertex)

@@ -21,115 +21,163 @@ use Rattle.std.proofs.lemmas.Simd.{get_or-replicate, length-replicate, mask_l-lt
 use Rattle.ps_game.specs.Regions.{has}
 use Rattle.ps_game.specs.Words.{bit_in, members, ArePacked}
 
-pub length-members : (places : ℕ) (words : List ℕ) → length (members places words) ≡ places
+length-members : (places : ℕ) (words : List ℕ) → length (members places words) ≡ places
 unfolding members
 length-members places words = length-map-range_with_len (bit_in words) 0 places
 
-pub has-inside : (places : ℕ) (words : List ℕ) (v : ℕ) → v < places → has (members places words) v ≡ bit_in words v
+has-inside : (places : ℕ) (words : List ℕ) (v : ℕ) → v < places → has (members places words) v ≡ bit_in words v
 unfolding members
 has-inside places words v lt = get_or-map-range_with_len (bit_in words) 0 places v v false lt (omega arith)
 
--- no bit is set past the last place, so the set has what the bits say everywhere
-pub has-bit : (places : ℕ) (words : List ℕ) (v : ℕ) → ArePacked places words →
-    has (members places words) v ≡ bit_in words v
-has-bit places words v packed = elim (cases_lt v places) [
-  | inl lt ↦ has-inside places words v lt
-  | inr past ↦ get_or_past (members places words) v false (omega (arith, length-members places words))
-      ∙ sym (packed.none_past v past)
-]
-
 -- a list of truth values is a set in words where it says what the bits say
-pub members_are : (places : ℕ) (words : List ℕ) (region : List Bool) → length region ≡ places
-    → ((v : ℕ) → v < places → get_or region v false ≡ bit_in words v) → members places words ≡ region
+members_are : (places : ℕ) (words : List ℕ) (region : List Bool) → length region ≡ places →
+    ((v : ℕ) → v < places → get_or region v false ≡ bit_in words v) → members places words ≡ region
 unfolding members
 members_are places words region long each = sym (fill_by_all (bit_in words) region places false long each)
 
--- ---- all places, and none
+-- no bit past the words
+bit_past : (words : List ℕ) (v : ℕ) → length words ≤ v / 64 → bit_in words v ≡ false
+bit_past words v past = rw (get_or_past words (v / 64) 0 past, bit_at-zero (v % 64))
 
-pub no_bits : (n v : ℕ) → bit_in (replicate n 0) v ≡ false
-no_bits n v = elim (cases_lt (v / 64) n) [
-  | inl lt ↦ ap (λ w. bit_at w (v % 64) == 1) (get_or-replicate n (v / 64) 0 0 lt)
-      ∙ ap (λ b. b == 1) (bit_at-zero (v % 64))
-  | inr past ↦ ap (λ w. bit_at w (v % 64) == 1) (get_or_past (replicate n 0) (v / 64) 0
-      (omega (arith, length-replicate {A = ℕ} n 0))) ∙ ap (λ b. b == 1) (bit_at-zero (v % 64))
-]
+-- the words of a set
+pub record AreWords (places : ℕ) (words : List ℕ) (region : List Bool) : Type 0 where
+  pub packed : ArePacked places words
+  pub are : members places words ≡ region
+
+-- ---- no place
 
 pub empty_is : (places n : ℕ) → members places (replicate n 0) ≡ replicate places false
 empty_is places n =
     members_are places (replicate n 0) (replicate places false) (length-replicate places false)
-    (λ v lt. get_or-replicate places v false false lt ∙ sym (no_bits n v))
+    (λ v lt. get_or-replicate places v false false lt ∙ sym (elim (cases_lt (v / 64) n) [
+      | inl less ↦ rw (get_or-replicate {A = ℕ} n (v / 64) 0 0 less, bit_at-zero (v % 64))
+      | inr past ↦ bit_past (replicate n 0) v (omega (arith, length-replicate {A = ℕ} n 0))
+    ]))
+
+-- ---- all places
+
+ones_bit : (n v : ℕ) → v / 64 < n → bit_in (replicate n (2 ^ 64 - 1)) v ≡ true
+ones_bit n v lt = rw (get_or-replicate n (v / 64) (2 ^ 64 - 1) 0 lt, bit_at_ones 64 (v % 64) (omega arith))
+
+full_words : (places : ℕ) (words : List ℕ) → places < 2 ^ 64 → places ≤ 64 * length words →
+    64 * length words < places + 64 → ((v : ℕ) → v < places → bit_in words v ≡ true) →
+    ((v : ℕ) → places ≤ v → bit_in words v ≡ false) → AreWords places words (replicate places true)
+full_words places words few enough no_more all none_past = record {
+  packed = record { few = few; enough = enough; no_more = no_more; none_past = none_past };
+  are = members_are places words (replicate places true) (length-replicate places true)
+      (λ v lt. get_or-replicate places v true false lt ∙ sym (all v lt));
+}
+
+-- the last word is full, where the places fill it
+pub full_whole : (places n : ℕ) → places < 2 ^ 64 → places % 64 ≡ 0 → n ≡ places / 64 →
+    AreWords places (replicate n (2 ^ 64 - 1)) (replicate places true)
+full_whole places n few none is =
+    let long = length-replicate n (2 ^ 64 - 1) in
+    full_words places (replicate n (2 ^ 64 - 1)) few (omega arith) (omega arith) (λ v lt. ones_bit n v (omega arith))
+    (λ v past. bit_past (replicate n (2 ^ 64 - 1)) v (omega arith))
+
+-- else it has the bits of the places that are left
+pub full_part : (places n : ℕ) → places < 2 ^ 64 → 0 < places % 64 → n ≡ places / 64 + 1 →
+    AreWords places (set (replicate n (2 ^ 64 - 1)) (places / 64) ((2 ^ 64 - 1) / 2 ^ (64 - places % 64)))
+    (replicate places true)
+full_part places n few some is =
+    let ones = replicate n (2 ^ 64 - 1) in
+    let rest = places % 64 in
+    let last = (2 ^ 64 - 1) / 2 ^ (64 - rest) in
+    let words = set ones (places / 64) last in
+    let many : length ones ≡ n = length-replicate n (2 ^ 64 - 1) in
+    let long : length words ≡ n = length-set ones (places / 64) last ∙ many in
+    let e : 64 - (64 - rest) ≡ rest = omega arith in
+    let last_is : last ≡ 2 ^ rest - 1 = ones_shr 64 (64 - rest) (omega arith) ∙ ap (λ k. 2 ^ k - 1) e in
+    let in_last : (v : ℕ) → v / 64 ≡ places / 64 → bit_in words v ≡ (bit_at (2 ^ rest - 1) (v % 64) == 1) =
+    λ v same. rw (get_or-set_at ones (places / 64) (v / 64) last 0 same (omega arith), last_is) in
+    full_words places words few (omega arith) (omega arith)
+    (λ v lt. elim (cases_eq (v / 64) (places / 64)) [
+      | inl same ↦ in_last v same ∙ ap (λ b. b == 1) (bit_at_ones rest (v % 64) (omega arith))
+      | inr other ↦ rw (get_or-set_other ones (places / 64) (v / 64) last 0 other) (ones_bit n v (omega arith))
+    ])
+    (λ v past. elim (cases_eq (v / 64) (places / 64)) [
+      | inl same ↦ in_last v same ∙ ap (λ b. b == 1) (bit_at_ones_above rest (v % 64) (omega arith))
+      | inr other ↦ bit_past words v (omega arith)
+    ])
 
 -- ---- one bit
 
 -- two lists of words differ in one vertex
-pub record IsChanged (before after : List ℕ) (v : ℕ) (b : Bool) : Type 0 where
-  pub long : length after ≡ length before
-  pub here : bit_in after v ≡ b
-  pub elsewhere : (u : ℕ) → u ≢ v → bit_in after u ≡ bit_in before u
-
-pub changed_packed : (places : ℕ) (before after : List ℕ) (v : ℕ) (b : Bool) → v < places → IsChanged before after v b →
-    ArePacked places before → ArePacked places after
-changed_packed places before after v b lt changed packed = record {
-  few = packed.few;
-  enough = omega (arith, changed.long, packed.enough);
-  no_more = omega (arith, changed.long, packed.no_more);
-  none_past = λ u past. changed.elsewhere u (λ e. omega arith) ∙ packed.none_past u past;
-}
-
-pub changed_members : (places : ℕ) (before after : List ℕ) (v : ℕ) (b : Bool) → v < places → IsChanged before after v b
-    → members places after ≡ set (members places before) v b
-changed_members places before after v b lt changed =
-    let region = members places before in
-    members_are places after (set region v b) (length-set region v b ∙ length-members places before)
-    (λ u less. elim (cases_eq u v) [
-      | inl same ↦
-          get_or-set_at region v u b false same (omega (arith, length-members places before)) ∙ sym changed.here
-          ∙ ap (bit_in after) (sym same)
-      | inr other ↦ get_or-set_other region v u b false other ∙ has-inside places before u less
-          ∙ sym (changed.elsewhere u other)
-    ])
+record IsChanged (before after : List ℕ) (v : ℕ) (b : Bool) : Type 0 where
+  long : length after ≡ length before
+  here : bit_in after v ≡ b
+  elsewhere : (u : ℕ) → u ≢ v → bit_in after u ≡ bit_in before u
 
 -- one word is changed in one bit
-one_word : (words : List ℕ) (v w : ℕ) (b : Bool) → v / 64 < length words → (bit_at w (v % 64) == 1) ≡ b
-    → ((i : ℕ) → i < 64 → i ≢ v % 64 → bit_at w i ≡ bit_at (get_or words (v / 64) 0) i) →
+one_word : (words : List ℕ) (v w : ℕ) (b : Bool) → v / 64 < length words → (bit_at w (v % 64) == 1) ≡ b →
+    ((i : ℕ) → i < 64 → i ≢ v % 64 → bit_at w i ≡ bit_at (get_or words (v / 64) 0) i) →
     IsChanged words (set words (v / 64) w) v b
 one_word words v w b within is others = record {
   long = length-set words (v / 64) w;
-  here = ap (λ n. bit_at n (v % 64) == 1) (get_or-set_at words (v / 64) (v / 64) w 0 refl within) ∙ is;
+  here = rw (get_or-set_at words (v / 64) (v / 64) w 0 refl within) is;
   elsewhere = λ u apart. elim (cases_eq (u / 64) (v / 64)) [
     | inl same ↦
-        ap (λ n. bit_at n (u % 64) == 1) (get_or-set_at words (v / 64) (u / 64) w 0 same within)
-        ∙ ap (λ n. n == 1) (others (u % 64) (omega arith) (λ e. apart (omega arith)))
-        ∙ ap (λ n. bit_at (get_or words n 0) (u % 64) == 1) (sym same)
-    | inr other ↦ ap (λ n. bit_at n (u % 64) == 1) (get_or-set_other words (v / 64) (u / 64) w 0 other)
+        rw (get_or-set_at words (v / 64) (u / 64) w 0 same within, same)
+        (ap (λ n. n == 1) (others (u % 64) (omega arith) (λ e. apart (omega arith))))
+    | inr other ↦ rw (get_or-set_other words (v / 64) (u / 64) w 0 other)
   ];
 }
 
-pub bit_set : (words : List ℕ) (v w : ℕ) → v / 64 < length words → w ≡ get_or words (v / 64) w
-    → IsChanged words (set words (v / 64) (bit_or w (1 * 2 ^ (v % 64) % 2 ^ 64))) v true
-bit_set words v w within is =
-    let read : w ≡ get_or words (v / 64) 0 = is ∙ get_or_default_zero words (v / 64) w within in
-    one_word words v (bit_or w (1 * 2 ^ (v % 64) % 2 ^ 64)) true within
-    (ap (λ n. n == 1) (bit_at_set_same w64 w (v % 64) (omega arith)))
-    (λ i lt other. bit_at_set_other w64 w (v % 64) (omega arith) i other ∙ ap (λ n. bit_at n i) read)
+module _ {places : ℕ} {words : List ℕ} {region : List Bool} (packed : ArePacked places words)
+    (is : members places words ≡ region) where
+  pub places_are : length region ≡ places
+  places_are = ap length (sym is) ∙ length-members places words
 
-pub bit_cleared : (words : List ℕ) (v w : ℕ) → v / 64 < length words → w ≡ get_or words (v / 64) w
-    → IsChanged words (set words (v / 64) (bit_and w (bit_not w64 (1 * 2 ^ (v % 64) % 2 ^ 64)))) v false
-bit_cleared words v w within is =
-    let read : w ≡ get_or words (v / 64) 0 = is ∙ get_or_default_zero words (v / 64) w within in
-    one_word words v (bit_and w (bit_not w64 (1 * 2 ^ (v % 64) % 2 ^ 64))) false within
-    (ap (λ n. n == 1) (bit_at_clear_same w64 w (v % 64) (omega arith)))
-    (λ i lt other. bit_at_clear_other w64 w (v % 64) (omega arith) i lt other ∙ ap (λ n. bit_at n i) read)
+  -- no bit is set past the last place, so the set has what the bits say everywhere
+  has-bit : (v : ℕ) → has region v ≡ bit_in words v
+  has-bit v = elim (cases_lt v places) [
+    | inl lt ↦ ap (λ (set : List Bool). has set v) (sym is) ∙ has-inside places words v lt
+    | inr past ↦ get_or_past region v false (omega (arith, places_are)) ∙ sym (packed.none_past v past)
+  ]
 
--- a bit is read by a shift
-pub bit_read : (places : ℕ) (words : List ℕ) (v w : ℕ) → ArePacked places words → v < places →
-    w ≡ get_or words (v / 64) w
-    → (bit_and (w / 2 ^ (v % 64)) 1 == 1) ≡ has (members places words) v
-bit_read places words v w packed lt is =
-    let within : v / 64 < length words = omega (arith, packed.enough) in
-    ap (λ n. n == 1) (shr_and_one w (v % 64)) ∙ ap (λ n. bit_at n (v % 64) == 1)
-    (is ∙ get_or_default_zero words (v / 64) w within)
-    ∙ sym (has-inside places words v lt)
+  word_there : {v : ℕ} → v < length region → v / 64 < length words
+  word_there lt = omega (arith, places_are, packed.enough)
+
+  -- a bit is read by a shift
+  pub bit_read : {v w : ℕ} → v < length region → w ≡ get_or words (v / 64) w →
+      (bit_and (w / 2 ^ (v % 64)) 1 == 1) ≡ has region v
+  bit_read {v = v} {w = w} lt read =
+      ap (λ n. n == 1) (shr_and_one w (v % 64)) ∙ ap (λ n. bit_at n (v % 64) == 1)
+      (read ∙ get_or_default_zero words (v / 64) w (word_there lt)) ∙ sym (has-bit v)
+
+  changed : {after : List ℕ} {v : ℕ} {b : Bool} → v < length region → IsChanged words after v b →
+      AreWords places after (set region v b)
+  changed {after = after} {v = v} {b = b} lt change =
+      let long = places_are in
+      record {
+        packed = record {
+          few = packed.few;
+          enough = omega (arith, change.long, packed.enough);
+          no_more = omega (arith, change.long, packed.no_more);
+          none_past = λ u past. change.elsewhere u (λ e. omega arith) ∙ packed.none_past u past;
+        };
+        are = members_are places after (set region v b) (length-set region v b ∙ long) (λ u less. elim (cases_eq u v) [
+          | inl same ↦ get_or-set_at region v u b false same lt ∙ sym change.here ∙ ap (bit_in after) (sym same)
+          | inr other ↦ get_or-set_other region v u b false other ∙ has-bit u ∙ sym (change.elsewhere u other)
+        ]);
+      }
+
+  pub bit_set : {v w : ℕ} → v < length region → w ≡ get_or words (v / 64) w →
+      AreWords places (set words (v / 64) (bit_or w (1 * 2 ^ (v % 64) % 2 ^ 64))) (set region v true)
+  bit_set {v = v} {w = w} lt read =
+      changed lt (one_word words v _ true (word_there lt)
+      (ap (λ n. n == 1) (bit_at_set_same w64 w (v % 64) (omega arith)))
+      (λ i below other. bit_at_set_other w64 w (v % 64) (omega arith) i other
+      ∙ ap (λ n. bit_at n i) (read ∙ get_or_default_zero words (v / 64) w (word_there lt))))
+
+  pub bit_cleared : {v w : ℕ} → v < length region → w ≡ get_or words (v / 64) w →
+      AreWords places (set words (v / 64) (bit_and w (bit_not w64 (1 * 2 ^ (v % 64) % 2 ^ 64)))) (set region v false)
+  bit_cleared {v = v} {w = w} lt read =
+      changed lt (one_word words v _ false (word_there lt)
+      (ap (λ n. n == 1) (bit_at_clear_same w64 w (v % 64) (omega arith)))
+      (λ i below other. bit_at_clear_other w64 w (v % 64) (omega arith) i below other
+      ∙ ap (λ n. bit_at n i) (read ∙ get_or_default_zero words (v / 64) w (word_there lt))))
 
 -- ---- the bits of two sets
 
@@ -151,94 +199,61 @@ first_only (suc (suc x)) y hx hy = absurd (omega arith)
 first_only zero (suc (suc y)) hx hy = absurd (omega arith)
 first_only (suc zero) (suc (suc y)) hx hy = absurd (omega arith)
 
-united_bit : (old others new : List ℕ) → ((k : ℕ) → get_or new k 0 ≡ bit_or (get_or old k 0) (get_or others k 0))
-    → (v : ℕ) → bit_in new v ≡ (bit_in old v || bit_in others v)
-united_bit old others new each v =
-    let x = get_or old (v / 64) 0 in
-    let y = get_or others (v / 64) 0 in
-    let i = v % 64 in
-    ap (λ n. bit_at n i == 1) (each (v / 64)) ∙ ap (λ n. n == 1) (bit_at_or x y i)
-    ∙ either (bit_at x i) (bit_at y i) (bit_at-lt x i) (bit_at-lt y i)
-
-left_bit : (old others new : List ℕ) → ((k : ℕ) → get_or others k 0 < 2 ^ 64)
-    → ((k : ℕ) → get_or new k 0 ≡ bit_and (get_or old k 0) (bit_not w64 (get_or others k 0)))
-    → (v : ℕ) → bit_in new v ≡ (bit_in old v && not (bit_in others v))
-left_bit old others new fits each v =
-    let x = get_or old (v / 64) 0 in
-    let y = get_or others (v / 64) 0 in
-    let i = v % 64 in
-    ap (λ n. bit_at n i == 1) (each (v / 64)) ∙ ap (λ n. n == 1)
-    (bit_at_and x (bit_not w64 y) i ∙ ap (min (bit_at x i)) (bit_at_not w64 y i (fits (v / 64)) (omega arith)))
-    ∙ first_only (bit_at x i) (bit_at y i) (bit_at-lt x i) (bit_at-lt y i)
-
--- the set of two sets' words, by a rule on each vertex
-pub record IsMade (places : ℕ) (old others new : List ℕ) (rule : Bool → Bool → Bool) : Type 0 where
+-- the words of a set that is made of two sets by a rule on each vertex
+pub record IsMade (places : ℕ) (new : List ℕ) (region other : List Bool) (rule : Bool → Bool → Bool) : Type 0 where
   pub packed : ArePacked places new
-  pub rules : (v : ℕ) → has (members places new) v ≡ rule (has (members places old) v) (has (members places others) v)
+  pub as_many : length (members places new) ≡ length region
+  pub rules : (v : ℕ) → has (members places new) v ≡ rule (has region v) (has other v)
 
-made : (places : ℕ) (old others new : List ℕ) (rule : Bool → Bool → Bool) → ArePacked places old →
-    ArePacked places others → length new ≡ length old
-    → rule false false ≡ false → ((v : ℕ) → bit_in new v ≡ rule (bit_in old v) (bit_in others v)) →
-    IsMade places old others new rule
-made places old others new rule packed other_packed long none each =
-    let whole : ArePacked places new = record {
-      few = packed.few;
-      enough = omega (arith, packed.enough, long);
-      no_more = omega (arith, packed.no_more, long);
-      none_past = λ v past. each v ∙ ap₂ rule (packed.none_past v past) (other_packed.none_past v past) ∙ none;
-    } in
-    record {
-      packed = whole;
-      rules =
-          λ v. has-bit places new v whole ∙ each v ∙ sym (ap₂ rule (has-bit places old v packed)
-          (has-bit places others v other_packed));
-    }
+module _ {places others_places : ℕ} {words others : List ℕ} {region other : List Bool} (packed : ArePacked places words)
+    (is : members places words ≡ region) (other_packed : ArePacked others_places others)
+    (other_is : members others_places others ≡ other) (same : length other ≡ length region) where
+  -- sets with as many places have as many words
+  pub same_words : length others ≡ length words
+  same_words = omega (arith, places_are packed is, places_are other_packed other_is)
 
-pub union_made : (places : ℕ) (old others new : List ℕ) → ArePacked places old → ArePacked places others →
-    length new ≡ length old
-    → ((k : ℕ) → get_or new k 0 ≡ bit_or (get_or old k 0) (get_or others k 0)) →
-    IsMade places old others new (λ a b. a || b)
-union_made places old others new packed other_packed long each =
-    made places old others new (λ a b. a || b) packed other_packed long refl (united_bit old others new each)
+  -- the words and the others as they are lent
+  module _ {old lent new : List ℕ} (from : old ≡ words) (also : lent ≡ others) (long : length new ≡ length old) where
+    made : (rule : Bool → Bool → Bool) → rule false false ≡ false →
+        ((v : ℕ) → bit_in new v ≡ rule (bit_in old v) (bit_in lent v)) → IsMade places new region other rule
+    made rule none each =
+        let lengths = ap length from in
+        let past_others = λ (v : ℕ) (past : places ≤ v). other_packed.none_past v (omega
+        (arith, places_are packed is, places_are other_packed other_is)) in
+        let bits : (v : ℕ) → bit_in new v ≡ rule (bit_in words v) (bit_in others v) =
+        λ v. rw (← from, ← also) (each v) in
+        let whole : ArePacked places new = record {
+          few = packed.few;
+          enough = omega (arith, packed.enough);
+          no_more = omega (arith, packed.no_more);
+          none_past = λ v past. bits v ∙ ap₂ rule (packed.none_past v past) (past_others v past) ∙ none;
+        } in
+        record {
+          packed = whole;
+          as_many = length-members places new ∙ sym (places_are packed is);
+          rules = λ v. has-bit whole refl v ∙ bits v
+              ∙ sym (ap₂ rule (has-bit packed is v) (has-bit other_packed other_is v));
+        }
 
-pub difference_made : (places : ℕ) (old others new : List ℕ) → ArePacked places old → ArePacked places others →
-    length new ≡ length old → ((k : ℕ) → get_or others k 0 < 2 ^ 64)
-    → ((k : ℕ) → get_or new k 0 ≡ bit_and (get_or old k 0) (bit_not w64 (get_or others k 0))) →
-    IsMade places old others new (λ a b. a && not b)
-difference_made places old others new packed other_packed long fits each =
-    made places old others new (λ a b. a && not b) packed other_packed long refl (left_bit old others new fits each)
+    pub union_made : ((k : ℕ) → get_or new k 0 ≡ bit_or (get_or old k 0) (get_or lent k 0)) →
+        IsMade places new region other (λ a b. a || b)
+    union_made each =
+        made (λ a b. a || b) refl (λ v.
+        let x = get_or old (v / 64) 0 in
+        let y = get_or lent (v / 64) 0 in
+        let i = v % 64 in
+        rw (each (v / 64), bit_at_or x y i) (either (bit_at x i) (bit_at y i) (bit_at-lt x i) (bit_at-lt y i)))
 
--- sets with as many places have as many words
-pub same_words : (m n : ℕ) (xs ys : List ℕ) → m ≡ n → ArePacked m xs → ArePacked n ys → length xs ≡ length ys
-same_words m n xs ys same packed other_packed =
-    omega (arith, packed.enough, packed.no_more, other_packed.enough, other_packed.no_more)
-
--- ---- no vertex
-
-bit_is_none : (x : ℕ) → x < 2 → (x == 1) ≡ false → x ≡ 0
-bit_is_none zero lt e = refl
-bit_is_none (suc zero) lt e = cc
-bit_is_none (suc (suc x)) lt e = absurd (omega arith)
-
-pub clear_has_none : (places : ℕ) (words : List ℕ) → ArePacked places words → ((k : ℕ) → get_or words k 0 ≡ 0) →
-    (v : ℕ) → has (members places words) v ≡ false
-clear_has_none places words packed clear v =
-    has-bit places words v packed ∙ ap (λ n. bit_at n (v % 64) == 1) (clear (v / 64))
-    ∙ ap (λ n. n == 1) (bit_at-zero (v % 64))
-
-pub none_is_clear : (places : ℕ) (words : List ℕ) → ArePacked places words → ((k : ℕ) → get_or words k 0 < 2 ^ 64)
-    → ((v : ℕ) → has (members places words) v ≡ false) → (k : ℕ) → get_or words k 0 ≡ 0
-none_is_clear places words packed fits none k =
-    same_from_bits_below 64 (get_or words k 0) 0 (fits k) (omega arith)
-    (λ i lt.
-    let v = k * 64 + i in
-    let word : v / 64 ≡ k = div-mul-add k 64 i lt in
-    let place : v % 64 ≡ i = mod-mul-add k 64 i lt in
-    let seen : (bit_at (get_or words (v / 64) 0) (v % 64) == 1) ≡ false =
-    sym (has-bit places words v packed) ∙ none v in
-    bit_is_none (bit_at (get_or words k 0) i) (bit_at-lt (get_or words k 0) i)
-    (ap₂ (λ m n. bit_at (get_or words m 0) n == 1) (sym word) (sym place) ∙ seen)
-    ∙ sym (bit_at-zero i))
+    pub difference_made : ((k : ℕ) → get_or lent k 0 < 2 ^ 64) →
+        ((k : ℕ) → get_or new k 0 ≡ bit_and (get_or old k 0) (bit_not w64 (get_or lent k 0))) →
+        IsMade places new region other (λ a b. a && not b)
+    difference_made fits each =
+        made (λ a b. a && not b) refl (λ v.
+        let x = get_or old (v / 64) 0 in
+        let y = get_or lent (v / 64) 0 in
+        let i = v % 64 in
+        rw (each (v / 64), bit_at_and x (bit_not w64 y) i, bit_at_not w64 y i (fits (v / 64)) (omega arith))
+        (first_only (bit_at x i) (bit_at y i) (bit_at-lt x i) (bit_at-lt y i)))
 
 -- ---- the number of vertices
 
@@ -297,100 +312,46 @@ words_counted words fits (suc k) le =
     ∙ word_counted words k (fits k))
     ∙ sym (sum_by_more count_ones words k 0 (omega arith)) ∙ ap (λ n. sum_by count_ones (take n words)) g
 
-pub count_is : (places : ℕ) (words : List ℕ) → ArePacked places words → ((k : ℕ) → get_or words k 0 < 2 ^ 64)
-    → count_by (λ member. member) (members places words) ≡ sum_by count_ones words
-unfolding members
-count_is places words packed fits =
-    let p = bit_in words in
-    let test : ℕ → ℕ = λ v. cond (p v) 1 0 in
-    let many = length words in
-    let rest = many * 64 - places in
-    let e : many * 64 ≡ places + rest = omega (arith, packed.enough) in
-    let whole : count_by p (range_with_len 0 (many * 64)) ≡ sum_by count_ones words =
-    words_counted words fits many (omega arith) ∙ ap (sum_by count_ones) (take_all many words (omega arith)) in
-    let split : count_by p (range_with_len 0 (many * 64)) ≡ count_by p (range_with_len 0 places) + count_by p
-    (range_with_len (0 + places) rest) =
-    ap (λ n. count_by p (range_with_len 0 n)) e ∙ ap (count_by p) (range_split 0 places rest)
-    ∙ sum_by-append test (range_with_len 0 places) (range_with_len (0 + places) rest) in
-    let none : count_by p (range_with_len (0 + places) rest) ≡ 0 =
-    none_counted p (0 + places) rest (λ v past. packed.none_past v (omega arith)) in
-    counted_map p (range_with_len 0 places) 0 ∙ omega (arith, whole, split, none)
+bit_is_none : (x : ℕ) → x < 2 → (x == 1) ≡ false → x ≡ 0
+bit_is_none zero lt e = refl
+bit_is_none (suc zero) lt e = cc
+bit_is_none (suc (suc x)) lt e = absurd (omega arith)
 
-pub count_fits : (places : ℕ) (words : List ℕ) → ArePacked places words → ((k : ℕ) → get_or words k 0 < 2 ^ 64) →
-    sum_by count_ones words < 2 ^ 64
-count_fits places words packed fits =
-    omega (
-      arith,
-      packed.few,
-      count_is places words packed fits,
-      count_by-le-length (λ (member : Bool). member) (members places words),
-      length-members places words,
-    )
+-- the words of a set as they are lent, each of which fits
+module _ {places : ℕ} {words lent : List ℕ} {region : List Bool} (packed : ArePacked places words)
+    (is : members places words ≡ region) (from : lent ≡ words) (fits : (k : ℕ) → get_or lent k 0 < 2 ^ 64) where
+  pub count_is : count_by (λ member. member) region ≡ sum_by count_ones lent
+  unfolding members
+  count_is =
+      let p = bit_in words in
+      let test : ℕ → ℕ = λ v. cond (p v) 1 0 in
+      let many = length words in
+      let rest = many * 64 - places in
+      let e : many * 64 ≡ places + rest = omega (arith, packed.enough) in
+      let whole : count_by p (range_with_len 0 (many * 64)) ≡ sum_by count_ones words =
+      words_counted words (rw from at fits) many (omega arith)
+      ∙ ap (sum_by count_ones) (take_all many words (omega arith)) in
+      let split : count_by p (range_with_len 0 (many * 64)) ≡ count_by p (range_with_len 0 places) +
+      count_by p (range_with_len (0 + places) rest) =
+      ap (λ n. count_by p (range_with_len 0 n)) e ∙ ap (count_by p) (range_split 0 places rest)
+      ∙ sum_by-append test (range_with_len 0 places) (range_with_len (0 + places) rest) in
+      let none : count_by p (range_with_len (0 + places) rest) ≡ 0 =
+      none_counted p (0 + places) rest (λ v past. packed.none_past v (omega arith)) in
+      rw (← is, from) (counted_map p (range_with_len 0 places) 0 ∙ omega (arith, whole, split, none))
 
--- ---- each vertex
+  pub count_fits : sum_by count_ones lent < 2 ^ 64
+  count_fits =
+      omega (arith, packed.few, count_is, count_by-le-length (λ (member : Bool). member) region, places_are packed is)
 
--- the bits of the places are set, and no other
-pub record AreFull (places : ℕ) (words : List ℕ) : Type 0 where
-  pub enough : places ≤ 64 * length words
-  pub no_more : 64 * length words < places + 64
-  pub all : (v : ℕ) → v < places → bit_in words v ≡ true
-  pub none_past : (v : ℕ) → places ≤ v → bit_in words v ≡ false
+  -- no word has a bit where no vertex is in the set
+  pub clear_has_none : ((k : ℕ) → get_or lent k 0 ≡ 0) → (v : ℕ) → has region v ≡ false
+  clear_has_none clear v = has-bit packed is v ∙ rw (← from, clear (v / 64), bit_at-zero (v % 64))
 
-pub full_packed : (places : ℕ) (words : List ℕ) → places < 2 ^ 64 → AreFull places words → ArePacked places words
-full_packed places words few full =
-    record { few = few; enough = full.enough; no_more = full.no_more; none_past = full.none_past }
-
-pub full_members : (places : ℕ) (words : List ℕ) → AreFull places words → members places words ≡ replicate places true
-full_members places words full =
-    members_are places words (replicate places true) (length-replicate places true)
-    (λ v lt. get_or-replicate places v true false lt ∙ sym (full.all v lt))
-
-ones_bit : (n v : ℕ) → v / 64 < n → bit_in (replicate n (2 ^ 64 - 1)) v ≡ true
-ones_bit n v lt =
-    ap (λ w. bit_at w (v % 64) == 1) (get_or-replicate n (v / 64) (2 ^ 64 - 1) 0 lt)
-    ∙ ap (λ b. b == 1) (bit_at_ones 64 (v % 64) (omega arith))
-
--- no bit past the words
-bit_past : (words : List ℕ) (v : ℕ) → length words ≤ v / 64 → bit_in words v ≡ false
-bit_past words v past =
-    ap (λ w. bit_at w (v % 64) == 1) (get_or_past words (v / 64) 0 past) ∙ ap (λ b. b == 1) (bit_at-zero (v % 64))
-
--- the last word is full, where the places fill it
-pub full_whole : (places n : ℕ) → places % 64 ≡ 0 → n ≡ places / 64 → AreFull places (replicate n (2 ^ 64 - 1))
-full_whole places n none is =
-    let long = length-replicate n (2 ^ 64 - 1) in
-    record {
-      enough = omega (arith, long);
-      no_more = omega (arith, long);
-      all = λ v lt. ones_bit n v (omega arith);
-      none_past = λ v past. bit_past (replicate n (2 ^ 64 - 1)) v (omega (arith, long));
-    }
-
--- else it has the bits of the places that are left
-pub full_part : (places n : ℕ) → 0 < places % 64 → n ≡ places / 64 + 1
-    → AreFull places (set (replicate n (2 ^ 64 - 1)) (places / 64) ((2 ^ 64 - 1) / 2 ^ (64 - places % 64)))
-full_part places n some is =
-    let ones = replicate n (2 ^ 64 - 1) in
-    let rest = places % 64 in
-    let last = (2 ^ 64 - 1) / 2 ^ (64 - rest) in
-    let words = set ones (places / 64) last in
-    let long : length words ≡ n = length-set ones (places / 64) last ∙ length-replicate n (2 ^ 64 - 1) in
-    let many : length ones ≡ n = length-replicate n (2 ^ 64 - 1) in
-    let e : 64 - (64 - rest) ≡ rest = omega arith in
-    let last_is : last ≡ 2 ^ rest - 1 = ones_shr 64 (64 - rest) (omega arith) ∙ ap (λ k. 2 ^ k - 1) e in
-    let in_last : (v : ℕ) → v / 64 ≡ places / 64 → bit_in words v ≡ (bit_at (2 ^ rest - 1) (v % 64) == 1) =
-    λ v same. ap (λ w. bit_at w (v % 64) == 1) (get_or-set_at ones (places / 64) (v / 64) last 0 same
-    (omega (arith, many)) ∙ last_is) in
-    record {
-      enough = omega (arith, long);
-      no_more = omega (arith, long);
-      all = λ v lt. elim (cases_eq (v / 64) (places / 64)) [
-        | inl same ↦ in_last v same ∙ ap (λ b. b == 1) (bit_at_ones rest (v % 64) (omega arith))
-        | inr other ↦ ap (λ w. bit_at w (v % 64) == 1) (get_or-set_other ones (places / 64) (v / 64) last 0 other)
-            ∙ ones_bit n v (omega arith)
-      ];
-      none_past = λ v past. elim (cases_eq (v / 64) (places / 64)) [
-        | inl same ↦ in_last v same ∙ ap (λ b. b == 1) (bit_at_ones_above rest (v % 64) (omega arith))
-        | inr other ↦ bit_past words v (omega (arith, long))
-      ];
-    }
+  pub none_is_clear : ((v : ℕ) → has region v ≡ false) → (k : ℕ) → get_or lent k 0 ≡ 0
+  none_is_clear none k =
+      same_from_bits_below 64 (get_or lent k 0) 0 (fits k) (omega arith)
+      (λ i lt.
+      let seen = sym (has-bit packed is (k * 64 + i)) ∙ none (k * 64 + i) in
+      bit_is_none (bit_at (get_or lent k 0) i) (bit_at-lt (get_or lent k 0) i)
+      (rw (from) (rw (div-mul-add k 64 i lt, mod-mul-add k 64 i lt) at seen))
+      ∙ sym (bit_at-zero i))

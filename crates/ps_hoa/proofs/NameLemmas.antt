@@ -1,6 +1,6 @@
 -- The number of a name in a table of references to names.
 use Rattle.std.proofs.Common.{◌≡◌, ℕ, suc, ◌+◌, ◌≤◌, length, not, ◌||◌, arith, Bool, true, false, cond, List, [], ◌∷◌}
-use Rattle.std.proofs.Common.{map, None, Some, refl, sym, ◌∙◌}
+use Rattle.std.proofs.Common.{map, None, Some, refl, sym, ◌∙◌, rules}
 use Rattle.std.specs.Str.{bytes_eq}
 use Rattle.std.specs.List.{position, position_or_len, list_any}
 use Rattle.std.specs.Prelude.{nat_lt}
@@ -9,14 +9,10 @@ use Rattle.std.proofs.lemmas.Slice.Eq.{bytes_eq-Decides}
 use Rattle.ps_hoa.specs.Labels.{alias_number}
 
 same_by : (a b : Bool) → (a ≡ true → b ≡ true) → (b ≡ true → a ≡ true) → a ≡ b
-same_by true b h k = sym (h refl)
-same_by false true h k = k refl
-same_by false false h k = refl
+same_by a b h1 h2 = search rules
 
 pub bytes_eq-sym : (xs ys : List ℕ) → bytes_eq xs ys ≡ bytes_eq ys xs
-bytes_eq-sym xs ys = same_by (bytes_eq xs ys) (bytes_eq ys xs)
-    (λ e. (bytes_eq-Decides ys xs).1 (sym ((bytes_eq-Decides xs ys).0 e)))
-    (λ e. (bytes_eq-Decides xs ys).1 (sym ((bytes_eq-Decides ys xs).0 e)))
+bytes_eq-sym xs ys = search (rules, same_by, bytes_eq-Decides)
 
 module _ {X : Type 0} (see : X → List ℕ) (name : List ℕ) where
   places : (xs : List X) → position_or_len (λ x. bytes_eq name (see x)) xs ≡ position_or_len
@@ -31,8 +27,7 @@ module _ {X : Type 0} (see : X → List ℕ) (name : List ℕ) where
       (1 + position_or_len (λ x. bytes_eq name (see x)) xs) 0 →
       (length xs ≤ position_or_len (λ x. bytes_eq name (see x)) xs → list_any (λ x. bytes_eq name (see x)) xs ≡ false) →
       (b || list_any (λ x. bytes_eq name (see x)) xs) ≡ false
-  low_at xs true l h = absurd (omega (arith, l))
-  low_at xs false l h = h (omega (arith, l))
+  low_at xs b h1 h2 = search rules
 
   low : (xs : List X) → length xs ≤ position_or_len (λ x. bytes_eq name (see x)) xs →
       list_any (λ x. bytes_eq name (see x)) xs ≡ false

@@ -1,6 +1,6 @@
 -- The value of a run of digits, digit by digit, up to the greatest number.
-use Rattle.std.proofs.Common.{◌≡◌, ℕ, ◌+◌, ◌-◌, ◌*◌, ◌<◌, ◌≤◌, cond, List, length, get_or, take}
-use Rattle.std.proofs.Common.{Option, None, Some, ap, ◌∙◌, arith}
+use Rattle.std.proofs.Common.{◌≡◌, ℕ, ◌+◌, ◌-◌, ◌*◌, ◌<◌, ◌≤◌, cond, List, length, get_or, take, rules, Option, None}
+use Rattle.std.proofs.Common.{Some, ap, ◌∙◌, arith}
 use Rattle.std.proofs.Math.Seq.{take-length}
 use Rattle.std.specs.Prelude.{nat_le}
 use Rattle.ps_text.specs.Digits.{decimal_value}
@@ -27,6 +27,5 @@ pub checked-whole : (ds : List ℕ) (i v : ℕ) → length ds ≤ i → i ≤ le
     v ≤ number_limit → Some v ≡ checked (decimal_value ds)
 checked-whole ds i v l m e h =
     let all : i ≡ length ds = omega arith in
-    let whole : v ≡ decimal_value ds = e ∙ ap (λ j. decimal_value (take j ds)) all
-    ∙ ap decimal_value (take-length ds) in
+    let whole : v ≡ decimal_value ds = search (rules, take-length) in
     ap Some whole ∙ checked-small (decimal_value ds) (omega (arith, whole))

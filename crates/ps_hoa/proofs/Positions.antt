@@ -2,7 +2,7 @@
 --     pushed_position      the place is found as before, or it is the new one
 --     passed_any      there is one where some element passes
 use Rattle.std.proofs.Common.{◌≡◌, ℕ, suc, ◌+◌, ◌≤◌, Bool, true, false, cond, not, eqb, List, [], ◌∷◌, ◌++◌, length}
-use Rattle.std.proofs.Common.{None, Some, refl, sym, ap, ◌∙◌, arith, length-append}
+use Rattle.std.proofs.Common.{None, Some, sym, ap, ◌∙◌, arith, length-append, rules}
 use Rattle.std.specs.List.{position, position_or_len}
 use Rattle.std.specs.Prelude.{nat_lt, Option}
 use Rattle.std.proofs.lemmas.List.Folds.{position_or_len_push}
@@ -20,8 +20,7 @@ place at len = cond (nat_lt at len) (Some at) None
 
 behind : (at len next : ℕ) (b : Bool) → at ≤ len → next ≡ cond (eqb at len) (len + cond b 0 1) at →
     (b ≡ true → place at len ≡ None) → cond b (Some len) (place at len) ≡ place next (len + 1)
-behind at len next true l e h = let n = h refl in grind (arith, l, e, n)
-behind at len next false l e h = grind (arith, l, e)
+behind at len next b h1 h2 h3 = search rules
 
 pub pushed_position : {X : Type 0} (p : X → Bool) (xs : List X) (x : X) → (p x ≡ true → position p xs ≡ None) →
     cond (p x) (Some (length xs)) (position p xs) ≡ position p (xs ++ x ∷ [])

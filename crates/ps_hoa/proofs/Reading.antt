@@ -2,6 +2,7 @@
 
 pub mod NextSign
 pub mod SingleSigns
+pub mod Exits
 pub mod MarkReading
 pub mod IntSigns
 pub mod RowReading

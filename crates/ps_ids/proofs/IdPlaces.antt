@@ -1,6 +1,6 @@
 -- The place of an id: its own, or by a table.
-use Rattle.std.proofs.Common.{◌≡◌, ◌≢◌, ℕ, ◌⊎◌, ◌+◌, ◌<◌, ◌≤◌, Bool, true, false, eqb, ltb, List, [], ◌∷◌, ◌++◌, length}
-use Rattle.std.proofs.Common.{get_or, Option, None, Some, refl, sym, ap, subst, inl, inr, ⊎_elim, ◌∙◌, arith}
+use Rattle.std.proofs.Common.{◌≡◌, ◌≢◌, ℕ, ◌⊎◌, ◌+◌, ◌<◌, ◌≤◌, Bool, false, eqb, List, [], ◌∷◌, ◌++◌, length}
+use Rattle.std.proofs.Common.{get_or, Option, None, Some, refl, sym, ap, subst, ⊎_elim, ◌∙◌, arith, rules}
 use Rattle.std.proofs.Common.{length-append}
 use Rattle.std.proofs.lemmas.Bool.{cases_Bool, cases_lt, ltb-true, ltb-false, eqb-true, eq-eqb}
 use Rattle.std.proofs.lemmas.List.{get_or_append_left}
@@ -22,29 +22,18 @@ some_none x e = let h : Some x ≡ None = e in cc
 
 position_at : (p : ℕ → Bool) (ids : List ℕ) (i : ℕ) → position_or_len p ids ≡ i → i < length ids →
     position p ids ≡ Some i
-position_at p ids i e l = ⊎_elim
-    (λ (yes : ltb (position_or_len p ids) (length ids) ≡ true). rw yes (ap Some e))
-    (λ (no : ltb (position_or_len p ids) (length ids) ≡ false). absurd (omega (arith, ltb-false _ _ no, e, l)))
-    (cases_Bool (ltb (position_or_len p ids) (length ids)))
+position_at p ids i e l = search (rules, ltb-false, cases_Bool)
 
 position_none : (p : ℕ → Bool) (ids : List ℕ) → length ids ≤ position_or_len p ids → position p ids ≡ None
-position_none p ids l = ⊎_elim
-    (λ (yes : ltb (position_or_len p ids) (length ids) ≡ true). absurd (omega (arith, ltb-true _ _ yes, l)))
-    (λ (no : ltb (position_or_len p ids) (length ids) ≡ false). rw no refl)
-    (cases_Bool (ltb (position_or_len p ids) (length ids)))
+position_none p ids l = search (rules, ltb-true, cases_Bool)
 
 unlike : (a b : ℕ) → a ≢ b → eqb a b ≡ false
-unlike a b n =
-    ⊎_elim (λ (yes : eqb a b ≡ true). absurd (n (eqb-true a b yes))) (λ (no : eqb a b ≡ false). no)
-    (cases_Bool (eqb a b))
+unlike a b n = search (rules, eqb-true, cases_Bool)
 
 -- the place where an id of a list without repeats stands is the only one
 pub position_here : (ids : List ℕ) (id place : ℕ) → AreDistinct ids → place < length ids → get_or ids place 0 ≡ id →
     position (is_id id) ids ≡ Some place
-position_here ids id place distinct l e = position_at (is_id id) ids place
-    (position_or_len_is (is_id id) ids place 0 (omega (arith, l))
-    (λ k below. unlike id (get_or ids k 0) (λ same. distinct k place 0 below l (sym (e ∙ same))))
-    (λ _. eq-eqb id (get_or ids place 0) (sym e))) l
+position_here ids id place distinct l e = search (rules, position_at, position_or_len_is, unlike, eq-eqb)
 
 pub position_nowhere : (ids : List ℕ) (id : ℕ) → ((k : ℕ) → k < length ids → get_or ids k 0 ≢ id) →
     position (is_id id) ids ≡ None
@@ -60,12 +49,7 @@ pub position_by_table : (first : ℕ) (ids : List ℕ) (table : ℕ → Option �
 position_by_table first ids table id is not_own = go (table id) refl
   where
     nowhere : table id ≡ None → (k : ℕ) → k < length ids → get_or ids k 0 ≢ id
-    nowhere e k l same = ⊎_elim
-        (λ (own : own_place first (get_or ids k 0) ≡ k).
-        let k_is : k ≡ own_place first id = sym own ∙ ap (own_place first) same in
-        not_own (subst (λ n. n < length ids) k_is l) (subst (λ n. get_or ids n 0 ≡ id) k_is same))
-        (λ (kept : table (get_or ids k 0) ≡ Some k). some_none k (sym kept ∙ ap table same ∙ e))
-        (is.whole k l)
+    nowhere e k l same = search (rules, some_none)
 
     go : (o : Option ℕ) → table id ≡ o → table id ≡ position (is_id id) ids
     go None e = e ∙ sym (position_nowhere ids id (nowhere e))
@@ -81,13 +65,7 @@ some_position p ids = go (position p ids) refl
     go (Some i) e =
         let at = position-Some p ids i 0 e in
         ap is_some e ∙ sym (list_any-from_Any p ids (i, get_or ids i 0, at.0, get_or_default_zero ids i _ at.0, at.1))
-    go None e =
-        let long : length ids ≤ position_or_len p ids = ⊎_elim
-        (λ (below : position_or_len p ids < length ids). absurd (some_none _
-        (sym (position_at p ids _ refl below) ∙ e)))
-        (λ (beyond : length ids ≤ position_or_len p ids). beyond)
-        (cases_lt (position_or_len p ids) (length ids)) in
-        ap is_some e ∙ sym (list_any_none p ids (λ k d l. fails_before_first p ids k d (omega (arith, l, long))))
+    go None e = search (rules, some_none, position_at, cases_lt, list_any_none, fails_before_first)
 
 -- one more id
 pub table_push : (first : ℕ) (ids ids' : List ℕ) (old new : ℕ → Option ℕ) (id place : ℕ) → IsTable first ids old →
@@ -116,32 +94,16 @@ table_push first ids ids' old new id place is at keeps absent e = subst (λ xs. 
 
     before : (p : ℕ) → p < length ids → (own_place first (get_or (ids ++ id ∷ []) p 0) ≡ p) ⊎
         (new (get_or (ids ++ id ∷ []) p 0) ≡ Some p)
-    before p l =
-        let same : get_or (ids ++ id ∷ []) p 0 ≡ get_or ids p 0 = get_or_append_left ids (id ∷ []) 0 p l in
-        ⊎_elim
-        (λ (own : own_place first (get_or ids p 0) ≡ p). inl (ap (own_place first) same ∙ own))
-        (λ (kept : old (get_or ids p 0) ≡ Some p). inr (ap new same
-        ∙ keeps.others _ p (λ is_new. absent (subst (λ x. Contains ids x) is_new (Contains-get_or ids p 0 l)))
-        kept))
-        (is.whole p l)
+    before p l = search (rules, get_or_append_left, Contains-get_or)
 
     last : (p : ℕ) → p ≡ length ids → (own_place first (get_or (ids ++ id ∷ []) p 0) ≡ p) ⊎
         (new (get_or (ids ++ id ∷ []) p 0) ≡ Some p)
-    last p e =
-        let same : get_or (ids ++ id ∷ []) p 0 ≡ id = ap (λ n. get_or (ids ++ id ∷ []) n 0) e
-        ∙ get_or-append_seam ids id [] 0 in
-        let is_place : p ≡ place = e ∙ sym at in
-        ⊎_elim
-        (λ (own : own_place first id ≡ place). inl (ap (own_place first) same ∙ own ∙ sym is_place))
-        (λ (kept : new id ≡ Some place). inr (ap new same ∙ kept ∙ ap Some (sym is_place)))
-        keeps.kept
+    last p e = search (rules, get_or-append_seam)
 
 pub table_same : (first : ℕ) (ids ids' : List ℕ) (old new : ℕ → Option ℕ) → IsTable first ids old → ids' ≡ ids →
     ((q : ℕ) → new q ≡ old q) → IsTable first ids' new
 table_same first ids ids' old new is e same = subst (λ xs. IsTable first xs new) (sym e) (record {
   distinct = is.distinct;
   sound = λ q p h. is.sound q p (sym (same q) ∙ h);
-  whole =
-      λ p l. ⊎_elim (λ (own : own_place first (get_or ids p 0) ≡ p). inl own)
-      (λ (kept : old (get_or ids p 0) ≡ Some p). inr (same _ ∙ kept)) (is.whole p l);
+  whole = search rules;
 })

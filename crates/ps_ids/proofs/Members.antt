@@ -1,5 +1,5 @@
 -- Membership in a list of ids, as a table tests it.
-use Rattle.std.proofs.Common.{◌≡◌, ◌<◌, ℕ, true, false, eqb, List, length, take, get_or, refl, sym, ◌∙◌, arith}
+use Rattle.std.proofs.Common.{◌≡◌, ◌<◌, ℕ, true, false, eqb, List, length, take, get_or, sym, ◌∙◌, rules}
 use Rattle.std.proofs.lemmas.Bool.{eqb-true, eq-eqb}
 use Rattle.std.proofs.lemmas.Bool.Decides.{nat_tests}
 use Rattle.std.proofs.lemmas.List.{get_or-take, get_or_default}
@@ -10,11 +10,7 @@ use Rattle.std.specs.List.{list_any, Contains}
 use Rattle.ps_ids.specs.Ids.{AreDistinct}
 
 eqb-equivalence : IsEquivalence eqb
-eqb-equivalence = record {
-  refl = λ x. eq-eqb x x refl;
-  symm = λ x y. grind (arith, nat_tests);
-  congr = λ x y z e. grind (arith, nat_tests, eqb-true x y e);
-}
+eqb-equivalence = search (rules, eq-eqb, nat_tests, eqb-true)
 
 pub any-from_Contains : (q : ℕ) (ids : List ℕ) → Contains ids q → list_any (eqb q) ids ≡ true
 any-from_Contains q ids h = list_any-from_Contains eqb-equivalence q ids h
@@ -28,7 +24,4 @@ Contains-none q ids none h = let e : true ≡ false = sym (any-from_Contains q i
 -- where ids differ, none of them stands before its place
 pub absent_before : (ids : List ℕ) (place : ℕ) → AreDistinct ids → place < length ids →
     Contains (take place ids) (get_or ids place 0) → ⊥
-absent_before ids place distinct l (k, within, e) =
-    let less : k < place = omega (arith, length-take-le place ids (omega arith), within) in
-    distinct k place (get_or ids place 0) less l (sym (get_or-take place ids k (get_or ids place 0) less) ∙ e
-    ∙ sym (get_or_default ids place (get_or ids place 0) 0 l))
+absent_before ids place distinct l (k, within, e) = search (rules, length-take-le, get_or-take, get_or_default)

@@ -9,9 +9,10 @@ use Rattle.std.specs.List.{All, Contains}
 use Rattle.std.proofs.lemmas.List.Elements.{All-head, All-tail}
 use Rattle.ps_text.specs.Answers.{Stream, signs, first_of}
 use Rattle.ps_text.specs.Parts.{IsRead, PartAnswers, give, one, many, NoBad}
-use Rattle.ps_text.proofs.Covered.{Avoids, covers_left, covers_right, read_as}
+use Rattle.ps_text.proofs.InPlace.{read_as}
+use Rattle.ps_text.proofs.Covered.{Avoids, covers_left, covers_right}
 use Rattle.ps_text.proofs.Joined.{read_then}
-use Rattle.ps_text.proofs.Repeated.{covers_item, joint_many, more_items, read_none}
+use Rattle.ps_text.proofs.Repeated.{read_item, read_none}
 use Rattle.ps_text.proofs.Simple.{none_is_some, read_give, read_mapped, read_one, same_some}
 use Rattle.ps_text.proofs.Whole.{answers_ok}
 use Rattle.ps_pgsolver.specs.GameTexts.{pg_causes, too_large, number_in, comma_in, semicolon_in, name_in, keyword_in}
@@ -35,40 +36,37 @@ IsKnown known n = (n < too_large) × (IsUnknown known n → ⊥)
 
 read_number : {n : ℕ} {rest : List Sign} → n < too_large → IsRead number (Number n ∷ rest) n rest
 unfolding number
-read_number {n} {rest} small = read_one number_in BadNumber (Number n) rest n refl (λ f b. omega (arith, small, b.0))
+read_number small = read_one number_in BadNumber refl (λ f b. omega (arith, small, b.0))
 
 read_id : (ids : List ℕ) {n : ℕ} {rest : List Sign} → n < too_large → (Contains ids n → ⊥) →
     IsRead (new_id ids) (Number n ∷ rest) n rest
 unfolding new_id
-read_id ids {n} {rest} small new =
-    read_one number_in (BadId ids) (Number n) rest n refl (λ f b.
-    ⊎_elim (λ h. omega (arith, small, h.0)) (λ h. new h.1) b)
+read_id ids small new =
+    read_one number_in (BadId ids) refl (λ f. ⊎_elim (λ h. omega (arith, small, h.0)) (λ h. new h.1))
 
 read_owner : {n : ℕ} {rest : List Sign} → n < 2 → IsRead owner (Number n ∷ rest) n rest
 unfolding owner
-read_owner {n} {rest} small = read_one number_in BadOwner (Number n) rest n refl (λ f b. omega (arith, small, b.0))
+read_owner small = read_one number_in BadOwner refl (λ f b. omega (arith, small, b.0))
 
 read_successor : (known : Option (List ℕ)) {n : ℕ} {rest : List Sign} → IsKnown known n →
     IsRead (successor known) (Number n ∷ rest) n rest
 unfolding successor
-read_successor known {n} {rest} is =
-    read_one number_in (BadSuccessor known) (Number n) rest n refl
-    (λ f b. ⊎_elim (λ h. omega (arith, is.0, h.0)) (λ h. is.1 h.1) b)
+read_successor known is =
+    read_one number_in (BadSuccessor known) refl (λ f. ⊎_elim (λ h. omega (arith, is.0, h.0)) (λ h. is.1 h.1))
 
 read_first : (known : Option (List ℕ)) {n : ℕ} {rest : List Sign} → IsKnown known n →
     IsRead (first_successor known) (Number n ∷ rest) n rest
 unfolding first_successor
-read_first known {n} {rest} is =
-    read_one number_in (BadFirst known) (Number n) rest n refl
-    (λ f b. ⊎_elim (λ h. omega (arith, is.0, h.0)) (λ h. is.1 h.1) b)
+read_first known is =
+    read_one number_in (BadFirst known) refl (λ f. ⊎_elim (λ h. omega (arith, is.0, h.0)) (λ h. is.1 h.1))
 
 read_comma : {rest : List Sign} → IsRead comma (Comma ∷ rest) tt rest
 unfolding comma
-read_comma {rest} = read_one comma_in NoBad Comma rest tt refl (λ f b. b)
+read_comma = read_one comma_in NoBad refl (λ f b. b)
 
 read_semicolon : {rest : List Sign} → IsRead semicolon (Semicolon ∷ rest) tt rest
 unfolding semicolon
-read_semicolon {rest} = read_one semicolon_in NoBad Semicolon rest tt refl (λ f b. b)
+read_semicolon = read_one semicolon_in NoBad refl (λ f b. b)
 
 -- the next sign is of another kind
 kind_avoided : (k : ℕ) (t : Sign) → (kind_of t ≡ k → ⊥) → Avoids (IsKind k) (Some t)
@@ -84,47 +82,34 @@ module _ (known : Option (List ℕ)) where
   read_another : (list : List ℕ) {n : ℕ} {rest : List Sign} → IsKnown known n →
       IsRead (more_successor known list) (Comma ∷ Number n ∷ rest) (list ++ n ∷ []) rest
   unfolding more_successor
-  read_another list {n} {rest} is =
-      read_then comma (λ _. another known list) (joint_more known list) (Comma ∷ Number n ∷ rest) (Number n ∷ rest) rest
-      tt (list ++ n ∷ []) (read_comma)
-      (read_mapped (λ m. list ++ m ∷ []) (successor known) (Number n ∷ rest) rest n (read_successor known is))
+  read_another list is = read_then (joint_more known list) read_comma
+      (read_mapped (λ m. list ++ m ∷ []) (successor known) (read_successor known is))
 
   read_commas : (ns list : List ℕ) {rest : List Sign} → All (IsKnown known) ns → Avoids (IsKind 3) (first_of rest) →
       IsRead (many (more_successor known) list) (comma_signs ns rest) (list ++ ns) rest
   read_commas [] list {rest} are avoids =
       subst (λ v. IsRead (many (more_successor known) list) rest v rest) (sym (append-nil list))
       (read_none (more_successor known) (laws_more known) (λ t h k. h) list rest avoids)
-  read_commas (n ∷ ns) list {rest} are avoids =
-      let all = Comma ∷ Number n ∷ comma_signs ns rest in
-      let first = read_another list (All-head (IsKnown known) n ns are) in
-      let later = subst (λ v. IsRead (many (more_successor known) (list ++ n ∷ [])) (comma_signs ns rest) v rest)
-      (append_assoc list (n ∷ []) ns) (read_commas ns (list ++ n ∷ []) (All-tail (IsKnown known) n ns are) avoids) in
-      read_as (more_items (more_successor known) list) (many (more_successor known) list) all rest (list ++ n ∷ ns)
-      (covers_item (more_successor known) list (first_of all))
-      (read_then (more_successor known list) (λ d. many (more_successor known) d)
-      (joint_many (more_successor known) (laws_more known) (λ t h k. h) list) all (comma_signs ns rest) rest
-      (list ++ n ∷ []) (list ++ n ∷ ns) first later)
+  read_commas (n ∷ ns) list {rest} are avoids = read_item (more_successor known) (laws_more known) (λ t h k. h)
+      (read_another list (All-head (IsKnown known) n ns are))
+      (subst (λ v. IsRead (many (more_successor known) (list ++ n ∷ [])) (comma_signs ns rest) v rest)
+      (append_assoc list (n ∷ []) ns) (read_commas ns (list ++ n ∷ []) (All-tail (IsKnown known) n ns are) avoids))
 
   read_list : (ns : List ℕ) {rest : List Sign} → 0 < length ns → All (IsKnown known) ns →
       Avoids (IsKind 3) (first_of rest) → IsRead (successors known) (list_signs ns rest) ns rest
   unfolding successors
   read_list [] some are avoids = absurd (omega (arith, some))
-  read_list (n ∷ ns) {rest} some are avoids =
-      read_then (first_successor known) (all_more known) (joint_successors known) (Number n ∷ comma_signs ns rest)
-      (comma_signs ns rest) rest n (n ∷ ns) (read_first known (All-head (IsKnown known) n ns are))
+  read_list (n ∷ ns) some are avoids = read_then (joint_successors known)
+      (read_first known (All-head (IsKnown known) n ns are))
       (read_commas ns (n ∷ []) (All-tail (IsKnown known) n ns are) avoids)
 
 read_name : (name' : Option (List ℕ)) (rest : List Sign) → IsRead name (name_signs name' (Semicolon ∷ rest)) name'
     (Semicolon ∷ rest)
 unfolding name
-read_name None rest =
-    read_as (give None) name (Semicolon ∷ rest) (Semicolon ∷ rest) None
-    (covers_right (one name_in NoBad) (give None) laws_one_name (Some Semicolon)
+read_name None rest = read_as (give None) name (covers_right (one name_in NoBad) (give None) laws_one_name _
     (semicolon_avoids 2 (λ e. omega (arith, e)))) (read_give (Semicolon ∷ rest) None)
-read_name (Some inner) rest =
-    read_as (one name_in NoBad) name (Name inner ∷ Semicolon ∷ rest) (Semicolon ∷ rest) (Some inner)
-    (covers_left (one name_in NoBad) (give None) laws_no_name (Some (Name inner)) (λ t e h. h))
-    (read_one name_in NoBad (Name inner) (Semicolon ∷ rest) (Some inner) refl (λ f b. b))
+read_name (Some inner) rest = read_as (one name_in NoBad) name
+    (covers_left (one name_in NoBad) (give None) laws_no_name _ (λ t e h. h)) (read_one name_in NoBad refl (λ f b. b))
 
 name_avoids : (name' : Option (List ℕ)) (rest : List Sign) →
     Avoids (IsKind 3) (first_of (name_signs name' (Semicolon ∷ rest)))
@@ -150,66 +135,42 @@ module _ (known : Option (List ℕ)) where
   read_node : {ids : List ℕ} {n : NodeData} {rest : List Sign} → IsReadable known ids n →
       IsRead (node known ids) (node_signs n rest) n rest
   unfolding node
-  read_node {ids} {n} {rest} is =
-      let s5 = Semicolon ∷ rest in
-      let s4 = name_signs n.name s5 in
-      let s3 = list_signs n.successors s4 in
-      let s2 = Number n.owner ∷ s3 in
-      let s1 = Number n.priority ∷ s2 in
-      read_then (new_id ids) (from_priority known ids) (joint_id known ids) (Number n.id ∷ s1) s1 rest n.id n
-      (read_id ids is.id is.new)
-      (read_then number (from_owner known ids n.id) (joint_priority known ids n.id) s1 s2 rest n.priority n
-      (read_number is.priority)
-      (read_then owner (from_successors known ids n.id n.priority) (joint_owner known ids n.id n.priority) s2 s3 rest
-      n.owner n (read_owner is.owner) (read_then (successors known) (from_name known ids n.id n.priority n.owner)
-      (joint_list known ids n.id n.priority n.owner) s3 s4 rest n.successors n
+  read_node {ids} {n} {rest} is = read_then (joint_id known ids) (read_id ids is.id is.new)
+      (read_then (joint_priority known ids n.id) (read_number is.priority)
+      (read_then (joint_owner known ids n.id n.priority) (read_owner is.owner)
+      (read_then (joint_list known ids n.id n.priority n.owner)
       (read_list known n.successors is.some is.successors (name_avoids n.name rest))
-      (read_then name (node_end known ids n.id n.priority n.owner n.successors)
-      (joint_name known ids n.id n.priority n.owner n.successors) s4 s5 rest n.name n (read_name n.name rest)
-      (read_mapped (λ _. n) semicolon s5 rest tt (read_semicolon))))))
+      (read_then (joint_name known ids n.id n.priority n.owner n.successors) (read_name n.name rest)
+      (read_mapped (λ _. n) semicolon read_semicolon)))))
 
   read_entry : (before : List NodeData) {n : NodeData} {rest : List Sign} → IsReadable known (ids_of before) n →
       IsRead (entry known before) (node_signs n rest) (before ++ n ∷ []) rest
   unfolding entry
-  read_entry before {n} {rest} is =
-      read_mapped (λ m. before ++ m ∷ []) (node known (ids_of before)) (node_signs n rest) rest n (read_node is)
+  read_entry before is = read_mapped (λ m. before ++ m ∷ []) (node known (ids_of before)) (read_node is)
 
   read_more : (nodes before : List NodeData) → AreReadable known before nodes →
       IsRead (many (entry known) before) (nodes_signs nodes) (before ++ nodes) []
   read_more [] before are =
       subst (λ v. IsRead (many (entry known) before) [] v []) (sym (append-nil before))
       (read_none (entry known) (laws_entry known) (λ t h k. h) before [] (λ t e h. none_is_some t e))
-  read_more (n ∷ nodes) before are =
-      let all = node_signs n (nodes_signs nodes) in
-      let first = read_entry before are.0 in
-      let later = subst (λ v. IsRead (many (entry known) (before ++ n ∷ [])) (nodes_signs nodes) v [])
-      (append_assoc before (n ∷ []) nodes) (read_more nodes (before ++ n ∷ []) are.1) in
-      read_as (more_items (entry known) before) (many (entry known) before) all [] (before ++ n ∷ nodes)
-      (covers_item (entry known) before (first_of all)) (read_then (entry known before) (λ d. many (entry known) d)
-      (joint_many (entry known) (laws_entry known) (λ t h k. h) before) all (nodes_signs nodes) []
-      (before ++ n ∷ []) (before ++ n ∷ nodes) first later)
+  read_more (n ∷ nodes) before are = read_item (entry known) (laws_entry known) (λ t h k. h)
+      (read_entry before are.0) (subst (λ v. IsRead (many (entry known) (before ++ n ∷ [])) (nodes_signs nodes) v [])
+      (append_assoc before (n ∷ []) nodes) (read_more nodes (before ++ n ∷ []) are.1))
 
   read_entries : (n : NodeData) (nodes : List NodeData) → AreReadable known [] (n ∷ nodes) →
       IsRead (entries known) (nodes_signs (n ∷ nodes)) (n ∷ nodes) []
   unfolding entries
-  read_entries n nodes are =
-      read_then (entry known []) (more_entries known) (joint_entries known) (node_signs n (nodes_signs nodes))
-      (nodes_signs nodes) [] (n ∷ []) (n ∷ nodes) (read_entry [] are.0) (read_more nodes (n ∷ []) are.1)
+  read_entries n nodes are = read_then (joint_entries known) (read_entry [] are.0) (read_more nodes (n ∷ []) are.1)
 
   -- ## The whole text
 
   read_parity : (id : ℕ) {rest : List Sign} → id < too_large →
       IsRead (setting (codes "parity")) (Word (codes "parity") ∷ Number id ∷ Semicolon ∷ rest) tt rest
   unfolding setting keyword value_line
-  read_parity id {rest} small =
-      let word = codes "parity" in
-      let all = Word word ∷ Number id ∷ Semicolon ∷ rest in
-      read_as (line word) (setting word) all rest tt (covers_left (line word) (give tt) (laws_no_line word)
-      (Some (Word word)) (λ t e h. h))
-      (read_then (keyword word) (λ _. value_line) (joint_line word) all (Number id ∷ Semicolon ∷ rest) rest tt tt
-      (read_one (keyword_in word) NoBad (Word word) (Number id ∷ Semicolon ∷ rest) tt (takes_word word) (λ f b. b))
-      (read_then number (λ _. semicolon) joint_value (Number id ∷ Semicolon ∷ rest) (Semicolon ∷ rest) rest id tt
-      (read_number small) (read_semicolon)))
+  read_parity id small = let word = codes "parity" in read_as (line word) (setting word)
+      (covers_left (line word) (give tt) (laws_no_line word) _ (λ t e h. h))
+      (read_then (joint_line word) (read_one (keyword_in word) NoBad (takes_word word) (λ f b. b))
+      (read_then joint_value (read_number small) read_semicolon))
 
   no_start : (id : ℕ) → Avoids (IsWord (codes "start")) (Some (Number id))
   unfolding kind_of
@@ -218,22 +179,15 @@ module _ (known : Option (List ℕ)) where
 
   read_start : (id : ℕ) (rest : List Sign) → IsRead (setting (codes "start")) (Number id ∷ rest) tt (Number id ∷ rest)
   unfolding setting
-  read_start id rest =
-      let word = codes "start" in
-      read_as (give tt) (setting word) (Number id ∷ rest) (Number id ∷ rest) tt
-      (covers_right (line word) (give tt) (laws_line word) (Some (Number id)) (no_start id))
-      (read_give (Number id ∷ rest) tt)
+  read_start id rest = let word = codes "start" in read_as (give tt) (setting word)
+      (covers_right (line word) (give tt) (laws_line word) _ (no_start id)) (read_give (Number id ∷ rest) tt)
 
   read_game : (id : ℕ) (nodes : List NodeData) → id < too_large → 0 < length nodes → AreReadable known [] nodes →
       IsRead (game known) (written_signs id nodes) nodes []
   unfolding game
   read_game id [] small some are = absurd (omega (arith, some))
-  read_game id (n ∷ nodes) small some are =
-      let all = nodes_signs (n ∷ nodes) in
-      read_then (setting (codes "parity")) (λ _. from_start known) (joint_parity known) (written_signs id (n ∷ nodes))
-      all [] tt (n ∷ nodes) (read_parity id small)
-      (read_then (setting (codes "start")) (λ _. entries known) (joint_start known) all all [] tt (n ∷ nodes)
-      (read_start n.id _) (read_entries n nodes are))
+  read_game id (n ∷ nodes) small some are = read_then (joint_parity known) (read_parity id small)
+      (read_then (joint_start known) (read_start n.id _) (read_entries n nodes are))
 
   pub written_answers : (stream : Stream Sign) (id : ℕ) (nodes : List NodeData) →
       signs stream.pieces ≡ written_signs id nodes → id < too_large → 0 < length nodes →

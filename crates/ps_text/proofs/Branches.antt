@@ -12,25 +12,20 @@
 --     carries_many, carries_times      the invariant of a loop behind an item
 --     reads_shrinks      a part that takes a sign leaves fewer pieces: the measure of a loop
 use Rattle.std.proofs.Common.{◌≡◌, ℕ, zero, suc, ◌+◌, ◌-◌, ◌<◌, List, [], ◌∷◌, ◌++◌, length, Option, Some, Result, Ok}
-use Rattle.std.proofs.Common.{Err, ap, subst, inl, inr, ◌∙◌, arith, length-append}
+use Rattle.std.proofs.Common.{Err, ap, subst, inl, inr, ◌∙◌, arith, length-append, rules}
 use Rattle.std.proofs.lemmas.List.{length-map}
 use Rattle.ps_text.specs.Answers.{Stream, Found, signs, next_of}
 use Rattle.ps_text.specs.Parts.{Part, Causes, IsRead, IsBroken, either, times, many}
 use Rattle.ps_text.specs.Readers.{Stops, Reads, Meets, Carries}
 use Rattle.ps_text.proofs.Laws.{Laws, Apart}
 use Rattle.ps_text.proofs.Exits.{stops_as, reads_then, reads_give, stops_first, stops_behind, suffix_refl}
-use Rattle.ps_text.proofs.Covered.{Covers, Enters, Avoids, enters_broken, enters_read, enters_then, read_as, fault_as}
-use Rattle.ps_text.proofs.Covered.{covers_left, covers_right}
+use Rattle.ps_text.proofs.InPlace.{Covers, read_as, fault_as}
+use Rattle.ps_text.proofs.Covered.{Enters, Avoids, enters_broken, enters_read, enters_then, covers_left, covers_right}
 use Rattle.ps_text.proofs.Repeated.{more_items, covers_item, joint_many, joint_times, read_none}
 
 pub enters_first : {T V F : Type 0} {odd : T → Type 0} {P : Part T V F} {First More : T → Type 0} {Null : Type 0} →
-    Laws odd P First More Null →
-    (there : Option T) → Enters P there → (t : T) → there ≡ Some t → First t
-enters_first {P = P} {First = First} l there e t x = go (subst (Enters P) x e)
-  where
-    go : Enters P (Some t) → First t
-    go (inl b) = l.first_text t b.more b.value b.is_text
-    go (inr c) = l.first_cause t c.0 c.1
+    Laws odd P First More Null → (there : Option T) → Enters P there → (t : T) → there ≡ Some t → First t
+enters_first {P = P} {First = First} l there e t x = search (rules, Enters)
 
 pub shrinks : {T V F : Type 0} (P : Part T V F) (all rest : List T) (v : V) → ((w : V) → P.IsText [] w → ⊥) →
     IsRead P all v rest → length rest < length all
@@ -44,12 +39,10 @@ shrinks {T} P all rest v some p = go p.text p.split p.is_text
 -- a reading that took a sign has fewer to come
 pub reads_shrinks : {T V F : Type 0} {P : Part T V F} {old new : Stream T} {v : V} → ((w : V) → P.IsText [] w → ⊥) →
     Reads P old v new → length new.pieces < length old.pieces
-reads_shrinks {P = P} {old = old} {new = new} {v = v} some m =
-    let a : length (signs new.pieces) < length (signs old.pieces) =
-    shrinks P (signs old.pieces) (signs new.pieces) v some m.1 in
-    let b : length (signs new.pieces) ≡ length new.pieces = length-map new.pieces (λ p. p.sign) in
-    let c : length (signs old.pieces) ≡ length old.pieces = length-map old.pieces (λ p. p.sign) in
-    omega (arith, a, b, c)
+reads_shrinks {P = P} {old = old} {new = new} {v = v} some m = let a : length
+    (signs new.pieces) < length (signs old.pieces) = shrinks P (signs old.pieces) (signs new.pieces) v some m.1 in
+    let b : length (signs new.pieces) ≡ length new.pieces = length-map new.pieces (λ p. p.sign) in let c : length
+    (signs old.pieces) ≡ length old.pieces = length-map old.pieces (λ p. p.sign) in omega (arith, a, b, c)
 
 pub record Stands {T V F : Type 0} (there : Option T) (P Q : Part T V F) : Type 0 where
   pub covers : Covers there P Q
@@ -57,13 +50,11 @@ pub record Stands {T V F : Type 0} (there : Option T) (P Q : Part T V F) : Type 
 
 pub reads_as : {T V F : Type 0} {P Q : Part T V F} {old new : Stream T} {v : V} → Stands (next_of old) P Q →
     Reads P old v new → Reads Q old v new
-reads_as {P = P} {Q = Q} {old = old} {new = new} {v = v} w m =
-    (m.0, read_as P Q (signs old.pieces) (signs new.pieces) v w.covers m.1)
+reads_as {P = P} {Q = Q} w m = (m.0, read_as P Q w.covers m.1)
 
 pub stops_as_well : {T V F : Type 0} (causes : Causes T F) {P Q : Part T V F} (old : Stream T) (o : Option (Found F)) →
     Stands (next_of old) P Q → Stops causes P old o → Stops causes Q old o
-stops_as_well causes {P = P} {Q = Q} old o w s =
-    stops_as causes P Q old (λ f rest p. fault_as P Q causes (signs old.pieces) rest f w.covers w.starts p) o s
+stops_as_well causes {P = P} {Q = Q} old o w s = search (rules, stops_as, fault_as)
 
 pub meets_as : {T V F X E : Type 0} (found : E → Option (Found F)) (causes : Causes T F) (view : X → V)
     {P Q : Part T V F} (old new : Stream T) (r : Result X E) →
@@ -104,9 +95,8 @@ module _ {T C F : Type 0} {odd : T → Type 0} (item : C → Part T C F) {First 
   pub item_entered : (c : C) (there : Option T) → Enters (item c) there → Stands there (more_items item c) (many item c)
   item_entered c there e = record {
     covers = covers_item item c there;
-    starts =
-        λ b v h. enters_broken (more_items item c) there (enters_then (item c) (λ d. many item d)
-        (joint_many item l apart c) there e) b;
+    starts = λ b v h. enters_broken
+        (more_items item c) there (enters_then (item c) (λ d. many item d) (joint_many item l apart c) there e) b;
   }
 
   item_read : {c d : C} {old mid : Stream T} → Reads (item c) old d mid → Enters (item c) (next_of old)
@@ -123,19 +113,16 @@ module _ {T C F : Type 0} {odd : T → Type 0} (item : C → Part T C F) {First 
 
   pub many_fails : (causes : Causes T F) (c : C) (old : Stream T) (o : Option (Found F)) →
       Enters (item c) (next_of old) → Stops causes (item c) old o → Stops causes (many item c) old o
-  many_fails causes c old o e s =
-      stops_as_well causes old o (item_entered c (next_of old) e)
-      (stops_first causes (joint_many item l apart c) old o s)
+  many_fails causes c old o e s = stops_as_well causes old o
+      (item_entered c (next_of old) e) (stops_first causes (joint_many item l apart c) old o s)
 
   pub many_fails_later : (causes : Causes T F) {c d : C} {old mid : Stream T} (o : Option (Found F)) →
       Reads (item c) old d mid → Stops causes (many item d) mid o → Stops causes (many item c) old o
-  many_fails_later causes {c = c} {old = old} o m s =
-      stops_as_well causes old o (item_entered c (next_of old) (item_read m))
-      (stops_behind causes (joint_many item l apart c) m o s)
+  many_fails_later causes {c = c} {old = old} o m s = stops_as_well causes old o
+      (item_entered c (next_of old) (item_read m)) (stops_behind causes (joint_many item l apart c) m o s)
 
-  pub carries_many : (causes : Causes T F) {whole : Part T C F} {start now next : Stream T} {c d : C} →
-      Carries causes whole start (many item c) now → Reads (item c) now d next →
-      Carries causes whole start (many item d) next
+  pub carries_many : (causes : Causes T F) {whole : Part T C F} {start now next : Stream T} {c d : C} → Carries
+      causes whole start (many item c) now → Reads (item c) now d next → Carries causes whole start (many item d) next
   carries_many causes {whole} {start} {now} {next} {c} {d} k m = go
     where
       go : Carries causes whole start (many item d) next
@@ -149,22 +136,19 @@ module _ {T C F : Type 0} {odd : T → Type 0} (item : C → Part T C F) {First 
   pub times_reads : (n : ℕ) {c d e : C} {old mid new : Stream T} → 0 < n → Reads (item c) old d mid →
       Reads (times (n - 1) item d) mid e new → Reads (times n item c) old e new
   times_reads zero z m k = absurd (omega (arith, z))
-  times_reads (suc n) {c = c} {d = d} {e = e} {mid = mid} {new = new} z m k =
-      reads_then (joint_times item l apart n c) m
-      (let x : suc n - 1 ≡ n = omega arith in subst (λ i. Reads (times i item d) mid e new) x k)
+  times_reads (suc n) {c = c} {d = d} {e = e} {mid = mid} {new = new} z m k = reads_then (joint_times item l apart n c)
+      m (let x : suc n - 1 ≡ n = omega arith in subst (λ i. Reads (times i item d) mid e new) x k)
 
   pub times_fails : (causes : Causes T F) (n : ℕ) (c : C) (old : Stream T) (o : Option (Found F)) → 0 < n →
       Stops causes (item c) old o → Stops causes (times n item c) old o
   times_fails causes zero c old o z s = absurd (omega (arith, z))
   times_fails causes (suc n) c old o z s = stops_first causes (joint_times item l apart n c) old o s
 
-  pub times_fails_later : (causes : Causes T F) (n : ℕ) {c d : C} {old mid : Stream T} (o : Option (Found F)) → 0 < n →
-      Reads (item c) old d mid → Stops causes (times (n - 1) item d) mid o →
-      Stops causes (times n item c) old o
+  pub times_fails_later : (causes : Causes T F) (n : ℕ) {c d : C} {old mid : Stream T} (o : Option (Found F)) →
+      0 < n → Reads (item c) old d mid → Stops causes (times (n - 1) item d) mid o → Stops causes (times n item c) old o
   times_fails_later causes zero o z m k = absurd (omega (arith, z))
-  times_fails_later causes (suc n) {c = c} {d = d} {mid = mid} o z m k =
-      stops_behind causes (joint_times item l apart n c) m o
-      (let x : suc n - 1 ≡ n = omega arith in subst (λ i. Stops causes (times i item d) mid o) x k)
+  times_fails_later causes (suc n) {c = c} {d = d} {mid = mid} o z m k = stops_behind causes (joint_times item
+      l apart n c) m o (let x : suc n - 1 ≡ n = omega arith in subst (λ i. Stops causes (times i item d) mid o) x k)
 
   pub carries_times : (causes : Causes T F) {whole : Part T C F} {start now next : Stream T} (n : ℕ) {c d : C} → 0 < n →
       Carries causes whole start (times n item c) now →

@@ -3,8 +3,8 @@
 --     run_len, run_all, run_ends      the longest run that a text begins with
 --     run_whole      a text that is one run
 --     same_run      there is only one longest run
-use Rattle.std.proofs.Common.{◌≡◌, ℕ, suc, Bool, true, false, List, [], ◌∷◌, ◌++◌, length, take}
-use Rattle.std.proofs.Common.{drop, refl, ap, ap₂, sym, subst, ⊎_elim, ◌∙◌, append-nil, arith}
+use Rattle.std.proofs.Common.{◌≡◌, ℕ, suc, Bool, List, [], ◌∷◌, ◌++◌, length, take, rules, drop, refl, ap, ap₂, sym}
+use Rattle.std.proofs.Common.{⊎_elim, ◌∙◌, append-nil, arith}
 use Rattle.std.specs.List.{prefix_len, take_while}
 use Rattle.std.proofs.Math.Seq.{take-length}
 use Rattle.std.proofs.lemmas.Bool.{cases_Bool}
@@ -33,32 +33,23 @@ module _ (p : ℕ → Bool) where
   -- the longest run that a text begins with, and what stands behind it
   pub run_all : (text : List ℕ) → AllOf p (take (prefix_len p text) text)
   run_all [] = tt
-  run_all (b ∷ bs) = ⊎_elim
-      (λ yes. let size : prefix_len p (b ∷ bs) ≡ suc (prefix_len p bs) = rw yes (omega arith) in
-      rw size (yes, run_all bs))
-      (λ no. let size : prefix_len p (b ∷ bs) ≡ 0 = rw no refl in rw size tt)
-      (cases_Bool (p b))
+  run_all (b ∷ bs) =
+      ⊎_elim (λ yes. let size : prefix_len p (b ∷ bs) ≡ suc (prefix_len p bs) = rw yes (omega arith) in rw size
+      (yes, run_all bs)) (λ no. let size : prefix_len p (b ∷ bs) ≡ 0 = rw no refl in rw size tt) (cases_Bool (p b))
 
   pub run_ends : (text : List ℕ) → StopsBefore p (drop (prefix_len p text) text)
   run_ends [] = tt
-  run_ends (b ∷ bs) = ⊎_elim
-      (λ yes. let size : prefix_len p (b ∷ bs) ≡ suc (prefix_len p bs) = rw yes (omega arith) in
-      rw size (run_ends bs))
-      (λ no. let size : prefix_len p (b ∷ bs) ≡ 0 = rw no refl in rw size no)
-      (cases_Bool (p b))
+  run_ends (b ∷ bs) = ⊎_elim (λ yes. let size : prefix_len p (b ∷ bs) ≡ suc (prefix_len p bs) = rw yes (omega arith) in
+      rw size (run_ends bs)) (λ no. let size : prefix_len p (b ∷ bs) ≡ 0 = rw no refl in rw size no) (cases_Bool (p b))
 
   pub run_whole : (run : List ℕ) → AllOf p run → take_while p run ≡ run
-  run_whole run a =
-      let n : prefix_len p (run ++ []) ≡ length run = run_len run [] a tt in
-      ap (λ k. take k run) (ap (prefix_len p) (sym (append-nil run)) ∙ n) ∙ take-length run
+  run_whole run a = let n : prefix_len p (run ++ []) ≡ length run =
+      run_len run [] a tt in ap (λ k. take k run) (ap (prefix_len p) (sym (append-nil run)) ∙ n) ∙ take-length run
 
   pub same_run : (a b x y : List ℕ) → a ++ x ≡ b ++ y → AllOf p a → AllOf p b → StopsBefore p x → StopsBefore p y →
       a ≡ b
   same_run [] [] x y e h k s t = refl
-  same_run [] (c ∷ b) x y e h k s t =
-      absurd (let f : p c ≡ false = subst (StopsBefore p) e s in let g : p c ≡ true = k.0 in cc)
-  same_run (c ∷ a) [] x y e h k s t =
-      absurd (let f : p c ≡ false = subst (StopsBefore p) (sym e) t in let g : p c ≡ true = h.0 in cc)
-  same_run (c ∷ a) (d ∷ b) x y e h k s t =
-      let head : c ≡ d = same_head c d (a ++ x) (b ++ y) e in
+  same_run [] (c ∷ b) x y e h k s t = search rules
+  same_run (c ∷ a) [] x y e h k s t = search rules
+  same_run (c ∷ a) (d ∷ b) x y e h k s t = let head : c ≡ d = same_head c d (a ++ x) (b ++ y) e in
       ap₂ (λ z zs. z ∷ zs) head (same_run a b x y (same_tail c d (a ++ x) (b ++ y) e) h.1 k.1 s t)

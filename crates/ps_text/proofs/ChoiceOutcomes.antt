@@ -7,7 +7,7 @@ use Rattle.ps_text.specs.Choices.{choice}
 use Rattle.ps_text.specs.Outcomes.{Outcome, was_read, has_fault, HasOutcomes}
 use Rattle.ps_text.proofs.Laws.{Laws}
 use Rattle.ps_text.proofs.Outcomes.{has_refusal}
-use Rattle.ps_text.proofs.Covered.{read_as, fault_as}
+use Rattle.ps_text.proofs.InPlace.{read_as, fault_as}
 use Rattle.ps_text.proofs.Choices.{Begins, laws_choice, stands_form}
 use Rattle.ps_text.proofs.Simple.{none_is_some, same_some}
 
@@ -19,10 +19,10 @@ module _ {K T V F : Type 0} (causes : Causes T F) {odd : T → Type 0} (form : K
     where
       as_form : (k : K) (t : T) (rest : List T) → form_at t ≡ Some k → Outcome causes (form k) (t ∷ rest) →
           Outcome causes (choice form) (t ∷ rest)
-      as_form k t rest e (was_read v behind r) = was_read v behind
-          (read_as (form k) (choice form) (t ∷ rest) behind v (stands_form form form_at l k t e).covers r)
+      as_form k t rest e (was_read v behind r) =
+          was_read v behind (read_as (form k) (choice form) (stands_form form form_at l k t e).covers r)
       as_form k t rest e (has_fault f behind r) = let s = stands_form form form_at l k t e in
-          has_fault f behind (fault_as (form k) (choice form) causes (t ∷ rest) behind f s.covers s.starts r)
+          has_fault f behind (fault_as (form k) (choice form) s.covers s.starts r)
 
       at_sign : (t : T) (rest : List T) (o : Option K) → form_at t ≡ o → Outcome causes (choice form) (t ∷ rest)
       at_sign t rest (Some k) e = as_form k t rest e ((h k).outcome (t ∷ rest))

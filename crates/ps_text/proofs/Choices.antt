@@ -3,9 +3,9 @@
 --     laws_choice      the laws of the choice, from those of each form
 --     stands_form      at a sign that begins a form, that form is read in place of the choice
 --     enters_form      where a form is entered, the choice is
-use Rattle.std.proofs.Common.{◌≡◌, List, [], ◌∷◌, ◌++◌, Option, None, Some, sym, subst, inl, inr, ◌∙◌, refl}
+use Rattle.std.proofs.Common.{◌≡◌, List, [], ◌∷◌, ◌++◌, Option, None, Some, sym, subst, inl, inr, ◌∙◌, rules}
 use Rattle.ps_text.specs.Answers.{first_of}
-use Rattle.ps_text.specs.Parts.{Part, IsBroken}
+use Rattle.ps_text.specs.Parts.{Part}
 use Rattle.ps_text.specs.Choices.{choice}
 use Rattle.ps_text.proofs.Laws.{Laws}
 use Rattle.ps_text.proofs.Simple.{same_some}
@@ -29,30 +29,24 @@ module _ {K T V F : Type 0} {odd : T → Type 0} (form : K → Part T V F) (form
   text_form : (k : K) (t : T) (text : List T) (v : V) → (form k).IsText (t ∷ text) v → Begins form_at k t
   text_form k t text v h = (l k).first_text t text v h
 
-  cause_form : (k : K) (front : List T) (t u : T) (f : F) → (form k).IsCause front t f →
-      first_of (front ++ t ∷ []) ≡ Some u →
-      Begins form_at k u
+  cause_form : (k : K) (front : List T) (t u : T) (f : F) →
+      (form k).IsCause front t f → first_of (front ++ t ∷ []) ≡ Some u → Begins form_at k u
   cause_form k front t u f c e = first_of_cause (l k) front [] t u f c e
 
   values : (text : List T) (v w : V) → (choice form).IsText text v → (choice form).IsText text w → v ≡ w
   values [] v w h i = absurd ((l h.0).null v h.1)
-  values (t ∷ text) v w h i =
-      let e = same_form h.0 i.0 t (text_form h.0 t text v h.1) (text_form i.0 t text w i.1) in
-      (l i.0).one_value (t ∷ text) v w (subst (λ k. (form k).IsText (t ∷ text) v) e h.1) i.1
+  values (t ∷ text) v w h i = search (rules, same_form, text_form)
 
   mores : (text more : List T) (t : T) (v w : V) → (choice form).IsText text v →
       (choice form).IsText (text ++ t ∷ more) w → More t
   mores [] more t v w h i = absurd ((l h.0).null v h.1)
-  mores (s ∷ text) more t v w h i =
-      let e = same_form h.0 i.0 s (text_form h.0 s text v h.1) (text_form i.0 s (text ++ t ∷ more) w i.1) in
-      (l i.0).more_text (s ∷ text) more t v w (subst (λ k. (form k).IsText (s ∷ text) v) e h.1) i.1
+  mores (s ∷ text) more t v w h i = let e = same_form h.0 i.0 s (text_form h.0 s text v h.1) (text_form i.0 s (text ++
+      t ∷ more) w i.1) in (l i.0).more_text (s ∷ text) more t v w (subst (λ k. (form k).IsText (s ∷ text) v) e h.1) i.1
 
   more_causes : (text : List T) (t : T) (v : V) (f : F) → (choice form).IsText text v →
       (choice form).IsCause text t f → More t
   more_causes [] t v f h c = absurd ((l h.0).null v h.1)
-  more_causes (s ∷ text) t v f h c =
-      let e = same_form h.0 c.0 s (text_form h.0 s text v h.1) (cause_form c.0 (s ∷ text) t s f c.1 refl) in
-      (l c.0).more_cause (s ∷ text) t v f (subst (λ k. (form k).IsText (s ∷ text) v) e h.1) c.1
+  more_causes (s ∷ text) t v f h c = search (rules, same_form, text_form, cause_form)
 
   -- there is a form
   pub laws_choice : K → Laws odd (choice form) (BeginsSome form_at) More ⊥
@@ -64,37 +58,13 @@ module _ {K T V F : Type 0} {odd : T → Type 0} (form : K → Part T V F) (form
     more_text = mores;
     more_cause = more_causes;
     null = λ v h. (l h.0).null v h.1;
-    behind = λ front t f c. let b = (l c.0).behind front t f c.1 in
-        record { more = b.more; value = b.value; is_text = (c.0, b.is_text) };
+    behind = search rules;
     plain_text = λ front rest t v h o. (l h.0).plain_text front rest t v h.1 o;
     plain_cause = λ front t f c o. (l c.0).plain_cause front t f c.1 o;
   }
 
   pub stands_form : (k : K) (t : T) → Begins form_at k t → Stands (Some t) (form k) (choice form)
-  stands_form k t b = record {
-    covers =
-        record {
-          text = λ text v h. (k, h);
-          cause = λ front u f c. (k, c);
-          text_back = text_back;
-          cause_back = cause_back;
-        };
-    starts = λ broken v h. (l h.0).null v h.1;
-  }
-    where
-      same : (j : K) (u : T) → Some t ≡ Some u → Begins form_at j u → j ≡ k
-      same j u e h = same_form j k u h (subst (Begins form_at k) (same_some t u e) b)
-
-      text_back : (u : T) (text : List T) (v : V) → Some t ≡ Some u → (choice form).IsText (u ∷ text) v →
-          (form k).IsText (u ∷ text) v
-      text_back u text v e h = subst (λ j. (form j).IsText (u ∷ text) v) (same h.0 u e (text_form h.0 u text v h.1)) h.1
-
-      cause_back : (front : List T) (u : T) (f : F) → Some t ≡ first_of (front ++ u ∷ []) →
-          (choice form).IsCause front u f →
-          (form k).IsCause front u f
-      cause_back [] u f e c = subst (λ j. (form j).IsCause [] u f) (same c.0 u e (cause_form c.0 [] u u f c.1 refl)) c.1
-      cause_back (s ∷ front) u f e c =
-          subst (λ j. (form j).IsCause (s ∷ front) u f) (same c.0 s e (cause_form c.0 (s ∷ front) u s f c.1 refl)) c.1
+  stands_form k t b = search (rules, same_form, same_some, text_form, cause_form)
 
   pub enters_form : (k : K) (there : Option T) → Enters (form k) there → Enters (choice form) there
   enters_form k None e = e

@@ -4,13 +4,11 @@
 --     value_grows, value_front      more digits write no smaller number
 --     IsNumberText n digits      digits without a leading zero that write the number
 --     number_text, plain      these are written
-use Rattle.std.proofs.Common.{◌≡◌, ℕ, zero, suc, ◌+◌, ◌-◌, ◌*◌, ◌/◌, ◌%◌, ◌^◌, ◌<◌, ◌≤◌, true, List, [], ◌∷◌, ◌++◌}
-use Rattle.std.proofs.Common.{length, get_or, map, take, drop, refl, sym, ap, subst, ◌∙◌, arith, length-append}
-use Rattle.std.proofs.Common.{take-append-drop}
+use Rattle.std.proofs.Common.{◌≡◌, ℕ, zero, ◌+◌, ◌-◌, ◌*◌, ◌/◌, ◌%◌, ◌^◌, ◌<◌, ◌≤◌, true, List, [], ◌∷◌, ◌++◌, length}
+use Rattle.std.proofs.Common.{get_or, take, drop, refl, ap, subst, ◌∙◌, arith, length-append, rules, take-append-drop}
 use Rattle.std.specs.Prelude.{decimal}
 use Rattle.std.specs.Char.{is_ascii_digit}
 use Rattle.std.specs.List.{All}
-use Rattle.std.specs.Int.Digits.{number_from_digits, number_from_digits_after}
 use Rattle.std.proofs.lemmas.Bool.{le-leb}
 use Rattle.std.proofs.lemmas.Fmt.{decimal_by_steps}
 use Rattle.std.proofs.lemmas.Int.Digits.{number_push, number_after_append, number_after_ge}
@@ -34,24 +32,18 @@ digits_pass (d ∷ ds) h = (digit_passes d (All-head IsDigit d ds h), digits_pas
 -- ## Values
 
 pub value_pushed : (ds : List ℕ) (d : ℕ) → decimal_value (ds ++ d ∷ []) ≡ decimal_value ds * 10 + (d - 48)
-value_pushed ds d = ap (number_from_digits 10) (map-append (λ b. b - 48) ds (d ∷ []))
-    ∙ number_push 10 (map (λ b. b - 48) ds) (d - 48)
+value_pushed ds d = search (rules, map-append, number_push)
 
 pub value_more : (ds : List ℕ) (i : ℕ) → i < length ds →
     decimal_value (take (i + 1) ds) ≡ decimal_value (take i ds) * 10 + (get_or ds i 0 - 48)
 value_more ds i l = ap decimal_value (take_more ds i 0 l) ∙ value_pushed (take i ds) (get_or ds i 0)
 
 pub value_grows : (a b : List ℕ) → decimal_value a ≤ decimal_value (a ++ b)
-value_grows a b =
-    let e : decimal_value (a ++ b) ≡ number_from_digits_after 10 (decimal_value a) (map (λ b. b - 48) b) =
-    ap (number_from_digits 10) (map-append (λ b. b - 48) a b) ∙ number_after_append 10 0 (map (λ b. b - 48) a)
-    (map (λ b. b - 48) b) in
-    subst (λ n. decimal_value a ≤ n) (sym e) (number_after_ge 10 (decimal_value a) (map (λ b. b - 48) b) (omega arith))
+value_grows a b = search (rules, map-append, number_after_append, number_after_ge)
 
 pub value_front : (ds : List ℕ) (i : ℕ) → decimal_value (take i ds) ≤ decimal_value ds
-value_front ds i =
-    subst (λ xs. decimal_value (take i ds) ≤ decimal_value xs) (take-append-drop i ds)
-    (value_grows (take i ds) (drop i ds))
+value_front ds i = subst
+    (λ xs. decimal_value (take i ds) ≤ decimal_value xs) (take-append-drop i ds) (value_grows (take i ds) (drop i ds))
 
 -- ## Numbers that are written
 
@@ -74,14 +66,7 @@ number_text n small = decimal_by_steps IsNumberText one further n small
     one_digit d l = All-cons IsDigit (48 + d) [] (omega arith, omega arith) (All-nil IsDigit)
 
     one : (n : ℕ) → n < 10 → IsNumberText n ((48 + n) ∷ [])
-    one n l = record {
-      some = omega arith;
-      all = one_digit n l;
-      pass = digits_pass ((48 + n) ∷ []) (one_digit n l);
-      value = omega arith;
-      lead = λ some z. omega (arith, some, z);
-      short = λ _. refl;
-    }
+    one n l = search (rules, digits_pass)
 
     further : (n : ℕ) (ds : List ℕ) → 10 ≤ n → IsNumberText (n / 10) ds → IsNumberText n (ds ++ ((48 + n % 10) ∷ []))
     further n ds l h =
@@ -97,10 +82,4 @@ number_text n small = decimal_by_steps IsNumberText one further n small
         }
 
 pub plain : (n : ℕ) → n < 2 ^ 64 → IsPlainNumber (decimal n)
-plain n small =
-    let t = number_text n small in
-    ((t.some, t.all), λ long z. go n refl t long z)
-  where
-    go : (m : ℕ) → n ≡ m → IsNumberText n (decimal n) → 1 < length (decimal n) → BeginsWithZero (decimal n) → ⊥
-    go zero e t long z = omega (arith, t.short (omega (arith, e)), long)
-    go (suc m) e t long z = t.lead (omega (arith, e)) z
+plain n small = search (rules, number_text)

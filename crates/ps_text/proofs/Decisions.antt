@@ -7,8 +7,7 @@
 --               set of the same causes
 --     judge_if, judge_also      of what a sign has, where it has it; of causes that stand where a fact holds
 use Rattle.std.proofs.Common.{◌≡◌, ℕ, zero, suc, ◌≤◌, ◌⊎◌, Bool, true, false, List, [], ◌∷◌, length, get_or, refl, sym}
-use Rattle.std.proofs.Common.{inl}
-use Rattle.std.proofs.Common.{inr, Option, None, Some, arith}
+use Rattle.std.proofs.Common.{inl, rules, inr, Option, None, Some, arith}
 use Rattle.std.specs.Prelude.{IfSome}
 use Rattle.std.specs.List.{Contains}
 use Rattle.std.proofs.lemmas.Bool.{cases_eq, cases_lt}
@@ -34,11 +33,7 @@ decide_both (inr n) b = inr (λ h. n h.0)
 pub decide_one : {A B : Type 0} → Decided A → Decided B → Decided (A ⊎ B)
 decide_one (inl a) b = inl (inl a)
 decide_one (inr n) (inl b) = inl (inr b)
-decide_one {A} {B} (inr n) (inr m) = inr go
-  where
-    go : A ⊎ B → ⊥
-    go (inl a) = n a
-    go (inr b) = m b
+decide_one {A} {B} (inr n) (inr m) = search rules
 
 pub decide_true : (b : Bool) → Decided (b ≡ true)
 decide_true true = inl refl
@@ -49,11 +44,7 @@ decide_none None = inl refl
 decide_none (Some a) = inr (λ e. none_is_some a (sym e))
 
 pub decide_below : (m n : ℕ) → Decided (m ≤ n)
-decide_below m n = go (cases_lt n m)
-  where
-    go : (suc n ≤ m) ⊎ (m ≤ n) → Decided (m ≤ n)
-    go (inl above) = inr (λ h. omega (arith, above, h))
-    go (inr h) = inl h
+decide_below m n = search (rules, cases_lt)
 
 pub decide_in : (xs : List ℕ) (n : ℕ) → Decided (Contains xs n)
 decide_in [] n = inr (λ c. omega (arith, c.1))
@@ -114,8 +105,4 @@ module _ {F : Type 0} (number : F → ℕ) where
       go : (h : F) → P h ⊎ Q h → number g ≤ number h
       go h (inl d) = absurd (n h d)
       go h (inr d) = low h d
-  judge_one {P} {Q} (good n) (good m) = good go
-    where
-      go : (h : F) → P h ⊎ Q h → ⊥
-      go h (inl d) = n h d
-      go h (inr d) = m h d
+  judge_one {P} {Q} (good n) (good m) = search (rules, good)

@@ -19,15 +19,15 @@
 --     carries_start, carries_then, carries_reads, carries_stops      the invariant of a loop: before it, behind a call,
 --               and at its exits
 use Rattle.std.proofs.Common.{◌≡◌, ◌≤◌, List, [], ◌∷◌, ◌++◌, Option, None, Some, Result, Ok, Err, IsErrAnd, refl, sym}
-use Rattle.std.proofs.Common.{ap, subst, ◌∙◌, append_assoc}
+use Rattle.std.proofs.Common.{ap, subst, ◌∙◌, append_assoc, rules}
 use Rattle.std.proofs.lemmas.Result.{err_from_is_err_and}
 use Rattle.ps_text.specs.Answers.{Piece, Stream, Found, first_of, next_of, signs, offset_of}
-use Rattle.ps_text.specs.Parts.{Part, Causes, IsRead, IsFault, give, one, then_by, mapped, refusal_of}
+use Rattle.ps_text.specs.Parts.{Part, Causes, IsRead, IsFault, give, one, then_by, mapped}
 use Rattle.ps_text.specs.Readers.{refusal_at, tail, tail_of, IsSuffix, StopsWith, Stops, Reads, Meets, Carries}
 use Rattle.ps_text.proofs.Laws.{Joint}
 use Rattle.ps_text.proofs.Joined.{read_then, fault_left, fault_right}
-use Rattle.ps_text.proofs.Simple.{none_is_some, same_some, read_give, read_one, bad_one, refused_one, ended_one}
-use Rattle.ps_text.proofs.Simple.{read_mapped, fault_mapped}
+use Rattle.ps_text.proofs.Simple.{none_is_some, same_some, read_give, read_one, bad_one, refused_one, read_mapped}
+use Rattle.ps_text.proofs.Simple.{fault_mapped}
 
 pub suffix_refl : {T : Type 0} (s : Stream T) → IsSuffix s s
 suffix_refl s = record { taken = []; split = refl; end = refl }
@@ -50,25 +50,15 @@ piece_next {T} s t e = go s.pieces e
 
 -- what is a fault of P is one of Q
 pub stops_as : {T A B F : Type 0} (causes : Causes T F) (P : Part T A F) (Q : Part T B F) (old : Stream T) →
-    ((f : F) (rest : List T) → IsFault causes P (signs old.pieces) f rest → IsFault causes Q (signs old.pieces) f rest)
-    →
-    (o : Option (Found F)) → Stops causes P old o → Stops causes Q old o
+    ((f : F) (rest : List T) → IsFault causes P (signs old.pieces) f rest →
+    IsFault causes Q (signs old.pieces) f rest) → (o : Option (Found F)) → Stops causes P old o → Stops causes Q old o
 stops_as causes P Q old h None s = tt
-stops_as causes P Q old h (Some g) s =
-    record {
-      front = s.front;
-      rest = s.rest;
-      split = s.split;
-      fault = h g.cause (signs s.rest) s.fault;
-      offset = s.offset;
-    }
+stops_as causes P Q old h (Some g) s = search rules
 
 -- and so from an earlier place on
 pub stops_later : {T A B F : Type 0} (causes : Causes T F) (P : Part T A F) (Q : Part T B F) (old mid : Stream T) →
-    IsSuffix old mid →
-    ((f : F) (rest : List T) → IsFault causes P (signs mid.pieces) f rest → IsFault causes Q (signs old.pieces) f rest)
-    →
-    (o : Option (Found F)) → Stops causes P mid o → Stops causes Q old o
+    IsSuffix old mid → ((f : F) (rest : List T) → IsFault causes P (signs mid.pieces) f rest →
+    IsFault causes Q (signs old.pieces) f rest) → (o : Option (Found F)) → Stops causes P mid o → Stops causes Q old o
 stops_later causes P Q old mid x h None s = tt
 stops_later causes P Q old mid x h (Some g) s = record {
   front = x.taken ++ s.front;
@@ -85,20 +75,14 @@ reads_give s v = (suffix_refl s, read_give (signs s.pieces) v)
 
 pub reads_mapped : {T A B F : Type 0} (h : A → B) {P : Part T A F} {old new : Stream T} {a : A} → Reads P old a new →
     Reads (mapped h P) old (h a) new
-reads_mapped h {P} {old} {new} {a} m = (m.0, read_mapped h P (signs old.pieces) (signs new.pieces) a m.1)
+reads_mapped h {P} m = (m.0, read_mapped h P m.1)
 
 pub reads_then : {T A B F : Type 0} {P : Part T A F} {Q : A → Part T B F} {old mid new : Stream T} {a : A} {b : B} →
-    Joint P Q →
-    Reads P old a mid → Reads (Q a) mid b new → Reads (then_by P Q) old b new
-reads_then {P = P} {Q = Q} {old = old} {mid = mid} {new = new} {a = a} {b = b} j m n = (
-  suffix_trans old mid new m.0 n.0,
-  read_then P Q j (signs old.pieces) (signs mid.pieces)
-      (signs new.pieces) a b m.1 n.1,
-)
+    Joint P Q → Reads P old a mid → Reads (Q a) mid b new → Reads (then_by P Q) old b new
+reads_then {old = old} {mid = mid} {new = new} j m n = (suffix_trans old mid new m.0 n.0, read_then j m.1 n.1)
 
 pub reads_next : {T V F : Type 0} (take : T → Option V) (Bad : T → F → Type 0) (old new : Stream T) (t : T) (v : V) →
-    next_of old ≡ Some t → new ≡ tail old → take t ≡ Some v →
-    ((f : F) → Bad t f → ⊥) → Reads (one take Bad) old v new
+    next_of old ≡ Some t → new ≡ tail old → take t ≡ Some v → ((f : F) → Bad t f → ⊥) → Reads (one take Bad) old v new
 reads_next {T} take Bad old new t v n z k good =
     let p = piece_next old t n in go p.0 (p.1 ∙ ap (λ s. p.0 ∷ s.pieces) (sym z)) (ap (λ s. s.end) z) p.2
   where
@@ -106,7 +90,7 @@ reads_next {T} take Bad old new t v n z k good =
     go p e l x = (
       record { taken = p ∷ []; split = e; end = l },
       subst (λ ps. IsRead (one take Bad) (signs ps) v (signs new.pieces)) (sym e)
-          (read_one take Bad p.sign (signs new.pieces) v (ap take x ∙ k) (λ f b. good f (subst (λ u. Bad u f) x b))),
+          (read_one take Bad (ap take x ∙ k) (λ f b. good f (subst (λ u. Bad u f) x b))),
     )
 
 -- ## A fault was found
@@ -114,74 +98,43 @@ reads_next {T} take Bad old new t v n z k good =
 module _ {T F : Type 0} (causes : Causes T F) where
   pub stops_mapped : {A B : Type 0} (h : A → B) (P : Part T A F) (old : Stream T) (o : Option (Found F)) →
       Stops causes P old o → Stops causes (mapped h P) old o
-  stops_mapped h P old o s =
-      stops_as causes P (mapped h P) old (λ f rest p. fault_mapped h P causes (signs old.pieces) rest f p) o s
+  stops_mapped h P old o s = stops_as causes P (mapped h P) old (λ f rest p. fault_mapped h P p) o s
 
   pub stops_first : {A B : Type 0} {P : Part T A F} {Q : A → Part T B F} → Joint P Q →
       (old : Stream T) (o : Option (Found F)) → Stops causes P old o → Stops causes (then_by P Q) old o
-  stops_first {P = P} {Q = Q} j old o s =
-      stops_as causes P (then_by P Q) old (λ f rest p. fault_left P Q j causes (signs old.pieces) rest f p) o s
+  stops_first {P = P} {Q = Q} j old o s = search (rules, stops_as, fault_left)
 
   pub stops_behind : {A B : Type 0} {P : Part T A F} {Q : A → Part T B F} {old mid : Stream T} {a : A} → Joint P Q →
-      Reads P old a mid → (o : Option (Found F)) →
-      Stops causes (Q a) mid o → Stops causes (then_by P Q) old o
-  stops_behind {P = P} {Q = Q} {old = old} {mid = mid} {a = a} j m o s =
-      stops_later causes (Q a) (then_by P Q) old mid m.0
-      (λ f rest p. fault_right P Q j causes (signs old.pieces) (signs mid.pieces) rest a f m.1 p) o s
+      Reads P old a mid → (o : Option (Found F)) → Stops causes (Q a) mid o → Stops causes (then_by P Q) old o
+  stops_behind {P = P} {Q = Q} {old = old} {mid = mid} {a = a} j m o s = search (rules, stops_later, fault_right)
 
   module _ {V : Type 0} (take : T → Option V) (Bad : T → F → Type 0) (old : Stream T) where
-    stops_there : (ps : List (Piece T)) (f : F) → old.pieces ≡ ps →
-        IsFault causes (one take Bad) (signs ps) f (signs ps) → StopsWith causes (one take Bad) old
-        (record { cause = f; offset = offset_of ps old.end })
-    stops_there ps f x h =
-        record {
-          front = [];
-          rest = ps;
-          split = x;
-          fault = subst
-              (λ z. IsFault causes (one take Bad) (signs z) f (signs ps)) (sym x) h;
-          offset = refl;
-        }
+    stops_there : (f : F) → IsFault causes (one take Bad) (signs old.pieces) f (signs old.pieces) →
+        StopsWith causes (one take Bad) old (record { cause = f; offset = offset_of old.pieces old.end })
+    stops_there f h = record { front = []; rest = old.pieces; split = refl; fault = h; offset = refl }
 
     pub stops_bad : (t : T) (f : F) (o : Option (Found F)) → next_of old ≡ Some t → Bad t f →
         ((g : F) → Bad t g → causes.number f ≤ causes.number g) →
         o ≡ Some (record { cause = f; offset = offset_of old.pieces old.end }) → Stops causes (one take Bad) old o
-    stops_bad t f o n b least k = let p = piece_next old t n in
-        subst (Stops causes (one take Bad) old) (sym (k ∙ ap (λ ps.
-        Some (record { cause = f; offset = offset_of ps old.end })) p.1))
-        (stops_there (p.0 ∷ (tail old).pieces) f p.1 (bad_one take Bad causes p.0.sign (signs (tail old).pieces) f
-        (subst (λ u. Bad u f) (sym p.2) b) (λ g c. least g (subst (λ u. Bad u g) p.2 c))))
+    stops_bad t f o n b least k = rw k (stops_there f (bad_one take Bad causes (signs old.pieces) t f n b least))
 
     -- s is any sign that may stand there
     pub stops_refusal : (s : T) (w : V) → take s ≡ Some w → ((t : T) → next_of old ≡ Some t → take t ≡ None) →
         ((t : T) (f : F) → next_of old ≡ Some t → Bad t f → ⊥) →
         (o : Option (Found F)) → o ≡ Some (refusal_at causes old) → Stops causes (one take Bad) old o
-    stops_refusal s w y none good o k = subst (Stops causes (one take Bad) old) (sym k) (go old.pieces refl)
-      where
-        go : (ps : List (Piece T)) → old.pieces ≡ ps → StopsWith causes (one take Bad) old (refusal_at causes old)
-        go [] x =
-            subst (StopsWith causes (one take Bad) old) (ap (λ z. record
-            { cause = refusal_of causes (first_of (signs z)); offset = offset_of z old.end }) (sym x))
-            (stops_there [] causes.syntax x (ended_one take Bad causes s w y))
-        go (p ∷ ps) x =
-            subst (StopsWith causes (one take Bad) old) (ap (λ z. record
-            { cause = refusal_of causes (first_of (signs z)); offset = offset_of z old.end }) (sym x))
-            (stops_there (p ∷ ps) (refusal_of causes (Some p.sign)) x
-            (refused_one take Bad causes s w y p.sign (signs ps) (none p.sign (ap (λ z. first_of (signs z)) x))
-            (λ f b. good p.sign f (ap (λ z. first_of (signs z)) x) b)))
+    stops_refusal s w y none good o k =
+        rw k (stops_there _ (refused_one take Bad causes s w y (signs old.pieces) none good))
 
 -- ## Results
 
 pub exits : {T V F X E : Type 0} (found : E → Option (Found F)) (causes : Causes T F) (view : X → V) (P : Part T V F)
     (old new : Stream T) (e : E) (r : Result X E) →
     Stops causes P old (found e) → IsErrAnd r (λ y. y ≡ e) → Meets found causes view P old r new
-exits found causes view P old new e r s i = let y = err_from_is_err_and r i in
-    subst (λ z. Meets found causes view P old z new) (sym (y.1 ∙ ap Err y.2)) s
+exits found causes view P old new e r s i = search (rules, err_from_is_err_and)
 
 pub then_meets : {T F E A B Y : Type 0} (found : E → Option (Found F)) (causes : Causes T F) (view : Y → B)
-    {P : Part T A F} {Q : A → Part T B F} {old mid : Stream T} {a : A} (new : Stream T) (r : Result Y E) →
-    Joint P Q → Reads P old a mid → Meets found causes view (Q a) mid r new →
-    Meets found causes view (then_by P Q) old r new
+    {P : Part T A F} {Q : A → Part T B F} {old mid : Stream T} {a : A} (new : Stream T) (r : Result Y E) → Joint P Q →
+    Reads P old a mid → Meets found causes view (Q a) mid r new → Meets found causes view (then_by P Q) old r new
 then_meets found causes view new (Ok y) j m n = reads_then j m n
 then_meets found causes view new (Err e) j m n = stops_behind causes j m (found e) n
 

@@ -1,154 +1,126 @@
 -- `then_by P Q` is read where P is read and then Q, and its first fault is P's, or Q's behind P.
+--     joint      the laws of two parts make them a joint
+--     text_behind, cause_behind      behind a text of P, what the two have is of Q, unless P goes on there
+--     begins_left, begins_right      what begins P begins the two, and so does what begins Q, behind a text of P
 --     read_then, fault_left, fault_right      for IsRead and IsFault
-use Rattle.std.proofs.Common.{◌≡◌, ℕ, suc, ◌+◌, ◌≤◌, List, [], ◌∷◌, ◌++◌, length, Option, None, Some, refl, sym, ap}
-use Rattle.std.proofs.Common.{subst, inl, inr, ◌∙◌, append_assoc, append-nil, arith, length-append}
-use Rattle.std.specs.Option.{unwrap_or}
+use Rattle.std.proofs.Common.{◌≡◌, ◌+◌, ◌≤◌, ◌⊎◌, List, [], ◌∷◌, ◌++◌, length, Option, None, Some, refl, sym, ap, subst}
+use Rattle.std.proofs.Common.{inl, inr, ◌∙◌, append_assoc, append-nil, arith, rules}
 use Rattle.ps_text.specs.Answers.{Begins, first_of}
-use Rattle.ps_text.specs.Parts.{Part, Causes, IsRead, IsBroken, IsFault, IsFaultAt, is_cause, is_refusal, CleanUpTo}
-use Rattle.ps_text.specs.Parts.{StopsAt, NoCauseAt, IsBehind, then_by}
-use Rattle.ps_text.proofs.Splits.{Compared, shorter, same, longer, compared, same_head, length_more}
+use Rattle.ps_text.specs.Parts.{Part, Causes, IsRead, IsBroken, IsFault, is_cause, CleanUpTo, StopsAt, IsBehind}
+use Rattle.ps_text.specs.Parts.{then_by}
+use Rattle.ps_text.proofs.Splits.{Compared, shorter, same, longer, compared, inside_of}
 use Rattle.ps_text.proofs.Laws.{Laws, Joint, Apart}
+use Rattle.ps_text.proofs.InPlace.{stops_at, quiet_at, read_quiet, fault_begins, fault_from, Covers, read_as, fault_as}
+use Rattle.ps_text.proofs.InPlace.{after, read_after, fault_after}
 
-pub begins_less : {T V : Type 0} (IsText : List T → V → Type 0) (front more : List T) → Begins IsText (front ++ more) →
-    Begins IsText front
-begins_less IsText front more b =
-    record {
-      more = more ++ b.more;
-      value = b.value;
-      is_text = subst (λ x. IsText x b.value)
-          (append_assoc front more b.more) b.is_text;
-    }
-
-pub text_begins : {T V : Type 0} (IsText : List T → V → Type 0) (text : List T) (v : V) → IsText text v →
+pub text_begins : {T V : Type 0} (IsText : List T → V → Type 0) {text : List T} {v : V} → IsText text v →
     Begins IsText text
-text_begins IsText text v h =
-    record { more = []; value = v; is_text = subst (λ x. IsText x v) (sym (append-nil text)) h }
+text_begins IsText {text} {v} h = record { more = []; value = v; is_text = rw append-nil h }
 
-pub begins_with : {T V : Type 0} (IsText : List T → V → Type 0) (front more : List T) (v : V) →
-    IsText (front ++ more) v → Begins IsText front
-begins_with IsText front more v h = record { more = more; value = v; is_text = h }
+-- what begins with a front and one sign more
+pub begins_on : {T V : Type 0} (IsText : List T → V → Type 0) (front m : List T) (t : T) →
+    Begins IsText (front ++ t ∷ m) → Begins IsText (front ++ t ∷ [])
+begins_on IsText front m t b =
+    record { more = m ++ b.more; value = b.value; is_text = simp append_assoc (simp append_assoc at b.is_text) }
 
--- a text of P does not go on with the first sign of what follows
-pub no_longer : {T V F : Type 0} (P : Part T V F) (left m : List T) (t : T) → StopsAt P left (Some t) →
-    Begins P.IsText (left ++ t ∷ m) → ⊥
-no_longer P left m t s b =
-    s (begins_less P.IsText (left ++ t ∷ []) m (subst (Begins P.IsText) (sym (append_assoc left (t ∷ []) m)) b))
-
-pub stops_front : {T V F : Type 0} (P : Part T V F) (left y z : List T) → StopsAt P left (first_of (y ++ z)) →
-    StopsAt P left (first_of y)
-stops_front P left [] z s = tt
-stops_front P left (t ∷ y) z s = s
-
-pub stops_same : {T V F : Type 0} (P : Part T V F) (left y z w : List T) (u : T) →
-    StopsAt P left (first_of (y ++ u ∷ z)) → StopsAt P left (first_of (y ++ u ∷ w))
-stops_same P left [] z w u s = s
-stops_same P left (t ∷ y) z w u s = s
+-- P goes on with the next sign behind this front
+abbrev pub GoesOn : {T V F : Type 0} → Part T V F → List T → Option T → Type 0
+GoesOn {T} P front there = (t : T) × (there ≡ Some t) × Begins P.IsText (front ++ t ∷ [])
 
 -- the laws of two parts make them a joint
 pub joint : {T A B F : Type 0} {odd : T → Type 0} {P : Part T A F} {Q : A → Part T B F} {F1 M1 F2 M2 : T → Type 0}
-    {N1 N2 : Type 0} →
-    Laws odd P F1 M1 N1 → ((a : A) → Laws odd (Q a) F2 M2 N2) → Apart M1 F2 → Joint P Q
-joint {T} {A} {B} {F} {odd} {P} {Q} {F1} {M1} l r apart = record {
+    {N1 N2 : Type 0} → Laws odd P F1 M1 N1 → ((a : A) → Laws odd (Q a) F2 M2 N2) → Apart M1 F2 → Joint P Q
+joint {T} {A} {P = P} {M1 = M1} l r apart = record {
   one_value = l.one_value;
   behind_left = l.behind;
   behind_right = λ a. (r a).behind;
   some_right = λ a. (r a).some;
-  text_apart =
-      λ left more text t a h b c. apart t (goes left more t a h b)
-      ((r a).first_text t (text ++ c.more) c.value c.is_text);
+  text_apart = λ left more text t a h b c. apart t
+      (goes left more t a h b) ((r a).first_text t (text ++ c.more) c.value c.is_text);
   cause_apart = λ left more t a f h b c. apart t (goes left more t a h b) ((r a).first_cause t f c);
   causes_apart = λ left t a f g h b c. apart t (l.more_cause left t a f h b) ((r a).first_cause t g c);
 }
   where
     goes : (left more : List T) (t : T) (a : A) → P.IsText left a → Begins P.IsText (left ++ t ∷ more) → M1 t
-    goes left more t a h b =
-        l.more_text left (more ++ b.more) t a b.value h (subst (λ x. P.IsText x b.value)
-        (append_assoc left (t ∷ more) b.more) b.is_text)
+    goes left more t a h b = l.more_text left (more ++ b.more) t a b.value h (rw append_assoc at b.is_text)
 
-module _ {T A B F : Type 0} (P : Part T A F) (Q : A → Part T B F) (j : Joint P Q) where
-  -- behind a text of P that stops there, a text of the two is one of Q
-  pub text_rest : (left y : List T) (a : A) (b : B) → P.IsText left a → StopsAt P left (first_of y) →
-      (then_by P Q).IsText (left ++ y) b → (Q a).IsText y b
-  text_rest left y a b h s k = go (compared left y k.left k.right k.split)
+module _ {T A B F : Type 0} {P : Part T A F} {Q : A → Part T B F} (j : Joint P Q) where
+  -- nothing of Q begins inside a beginning of P
+  not_inside : {front left right z : List T} {t : T} {a : A} (m : List T) → P.IsText left a → Begins P.IsText front →
+      front ≡ left ++ t ∷ m → Begins (Q a).IsText right → right ≡ t ∷ z → ⊥
+  not_inside {left = left} {z = z} {t = t} {a = a} m h b e c f = j.text_apart left m z t a h (rw e at b) (rw f at c)
+
+  -- behind a text of P, a text of the two is one of Q, unless P goes on
+  pub text_behind : (left y : List T) (a : A) (b : B) → P.IsText left a → (then_by P Q).IsText (left ++ y) b →
+      (Q a).IsText y b ⊎ GoesOn P left (first_of y)
+  text_behind left y a b h k = go (compared left y k.left k.right k.split)
     where
-      go : Compared left y k.left k.right → (Q a).IsText y b
-      go (same e f) =
-          let v : k.value ≡ a = j.one_value left k.value a (subst (λ x. P.IsText x k.value) (sym e) k.is_left) h in
-          subst (λ x. (Q a).IsText x b) (sym f) (subst (λ c. (Q c).IsText k.right b) v k.is_right)
+      go : Compared left y k.left k.right → (Q a).IsText y b ⊎ GoesOn P left (first_of y)
+      go (same e f) = inl (rw (f, j.one_value left a k.value h (rw (← e) at k.is_left)) k.is_right)
       go (shorter t m e f) =
-          absurd (no_longer P left m t (subst (λ x. StopsAt P left (first_of x)) f s)
-          (subst (Begins P.IsText) e (text_begins P.IsText k.left k.value k.is_left)))
-      go (longer t m e f) = absurd (j.text_apart k.left m (m ++ y) t k.value k.is_left
-          (subst (Begins P.IsText) e (text_begins P.IsText left a h))
-          (subst (Begins (Q k.value).IsText) f (text_begins (Q k.value).IsText k.right b k.is_right)))
+          inr (t, ap first_of f, begins_on P.IsText left m t (rw e at (text_begins P.IsText k.is_left)))
+      go (longer t m e f) = search (rules, not_inside, text_begins)
 
-  -- a cause of Q behind a text of P does not stand in a longer beginning of P
-  pub no_later : (left m y z w : List T) (t u : T) (a : A) (f : F) → P.IsText left a → Begins P.IsText (left ++ t ∷ m) →
-      (Q a).IsCause y u f → y ++ u ∷ z ≡ t ∷ w → ⊥
-  no_later left m [] z w t u a f h b c e =
-      j.cause_apart left m t a f h b (subst (λ x. (Q a).IsCause [] x f) (same_head u t z w e) c)
-  no_later left m (s ∷ y) z w t u a f h b c e =
-      j.text_apart left m y t a h b (subst (λ x. Begins (Q a).IsText (x ∷ y)) (same_head s t (y ++ u ∷ z) w e)
-      (j.behind_right a (s ∷ y) u f c))
-
-  -- and a cause of the two is one of Q
-  pub cause_rest : (left y : List T) (t : T) (a : A) (f : F) → P.IsText left a →
-      StopsAt P left (first_of (y ++ t ∷ [])) →
-      (y ≡ [] → NoCauseAt P left (Some t)) → (then_by P Q).IsCause (left ++ y) t f → (Q a).IsCause y t f
-  cause_rest left y t a f h s n (inl c) = absurd (go y s n c)
+  -- and so is a cause, unless P goes on, or it is one of P right there
+  pub cause_behind : (left y : List T) (t : T) (a : A) (f : F) → P.IsText left a → (then_by P Q).IsCause
+      (left ++ y) t f → (Q a).IsCause y t f ⊎ (GoesOn P left (first_of (y ++ t ∷ [])) ⊎ ((y ≡ []) × P.IsCause left t f))
+  cause_behind left [] t a f h (inl c) = inr (inr (refl, rw append-nil at c))
+  cause_behind left (s ∷ y) t a f h (inl c) = search (rules, begins_on)
+  cause_behind left y t a f h (inr k) = go (compared left y k.left k.right k.split)
     where
-      go : (y : List T) → StopsAt P left (first_of (y ++ t ∷ [])) → (y ≡ [] → NoCauseAt P left (Some t)) →
-          P.IsCause (left ++ y) t f → ⊥
-      go [] s n c = n refl f (subst (λ x. P.IsCause x t f) (append-nil left) c)
-      go (r ∷ y) s n c = no_longer P left y r s (j.behind_left (left ++ r ∷ y) t f c)
-  cause_rest left y t a f h s n (inr k) = go (compared left y k.left k.right k.split)
-    where
-      go : Compared left y k.left k.right → (Q a).IsCause y t f
-      go (same e g) =
-          let v : k.value ≡ a = j.one_value left k.value a (subst (λ x. P.IsText x k.value) (sym e) k.is_left) h in
-          subst (λ x. (Q a).IsCause x t f) (sym g) (subst (λ c. (Q c).IsCause k.right t f) v k.is_cause)
-      go (shorter u m e g) =
-          absurd (no_longer P left m u (subst (λ x. StopsAt P left (first_of (x ++ t ∷ []))) g s)
-          (subst (Begins P.IsText) e (text_begins P.IsText k.left k.value k.is_left)))
-      go (longer u m e g) =
-          absurd (no_later k.left m k.right [] (m ++ y ++ t ∷ []) u t k.value f k.is_left
-          (subst (Begins P.IsText) e (text_begins P.IsText left a h)) k.is_cause
-          (ap (λ x. x ++ t ∷ []) g))
+      go : Compared left y k.left k.right →
+          (Q a).IsCause y t f ⊎ (GoesOn P left (first_of (y ++ t ∷ [])) ⊎ ((y ≡ []) × P.IsCause left t f))
+      go (same e g) = inl (rw (g, j.one_value left a k.value h (rw (← e) at k.is_left)) k.is_cause)
+      go (shorter u m e g) = inr (inl (
+        u,
+        ap (λ z. first_of (z ++ t ∷ [])) g,
+        begins_on P.IsText left m u (rw e at (text_begins P.IsText k.is_left)),
+      ))
+      go (longer u m e g) = absurd
+          (not_inside m k.is_left (text_begins P.IsText h) e (j.behind_right k.value k.right t f k.is_cause) g)
 
-  -- no text and no cause of Q stands where P has begun and has not ended
-  pub no_joined : (front : List T) (b : B) → Begins P.IsText front → ((a : A) → P.IsText front a → ⊥) →
-      (then_by P Q).IsText front b → ⊥
-  no_joined front b before none k = go k.right k.split k.is_right
+  -- no text of the two goes on where P has begun, has not ended and does not go on
+  no_text_on : (front y : List T) (b : B) → Begins P.IsText front → ((a : A) → P.IsText front a → ⊥) →
+      StopsAt P front (first_of y) → (then_by P Q).IsText (front ++ y) b → ⊥
+  no_text_on front y b begun none s k = go (compared front y k.left k.right k.split)
     where
-      go : (right : List T) → front ≡ k.left ++ right → (Q k.value).IsText right b → ⊥
-      go [] e r = none k.value (subst (λ x. P.IsText x k.value) (sym (e ∙ append-nil k.left)) k.is_left)
-      go (t ∷ right) e r =
-          j.text_apart k.left right right t k.value k.is_left (subst (Begins P.IsText) e before)
-          (text_begins (Q k.value).IsText (t ∷ right) b r)
+      go : Compared front y k.left k.right → ⊥
+      go (same e f) = none k.value (rw (← e) at k.is_left)
+      go (shorter t m e f) =
+          stops_at P front (ap first_of f) s (begins_on P.IsText front m t (rw e at (text_begins P.IsText k.is_left)))
+      go (longer t m e f) = not_inside m k.is_left begun e (text_begins (Q k.value).IsText k.is_right) f
 
-  pub no_behind : (front : List T) (t : T) (f : F) → Begins P.IsText front →
-      ((a : A) → P.IsText front a → (Q a).IsCause [] t f → ⊥) →
-      IsBehind P.IsText (λ a. (Q a).IsCause) front t f → ⊥
-  no_behind front t f before none k = go k.right k.split k.is_cause
+  -- no cause of Q stands where P has begun and has not ended
+  no_behind : (front : List T) (t : T) (f : F) → Begins P.IsText front →
+      ((a : A) → P.IsText front a → (Q a).IsCause [] t f → ⊥) → IsBehind P.IsText (λ a. (Q a).IsCause) front t f → ⊥
+  no_behind front t f begun none k = go k.right k.split k.is_cause
     where
       go : (right : List T) → front ≡ k.left ++ right → (Q k.value).IsCause right t f → ⊥
-      go [] e r = none k.value (subst (λ x. P.IsText x k.value) (sym (e ∙ append-nil k.left)) k.is_left) r
-      go (s ∷ right) e r =
-          j.text_apart k.left right right s k.value k.is_left (subst (Begins P.IsText) e before)
-          (j.behind_right k.value (s ∷ right) t f r)
+      go [] e r = none k.value (rw (e, append-nil) k.is_left) r
+      go (s ∷ right) e r = not_inside right k.is_left begun e (j.behind_right k.value (s ∷ right) t f r) refl
+
+  -- nor inside a beginning of P
+  no_inner : (front m : List T) (t : T) (f : F) → IsBehind P.IsText (λ a. (Q a).IsCause) front t f →
+      Begins P.IsText (front ++ t ∷ m) → ⊥
+  no_inner front m t f k b = go k.right k.is_cause
+      (subst (Begins P.IsText) (ap (λ z. z ++ t ∷ m) k.split ∙ append_assoc k.left k.right (t ∷ m)) b)
+    where
+      go : (right : List T) → (Q k.value).IsCause right t f → Begins P.IsText (k.left ++ (right ++ t ∷ m)) → ⊥
+      go [] c b = j.cause_apart k.left m t k.value f k.is_left b c
+      go (s ∷ right) c b = not_inside (right ++ t ∷ m) k.is_left b refl (j.behind_right k.value (s ∷ right) t f c) refl
 
   -- what begins P begins the two
   pub begins_left : (front : List T) → Begins P.IsText front → Begins (then_by P Q).IsText front
-  begins_left front b = record {
-    more = b.more ++ (j.some_right b.value).more;
-    value = (j.some_right b.value).value;
+  begins_left front b = let c = j.some_right b.value in record {
+    more = b.more ++ c.more;
+    value = c.value;
     is_text = record {
       left = front ++ b.more;
-      right = (j.some_right b.value).more;
+      right = c.more;
       value = b.value;
-      split = sym (append_assoc front b.more (j.some_right b.value).more);
+      split = sym (append_assoc front b.more c.more);
       is_left = b.is_text;
-      is_right = (j.some_right b.value).is_text;
+      is_right = c.is_text;
     };
   }
 
@@ -167,211 +139,68 @@ module _ {T A B F : Type 0} (P : Part T A F) (Q : A → Part T B F) (j : Joint P
     };
   }
 
-  -- behind a text of P that stops there, the two are clean as far as Q is
-  pub then_clean : (all left mid : List T) (a : A) (n : ℕ) → all ≡ left ++ mid → P.IsText left a →
-      StopsAt P left (first_of mid) →
-      CleanUpTo P all (length left + 1) → CleanUpTo (Q a) mid n → CleanUpTo (then_by P Q) all (length left + n)
-  then_clean all left mid a n split h s p q front rest t f e l (inl c) =
-      go (compared left mid front (t ∷ rest) (sym split ∙ e))
-    where
-      go : Compared left mid front (t ∷ rest) → ⊥
-      go (same x y) = p front rest t f e (let z : length left ≡ length front = ap length x in omega (arith, z)) c
-      go (shorter u m x y) =
-          no_longer P left m u (subst (λ z. StopsAt P left (first_of z)) y s)
-          (subst (Begins P.IsText) x (j.behind_left front t f c))
-      go (longer u m x y) =
-          p front rest t f e (let z : length left ≡ length front + suc (length m) = ap length x
-          ∙ length_more front m u in omega (arith, z)) c
-  then_clean all left mid a n split h s p q front rest t f e l (inr k) =
-      go (compared left mid k.left (k.right ++ t ∷ rest) eq)
-    where
-      eq : left ++ mid ≡ k.left ++ (k.right ++ t ∷ rest)
-      eq = sym split ∙ e ∙ ap (λ x. x ++ t ∷ rest) k.split ∙ append_assoc k.left k.right (t ∷ rest)
+  -- the two are clean up to where P has begun and is clean
+  clean_left : {all front : List T} (rest : List T) → all ≡ front ++ rest → Begins P.IsText front →
+      CleanUpTo P all (length front) → CleanUpTo (then_by P Q) all (length front)
+  clean_left rest e b clean fr r t f x l (inl c) = clean fr r t f x l c
+  clean_left rest e b clean fr r t f x l (inr k) =
+      let i = inside_of rest fr r t e x l in no_inner fr i.0 t f k (rw i.1 at b)
 
-      sizes : length front ≡ length k.left + length k.right
-      sizes = ap length k.split ∙ length-append k.left k.right
+  -- behind a text of P that stops there without a cause, the two are read as Q
+  module _ {all mid : List T} {a : A} (p : IsRead P all a mid) where
+    clean_text : CleanUpTo (then_by P Q) all (length p.text)
+    clean_text = clean_left mid p.split (text_begins P.IsText p.is_text)
+        (λ front r t f e l. p.clean front r t f e (omega (arith, l)))
 
-      go : Compared left mid k.left (k.right ++ t ∷ rest) → ⊥
-      go (same x y) =
-          let v : k.value ≡ a = j.one_value left k.value a (subst (λ z. P.IsText z k.value) (sym x) k.is_left) h in
-          let z : length left ≡ length k.left = ap length x in
-          q k.right rest t f y (omega (arith, z, sizes, l)) (subst (λ c. (Q c).IsCause k.right t f) v k.is_cause)
-      go (shorter u m x y) =
-          no_longer P left m u (subst (λ z. StopsAt P left (first_of z)) y s)
-          (subst (Begins P.IsText) x (text_begins P.IsText k.left k.value k.is_left))
-      go (longer u m x y) =
-          no_later k.left m k.right rest (m ++ mid) u t k.value f k.is_left
-          (subst (Begins P.IsText) x (text_begins P.IsText left a h)) k.is_cause y
+    covers_behind : Covers (first_of mid) (Q a) (after (then_by P Q) p.text)
+    covers_behind = record {
+      text = search rules;
+      cause = search rules;
+      text_back = λ t text v e k. text_of t text v e (text_behind p.text (t ∷ text) a v p.is_text k);
+      cause_back = λ front t f e k. cause_of front t f e (cause_behind p.text front t a f p.is_text k);
+    }
+      where
+        text_of : (t : T) (text : List T) (v : B) → first_of mid ≡ Some t →
+            (Q a).IsText (t ∷ text) v ⊎ GoesOn P p.text (Some t) → (Q a).IsText (t ∷ text) v
+        text_of t text v e (inl h) = h
+        text_of t text v e (inr g) = absurd (stops_at P p.text (e ∙ g.1) p.stops g.2)
 
-  pub read_then : (all mid rest : List T) (a : A) (b : B) → IsRead P all a mid → IsRead (Q a) mid b rest →
-      IsRead (then_by P Q) all b rest
-  read_then all mid rest a b p q = record {
-    text = p.text ++ q.text;
-    split = p.split ∙ ap (λ x. p.text ++ x) q.split ∙ sym (append_assoc p.text q.text rest);
-    is_text =
-        record { left = p.text; right = q.text; value = a; split = refl; is_left = p.is_text; is_right = q.is_text };
-    stops = stop rest (subst (λ x. StopsAt P p.text (first_of x)) q.split p.stops) q.stops;
-    clean =
-        λ front r t f e l. then_clean all p.text mid a (length q.text + 1) p.split p.is_text p.stops p.clean
-        q.clean front r t f e
-        (let z : length (p.text ++ q.text) ≡ length p.text + length q.text = length-append p.text q.text in
-        omega (arith, z, l));
-  }
-    where
-      stop : (rest : List T) → StopsAt P p.text (first_of (q.text ++ rest)) → StopsAt (Q a) q.text (first_of rest) →
-          StopsAt (then_by P Q) (p.text ++ q.text) (first_of rest)
-      stop [] s r = tt
-      stop (u ∷ rest) s r = λ k. r (begins_with (Q a).IsText (q.text ++ u ∷ []) k.more k.value
-          (subst (λ x. (Q a).IsText x k.value) (sym (append_assoc q.text (u ∷ []) k.more))
-          (text_rest p.text (q.text ++ u ∷ k.more) a k.value p.is_text (stops_same P p.text q.text rest k.more u s)
-          (subst (λ x. (then_by P Q).IsText x k.value) (append_assoc (p.text ++ q.text) (u ∷ []) k.more
-          ∙ append_assoc p.text q.text (u ∷ k.more)) k.is_text))))
+        cause_of : (front : List T) (t : T) (f : F) → first_of mid ≡ first_of (front ++ t ∷ []) →
+            (Q a).IsCause front t f ⊎ (GoesOn P p.text (first_of (front ++ t ∷ [])) ⊎
+            ((front ≡ []) × P.IsCause p.text t f)) → (Q a).IsCause front t f
+        cause_of front t f e (inl c) = c
+        cause_of front t f e (inr (inl g)) = absurd (stops_at P p.text (e ∙ g.1) p.stops g.2)
+        cause_of front t f e (inr (inr c)) =
+            absurd (quiet_at P p.text (e ∙ ap (λ z. first_of (z ++ t ∷ [])) c.0) (read_quiet p) c.1)
 
-  -- ## Faults
+    pub read_then : {rest : List T} {b : B} → IsRead (Q a) mid b rest → IsRead (then_by P Q) all b rest
+    read_then q = read_after (then_by P Q) p.text p.split clean_text (read_as (Q a) _ covers_behind q)
 
-  pub fault_left : (causes : Causes T F) (all rest : List T) (f : F) → IsFault causes P all f rest →
+    pub fault_right : {causes : Causes T F} {rest : List T} {f : F} → IsFault causes (Q a) mid f rest →
+        IsFault causes (then_by P Q) all f rest
+    fault_right q = fault_after (then_by P Q) p.text p.split clean_text (fault_as (Q a) _ covers_behind starts q)
+      where
+        starts : IsBroken (Q a) [] (first_of mid) → (v : B) → (then_by P Q).IsText (p.text ++ []) v → ⊥
+        starts b v k = go (text_behind p.text [] a v p.is_text k)
+          where
+            go : (Q a).IsText [] v ⊎ GoesOn P p.text None → ⊥
+            go (inl h) = b.no_text v h
+            go (inr g) = let e : None ≡ Some g.0 = g.1 in cc
+
+  pub fault_left : {causes : Causes T F} {all rest : List T} {f : F} → IsFault causes P all f rest →
       IsFault causes (then_by P Q) all f rest
-  fault_left causes all rest f p = record {
-    front = p.front;
-    split = p.split;
-    clean = clean;
-    fault = fault (first_of rest) p.fault;
-  }
+  fault_left {causes} {all} {rest} {f} p = fault_from P (then_by P Q) p (clean_left rest p.split begun p.clean)
+      (begins_left p.front)
+      (λ b v k. no_text_on p.front [] v b.before b.no_text tt (rw append-nil k))
+      (λ b t e k. no_text_on p.front (t ∷ k.more) k.value b.before b.no_text
+      (subst (StopsAt P p.front) e b.stops) (rw append_assoc at k.is_text))
+      (λ t c. inl c) (λ t g e. back t g)
     where
-      before : Begins P.IsText p.front
-      before = begun (first_of rest) p.fault
-        where
-          begun : (there : Option T) → IsFaultAt causes P p.front there f → Begins P.IsText p.front
-          begun there (is_cause t e c l) = j.behind_left p.front t f c
-          begun there (is_refusal b e) = b.before
+      begun : Begins P.IsText p.front
+      begun = fault_begins j.behind_left p
 
-      clean : CleanUpTo (then_by P Q) all (length p.front)
-      clean front r t g e l (inl c) = p.clean front r t g e l c
-      clean front r t g e l (inr k) =
-          go (compared p.front rest k.left (k.right ++ t ∷ r) (sym p.split ∙ e ∙ ap (λ x. x ++ t ∷ r) k.split
-          ∙ append_assoc k.left k.right (t ∷ r)))
-        where
-          sizes : length front ≡ length k.left + length k.right
-          sizes = ap length k.split ∙ length-append k.left k.right
-
-          go : Compared p.front rest k.left (k.right ++ t ∷ r) → ⊥
-          go (same x y) = let z : length p.front ≡ length k.left = ap length x in absurd (omega (arith, z, sizes, l))
-          go (shorter u m x y) = let z : length k.left ≡ length p.front + suc (length m) = ap length x
-              ∙ length_more p.front m u in absurd (omega (arith, z, sizes, l))
-          go (longer u m x y) =
-              no_later k.left m k.right r (m ++ rest) u t k.value g k.is_left
-              (subst (Begins P.IsText) x before) k.is_cause y
-
-      broken : (there : Option T) → IsBroken P p.front there → IsBroken (then_by P Q) p.front there
-      broken there b = record {
-        before = begins_left p.front b.before;
-        no_text = λ v. no_joined p.front v b.before b.no_text;
-        stops = stops there b.stops;
-        no_cause = none there b.no_cause;
-      }
-        where
-          stops : (there : Option T) → StopsAt P p.front there → StopsAt (then_by P Q) p.front there
-          stops None s = tt
-          stops (Some u) s =
-              λ k. go k.more (subst (λ x. (then_by P Q).IsText x k.value)
-              (append_assoc p.front (u ∷ []) k.more) k.is_text)
-            where
-              go : {v : B} → (more : List T) → (then_by P Q).IsText (p.front ++ u ∷ more) v → ⊥
-              go {v} more i = at (compared p.front (u ∷ more) i.left i.right i.split)
-                where
-                  at : Compared p.front (u ∷ more) i.left i.right → ⊥
-                  at (same x y) = b.no_text i.value (subst (λ z. P.IsText z i.value) (sym x) i.is_left)
-                  at (shorter t m x y) =
-                      no_longer P p.front m u s (subst (λ z. Begins P.IsText (p.front ++ z ∷ m))
-                      (sym (same_head u t more (m ++ i.right) y)) (subst (Begins P.IsText) x
-                      (text_begins P.IsText i.left i.value i.is_left)))
-                  at (longer t m x y) =
-                      j.text_apart i.left m (m ++ u ∷ more) t i.value i.is_left (subst (Begins P.IsText) x b.before)
-                      (subst (Begins (Q i.value).IsText) y (text_begins (Q i.value).IsText i.right v i.is_right))
-
-          none : (there : Option T) → NoCauseAt P p.front there → NoCauseAt (then_by P Q) p.front there
-          none None n = tt
-          none (Some u) n = λ g c. go g c
-            where
-              go : (g : F) → (then_by P Q).IsCause p.front u g → ⊥
-              go g (inl c) = n g c
-              go g (inr k) = no_behind p.front u g b.before (λ a h _. b.no_text a h) k
-
-      fault : (there : Option T) → IsFaultAt causes P p.front there f → IsFaultAt causes (then_by P Q) p.front there f
-      fault there (is_cause t e c l) = is_cause t e (inl c) least
-        where
-          least : (g : F) → (then_by P Q).IsCause p.front t g → causes.number f ≤ causes.number g
-          least g (inl d) = l g d
-          least g (inr k) = absurd (no_behind p.front t g before (λ a h d. j.causes_apart p.front t a f g h c d) k)
-      fault there (is_refusal b e) = is_refusal (broken there b) e
-
-  pub fault_right : (causes : Causes T F) (all mid rest : List T) (a : A) (f : F) → IsRead P all a mid →
-      IsFault causes (Q a) mid f rest → IsFault causes (then_by P Q) all f rest
-  fault_right causes all mid rest a f p q = record {
-    front = p.text ++ q.front;
-    split = p.split ∙ ap (λ x. p.text ++ x) q.split ∙ sym (append_assoc p.text q.front rest);
-    clean =
-        λ front r t g e l. then_clean all p.text mid a (length q.front) p.split p.is_text p.stops p.clean
-        q.clean front r t g e
-        (let z : length (p.text ++ q.front) ≡ length p.text + length q.front = length-append p.text q.front in
-        omega (arith, z, l));
-    fault = fault rest q.split q.fault;
-  }
-    where
-      halts : (rest : List T) → mid ≡ q.front ++ rest → StopsAt P p.text (first_of (q.front ++ rest))
-      halts rest e = subst (λ x. StopsAt P p.text (first_of x)) e p.stops
-
-      quiet : (u : T) (rest : List T) → mid ≡ q.front ++ u ∷ rest → q.front ≡ [] → NoCauseAt P p.text (Some u)
-      quiet u rest e z =
-          λ g c. p.clean p.text rest u g (p.split ∙ ap (λ x. p.text ++ x) (e ∙ ap (λ x. x ++ u ∷ rest) z))
-          (omega arith) c
-
-      behind : (u : T) (rest : List T) → mid ≡ q.front ++ u ∷ rest → (g : F) →
-          (then_by P Q).IsCause (p.text ++ q.front) u g → (Q a).IsCause q.front u g
-      behind u rest e g c =
-          cause_rest p.text q.front u a g p.is_text (stops_same P p.text q.front rest [] u (halts (u ∷ rest) e))
-          (quiet u rest e) c
-
-      broken : (rest : List T) → mid ≡ q.front ++ rest → IsBroken (Q a) q.front (first_of rest) →
-          IsBroken (then_by P Q) (p.text ++ q.front) (first_of rest)
-      broken rest e b = record {
-        before = begins_right p.text q.front a p.is_text b.before;
-        no_text =
-            λ v k. b.no_text v (text_rest p.text q.front a v p.is_text
-            (stops_front P p.text q.front rest (halts rest e)) k);
-        stops = stops rest e b.stops;
-        no_cause = none rest e b.no_cause;
-      }
-        where
-          stops : (rest : List T) → mid ≡ q.front ++ rest → StopsAt (Q a) q.front (first_of rest) →
-              StopsAt (then_by P Q) (p.text ++ q.front) (first_of rest)
-          stops [] e s = tt
-          stops (u ∷ rest) e s = λ k. s (begins_with (Q a).IsText (q.front ++ u ∷ []) k.more k.value
-              (subst (λ x. (Q a).IsText x k.value) (sym (append_assoc q.front (u ∷ []) k.more))
-              (text_rest p.text (q.front ++ u ∷ k.more) a k.value p.is_text
-              (stops_same P p.text q.front rest k.more u (halts (u ∷ rest) e))
-              (subst (λ x. (then_by P Q).IsText x k.value) (append_assoc (p.text ++ q.front) (u ∷ []) k.more
-              ∙ append_assoc p.text q.front (u ∷ k.more)) k.is_text))))
-
-          none : (rest : List T) → mid ≡ q.front ++ rest → NoCauseAt (Q a) q.front (first_of rest) →
-              NoCauseAt (then_by P Q) (p.text ++ q.front) (first_of rest)
-          none [] e n = tt
-          none (u ∷ rest) e n = λ g c. n g (behind u rest e g c)
-
-      fault : (rest : List T) → mid ≡ q.front ++ rest → IsFaultAt causes (Q a) q.front (first_of rest) f →
-          IsFaultAt causes (then_by P Q) (p.text ++ q.front) (first_of rest) f
-      fault [] e (is_cause t x c l) = absurd (let y : None ≡ Some t = x in cc)
-      fault (u ∷ rest) e (is_cause t x c l) =
-          is_cause t x (inr (record {
-            left = p.text;
-            right = q.front;
-            value = a;
-            split = refl;
-            is_left = p.is_text;
-            is_cause = c;
-          }))
-          (λ g d. l g (behind t rest (e ∙ ap (λ z. q.front ++ z ∷ rest) (some_of x)) g d))
-        where
-          some_of : Some u ≡ Some t → u ≡ t
-          some_of y = ap (λ o. unwrap_or o u) y
-      fault rest e (is_refusal b x) = is_refusal (broken rest e b) x
+      back : (t : T) (g : F) → P.IsCause p.front t f ⊎ IsBroken P p.front (first_of rest) →
+          (then_by P Q).IsCause p.front t g → P.IsCause p.front t g
+      back t g _ (inl c) = c
+      back t g (inl c) (inr k) = absurd (no_behind p.front t g begun (λ a h d. j.causes_apart p.front t a f g h c d) k)
+      back t g (inr b) (inr k) = absurd (no_behind p.front t g begun (λ a h d. b.no_text a h) k)

@@ -1,6 +1,6 @@
 -- The digits that a text begins with, one after the other.
-use Rattle.std.proofs.Common.{◌≡◌, ℕ, ◌+◌, ◌-◌, ◌*◌, ◌^◌, ◌<◌, ◌≤◌, true, false, List, [], ◌∷◌, length, map, take, drop}
-use Rattle.std.proofs.Common.{get_or, refl, sym, ap, ◌∙◌, arith}
+use Rattle.std.proofs.Common.{◌≡◌, ℕ, ◌+◌, ◌-◌, ◌*◌, ◌^◌, ◌<◌, ◌≤◌, true, false, List, ◌∷◌, length, map, drop, get_or}
+use Rattle.std.proofs.Common.{refl, sym, ap, ◌∙◌, arith, rules}
 use Rattle.std.proofs.lemmas.List.{drop_more}
 use Rattle.std.proofs.lemmas.List.Sums.{take_while-cons, prefix_len-drop_all, prefix_len-drop_no}
 use Rattle.std.proofs.lemmas.Int.Digits.{number_after_ge}
@@ -24,22 +24,15 @@ pub read_none : (text : List ℕ) → IsReadTo text 0 0
 read_none text = record { counted = omega arith; made = refl }
 
 next_value : (text : List ℕ) (value digits : ℕ) → digits < length text → is_ascii_digit (get_or text digits 0) ≡ true →
-    IsReadTo text value digits →
-    value_after (value * 10 + (get_or text digits 0 - 48)) (take_while is_ascii_digit (drop (digits + 1) text)) ≡
-    decimal_value (take_while is_ascii_digit text)
-next_value text value digits lt digit is =
-    let b = get_or text digits 0 in
-    let bs = drop (digits + 1) text in
+    IsReadTo text value digits → value_after (value * 10 + (get_or text digits 0 - 48))
+    (take_while is_ascii_digit (drop (digits + 1) text)) ≡ decimal_value (take_while is_ascii_digit text)
+next_value text value digits lt digit is = let b = get_or text digits 0 in let bs = drop (digits + 1) text in
     let run : take_while is_ascii_digit (drop digits text) ≡ b ∷ take_while is_ascii_digit bs =
-    ap (take_while is_ascii_digit) (drop_more text digits 0 lt) ∙ take_while-cons is_ascii_digit b bs ∙ rw digit refl in
-    sym (ap (value_after value) run) ∙ is.made
+    search (rules, drop_more, take_while-cons) in sym (ap (value_after value) run) ∙ is.made
 
-pub read_one : (text : List ℕ) (value digits : ℕ) → digits < length text →
-    is_ascii_digit (get_or text digits 0) ≡ true → IsReadTo text value digits →
-    IsReadTo text (value * 10 + (get_or text digits 0 - 48)) (digits + 1)
-read_one text value digits lt digit is =
-    let b = get_or text digits 0 in
-    let bs = drop (digits + 1) text in
+pub read_one : (text : List ℕ) (value digits : ℕ) → digits < length text → is_ascii_digit (get_or text digits 0)
+    ≡ true → IsReadTo text value digits → IsReadTo text (value * 10 + (get_or text digits 0 - 48)) (digits + 1)
+read_one text value digits lt digit is = let b = get_or text digits 0 in let bs = drop (digits + 1) text in
     let more : prefix_len is_ascii_digit (drop digits text) ≡ 1 + prefix_len is_ascii_digit bs =
     ap (prefix_len is_ascii_digit) (drop_more text digits 0 lt) ∙ rw digit refl in
     record { counted = omega (arith, more, is.counted); made = next_value text value digits lt digit is }
@@ -58,20 +51,15 @@ read_too_much text value digits lt digit is large =
       number_after_ge 10 next (map (λ b. b - 48) rest) (omega arith),
     )
 
-read_whole : (text : List ℕ) (value digits : ℕ) → prefix_len is_ascii_digit (drop digits text) ≡ 0 →
-    IsReadTo text value digits →
-    (value ≡ decimal_value (take_while is_ascii_digit text)) × (digits ≡ prefix_len is_ascii_digit text)
-read_whole text value digits none is =
-    let nothing : take_while is_ascii_digit (drop digits text) ≡ [] = ap (λ n. take n (drop digits text)) none in
-    (sym (ap (value_after value) nothing) ∙ is.made, omega (arith, none, is.counted))
+read_whole : (text : List ℕ) (value digits : ℕ) → prefix_len is_ascii_digit (drop digits text) ≡ 0 → IsReadTo text
+    value digits → (value ≡ decimal_value (take_while is_ascii_digit text)) × (digits ≡ prefix_len is_ascii_digit text)
+read_whole text value digits none is = search rules
 
 pub read_to_end : (text : List ℕ) (value digits : ℕ) → length text ≤ digits → IsReadTo text value digits →
     (value ≡ decimal_value (take_while is_ascii_digit text)) × (digits ≡ prefix_len is_ascii_digit text)
-read_to_end text value digits le is =
-    read_whole text value digits (prefix_len-drop_all is_ascii_digit text digits le) is
+read_to_end text value digits le is = search (rules, read_whole, prefix_len-drop_all)
 
 pub read_to_other : (text : List ℕ) (value digits : ℕ) → digits < length text →
     is_ascii_digit (get_or text digits 0) ≡ false → IsReadTo text value digits →
     (value ≡ decimal_value (take_while is_ascii_digit text)) × (digits ≡ prefix_len is_ascii_digit text)
-read_to_other text value digits lt other is =
-    read_whole text value digits (prefix_len-drop_no is_ascii_digit text digits 0 lt other) is
+read_to_other text value digits lt other is = search (rules, read_whole, prefix_len-drop_no)

@@ -1,10 +1,12 @@
 pub mod Splits
+pub mod InPlace
 pub mod OneAnswer
 pub mod Laws
 pub mod Joined
 pub mod Simple
 pub mod Exits
 pub mod Following
+pub mod Combined
 pub mod Meeting
 pub mod Covered
 pub mod Repeated

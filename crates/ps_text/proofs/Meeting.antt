@@ -9,24 +9,21 @@ use Rattle.ps_text.proofs.Exits as steps
 use Rattle.ps_text.proofs.Exits.{reads_give, reads_mapped, reads_then, reads_next, stops_mapped, stops_first}
 use Rattle.ps_text.proofs.Exits.{stops_behind, stops_bad, stops_refusal}
 use Rattle.ps_text.proofs.Branches as branches
-use Rattle.ps_text.proofs.Branches.{reads_shrinks, meets_as, many_reads, many_fails_later, times_reads}
-use Rattle.ps_text.proofs.Branches.{times_fails_later}
+use Rattle.ps_text.proofs.Branches.{reads_shrinks, meets_as, many_reads, many_fails_later}
 
 module _ {T F E : Type 0} (found : E → Option (Found F)) (causes : Causes T F) where
   pub meets_give : {V X : Type 0} (view : X → V) (s : Stream T) (x : X) (v : V) → view x ≡ v →
       Meets found causes view (give v) s (Ok x) s
   meets_give view s x v e = subst (λ w. Reads {F = F} (give v) s w s) (sym e) (reads_give s v)
 
-  pub meets_mapped : {A B X : Type 0} (view : X → A) (h : A → B) (P : Part T A F) (old new : Stream T)
-      (r : Result X E) →
-      Meets found causes view P old r new → Meets found causes (λ x. h (view x)) (mapped h P) old r new
+  pub meets_mapped : {A B X : Type 0} (view : X → A) (h : A → B) (P : Part T A F) (old new : Stream T) (r
+      : Result X E) → Meets found causes view P old r new → Meets found causes (λ x. h (view x)) (mapped h P) old r new
   meets_mapped view h P old new (Ok x) m = reads_mapped h m
   meets_mapped view h P old new (Err e) m = stops_mapped causes h P old (found e) m
 
-  pub then_meets : {A B X Y : Type 0} {P : Part T A F} {Q : A → Part T B F} (j : Joint P Q) (see : X → A) (view : Y → B)
-      (old mid new : Stream T) (x : X) (r : Result Y E) →
-      Meets found causes see P old (Ok x) mid → Meets found causes view (Q (see x)) mid r new →
-      Meets found causes view (then_by P Q) old r new
+  pub then_meets : {A B X Y : Type 0} {P : Part T A F} {Q : A → Part T B F} (j : Joint P Q) (see : X → A)
+      (view : Y → B) (old mid new : Stream T) (x : X) (r : Result Y E) → Meets found causes see P old (Ok x) mid →
+      Meets found causes view (Q (see x)) mid r new → Meets found causes view (then_by P Q) old r new
   then_meets j see view old mid new x (Ok y) m n = reads_then j m n
   then_meets j see view old mid new x (Err e) m n = stops_behind causes j m (found e) n
 
@@ -42,10 +39,9 @@ module _ {T F E : Type 0} (found : E → Option (Found F)) (causes : Causes T F)
     meets_next t x n z k good = reads_next take Bad old new t (view x) n z k good
 
     -- it is bad
-    pub meets_bad_next : (t : T) (f : F) (e : E) → next_of old ≡ Some t → Bad t f →
-        ((g : F) → Bad t g → causes.number f ≤ causes.number g) →
-        found e ≡ Some (record { cause = f; offset = offset_of old.pieces old.end }) →
-        Meets found causes view (one take Bad) old (Err e) new
+    pub meets_bad_next : (t : T) (f : F) (e : E) → next_of old ≡ Some t →
+        Bad t f → ((g : F) → Bad t g → causes.number f ≤ causes.number g) → found e ≡ Some (record
+        { cause = f; offset = offset_of old.pieces old.end }) → Meets found causes view (one take Bad) old (Err e) new
     meets_bad_next t f e n b least k = stops_bad causes take Bad old t f (found e) n b least k
 
     -- it can't stand there, or there is none
@@ -55,14 +51,12 @@ module _ {T F E : Type 0} (found : E → Option (Found F)) (causes : Causes T F)
     meets_refusal s w y none good e t = stops_refusal causes take Bad old s w y none good (found e) t
 
   pub exits : {V X : Type 0} (view : X → V) (P : Part T V F) (old new : Stream T) (e : E) (r : Result X E) →
-      Meets found causes view P old (Err e) new → IsErrAnd r (λ y. y ≡ e) →
-      Meets found causes view P old r new
+      Meets found causes view P old (Err e) new → IsErrAnd r (λ y. y ≡ e) → Meets found causes view P old r new
   exits view P old new e r m i = steps.exits found causes view P old new e r m i
 
   -- a reading that took a sign has fewer to come
   pub meets_shrinks : {V X : Type 0} (view : X → V) (P : Part T V F) (old new : Stream T) (x : X) →
-      ((v : V) → P.IsText [] v → ⊥) → Meets found causes view P old (Ok x) new →
-      length new.pieces < length old.pieces
+      ((v : V) → P.IsText [] v → ⊥) → Meets found causes view P old (Ok x) new → length new.pieces < length old.pieces
   meets_shrinks view P old new x some m = reads_shrinks some m
 
   module _ {V X : Type 0} {odd : T → Type 0} {P Q : Part T V F} {F1 M1 F2 M2 : T → Type 0} {N1 N2 : Type 0}
@@ -93,9 +87,8 @@ module _ {T F E : Type 0} (found : E → Option (Found F)) (causes : Causes T F)
         Meets found causes view (many item c) s (Ok x) s
     many_ends c s x a e = subst (λ v. Reads (many item c) s v s) (sym e) (branches.many_ends item l apart c s a)
 
-    pub many_fails : {Y : Type 0} (see : Y → C) (c : C) (old mid new : Stream T) (e : E) →
-        Enters (item c) (next_of old) → Meets found causes see (item c) old (Err e) mid →
-        Meets found causes view (many item c) old (Err e) new
+    pub many_fails : {Y : Type 0} (see : Y → C) (c : C) (old mid new : Stream T) (e : E) → Enters (item c) (next_of
+        old) → Meets found causes see (item c) old (Err e) mid → Meets found causes view (many item c) old (Err e) new
     many_fails see c old mid new e h m = branches.many_fails item l apart causes c old (found e) h m
 
     pub many_then : {Y : Type 0} (see : Y → C) (c : C) (old mid new : Stream T) (y : Y) (r : Result X E) →

@@ -1,6 +1,6 @@
 -- Any two answers to one text are one.
 use Rattle.std.proofs.Common.{◌≡◌, ℕ, ◌<◌, ◌≤◌, ◌⊎◌, List, ◌++◌, length, Option, Ok, Err, sym, ap, ap₂, inl, inr, ◌∙◌}
-use Rattle.std.proofs.Common.{arith}
+use Rattle.std.proofs.Common.{arith, rules}
 use Rattle.std.proofs.lemmas.List.{map-append, length-map}
 use Rattle.ps_text.specs.Answers.{Piece, Stream, Found, signs, offset_of, IsClean, IsFirstAt, HasOneMeaning}
 use Rattle.ps_text.specs.Answers.{AreNumbered, HasOneAnswer}
@@ -12,8 +12,7 @@ signs_split all front rest e = ap signs e ∙ map-append (λ p. p.sign) front re
 
 not_both : {T V F : Type 0} (IsText : List T → V → Type 0) (IsCause : List T → Option T → F → Type 0) (number : F → ℕ)
     (stream : Stream T) (f : Found F) → IsClean IsCause (signs stream.pieces) → IsFirstAt number IsCause stream f → ⊥
-not_both IsText IsCause number stream f c h =
-    c (signs h.front) (signs h.rest) f.cause (signs_split stream.pieces h.front h.rest h.split) h.first.stands
+not_both IsText IsCause number stream f c h = search (rules, signs_split)
 
 -- the fronts of two first causes are as long, and the numbers are the same
 tied : (m n i j : ℕ) (P Q : Type 0) → (m < n) ⊎ (P × (i ≤ j)) → (n < m) ⊎ (Q × (j ≤ i)) → (P → m ≡ n) → (Q → n ≡ m) →
@@ -38,23 +37,19 @@ same_first {T} {F} number IsCause numbered stream f g h k =
     all = sym (signs_split stream.pieces h.front h.rest h.split) ∙ signs_split stream.pieces k.front k.rest k.split
 
     ties : (length (signs h.front) ≡ length (signs k.front)) × (number f.cause ≡ number g.cause)
-    ties = tied (length (signs h.front)) (length (signs k.front)) (number f.cause) (number g.cause) _ _
-        (h.first.least (signs k.front) (signs k.rest) g.cause all k.first.stands)
-        (k.first.least (signs h.front) (signs h.rest) f.cause (sym all) h.first.stands)
-        (ap length) (ap length)
+    ties = tied (length (signs h.front)) (length (signs k.front))
+        (number f.cause) (number g.cause) _ _ (h.first.least (signs k.front) (signs k.rest) g.cause all k.first.stands)
+        (k.first.least (signs h.front) (signs h.rest) f.cause (sym all) h.first.stands) (ap length) (ap length)
 
     rests : h.rest ≡ k.rest
-    rests =
-        (same_split h.front h.rest k.front k.rest (sym h.split ∙ k.split)
-        (sym (lengths h.front) ∙ ties.0 ∙ lengths k.front)).1
+    rests = (same_split h.front h.rest k.front k.rest
+        (sym h.split ∙ k.split) (sym (lengths h.front) ∙ ties.0 ∙ lengths k.front)).1
 
 pub has_one_answer : {T V F : Type 0} (IsText : List T → V → Type 0) (IsCause : List T → Option T → F → Type 0)
-    (number : F → ℕ) →
-    HasOneMeaning IsText → AreNumbered number → HasOneAnswer IsText IsCause number
+    (number : F → ℕ) → HasOneMeaning IsText → AreNumbered number → HasOneAnswer IsText IsCause number
 has_one_answer IsText IsCause number m n stream (Ok v) (Ok w) a b = ap Ok (m (signs stream.pieces) v w a.0 b.0)
 has_one_answer IsText IsCause number m n stream (Ok v) (Err g) a b =
     absurd (not_both IsText IsCause number stream g a.1 b)
 has_one_answer IsText IsCause number m n stream (Err f) (Ok w) a b =
     absurd (not_both IsText IsCause number stream f b.1 a)
-has_one_answer IsText IsCause number m n stream (Err f) (Err g) a b =
-    ap Err (same_first number IsCause n stream f g a b)
+has_one_answer IsText IsCause number m n stream (Err f) (Err g) a b = search (rules, same_first)

@@ -1,5 +1,5 @@
 -- A text has one list of tokens at most.
-use Rattle.std.proofs.Common.{◌≡◌, ℕ, List, [], ◌∷◌, ◌++◌, length, refl, sym, ap, ap₂, subst, ◌∙◌}
+use Rattle.std.proofs.Common.{◌≡◌, ℕ, List, [], ◌∷◌, ◌++◌, refl, sym, ap₂, subst, ◌∙◌, rules}
 use Rattle.std.specs.List.{AllByRecursion}
 use Rattle.std.proofs.lemmas.List.{append_cancel_left}
 use Rattle.ps_text.specs.Answers.{Piece}
@@ -15,14 +15,11 @@ module _ {T : Type 0} (IsBlank : ℕ → Type 0) (IsToken : List ℕ → T → L
   -- no token begins where a blank stands
   no_blank : (before text rest ys : List ℕ) (t : T) (b : ℕ) → IsToken before t text rest →
       text ++ rest ≡ b ∷ ys → IsBlank b → ⊥
-  no_blank before text rest ys t b h e k = let s = d.begins before text rest t h in
-      s.3 (subst IsBlank (sym (same_head s.0 b (s.1 ++ rest) ys (ap (λ z. z ++ rest) (sym s.2) ∙ e))) k)
+  no_blank before text rest ys t b h e k = search (rules, same_head)
 
   not_done : (before bytes : List ℕ) (p : Piece T) → NextToken IsBlank IsToken before bytes p →
       AllByRecursion IsBlank bytes → ⊥
-  not_done before bytes p n h = let s = d.begins (before ++ n.blanks) n.text n.rest p.sign n.is_token in
-      s.3 (all_at IsBlank n.blanks (s.1 ++ n.rest) s.0 (subst (AllByRecursion IsBlank)
-      (n.split ∙ ap (λ z. n.blanks ++ (z ++ n.rest)) s.2) h))
+  not_done before bytes p n h = search (rules, all_at)
 
   same_pieces : (p q : Piece T) → p.sign ≡ q.sign → p.start ≡ q.start → p ≡ q
   same_pieces p q e f = ap₂ (λ x y. record { sign = x; start = y }) e f
@@ -44,29 +41,11 @@ module _ {T : Type 0} (IsBlank : ℕ → Type 0) (IsToken : List ℕ → T → L
 
       go : (TokensFrom IsBlank IsToken (before ++ n.blanks ++ n.text) n.rest qs → ps ≡ qs) →
           Compared n.blanks (n.text ++ n.rest) m.blanks (m.text ++ m.rest) → p ∷ ps ≡ q ∷ qs
-      go ih (same e f) = ap₂ (λ x xs. x ∷ xs) (same_pieces p q both.0 starts) (ih later)
-        where
-          both : (p.sign ≡ q.sign) × (n.text ≡ m.text)
-          both = d.one (before ++ n.blanks) n.text n.rest m.text m.rest p.sign q.sign n.is_token
-              (subst (λ z. IsToken (before ++ z) q.sign m.text m.rest) (sym e) m.is_token) f
-
-          starts : p.start ≡ q.start
-          starts = n.start ∙ ap (λ z. length (before ++ z)) e ∙ sym m.start
-
-          rests : n.rest ≡ m.rest
-          rests = append_cancel_left n.text n.rest m.rest (f ∙ ap (λ z. z ++ m.rest) (sym both.1))
-
-          later : TokensFrom IsBlank IsToken (before ++ n.blanks ++ n.text) n.rest qs
-          later = subst (λ z. TokensFrom IsBlank IsToken (before ++ z ++ n.text) n.rest qs) (sym e)
-              (subst (λ z. TokensFrom IsBlank IsToken (before ++ m.blanks ++ z) n.rest qs) (sym both.1)
-              (subst (λ z. TokensFrom IsBlank IsToken (before ++ m.blanks ++ m.text) z qs) (sym rests) b.1))
-      go ih (shorter t w e f) =
-          absurd (no_blank (before ++ n.blanks) n.text n.rest (w ++ (m.text ++ m.rest)) p.sign t n.is_token f
-          (all_at IsBlank n.blanks w t (subst (AllByRecursion IsBlank) e m.are_blanks)))
-      go ih (longer t w e f) =
-          absurd (no_blank (before ++ m.blanks) m.text m.rest (w ++ (n.text ++ n.rest)) q.sign t m.is_token f
-          (all_at IsBlank m.blanks w t (subst (AllByRecursion IsBlank) e n.are_blanks)))
+      go ih (same e f) = search (rules, same_pieces, append_cancel_left)
+      go ih (shorter t w e f) = absurd (no_blank (before ++ n.blanks) n.text n.rest (w ++ (m.text ++ m.rest))
+          p.sign t n.is_token f (all_at IsBlank n.blanks w t (subst (AllByRecursion IsBlank) e m.are_blanks)))
+      go ih (longer t w e f) = absurd (no_blank (before ++ m.blanks) m.text m.rest (w ++ (n.text ++ n.rest))
+          q.sign t m.is_token f (all_at IsBlank m.blanks w t (subst (AllByRecursion IsBlank) e n.are_blanks)))
 
   pub has_one_tokenisation : HasOneTokenisation IsBlank IsToken
-  has_one_tokenisation bytes a b h k =
-      ap₂ (λ x y. record { pieces = x; end = y }) (only_from [] bytes a.pieces b.pieces h.0 k.0) (h.1 ∙ sym k.1)
+  has_one_tokenisation bytes a b h k = search (rules, only_from)

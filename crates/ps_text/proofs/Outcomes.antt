@@ -5,19 +5,19 @@
 --     has_refusal      where no sign comes with which it begins
 --     some_answer      each text that is one such part has an answer; some_answer_of is the law of ps_text
 use Rattle.std.proofs.Common.{◌≡◌, ℕ, zero, suc, ◌<◌, ◌≤◌, ◌⊎◌, List, [], ◌∷◌, ◌++◌, length, Option, None, Some, Result}
-use Rattle.std.proofs.Common.{Ok, Err, refl, sym, ap, subst, inl, inr, ◌∙◌, arith}
+use Rattle.std.proofs.Common.{Ok, Err, refl, sym, ap, subst, inl, inr, ◌∙◌, arith, rules}
 use Rattle.ps_text.specs.Answers.{Begins, Piece, Stream, Found, HasOneMeaning, first_of, signs, offset_of}
 use Rattle.ps_text.specs.Parts.{Part, Causes, PartAnswers, IsRead, IsBroken, IsFault, IsFaultAt, is_cause, is_refusal}
-use Rattle.ps_text.specs.Parts.{StopsAt, NoCauseAt, CleanUpTo, refusal_of, give, one, mapped, then_by, either, times}
-use Rattle.ps_text.specs.Parts.{many, barred}
+use Rattle.ps_text.specs.Parts.{refusal_of, give, one, mapped, then_by, either, times, many, barred}
 use Rattle.ps_text.specs.Outcomes.{Outcome, was_read, has_fault, HasOutcomes, IsOrderly}
 use Rattle.ps_text.proofs.Splits.{same_tail}
 use Rattle.ps_text.proofs.Laws.{Laws, Or, When, Apart, Joint}
-use Rattle.ps_text.proofs.Joined.{begins_less, read_then, fault_left, fault_right}
+use Rattle.ps_text.proofs.Joined.{begins_on, read_then, fault_left, fault_right}
 use Rattle.ps_text.proofs.Simple.{none_is_some, same_some, nil_is_cons, append_nil_left, read_give, read_one, bad_one}
-use Rattle.ps_text.proofs.Simple.{refused_one, ended_one, read_mapped, fault_mapped, laws_then}
-use Rattle.ps_text.proofs.Covered.{Enters, Avoids, enters_broken, enters_read, read_as, fault_as}
-use Rattle.ps_text.proofs.Repeated.{joint_many, joint_times, more_items, covers_item, laws_many}
+use Rattle.ps_text.proofs.Simple.{refused, refused_one, read_mapped, fault_mapped, laws_then}
+use Rattle.ps_text.proofs.InPlace.{read_as, fault_as}
+use Rattle.ps_text.proofs.Covered.{Enters, Avoids, enters_broken, enters_read}
+use Rattle.ps_text.proofs.Repeated.{joint_many, joint_times, more_items, covers_item, laws_many, read_nothing}
 use Rattle.ps_text.proofs.Branches.{Stands, left_entered, right_otherwise, item_entered, shrinks}
 use Rattle.ps_text.proofs.Barred.{Bar, read_barred, fault_barred, fault_bar}
 use Rattle.ps_text.proofs.Whole.{Own, answers_ok, answers_fault, answers_trailing}
@@ -35,18 +35,7 @@ bad_only number Bad f b only = bad f b (λ g c. subst (λ h. number f ≤ number
 -- a part with the signs that enter it as its first ones
 pub exact : {T V F : Type 0} {odd : T → Type 0} {P : Part T V F} {First More : T → Type 0} {Null : Type 0} →
     Laws odd P First More Null → Laws odd P (λ t. Enters P (Some t)) More Null
-exact l = record {
-  some = l.some;
-  one_value = l.one_value;
-  first_text = λ t text v h. inl (record { more = text; value = v; is_text = h });
-  first_cause = λ t f c. inr (f, c);
-  more_text = l.more_text;
-  more_cause = l.more_cause;
-  null = l.null;
-  behind = l.behind;
-  plain_text = l.plain_text;
-  plain_cause = l.plain_cause;
-}
+exact l = search rules
 
 module _ {T F : Type 0} (causes : Causes T F) where
   pub has_give : {V : Type 0} (v : V) → HasOutcomes causes (give {T = T} {V = V} {F = F} v)
@@ -59,66 +48,50 @@ module _ {T F : Type 0} (causes : Causes T F) where
     where
       taken : (t : T) (rest : List T) → ((f : F) → Bad t f → ⊥) → (o : Option V) → take t ≡ o →
           Outcome causes (one take Bad) (t ∷ rest)
-      taken t rest b (Some v) x = was_read v rest (read_one take Bad t rest v x b)
-      taken t rest b None x = has_fault _ (t ∷ rest) (refused_one take Bad causes s w e t rest x b)
+      taken t rest b (Some v) x = was_read v rest (read_one take Bad x b)
+      taken t rest b None x = has_fault _ (t ∷ rest) (refused_one take Bad causes s w e (t ∷ rest) (λ u y. ap take
+          (sym (same_some t u y)) ∙ x) (λ u f y d. b f (subst (λ z. Bad z f) (sym (same_some t u y)) d)))
 
       by : (t : T) (rest : List T) → Judged causes.number (Bad t) → Outcome causes (one take Bad) (t ∷ rest)
-      by t rest (bad f b least) = has_fault f (t ∷ rest) (bad_one take Bad causes t rest f b least)
+      by t rest (bad f b least) = has_fault f (t ∷ rest) (bad_one take Bad causes (t ∷ rest) t f refl b least)
       by t rest (good b) = taken t rest b (take t) refl
 
       go : (all : List T) → Outcome causes (one take Bad) all
-      go [] = has_fault causes.syntax [] (ended_one take Bad causes s w e)
+      go [] = has_fault causes.syntax [] (refused_one take Bad causes s w e []
+          (λ u y. absurd (none_is_some u y)) (λ u f y d. none_is_some u y))
       go (t ∷ rest) = by t rest (judge t)
 
   pub has_mapped : {A B : Type 0} (h : A → B) (P : Part T A F) → HasOutcomes causes P → HasOutcomes causes (mapped h P)
   has_mapped h P p = record { outcome = λ all. go all (p.outcome all) }
     where
       go : (all : List T) → Outcome causes P all → Outcome causes (mapped h P) all
-      go all (was_read a rest r) = was_read (h a) rest (read_mapped h P all rest a r)
-      go all (has_fault f rest r) = has_fault f rest (fault_mapped h P causes all rest f r)
+      go all (was_read a rest r) = was_read (h a) rest (read_mapped h P r)
+      go all (has_fault f rest r) = has_fault f rest (fault_mapped h P r)
+
+  -- what Q comes to behind the texts of P
+  outcome_then : {A B : Type 0} {P : Part T A F} {Q : A → Part T B F} → Joint P Q → (all : List T) → ((mid : List T)
+      (a : A) → IsRead P all a mid → Outcome causes (Q a) mid) → Outcome causes P all → Outcome causes (then_by P Q) all
+  outcome_then {A} {B} {P} {Q} j all q (has_fault f rest r) = has_fault f rest (fault_left j r)
+  outcome_then {A} {B} {P} {Q} j all q (was_read a mid r) = behind (q mid a r)
+    where
+      behind : Outcome causes (Q a) mid → Outcome causes (then_by P Q) all
+      behind (was_read b rest s) = was_read b rest (read_then j r s)
+      behind (has_fault f rest s) = has_fault f rest (fault_right j r s)
 
   pub has_then : {A B : Type 0} {P : Part T A F} {Q : A → Part T B F} → Joint P Q → HasOutcomes causes P →
       ((a : A) → HasOutcomes causes (Q a)) → HasOutcomes causes (then_by P Q)
-  has_then {A} {B} {P} {Q} j p q = record { outcome = λ all. go all (p.outcome all) }
-    where
-      behind : (all mid : List T) (a : A) → IsRead P all a mid → Outcome causes (Q a) mid →
-          Outcome causes (then_by P Q) all
-      behind all mid a r (was_read b rest s) = was_read b rest (read_then P Q j all mid rest a b r s)
-      behind all mid a r (has_fault f rest s) = has_fault f rest (fault_right P Q j causes all mid rest a f r s)
-
-      go : (all : List T) → Outcome causes P all → Outcome causes (then_by P Q) all
-      go all (was_read a mid r) = behind all mid a r ((q a).outcome mid)
-      go all (has_fault f rest r) = has_fault f rest (fault_left P Q j causes all rest f r)
+  has_then j p q = record { outcome = λ all. outcome_then j all (λ mid a r. (q a).outcome mid) (p.outcome all) }
 
   -- no sign comes with which P begins
   pub has_refusal : {V : Type 0} {odd : T → Type 0} {P : Part T V F} {First More : T → Type 0} →
       Laws odd P First More ⊥ → (all : List T) → Avoids First (first_of all) → Outcome causes P all
-  has_refusal {P = P} {First = First} l all avoided = has_fault (refusal_of causes (first_of all)) all (record {
-    front = [];
-    split = refl;
-    clean = λ front rest t f e n c. absurd (omega (arith, n));
-    fault = is_refusal (record {
-      before = l.some;
-      no_text = l.null;
-      stops = stops (first_of all) avoided;
-      no_cause = quiet (first_of all)
-          avoided;
-    }) refl;
-  })
-    where
-      stops : (there : Option T) → Avoids First there → StopsAt P [] there
-      stops None a = tt
-      stops (Some t) a = λ b. a t refl (l.first_text t b.more b.value b.is_text)
-
-      quiet : (there : Option T) → Avoids First there → NoCauseAt P [] there
-      quiet None a = tt
-      quiet (Some t) a = λ f c. a t refl (l.first_cause t f c)
+  has_refusal l all avoided = has_fault _ all (refused l causes all avoided)
 
   -- what P comes to, Q comes to that is read as P
   as_well : {V : Type 0} (P Q : Part T V F) (all : List T) → Stands (first_of all) P Q → Outcome causes P all →
       Outcome causes Q all
-  as_well P Q all w (was_read v rest r) = was_read v rest (read_as P Q all rest v w.covers r)
-  as_well P Q all w (has_fault f rest r) = has_fault f rest (fault_as P Q causes all rest f w.covers w.starts r)
+  as_well P Q all w (was_read v rest r) = was_read v rest (read_as P Q w.covers r)
+  as_well P Q all w (has_fault f rest r) = has_fault f rest (fault_as P Q w.covers w.starts r)
 
   module _ {V : Type 0} {odd : T → Type 0} {P : Part T V F} {First More : T → Type 0} {Null : Type 0}
       (l : Laws odd P First More Null) where
@@ -126,10 +99,8 @@ module _ {T F : Type 0} (causes : Causes T F) where
         IsFaultAt causes P front (first_of rest) f → Enters P there ⊎ IsBroken P [] there
     entered [] rest there f e (is_cause t x c m) = inl (subst (Enters P) (sym x ∙ e) (inr (f, c)))
     entered [] rest there f e (is_refusal b x) = inr (subst (IsBroken P []) e b)
-    entered (t ∷ front) rest there f e (is_cause u x c m) = inl
-        (subst (Enters P) e (inl (begins_less P.IsText (t ∷ []) front (l.behind (t ∷ front) u f c))))
-    entered (t ∷ front) rest there f e (is_refusal b x) = inl
-        (subst (Enters P) e (inl (begins_less P.IsText (t ∷ []) front b.before)))
+    entered (t ∷ front) rest there f e (is_cause u x c m) = search (rules, Enters, begins_on)
+    entered (t ∷ front) rest there f e (is_refusal b x) = search (rules, Enters, begins_on)
 
     -- the next sign begins P, or P has no text and no cause there
     pub entered_or_broken : (Null → ⊥) → (all : List T) → Outcome causes P all →
@@ -171,52 +142,27 @@ module _ {T F : Type 0} (causes : Causes T F) where
       no_item t e (inl h) = avoids (item c) (first_of all) b t e h
       no_item t e (inr h) = h.0
 
-      stops : (there : Option T) → first_of all ≡ there → StopsAt (many item c) [] there
-      stops None e = tt
-      stops (Some u) e = λ h. no_item u e
-          (first_item.first_text u h.more h.value
-          ((covers_item item c (Some u)).text_back u h.more h.value refl h.is_text))
-
-      clean : CleanUpTo (many item c) all 1
-      clean [] rest t f e n k = no_item t (ap first_of e)
-          (first_item.first_cause t f ((covers_item item c (Some t)).cause_back [] t f refl k))
-      clean (s ∷ front) rest t f e n k = absurd (omega (arith, n))
+      none : (t : T) → first_of all ≡ Some t → Enters (many item c) (Some t) → ⊥
+      none t e (inl h) = no_item t e (first_item.first_text t h.more h.value
+          ((covers_item item c (Some t)).text_back t h.more h.value refl h.is_text))
+      none t e (inr k) =
+          no_item t e (first_item.first_cause t k.0 ((covers_item item c (Some t)).cause_back [] t k.0 refl k.1))
 
       pub read_no_item : IsRead (many item c) all c all
-      read_no_item = record
-          { text = []; split = refl; is_text = (zero, (refl, refl)); stops = stops (first_of all) refl; clean = clean }
-
-    abbrev Within : ℕ → Type 0
-    Within n = (mid : List T) (d : C) → length mid < n → Outcome causes (many item d) mid
+      read_no_item = read_nothing item c all none
 
     -- by recursion over how many signs are left
     many_from : (n : ℕ) (c : C) (all : List T) → length all < n → Outcome causes (many item c) all
     many_from zero c all less = absurd (omega (arith, less))
     many_from (suc n) c all less = go (λ mid d short. many_from n d mid short)
-        (entered_or_broken (l c) (λ x. x) all ((p c).outcome all)) ((p c).outcome all)
+        (entered_or_broken (l c) (λ x. x) all ((p c).outcome all))
       where
-        j : Joint (item c) (λ d. many item d)
-        j = joint_many item l apart c
-
-        behind : (mid : List T) (d : C) → IsRead (item c) all d mid → Outcome causes (many item d) mid →
-            Outcome causes (more_items item c) all
-        behind mid d r (was_read e rest s) = was_read e rest
-            (read_then (item c) (λ d. many item d) j all mid rest d e r s)
-        behind mid d r (has_fault f rest s) = has_fault f rest
-            (fault_right (item c) (λ d. many item d) j causes all mid rest d f r s)
-
-        rest_of : Within n → Outcome causes (item c) all → Outcome causes (more_items item c) all
-        rest_of fewer (was_read d mid r) = behind mid d r (fewer mid d
-            (let x : length mid < length all = shrinks (item c) all mid d (λ w h. (l c).null w h) r in
-            omega (arith, x, less)))
-        rest_of fewer (has_fault f rest r) = has_fault f rest
-            (fault_left (item c) (λ d. many item d) j causes all rest f r)
-
-        go : Within n → Enters (item c) (first_of all) ⊎ IsBroken (item c) [] (first_of all) →
-            Outcome causes (item c) all → Outcome causes (many item c) all
-        go fewer (inl e) o = as_well (more_items item c) (many item c) all
-            (item_entered item l apart c (first_of all) e) (rest_of fewer o)
-        go fewer (inr b) o = was_read c all (read_no_item c all b)
+        go : ((mid : List T) (d : C) → length mid < n → Outcome causes (many item d) mid) →
+            Enters (item c) (first_of all) ⊎ IsBroken (item c) [] (first_of all) → Outcome causes (many item c) all
+        go fewer (inl e) = as_well (more_items item c) (many item c) all (item_entered item l apart c (first_of all) e)
+            (outcome_then (joint_many item l apart c) all (λ mid d r. fewer mid d
+            (omega (arith, less, shrinks (item c) all mid d (λ w h. (l c).null w h) r))) ((p c).outcome all))
+        go fewer (inr b) = was_read c all (read_no_item c all b)
 
     pub has_many : (c : C) → HasOutcomes causes (many item c)
     has_many c = record { outcome = λ all. many_from (suc (length all)) c all (omega arith) }
@@ -228,16 +174,14 @@ module _ {T F : Type 0} (causes : Causes T F) where
     where
       behind : (all rest : List T) (t : T) (v : V) → IsRead P all v (t ∷ rest) → Judged causes.number (Bad v t) →
           Outcome causes (barred P Bad) all
-      behind all rest t v r (bad f b least) = has_fault f (t ∷ rest)
-          (fault_bar Bad l apart causes all rest t v f r b least)
+      behind all rest t v r (bad f b least) = has_fault f (t ∷ rest) (fault_bar Bad l apart causes r refl b least)
       behind all rest t v r (good b) = was_read v (t ∷ rest)
-          (read_barred Bad l apart all (t ∷ rest) v (λ u f e c. b f (subst (λ z. Bad v z f) (sym (same_some t u e)) c))
-          r)
+          (read_barred Bad l apart (λ u f e c. b f (subst (λ z. Bad v z f) (sym (same_some t u e)) c)) r)
 
       go : (all : List T) → Outcome causes P all → Outcome causes (barred P Bad) all
-      go all (was_read v [] r) = was_read v [] (read_barred Bad l apart all [] v (λ u f e c. none_is_some u e) r)
+      go all (was_read v [] r) = was_read v [] (read_barred Bad l apart (λ u f e c. none_is_some u e) r)
       go all (was_read v (t ∷ rest) r) = behind all rest t v r (judge v t)
-      go all (has_fault f rest r) = has_fault f rest (fault_barred Bad l apart causes all rest f r)
+      go all (has_fault f rest r) = has_fault f rest (fault_barred Bad l apart r)
 
 -- ## The whole text
 
@@ -255,9 +199,8 @@ module _ {T V F : Type 0} {causes : Causes T F} {part : Part T V F} {First More 
       (answer : Result V (Found F)) × PartAnswers causes part stream answer
   some_answer h stream = go (h.outcome (signs stream.pieces))
     where
-      behind : (v : V) (rest : List T) (a b : List (Piece T)) → IsRead part (signs stream.pieces) v rest →
-          stream.pieces ≡ a ++ b → signs b ≡ rest →
-          (answer : Result V (Found F)) × PartAnswers causes part stream answer
+      behind : (v : V) (rest : List T) (a b : List (Piece T)) → IsRead part (signs stream.pieces) v rest → stream.pieces
+          ≡ a ++ b → signs b ≡ rest → (answer : Result V (Found F)) × PartAnswers causes part stream answer
       behind v rest a [] r s e = (Ok v, answers_ok l stream v (subst (IsRead part (signs stream.pieces) v) (sym e) r))
       behind v rest a (p ∷ ps) r s e = (
         Err (record { cause = refusal_of causes (Some p.sign); offset = p.start }),
@@ -286,8 +229,7 @@ module _ {T V F : Type 0} {causes : Causes T F} {part : Part T V F} where
   some_text (was_read v rest r) = record {
     more = [];
     value = v;
-    is_text = subst (λ z. part.IsText z v) (append_nil_left r.text rest (sym r.split))
-        r.is_text;
+    is_text = search (rules, append_nil_left);
   }
   some_text (has_fault f rest r) = go r.front rest r.split r.fault
     where

@@ -1,6 +1,10 @@
 -- Two splits of one list, compared: the fronts are the same, or one goes on where the other ends.
-use Rattle.std.proofs.Common.{◌≡◌, suc, ◌+◌, List, [], ◌∷◌, ◌++◌, length, get_or, drop, refl, sym, ap, ap₂, ◌∙◌, arith}
-use Rattle.std.proofs.Common.{length-append}
+--     Compared, compared      the three cases
+--     Placed, placed      where one sign of the list stands: inside the front, or behind it
+--     inside_of      a sign that stands before the end of the front stands inside it
+use Rattle.std.proofs.Common.{◌≡◌, suc, ◌+◌, ◌<◌, List, [], ◌∷◌, ◌++◌, length, drop, refl, sym, ap, ◌∙◌, arith}
+use Rattle.std.proofs.Common.{append-nil, length-append, Some, rules}
+use Rattle.ps_text.specs.Answers.{first_of}
 
 pub data Compared {T : Type 0} (a b c d : List T) : Type 0 where
   shorter : (t : T) (middle : List T) → c ≡ a ++ t ∷ middle → b ≡ t ∷ (middle ++ d) → Compared a b c d
@@ -8,33 +12,52 @@ pub data Compared {T : Type 0} (a b c d : List T) : Type 0 where
   longer : (t : T) (middle : List T) → a ≡ c ++ t ∷ middle → d ≡ t ∷ (middle ++ b) → Compared a b c d
 
 pub same_head : {T : Type 0} (s t : T) (xs ys : List T) → s ∷ xs ≡ t ∷ ys → s ≡ t
-same_head s t xs ys e = ap (λ zs. get_or zs 0 s) e
+same_head s t xs ys e = cc
 
 pub same_tail : {T : Type 0} (s t : T) (xs ys : List T) → s ∷ xs ≡ t ∷ ys → xs ≡ ys
-same_tail s t xs ys e = ap (λ zs. drop 1 zs) e
+same_tail s t xs ys e = cc
 
 more_compared : {T : Type 0} (s t : T) (a b c d : List T) → s ≡ t → Compared a b c d → Compared (s ∷ a) b (t ∷ c) d
-more_compared s t a b c d h (shorter u m e f) = shorter u m (ap₂ (λ x xs. x ∷ xs) (sym h) e) f
-more_compared s t a b c d h (same e f) = same (ap₂ (λ x xs. x ∷ xs) h e) f
-more_compared s t a b c d h (longer u m e f) = longer u m (ap₂ (λ x xs. x ∷ xs) h e) f
+more_compared s t a b c d h (shorter u m e f) = shorter u m (cc) f
+more_compared s t a b c d h (same e f) = same (cc) f
+more_compared s t a b c d h (longer u m e f) = longer u m (cc) f
 
 pub compared : {T : Type 0} (a b c d : List T) → a ++ b ≡ c ++ d → Compared a b c d
 compared [] b [] d e = same refl e
 compared [] b (t ∷ c) d e = shorter t c refl e
 compared (s ∷ a) b [] d e = longer s a refl (sym e)
-compared (s ∷ a) b (t ∷ c) d e =
-    more_compared s t a b c d (same_head s t (a ++ b) (c ++ d) e) (compared a b c d (same_tail s t (a ++ b) (c ++ d) e))
+compared (s ∷ a) b (t ∷ c) d e = more_compared s t a b c d (cc) (compared a b c d (cc))
 
 pub length_more : {T : Type 0} (a m : List T) (t : T) → length (a ++ t ∷ m) ≡ length a + suc (length m)
 length_more a m t = length-append a (t ∷ m)
 
 -- two splits at one place are one
 pub same_split : {T : Type 0} (a b c d : List T) → a ++ b ≡ c ++ d → length a ≡ length c → (a ≡ c) × (b ≡ d)
-same_split {T} a b c d e l = go (compared a b c d e)
+same_split {T} a b c d e l = search (rules, compared, length_more)
+
+-- a sign of a list stands inside its front, or behind it
+pub data Placed {T : Type 0} (left mid front rest : List T) (t : T) : Type 0 where
+  inside : (m : List T) → left ≡ front ++ t ∷ m → Placed left mid front rest t
+  behind : (y : List T) → front ≡ left ++ y → mid ≡ y ++ t ∷ rest → Placed left mid front rest t
+
+pub placed : {T : Type 0} (left mid front rest : List T) (t : T) → left ++ mid ≡ front ++ t ∷ rest →
+    Placed left mid front rest t
+placed {T} left mid front rest t e = go (compared left mid front (t ∷ rest) e)
   where
-    go : Compared a b c d → (a ≡ c) × (b ≡ d)
-    go (same f g) = (f, g)
-    go (shorter t m f g) =
-        absurd (let h : length c ≡ length a + suc (length m) = ap length f ∙ length_more a m t in omega (arith, h, l))
-    go (longer t m f g) =
-        absurd (let h : length a ≡ length c + suc (length m) = ap length f ∙ length_more c m t in omega (arith, h, l))
+    go : Compared left mid front (t ∷ rest) → Placed left mid front rest t
+    go (same x y) = behind [] (sym x ∙ sym (append-nil left)) y
+    go (shorter s m x y) = behind (s ∷ m) x y
+    go (longer s m x y) = inside m (cc)
+
+pub inside_of : {T : Type 0} {all left : List T} (mid front rest : List T) (t : T) → all ≡ left ++ mid →
+    all ≡ front ++ t ∷ rest → length front < length left → (m : List T) × (left ≡ front ++ t ∷ m)
+inside_of {T} {all} {left} mid front rest t e f l = go (placed left mid front rest t (sym e ∙ f))
+  where
+    go : Placed left mid front rest t → (m : List T) × (left ≡ front ++ t ∷ m)
+    go (inside m x) = (m, x)
+    go (behind y x z) = absurd (omega (arith, l, length-append left y, ap length x))
+
+-- the first sign, and the others
+pub head_of : {T : Type 0} (ts : List T) {t : T} → first_of ts ≡ Some t → ts ≡ t ∷ drop 1 ts
+head_of [] e = absurd (cc)
+head_of (s ∷ ts) e = ap (λ z. z ∷ ts) (cc)

@@ -2,6 +2,8 @@
 --     laws_file      the laws
 --     joint_file      the body behind the header
 use Rattle.ps_text.specs.Parts.{Part, mapped}
+use Rattle.ps_text.proofs.Combined.{joint_tight}
+use Rattle.ps_text.proofs.Following.{laws_tight}
 use Rattle.ps_text.proofs.Laws.{Laws, Joint, Nothing, Or}
 use Rattle.ps_text.proofs.Simple.{laws_mapped}
 use Rattle.ps_hoa.specs.Tokens.{Sign}
@@ -10,11 +12,9 @@ use Rattle.ps_hoa.specs.Header.{HeaderData, header}
 use Rattle.ps_hoa.specs.Body.{body, is_end}
 use Rattle.ps_hoa.specs.Texts.{file_of, file}
 use Rattle.ps_hoa.specs.declared.fault.HoaCause.{HoaCause}
-use Rattle.ps_hoa.proofs.Grammar.OperandLaws.{Odd, Of, nothing_apart}
-use Rattle.ps_hoa.proofs.Grammar.SignLaws.{laws_behind_sign}
+use Rattle.ps_hoa.proofs.Grammar.OperandLaws.{Odd, Of}
 use Rattle.ps_hoa.proofs.Grammar.WholeHeader.{HeaderFirst, laws_header}
 use Rattle.ps_hoa.proofs.Grammar.StateLaws.{IsState, laws_body}
-use Rattle.ps_text.proofs.Joined.{joint}
 
 abbrev pub body_of_file : HeaderData → Part Sign FileData HoaCause
 body_of_file h = mapped (file_of h) (body h)
@@ -23,7 +23,7 @@ laws_body_of_file : (h : HeaderData) → Laws Odd (body_of_file h) (Or IsState (
 laws_body_of_file h = laws_mapped (file_of h) (body h) (laws_body h)
 
 pub joint_file : Joint header body_of_file
-joint_file = joint laws_header laws_body_of_file (nothing_apart (Or IsState (Of is_end)))
+joint_file = joint_tight laws_header laws_body_of_file
 
 pub laws_file : Laws Odd file HeaderFirst Nothing ⊥
-laws_file = laws_behind_sign laws_header laws_body_of_file
+laws_file = laws_tight laws_header laws_body_of_file

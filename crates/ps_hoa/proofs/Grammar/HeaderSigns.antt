@@ -4,7 +4,7 @@
 --     takes_refused, takes_bad      what is answered to a sign that can't stand, and to one that is bad
 use Rattle.std.proofs.Common.{◌≡◌, ℕ, ◌≤◌, Bool, true, false, cond, List, [], codes, Option, None, Some, Result, Err}
 use Rattle.std.proofs.Common.{refl, sym, ap, subst, inl, inr, arith}
-use Rattle.std.proofs.lemmas.Slice.Eq.{bytes_eq-Decides}
+use Rattle.ps_hoa.proofs.Grammar.SignLaws.{same_name}
 use Rattle.ps_text.specs.Answers.{Piece, Stream}
 use Rattle.ps_text.specs.Parts.{one, NoBad, refusal_of}
 use Rattle.ps_text.specs.Readers.{Meets}
@@ -31,75 +31,57 @@ pub reads_token : {V X : Type 0} (view : X → V) {take : Sign → Option V} {Ba
 reads_token view {take} {Bad} o piece old new r t e n =
     reads_one view o old new r (subst (λ p. Takes view take Bad p r) e t) n
 
--- a test that the end of the text does not pass
-no_finish : (test : Kind → Bool) (kind : Kind) → IsTestOf test kind → (kind ≡ Finish → ⊥) → test Finish ≡ false
-no_finish test kind is differs = go (test Finish) refl
-  where
-    go : (b : Bool) → test Finish ≡ b → test Finish ≡ false
-    go true e = absurd (differs (sym (is.1 Finish e)))
-    go false e = e
+abbrev no_value : Option (Unit {0})
+no_value = None
 
+-- a sign of another kind
+pub mark_none : (test : Kind → Bool) (kind : Kind) (sign : Sign) → IsTestOf test kind → (sign.kind ≡ kind → ⊥) →
+    mark_in test sign ≡ None
+mark_none test kind sign is differs = go (test sign.kind) refl
+  where
+    go : (b : Bool) → test sign.kind ≡ b → cond b (Some tt) None ≡ no_value
+    go true e = absurd (differs (is.1 sign.kind e))
+    go false e = refl
+
+-- some sign that is taken, by its kind, its text and its value
+signs : {V : Type 0} {take : Sign → Option V} {Bad : Sign → HoaCause → Type 0} (kind : Kind) (text : List ℕ) (v : V) →
+    take (record { kind = kind; text = text }) ≡ Some v → take (record { kind = Finish; text = [] }) ≡ None →
+    ((f : HoaCause) → Bad (record { kind = Finish; text = [] }) f → ⊥) → IsOfSigns take Bad
+signs kind text v e n g =
+    record { sign = record { kind = kind; text = text }; value = v; taken = e; end = n; good = g }
+
+-- the end of the text does not pass the test of another kind
 pub signs_mark : (test : Kind → Bool) (kind : Kind) → IsTestOf test kind → (kind ≡ Finish → ⊥) →
     IsOfSigns (mark_in test) NoBad
-signs_mark test kind is differs = record {
-  sign = record { kind = kind; text = [] };
-  value = tt;
-  taken = ap (λ (b : Bool). cond b (Some tt) None) is.0;
-  end = ap (λ (b : Bool). cond b (Some tt) None) (no_finish test kind is differs);
-  good = λ f b. b;
-}
+signs_mark test kind is differs = signs kind [] tt (ap (λ (b : Bool). cond b (Some tt) None) is.0)
+    (mark_none test kind (record { kind = Finish; text = [] }) is (λ e. differs (sym e))) (λ f b. b)
 
 pub signs_name : (name : List ℕ) → IsOfSigns (name_in name) NoBad
-signs_name name = record {
-  sign = record { kind = Header; text = name };
-  value = tt;
-  taken = ap (λ (b : Bool). cond b (Some tt) None) ((bytes_eq-Decides name name).1 refl);
-  end = refl;
-  good = λ f b. b;
-}
+signs_name name = signs Header name tt (same_name name) refl (λ f b. b)
 
 pub signs_int : (limit : ℕ) → IsOfSigns int_in (IsAbove limit)
-signs_int limit =
-    record { sign = record { kind = Int; text = [] }; value = _; taken = refl; end = refl; good = λ f b. b.1 refl }
+signs_int limit = signs Int [] _ refl refl (λ f b. b.1 refl)
 
 pub signs_string : IsOfSigns string_in NoBad
-signs_string = record { sign = record { kind = Text; text = [] }; value = _; taken = refl; end = refl; good = λ f b. b }
+signs_string = signs Text [] _ refl refl (λ f b. b)
 
 pub signs_new_name : (names : List (List ℕ)) → IsOfSigns string_in (IsBadName names)
-signs_new_name names =
-    record { sign = record { kind = Text; text = [] }; value = _; taken = refl; end = refl; good = λ f b. b.1 refl }
+signs_new_name names = signs Text [] _ refl refl (λ f b. b.1 refl)
 
 pub signs_start : (h : HeaderData) → IsOfSigns start_name_in (IsSecondStart h)
-signs_start h =
-    record {
-      sign = record { kind = Header; text = codes "Start:" };
-      value = tt;
-      taken = refl;
-      end = refl;
-      good = λ f b. b.0 refl;
-    }
+signs_start h = signs Header (codes "Start:") tt refl refl (λ f b. b.0 refl)
 
 pub signs_alias : (names : List (List ℕ)) → IsOfSigns alias_name_in (IsBadAlias names)
-signs_alias names =
-    record {
-      sign = record { kind = AliasName; text = [] };
-      value = _;
-      taken = refl;
-      end = refl;
-      good = λ f b. b.1 refl;
-    }
+signs_alias names = signs AliasName [] _ refl refl (λ f b. b.1 refl)
 
 pub signs_other : IsOfSigns other_in NoBad
-signs_other =
-    record { sign = record { kind = Header; text = codes "a:" }; value = tt; taken = refl; end = refl; good = λ f b. b }
+signs_other = signs Header (codes "a:") tt refl refl (λ f b. b)
 
 pub signs_read_over : (h : HeaderData) → IsOfSigns (read_over_in h) (IsAbove number_limit)
-signs_read_over h =
-    record { sign = record { kind = Word; text = [] }; value = h; taken = refl; end = refl; good = λ f b. b.1 refl }
+signs_read_over h = signs Word [] h refl refl (λ f b. b.1 refl)
 
 pub signs_body : (h : HeaderData) → IsOfSigns (body_in h) (IsBadBody h)
-signs_body h =
-    record { sign = record { kind = Body; text = [] }; value = h; taken = refl; end = refl; good = λ f b. cc }
+signs_body h = signs Body [] h refl refl (λ f b. cc)
 
 -- ## What is answered to one token
 
@@ -121,15 +103,3 @@ module _ {V X : Type 0} (view : X → V) (take : Sign → Option V) (Bad : Sign 
 -- the only cause that there is
 pub least_same : (f g : HoaCause) → g ≡ f → cause_number f ≤ cause_number g
 least_same f g e = subst (λ z. cause_number f ≤ cause_number z) (sym e) (omega arith)
-
-abbrev no_value : Option (Unit {0})
-no_value = None
-
--- a sign of another kind
-pub mark_none : (test : Kind → Bool) (kind : Kind) (sign : Sign) → IsTestOf test kind → (sign.kind ≡ kind → ⊥) →
-    mark_in test sign ≡ None
-mark_none test kind sign is differs = go (test sign.kind) refl
-  where
-    go : (b : Bool) → test sign.kind ≡ b → cond b (Some tt) None ≡ no_value
-    go true e = absurd (differs (is.1 sign.kind e))
-    go false e = refl

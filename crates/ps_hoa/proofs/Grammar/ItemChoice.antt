@@ -1,15 +1,15 @@
 -- Which item stands at the next sign.
 --     stands_next      that item is read in place of any item
 --     enters_next, avoids_next      an item is entered, or none begins
-use Rattle.std.proofs.Common.{◌≡◌, ℕ, List, codes, None, Some, Result, Ok, sym, ap, subst, inl, ◌∙◌}
+use Rattle.std.proofs.Common.{◌≡◌, ℕ, List, Option, None, Some, Result, Ok, sym, ap, subst, inl, ◌∙◌}
 use Rattle.ps_text.specs.Answers.{Stream, next_of as next_sign}
-use Rattle.ps_text.specs.Parts.{Part, NoBad, then_by}
+use Rattle.ps_text.specs.Parts.{Part, one, then_by}
 use Rattle.ps_text.proofs.Laws.{Joint}
 use Rattle.ps_text.proofs.Simple.{none_is_some}
 use Rattle.ps_text.proofs.Covered.{Avoids, Enters, enters_one, enters_then}
 use Rattle.ps_text.proofs.Branches.{Stands}
 use Rattle.ps_text.proofs.Choices.{stands_form, enters_form}
-use Rattle.ps_hoa.specs.Header.{HeaderData, name_value, item_name, IsSecondStart, other_value, form_of, item}
+use Rattle.ps_hoa.specs.Header.{HeaderData, item_name, form_of, item}
 use Rattle.ps_hoa.specs.ItemNames as items
 use Rattle.ps_hoa.specs.ItemNames.{ItemName}
 use Rattle.ps_hoa.specs.Inner.Items.{item_at}
@@ -17,7 +17,7 @@ use Rattle.ps_hoa.specs.Scan.{next_of, behind_next}
 use Rattle.ps_hoa.specs.Tokens.{Sign}
 use Rattle.ps_hoa.specs.declared.fault.HoaCause.{HoaCause}
 use Rattle.ps_hoa.specs.declared.tokens.Kind.TheVariants.{Header, Finish}
-use Rattle.ps_hoa.proofs.Grammar.HeaderLaws.{joint_states, start_name, joint_start, joint_names, joint_alias}
+use Rattle.ps_hoa.proofs.Grammar.HeaderLaws.{joint_states, joint_start, joint_names, joint_alias}
 use Rattle.ps_hoa.proofs.Grammar.HeaderLaws.{joint_acceptance}
 use Rattle.ps_hoa.proofs.Grammar.HeaderLaws.{joint_controllable, joint_tool, joint_name_item, other_name, joint_other}
 use Rattle.ps_hoa.proofs.Grammar.WholeHeader.{laws_form, ItemFirst, first_header}
@@ -30,28 +30,21 @@ use Rattle.ps_text.specs.Readers.{Reads, Meets}
 use Rattle.ps_hoa.specs.Causes.{HoaFault, found_of, hoa_causes}
 use Rattle.ps_hoa.proofs.Reading.HeaderExits.{behind_first}
 
-enters_named : {V : Type 0} (name : List ℕ) (t : Sign) (Q : Part Sign V HoaCause) →
-    Joint (item_name name) (λ _. Q) → Named name t →
-    Enters (then_by (item_name name) (λ _. Q)) (Some t)
-enters_named name t Q j n =
-    enters_then (item_name name) (λ _. Q) j (Some t) (enters_one (λ s. name_value name s.kind s.text) NoBad
-    t (inl (tt, n)))
+enters : {A V : Type 0} {take : Sign → Option A} {Bad : Sign → HoaCause → Type 0} {Q : A → Part Sign V HoaCause}
+    {t : Sign} {v : A} → Joint (one take Bad) Q → take t ≡ Some v → Enters (then_by (one take Bad) Q) (Some t)
+enters {take = take} {Bad = Bad} {Q = Q} {t = t} {v = v} j e = enters_then (one take Bad) Q j (Some t) (enters_one take Bad t (inl (v, e)))
 
 -- at its name, an item is entered
 enters_at_name : (h : HeaderData) (name : ItemName) (t : Sign) → StartsWith name t → Enters (form_of h name) (Some t)
-enters_at_name h items.states t n = enters_named (codes "States:") t _ (joint_states h) n
-enters_at_name h items.start t n =
-    enters_then (start_name h) _ (joint_start h) (Some t) (enters_one (λ s. name_value (codes "Start:") s.kind s.text)
-    (IsSecondStart h) t (inl (tt, n)))
-enters_at_name h items.propositions t n = enters_named (codes "AP:") t _ (joint_names h) n
-enters_at_name h items.alias t n = enters_named (codes "Alias:") t _ (joint_alias h) n
-enters_at_name h items.acceptance t n = enters_named (codes "Acceptance:") t _ (joint_acceptance h) n
-enters_at_name h items.controllable t n = enters_named (codes "controllable-AP:") t _ (joint_controllable h) n
-enters_at_name h items.tool t n = enters_named (codes "tool:") t _ (joint_tool h) n
-enters_at_name h items.name t n = enters_named (codes "name:") t _ (joint_name_item h) n
-enters_at_name h items.other t n =
-    enters_then other_name _ (joint_other h) (Some t) (enters_one (λ s. other_value s.kind s.text) NoBad
-    t (inl (tt, n)))
+enters_at_name h items.states t n = enters (joint_states h) n
+enters_at_name h items.start t n = enters (joint_start h) n
+enters_at_name h items.propositions t n = enters (joint_names h) n
+enters_at_name h items.alias t n = enters (joint_alias h) n
+enters_at_name h items.acceptance t n = enters (joint_acceptance h) n
+enters_at_name h items.controllable t n = enters (joint_controllable h) n
+enters_at_name h items.tool t n = enters (joint_tool h) n
+enters_at_name h items.name t n = enters (joint_name_item h) n
+enters_at_name h items.other t n = enters (joint_other h) n
 
 module _ (s : Stream Sign) where
   -- an item is never the end of the text

@@ -11,16 +11,21 @@ use Rattle.ps_hoa.specs.Tokens.{Sign}
 use Rattle.ps_hoa.specs.declared.tokens.Kind.TheVariants.{Header}
 use Rattle.ps_hoa.proofs.Grammar.SignLaws.{Named, Other, named_text, other_apart}
 
+-- the name of an item, where it is one
+abbrev pub name_of : ItemName → List ℕ
+name_of items.states = codes "States:"
+name_of items.start = codes "Start:"
+name_of items.propositions = codes "AP:"
+name_of items.alias = codes "Alias:"
+name_of items.acceptance = codes "Acceptance:"
+name_of items.controllable = codes "controllable-AP:"
+name_of items.tool = codes "tool:"
+name_of items.name = codes "name:"
+name_of items.other = []
+
 abbrev pub StartsWith : ItemName → Sign → Type 0
-StartsWith items.states t = Named (codes "States:") t
-StartsWith items.start t = Named (codes "Start:") t
-StartsWith items.propositions t = Named (codes "AP:") t
-StartsWith items.alias t = Named (codes "Alias:") t
-StartsWith items.acceptance t = Named (codes "Acceptance:") t
-StartsWith items.controllable t = Named (codes "controllable-AP:") t
-StartsWith items.tool t = Named (codes "tool:") t
-StartsWith items.name t = Named (codes "name:") t
 StartsWith items.other t = Other t
+StartsWith item t = Named (name_of item) t
 
 -- ## The table tells the item whose name stands there
 
@@ -47,15 +52,8 @@ other_told (row ∷ rows) n t h = go (name_value row.0 t.kind t.text) refl (othe
     go (Some u) x e = absurd (other_apart row.0 n.0 t x h)
 
 pub begins : (item : ItemName) (t : Sign) → StartsWith item t → item_at t ≡ Some item
-begins items.states t h = named_told (codes "States:") items.states refl t h
-begins items.start t h = named_told (codes "Start:") items.start refl t h
-begins items.propositions t h = named_told (codes "AP:") items.propositions refl t h
-begins items.alias t h = named_told (codes "Alias:") items.alias refl t h
-begins items.acceptance t h = named_told (codes "Acceptance:") items.acceptance refl t h
-begins items.controllable t h = named_told (codes "controllable-AP:") items.controllable refl t h
-begins items.tool t h = named_told (codes "tool:") items.tool refl t h
-begins items.name t h = named_told (codes "name:") items.name refl t h
-begins items.other t h = other_told item_names (refl, (refl, (refl, (refl, (refl, (refl, (refl, (refl, tt)))))))) t h
+begins items.other t h = other_told item_names (assumption) t h
+begins item t h = named_told (name_of item) item refl t h
 
 -- ## And no other one
 
@@ -81,17 +79,4 @@ told (row ∷ rows) r t item e = go (name_value row.0 t.kind t.text) refl e (tol
     go (Some u) x e rest = subst (λ i. StartsWith i t) (same_some row.1 item e) (r.0 t x)
 
 pub begun : (item : ItemName) (t : Sign) → item_at t ≡ Some item → StartsWith item t
-begun item t e =
-    told item_names (
-      (λ _ h. h),
-      (
-        (λ _ h. h),
-        (
-          (λ _ h. h),
-          (
-            (λ _ h. h),
-            ((λ _ h. h), ((λ _ h. h), ((λ _ h. h), ((λ _ h. h), tt)))),
-          ),
-        ),
-      ),
-    ) t item e
+begun item t e = told item_names (assumption) t item e

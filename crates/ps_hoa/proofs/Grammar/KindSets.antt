@@ -1,25 +1,34 @@
--- Facts of sets of kinds, each found by trying all kinds: the answer to `Each` is `refl`.
---     within, apart      the signs of a set are in another one, or none is
+-- Facts of sets of kinds, each found by trying all kinds: the answer to `Each` is `refl`. And the laws of one sign.
+--     within, within_both, apart      the signs of a set, or of two, are in another one, or none is
 --     test_of      a set has one kind
 --     plain      no sign of a set is wrong by itself
-use Rattle.std.proofs.Common.{◌≡◌, ℕ, zero, suc, ◌<◌, Bool, true, false, cond, List, [], ◌∷◌, length, get_or, None}
-use Rattle.std.proofs.Common.{refl, subst, arith}
+--     laws_sign, laws_value, laws_mark      the laws of a sign whose kind is of a set: that stands there or is bad, that
+--               is bad only where it has a value, that has no value
+use Rattle.std.proofs.Common.{◌≡◌, ℕ, zero, suc, ◌<◌, Bool, true, false, not, cond, List, [], ◌∷◌, length, get_or}
+use Rattle.std.proofs.Common.{Option, None, Some, is_some, refl, sym, ap, subst, ◌∙◌, arith}
 use denote.Enum.Bare.{sameb, same_true}
 use denote.Enum.Declared.{tag_of}
-use Rattle.ps_text.proofs.Laws.{Within, Apart}
+use Rattle.ps_text.specs.Parts.{one}
+use Rattle.ps_text.proofs.Laws.{Laws, Nothing, Or, Within, Apart}
+use Rattle.ps_text.proofs.Combined.{both_within, laws_first}
+use Rattle.ps_text.proofs.Simple.{BadSign, none_is_some}
 use Rattle.ps_hoa.specs.Causes.{own_cause}
 use Rattle.ps_hoa.specs.Inner.Signs.{IsTestOf}
+use Rattle.ps_hoa.specs.Operands.{mark_in, mark}
+use Rattle.ps_hoa.specs.Tokens.{Sign}
 use Rattle.ps_hoa.specs.contracts.tokens.Kind.{the_type}
+use Rattle.ps_hoa.specs.declared.fault.HoaCause.{HoaCause}
 use Rattle.ps_hoa.specs.declared.tokens.Kind.{Kind}
 use Rattle.ps_hoa.specs.declared.tokens.Kind.TheVariants.{Header, HeaderAgain, Word, AliasName, Int, ZeroRun, Text, Not}
 use Rattle.ps_hoa.specs.declared.tokens.Kind.TheVariants.{And, Or as OrSign, LeftParen, RightParen, LeftBracket}
 use Rattle.ps_hoa.specs.declared.tokens.Kind.TheVariants.{RightBracket, LeftBrace, RightBrace, Body, End, Abort}
-use Rattle.ps_hoa.specs.declared.tokens.Kind.TheVariants.{OpenComment, Odd, Behind, Finish}
-use Rattle.ps_hoa.proofs.Grammar.OperandLaws.{Of, IsPlain, false_true}
+use Rattle.ps_hoa.specs.declared.tokens.Kind.TheVariants.{OpenComment, Odd as OddSign, Behind, Finish}
+use Rattle.ps_hoa.proofs.Grammar.OperandLaws.{Odd, Of, false_true}
 
 abbrev kinds : List Kind
 kinds = Header ∷ HeaderAgain ∷ Word ∷ AliasName ∷ Int ∷ ZeroRun ∷ Text ∷ Not ∷ And ∷ OrSign ∷ LeftParen ∷ RightParen ∷
-    LeftBracket ∷ RightBracket ∷ LeftBrace ∷ RightBrace ∷ Body ∷ End ∷ Abort ∷ OpenComment ∷ Odd ∷ Behind ∷ Finish ∷ []
+    LeftBracket ∷ RightBracket ∷ LeftBrace ∷ RightBrace ∷ Body ∷ End ∷ Abort ∷ OpenComment ∷ OddSign ∷ Behind ∷
+    Finish ∷ []
 
 abbrev all : (Kind → Bool) → List Kind → Bool
 all p [] = true
@@ -27,6 +36,10 @@ all p (k ∷ ks) = cond (p k) (all p ks) false
 
 abbrev pub Each : (Kind → Bool) → Type 0
 Each p = all p kinds ≡ true
+
+chosen : (b c d : Bool) → cond b c d ≡ true → b ≡ true → c ≡ true
+chosen true c d e h = e
+chosen false c d e h = absurd (false_true h)
 
 both : (b c : Bool) → cond b c false ≡ true → (b ≡ true) × (c ≡ true)
 both true c e = (refl, e)
@@ -45,50 +58,72 @@ place k = (omega arith, refl)
 each : (p : Kind → Bool) → Each p → (k : Kind) → p k ≡ true
 each p e k = subst (λ x. p x ≡ true) (place k).1 (at p kinds (tag_of the_type k) (place k).0 e)
 
-implied : (b c : Bool) → cond b c true ≡ true → b ≡ true → c ≡ true
-implied true c e h = e
-implied false c e h = absurd (false_true h)
+-- ## Sets of kinds
 
-excluded : (b c : Bool) → cond b (cond c false true) true ≡ true → b ≡ true → c ≡ true → ⊥
-excluded true true e h k = false_true e
-excluded true false e h k = false_true k
-excluded false c e h k = false_true h
+abbrev pub inside : (Kind → Bool) → (Kind → Bool) → Kind → Bool
+inside p q k = cond (p k) (q k) true
 
-pub within : (p q : Kind → Bool) → Each (λ k. cond (p k) (q k) true) → Within (Of p) (Of q)
-within p q e t h = implied (p t.kind) (q t.kind) (each (λ k. cond (p k) (q k) true) e t.kind) h
+abbrev pub beside : (Kind → Bool) → (Kind → Bool) → Kind → Bool
+beside p q k = cond (p k) (not (q k)) true
 
-pub apart : (p q : Kind → Bool) → Each (λ k. cond (p k) (cond (q k) false true) true) → Apart (Of p) (Of q)
-apart p q e t h k =
-    excluded (p t.kind) (q t.kind) (each (λ k. cond (p k) (cond (q k) false true) true) e t.kind) h k
+pub within : (p q : Kind → Bool) → Each (inside p q) → Within (Of p) (Of q)
+within p q e t h = chosen (p t.kind) (q t.kind) true (each (inside p q) e t.kind) h
+
+pub within_both : (p q r : Kind → Bool) → Each (inside p r) → Each (inside q r) → Within (Or (Of p) (Of q)) (Of r)
+within_both p q r e f = both_within (within p r e) (within q r f)
+
+pub apart : (p q : Kind → Bool) → Each (beside p q) → Apart (Of p) (Of q)
+apart p q e t h k = false_true (sym (ap not k) ∙ within p (λ x. not (q x)) e t h)
 
 pub test_of : (p : Kind → Bool) (kind : Kind) → p kind ≡ true → Each (λ k. cond (p k) (sameb the_type k kind) true) →
     IsTestOf p kind
 test_of p kind is e = (
   is,
-  λ k h. same_true the_type tt k kind (implied (p k) (sameb the_type k kind)
-      (each (λ k. cond (p k) (sameb the_type k kind) true) e k) h),
+  λ k h. same_true the_type tt k kind
+      (chosen (p k) (sameb the_type k kind) true (each (λ x. cond (p x) (sameb the_type x kind) true) e k) h),
 )
 
--- a sign of another kind is right by itself
-abbrev is_ever_wrong : Kind → Bool
-is_ever_wrong Header = true
-is_ever_wrong HeaderAgain = true
-is_ever_wrong ZeroRun = true
-is_ever_wrong Abort = true
-is_ever_wrong OpenComment = true
-is_ever_wrong Odd = true
-is_ever_wrong Behind = true
-is_ever_wrong kind = false
+-- ## One sign
 
-right : (kind : Kind) (text : List ℕ) → (is_ever_wrong kind ≡ true → ⊥) → own_cause kind text ≡ None
-right Header text h = absurd (h refl)
-right HeaderAgain text h = absurd (h refl)
-right ZeroRun text h = absurd (h refl)
-right Abort text h = absurd (h refl)
-right OpenComment text h = absurd (h refl)
-right Odd text h = absurd (h refl)
-right Behind text h = absurd (h refl)
-right kind text h = refl
+-- of each text: the kinds of the set are right by themselves, and no sign of another kind has a value
+abbrev pub AreSigns : {V : Type 0} → (Kind → Bool) → (Sign → Option V) → Type 0
+AreSigns p take = (text : List ℕ) → Each (λ k. cond (p k) (not (is_some (own_cause k text)))
+    (not (is_some (take (record { kind = k; text = text })))))
 
-pub plain : (p : Kind → Bool) → Each (λ k. cond (p k) (cond (is_ever_wrong k) false true) true) → IsPlain p
-plain p e kind text h = right kind text (apart p is_ever_wrong e (record { kind = kind; text = text }) h)
+no_some : {V : Type 0} (o : Option V) (v : V) → not (is_some o) ≡ true → o ≡ Some v → ⊥
+no_some None v e h = none_is_some v h
+no_some (Some w) v e h = false_true e
+
+pub plain : (p : Kind → Bool) → ((text : List ℕ) → Each (inside p (λ k. not (is_some (own_cause k text))))) →
+    Apart (Of p) Odd
+plain p e t h o = no_some (own_cause t.kind t.text) o.0
+    (within p (λ k. not (is_some (own_cause k t.text))) (e t.text) t h) o.1
+
+module _ {V : Type 0} (p : Kind → Bool) (take : Sign → Option V) (are : AreSigns p take) (t : Sign) where
+  tried : cond (p t.kind) (not (is_some (own_cause t.kind t.text))) (not (is_some (take t))) ≡ true
+  tried = each (λ k. cond (p k) (not (is_some (own_cause k t.text)))
+      (not (is_some (take (record { kind = k; text = t.text }))))) (are t.text) t.kind
+
+  has_kind : (take t ≡ None → ⊥) → Of p t
+  has_kind h = go (p t.kind) (not (is_some (own_cause t.kind t.text))) (take t) tried h
+    where
+      go : (b c : Bool) (o : Option V) → cond b c (not (is_some o)) ≡ true → (o ≡ None → ⊥) → b ≡ true
+      go true c o e h = refl
+      go false c None e h = absurd (h refl)
+      go false c (Some w) e h = absurd (false_true e)
+
+  is_right_by_itself : Of p t → Odd t → ⊥
+  is_right_by_itself h o = no_some (own_cause t.kind t.text) o.0 (chosen (p t.kind) _ _ tried h) o.1
+
+module _ {V : Type 0} {take : Sign → Option V} {Bad : Sign → HoaCause → Type 0} (p : Kind → Bool) (kind : Kind)
+    (text : List ℕ) (v : V) (e : take (record { kind = kind; text = text }) ≡ Some v) (are : AreSigns p take) where
+  pub laws_sign : Within (BadSign Bad) (Of p) → Laws Odd (one take Bad) (Of p) Nothing ⊥
+  laws_sign bad = laws_first (record { kind = kind; text = text }) v e (is_right_by_itself p take are)
+      (λ t h. has_kind p take are t (λ n. none_is_some h.0 (sym n ∙ h.1))) bad
+
+  pub laws_value : ((t : Sign) (f : HoaCause) → Bad t f → take t ≡ None → ⊥) → Laws Odd (one take Bad) (Of p) Nothing ⊥
+  laws_value bad = laws_sign (λ t h. has_kind p take are t (bad t h.0 h.1))
+
+pub laws_mark : (p : Kind → Bool) (kind : Kind) → p kind ≡ true → AreSigns p (mark_in p) →
+    Laws Odd (mark p) (Of p) Nothing ⊥
+laws_mark p kind e are = laws_sign p kind [] tt (ap (λ (b : Bool). cond b (Some tt) None) e) are (λ t h. absurd h.1)

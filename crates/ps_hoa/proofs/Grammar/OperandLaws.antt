@@ -5,15 +5,15 @@
 --               behind the first
 --     row_fails, row_alone, row_begins, row_goes_on, row_stops, row_ends      the exits of a row and the invariant of
 --               its loop
-use Rattle.std.proofs.Common.{◌≡◌, ℕ, Bool, true, false, cond, List, [], Option, None, Some, refl, sym, ap, inl, inr}
-use Rattle.std.proofs.Common.{◌∙◌}
+use Rattle.std.proofs.Common.{◌≡◌, Bool, true, false, cond, List, Option, None, Some, refl, inl}
 use Rattle.ps_text.specs.Answers.{Stream, Found, next_of, signs}
-use Rattle.ps_text.specs.Parts.{Part, NoBad, then_by, many, mapped}
+use Rattle.ps_text.specs.Parts.{Part, then_by, many, mapped}
 use Rattle.ps_text.specs.Readers.{Stops, Reads, Carries}
-use Rattle.ps_text.proofs.Following.{laws_next}
-use Rattle.ps_text.proofs.Laws.{Laws, Joint, Nothing, Or, When, Within, Apart, weaker}
+use Rattle.ps_text.proofs.Following.{laws_next, laws_tight}
+use Rattle.ps_text.proofs.Combined.{both_within, joint_tight}
+use Rattle.ps_text.proofs.Laws.{Laws, Joint, Nothing, Or, Apart, weaker}
 use Rattle.ps_text.proofs.Joined.{joint}
-use Rattle.ps_text.proofs.Simple.{Taken, BadSign, none_is_some, laws_one, laws_mapped, laws_then}
+use Rattle.ps_text.proofs.Simple.{none_is_some, laws_mapped, laws_then}
 use Rattle.ps_text.proofs.Covered.{Avoids, enters_read, enters_then}
 use Rattle.ps_text.proofs.Repeated.{laws_many}
 use Rattle.ps_text.proofs.Exits.{reads_mapped, reads_then, stops_mapped, stops_first, stops_behind, carries_start}
@@ -21,7 +21,7 @@ use Rattle.ps_text.proofs.Exits.{carries_then, carries_reads, carries_stops}
 use Rattle.ps_text.proofs.Branches.{many_ends, many_fails, carries_many}
 use Rattle.ps_text.proofs.Whole.{Own}
 use Rattle.ps_hoa.specs.Tokens.{Sign}
-use Rattle.ps_hoa.specs.Causes.{hoa_causes, own_cause}
+use Rattle.ps_hoa.specs.Causes.{hoa_causes}
 use Rattle.ps_hoa.specs.Operands.{is_right, mark_in, mark, before, closed, single, with_last, joined, further, operands}
 use Rattle.ps_hoa.specs.Operands.{row}
 use Rattle.ps_hoa.specs.declared.fault.HoaCause.{HoaCause}
@@ -34,9 +34,6 @@ Odd = Own hoa_causes
 abbrev pub Of : (Kind → Bool) → Sign → Type 0
 Of test sign = test sign.kind ≡ true
 
-abbrev pub IsPlain : (Kind → Bool) → Type 0
-IsPlain test = (kind : Kind) (text : List ℕ) → test kind ≡ true → own_cause kind text ≡ None
-
 pub false_true : false ≡ true → ⊥
 false_true e = let x : false ≡ true = e in cc
 
@@ -47,79 +44,46 @@ taken_mark test sign v e = go (test sign.kind) e
     go true h = refl
     go false h = absurd (none_is_some v h)
 
-pub plain_odd : (test : Kind → Bool) → IsPlain test → Apart (Of test) Odd
-plain_odd test plain sign h o = none_is_some o.0 (sym (plain sign.kind sign.text h) ∙ o.1)
-
 pub nothing_apart : (A : Sign → Type 0) → Apart Nothing A
 nothing_apart A t h k = h
 
-pub laws_mark : (test : Kind → Bool) (kind : Kind) → test kind ≡ true → IsPlain test →
-    Laws Odd (mark test) (Of test) Nothing ⊥
-laws_mark test kind e plain = weaker
-    (laws_one (mark_in test) NoBad Odd (record { kind = kind; text = [] }) tt
-    (ap (λ (b : Bool). cond b (Some tt) None) e)
-    (λ t h o. plain_odd test plain t (taken_mark test t h.0 h.1) o) (λ t h o. h.1))
-    first (λ t h. h) (λ h. h)
-  where
-    first : Within (Or (Taken (mark_in test)) (BadSign (NoBad {T = Sign} {F = HoaCause}))) (Of test)
-    first t (inl h) = taken_mark test t h.0 h.1
-    first t (inr h) = absurd h.1
+-- a sign and then a part, a part and then `)`
+module _ {V : Type 0} (test : Kind → Bool) {P : Part Sign V HoaCause} {First More : Sign → Type 0}
+    (m : Laws Odd (mark test) (Of test) Nothing ⊥) where
+  pub joint_mark : {Null : Type 0} → Laws Odd P First More Null → Joint (mark test) (λ _. P)
+  joint_mark l = joint_tight m (λ _. l)
 
-pub only_first : (A B : Sign → Type 0) → Within (Or A (When ⊥ B)) A
-only_first A B t (inl h) = h
-only_first A B t (inr h) = absurd h.0
+  pub laws_behind : Laws Odd P First More ⊥ → Laws Odd (then_by (mark test) (λ _. P)) (Of test) More ⊥
+  laws_behind l = laws_tight m (λ _. l)
 
-pub joint_mark : {V : Type 0} (test : Kind → Bool) {P : Part Sign V HoaCause} {First More : Sign → Type 0}
-    {Null : Type 0} →
-    Laws Odd (mark test) (Of test) Nothing ⊥ → Laws Odd P First More Null → Joint (mark test) (λ _. P)
-joint_mark test {First = First} m l = joint m (λ _. l) (nothing_apart First)
+module _ {V : Type 0} {P : Part Sign V HoaCause} {First More : Sign → Type 0}
+    (r : Laws Odd (mark is_right) (Of is_right) Nothing ⊥) where
+  pub joint_closed : {Null : Type 0} → Laws Odd P First More Null → Apart More (Of is_right) → Joint P (λ v. closed v)
+  joint_closed l a = joint l (λ v. laws_mapped (before v) (mark is_right) r) a
 
--- a sign, and then a part
-pub laws_behind : {V : Type 0} (test : Kind → Bool) {P : Part Sign V HoaCause} {First More : Sign → Type 0} →
-    Laws Odd (mark test) (Of test) Nothing ⊥ → Laws Odd P First More ⊥ →
-    Laws Odd (then_by (mark test) (λ _. P)) (Of test) More ⊥
-laws_behind test {First = First} m l = laws_next m (λ _. l) (nothing_apart First)
-
-pub laws_closed : {V : Type 0} → Laws Odd (mark is_right) (Of is_right) Nothing ⊥ → (v : V) →
-    Laws Odd (closed v) (Of is_right) Nothing ⊥
-laws_closed r v = laws_mapped (before v) (mark is_right) r
-
-pub joint_closed : {V : Type 0} {P : Part Sign V HoaCause} {First More : Sign → Type 0} {Null : Type 0} →
-    Laws Odd (mark is_right) (Of is_right) Nothing ⊥ →
-    Laws Odd P First More Null → Apart More (Of is_right) → Joint P (λ v. closed v)
-joint_closed r l a = joint l (λ v. laws_closed r v) a
-
-pub laws_held : {V : Type 0} {P : Part Sign V HoaCause} {First More : Sign → Type 0} →
-    Laws Odd (mark is_right) (Of is_right) Nothing ⊥ →
-    Laws Odd P First More ⊥ → Apart More (Of is_right) → Laws Odd (then_by P (λ v. closed v)) First Nothing ⊥
-laws_held r l a = laws_next l (λ v. laws_closed r v) a
+  pub laws_held : Laws Odd P First More ⊥ → Apart More (Of is_right) →
+      Laws Odd (then_by P (λ v. closed v)) First Nothing ⊥
+  laws_held l a = laws_next l (λ v. laws_mapped (before v) (mark is_right) r) a
 
 module _ {V : Type 0} (sign : Kind → Bool) (operand : Part Sign V HoaCause) {First More : Sign → Type 0}
     (m : Laws Odd (mark sign) (Of sign) Nothing ⊥) (l : Laws Odd operand First More ⊥) (apart : Apart More (Of sign))
   where
-    item : List V → Part Sign (List V) HoaCause
+    abbrev item : List V → Part Sign (List V) HoaCause
     item vs = further sign operand vs
 
     laws_item : (vs : List V) → Laws Odd (item vs) (Of sign) More ⊥
-    unfolding item
     laws_item vs = laws_behind sign m (laws_mapped (with_last vs) operand l)
 
     laws_items : (vs : List V) → Laws Odd (many item vs) (Of sign) (Or More (Of sign)) (Unit {0})
     laws_items vs = laws_many item laws_item apart vs
 
     pub joint_operands : Joint (mapped single operand) (λ vs. many (λ ws. further sign operand ws) vs)
-    unfolding item
     joint_operands = joint (laws_mapped single operand l) laws_items apart
 
-    more_of_row : Within (Or (Or More (Of sign)) (When (Unit {0}) More)) (Or More (Of sign))
-    more_of_row t (inl h) = h
-    more_of_row t (inr h) = inl h.1
-
     pub laws_row : (join : List V → V) → Laws Odd (row sign join operand) First (Or More (Of sign)) ⊥
-    unfolding item
-    laws_row join = laws_mapped (joined join) (operands sign operand)
-        (weaker (laws_then (laws_mapped single operand l) laws_items apart) (only_first First (Of sign))
-        more_of_row (λ h. h.0))
+    laws_row join = laws_mapped (joined join) (operands sign operand) (weaker
+        (laws_then (laws_mapped single operand l) laws_items apart) (both_within (λ t h. h) (λ t h. absurd h.0))
+        (both_within (λ t h. h) (λ t h. inl h.1)) (λ n. n.0))
 
     -- the first operand fails
     pub row_fails : (join : List V → V) (old : Stream Sign) (o : Option (Found HoaCause)) →
@@ -131,7 +95,6 @@ module _ {V : Type 0} (sign : Kind → Bool) (operand : Part Sign V HoaCause) {F
     -- no further one stands behind it
     pub row_alone : (join : List V → V) {old new : Stream Sign} {v : V} → Reads operand old v new →
         Avoids (Of sign) (next_of new) → Reads (row sign join operand) old v new
-    unfolding item
     row_alone join {new = new} {v = v} r a =
         reads_mapped (joined join) (reads_then joint_operands (reads_mapped single r)
         (many_ends item laws_item apart (single v) new a))
@@ -150,7 +113,6 @@ module _ {V : Type 0} (sign : Kind → Bool) (operand : Part Sign V HoaCause) {F
 
     pub row_goes_on : {old now mid new : Stream Sign} {vs : List V} {v : V} → InRow old vs now →
         Reads (mark sign) now tt mid → Reads operand mid v new → InRow old (with_last vs v) new
-    unfolding item
     row_goes_on {vs = vs} k r n =
         carries_many item laws_item apart hoa_causes k (reads_then (joint_item vs) r (reads_mapped (with_last vs) n))
 
@@ -158,7 +120,6 @@ module _ {V : Type 0} (sign : Kind → Bool) (operand : Part Sign V HoaCause) {F
     pub row_stops : (join : List V → V) {old now mid : Stream Sign} {vs : List V} (o : Option (Found HoaCause)) →
         InRow old vs now → Reads (mark sign) now tt mid → Stops hoa_causes operand mid o →
         Stops hoa_causes (row sign join operand) old o
-    unfolding item
     row_stops join {old} {now} {mid} {vs} o k r s = stops_mapped hoa_causes (joined join) (operands sign operand) old o
         (carries_stops hoa_causes (operands sign operand) (many item vs) old now o k
         (many_fails item laws_item apart hoa_causes vs now o
@@ -169,6 +130,5 @@ module _ {V : Type 0} (sign : Kind → Bool) (operand : Part Sign V HoaCause) {F
     -- no further one stands here
     pub row_ends : (join : List V → V) {old now : Stream Sign} {vs : List V} → InRow old vs now →
         Avoids (Of sign) (next_of now) → Reads (row sign join operand) old (joined join vs) now
-    unfolding item
     row_ends join {now = now} {vs = vs} k a =
         reads_mapped (joined join) (carries_reads hoa_causes k (many_ends item laws_item apart vs now a))

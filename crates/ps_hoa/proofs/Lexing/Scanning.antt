@@ -1,6 +1,6 @@
 -- One byte further in a string or a comment.
-use Rattle.std.proofs.Common.{◌≡◌, ◌≢◌, ℕ, suc, zero, ◌+◌, ◌-◌, ◌<◌, ◌≤◌, ◌&&◌, Bool, true, false, List, [], ◌∷◌}
-use Rattle.std.proofs.Common.{length, get_or, take, drop, refl, ap, sym, ◌∙◌, arith, add-one, zero-add, nat_eq}
+use Rattle.std.proofs.Common.{◌≡◌, ◌≢◌, ℕ, suc, zero, ◌+◌, ◌-◌, ◌<◌, ◌≤◌, ◌&&◌, Bool, true, false, List, [], ◌∷◌, rules}
+use Rattle.std.proofs.Common.{length, get_or, take, drop, refl, ap, sym, ◌∙◌, arith, add-one, nat_eq}
 use Rattle.std.specs.Prelude.{Option, None, Some}
 use Rattle.std.proofs.Math.Seq.{drop-cons}
 use Rattle.std.proofs.lemmas.List.{drop_all, drop-drop}
@@ -12,12 +12,10 @@ use Rattle.ps_hoa.specs.declared.tokens.Step.TheVariants.{Skip, Found}
 use Rattle.ps_hoa.specs.Scan.{plus, one_more, quoted_len, comment_len, head_or_zero, lex, lex_behind, step_of}
 
 pub plus-one_more : (k : ℕ) (o : Option ℕ) → plus k (one_more o) ≡ plus (k + 1) o
-plus-one_more k None = refl
-plus-one_more k (Some n) = let e : k + suc n ≡ (k + 1) + n = omega arith in ap (λ (x : ℕ). Some x) e
+plus-one_more k o = search rules
 
 pub plus_zero : (o : Option ℕ) → plus 0 o ≡ o
-plus_zero None = refl
-plus_zero (Some n) = ap (λ (x : ℕ). Some x) (zero-add n)
+plus_zero o = search rules
 
 -- a test on numbers that fails
 differ : (a b : ℕ) → a ≢ b → nat_eq a b ≡ false
@@ -37,9 +35,7 @@ quoted_ends bs at h is = rw (drop-cons bs at 0 h, is) refl
 pub quoted_on : (bs : List ℕ) (at : ℕ) → at < length bs → get_or bs at 0 ≢ 34 →
     plus at (quoted_len (drop at bs) false) ≡ plus (at + 1) (quoted_len (drop (at + 1) bs) (nat_eq (get_or bs at 0) 92))
 unfolding quoted_len
-quoted_on bs at h is =
-    rw (drop-cons bs at 0 h, differ (get_or bs at 0) 34 is, add-one at)
-    (rw add-one at (plus-one_more at (quoted_len (drop (suc at) bs) (nat_eq (get_or bs at 0) 92))))
+quoted_on bs at h is = search (rules, drop-cons, differ, plus-one_more)
 
 pub quoted_past : (bs : List ℕ) (skip : Bool) (at : ℕ) → length bs ≤ at → plus at (quoted_len (drop at bs) skip) ≡ None
 unfolding quoted_len
@@ -127,25 +123,12 @@ nothing_begins n is = cc
 
 -- what is skipped changes no token
 pub lex_skip : (bytes : List ℕ) (n at : ℕ) → step_of bytes ≡ Skip n → 0 < n → lex at bytes ≡ lex (at + n) (drop n bytes)
-lex_skip [] n at is some = absurd (nothing_begins n is)
-lex_skip (b ∷ bs) zero at is some = absurd (omega arith)
-lex_skip (b ∷ bs) (suc n) at is some =
-    let less : suc n - 1 ≡ n = omega arith in
-    let e : (at + 1) + n ≡ at + suc n = omega arith in
-    lex_is b bs at ∙ ap (lex_by b bs at) is ∙ ap (λ (k : ℕ). lex_behind bs k (at + 1)) less ∙ lex_skips bs n (at + 1)
-    ∙ ap (λ (k : ℕ). lex_behind (drop n bs) 0 k) e
+lex_skip bytes n at h1 h2 = search (rules, nothing_begins, lex_is, lex_skips)
 
 pub lex_token : (bytes : List ℕ) (kind : Kind) (n at : ℕ) → 0 < length bytes → step_of bytes ≡ Found kind n → 0 < n →
     lex at bytes ≡ record { sign = record { kind = kind; text = take n bytes }; start = at } ∷ lex
     (at + n) (drop n bytes)
-lex_token [] kind n at long is some = absurd (omega arith)
-lex_token (b ∷ bs) kind zero at long is some = absurd (omega arith)
-lex_token (b ∷ bs) kind (suc n) at long is some =
-    let less : suc n - 1 ≡ n = omega arith in
-    let e : (at + 1) + n ≡ at + suc n = omega arith in
-    let p : Piece Sign = record { sign = record { kind = kind; text = take (suc n) (b ∷ bs) }; start = at } in
-    lex_is b bs at ∙ ap (lex_by b bs at) is ∙ ap (λ (k : ℕ). p ∷ lex_behind bs k (at + 1)) less
-    ∙ ap (λ (ps : List (Piece Sign)). p ∷ ps) (lex_skips bs n (at + 1) ∙ ap (λ (k : ℕ). lex_behind (drop n bs) 0 k) e)
+lex_token bytes kind n at h1 h2 h3 = search (rules, lex_is, lex_skips)
 
 -- one turn of a loop over blanks
 pub lex_step : (source : List ℕ) (from at n : ℕ) → step_of (drop at source) ≡ Skip n → 0 < n →

@@ -1,20 +1,20 @@
 -- The pieces still to come, and one token further.
-use Rattle.std.proofs.Common.{◌≡◌, ℕ, suc, zero, ◌+◌, ◌-◌, ◌<◌, ◌≤◌, ◌↔◌, Bool, true, false, cond, List, [], ◌∷◌}
-use Rattle.std.proofs.Common.{length, take, drop, refl, ap, sym, subst, ◌∙◌, arith, length-drop}
+use Rattle.std.proofs.Common.{◌≡◌, ℕ, ◌+◌, ◌-◌, ◌<◌, ◌≤◌, ◌↔◌, Bool, false, cond, List, [], ◌∷◌, rules, length, take}
+use Rattle.std.proofs.Common.{drop, refl, ap, sym, ◌∙◌, arith, length-drop}
 use Rattle.std.specs.List.{slice_range}
 use Rattle.std.proofs.lemmas.List.{drop_all, drop-drop}
 use Rattle.std.proofs.Math.Decide.{dec_lt}
 use Rattle.ps_text.specs.Answers.{Piece, Stream}
-use Rattle.ps_hoa.specs.Tokens.{Sign, marked, marks_after, kind_here, is_known}
+use Rattle.ps_hoa.specs.Tokens.{Sign, marked, marks_after, kind_here}
 use Rattle.ps_hoa.specs.declared.tokens.Kind.{Kind}
-use Rattle.ps_hoa.specs.declared.tokens.Kind.TheVariants.{Header, HeaderAgain, OpenComment, Behind, Finish}
+use Rattle.ps_hoa.specs.declared.tokens.Kind.TheVariants.{Behind, Finish}
 use Rattle.ps_hoa.specs.Spans.{IsKept, IsSpan, piece_of}
 use Rattle.ps_hoa.specs.declared.tokens.Lexeme.{Lexeme}
 use Rattle.ps_hoa.specs.declared.tokens.Token.{Token}
 use Rattle.ps_hoa.specs.declared.tokens.Marks.{Marks}
 use Rattle.ps_hoa.specs.declared.tokens.Step.TheVariants.{Found}
-use Rattle.ps_hoa.specs.Scan.{lex, lex_behind, step_of, IsLexeme, Reading, stream_of, next_of, behind_next}
-use Rattle.ps_hoa.specs.Scan.{is_finish, fresh}
+use Rattle.ps_hoa.specs.Scan.{lex, lex_behind, step_of, IsLexeme, Reading, stream_of, next_of, behind_next, is_finish}
+use Rattle.ps_hoa.specs.Scan.{fresh}
 use Rattle.ps_hoa.proofs.Lexing.Scanning.{lex_token}
 
 abbrev before : List ℕ → Lexeme → Marks → Reading
@@ -40,8 +40,7 @@ lex_nothing at = refl
 -- none does
 pub pieces_none : (r : Reading) → length r.source ≤ r.at → (stream_of r).pieces ≡ []
 unfolding stream_of
-pieces_none r done = ap (λ (bytes : List ℕ). marked r.marks (lex r.at bytes)) (drop_all r.at r.source done)
-    ∙ ap (λ (ps : List (Piece Sign)). marked r.marks ps) (lex_nothing r.at)
+pieces_none r done = search (rules, drop_all, lex_nothing)
 
 pub end_is : (r : Reading) → (stream_of r).end ≡ length r.source
 unfolding stream_of
@@ -72,8 +71,7 @@ pub behind_at_end : (s : Stream Sign) → s.pieces ≡ [] → behind_next s ≡ 
 behind_at_end s is = rw is refl
 
 take_nothing : (n : ℕ) → take n (let none : List ℕ = [] in none) ≡ []
-take_nothing zero = refl
-take_nothing (suc n) = refl
+take_nothing n = search rules
 
 -- the stream by its two parts
 shown : (r : Reading) (ps : List (Piece Sign)) (end : ℕ) → marked r.marks (lex r.at (drop r.at r.source)) ≡ ps →
@@ -82,28 +80,17 @@ unfolding stream_of
 shown r ps end e f = λ i. record { pieces = e i; end = f i }
 
 stream_none : (r : Reading) → length r.source ≤ r.at → stream_of r ≡ record { pieces = []; end = length r.source }
-stream_none r done =
-    shown r [] (length r.source) (ap (λ (bytes : List ℕ). marked r.marks (lex r.at bytes)) (drop_all r.at r.source done)
-    ∙ ap (λ (ps : List (Piece Sign)). marked r.marks ps) (lex_nothing r.at)) refl
+stream_none r done = search (rules, shown, drop_all, lex_nothing)
 
 no_piece : (p : Piece Sign) (ps : List (Piece Sign)) → p ∷ ps ≡ [] → ⊥
 no_piece p ps e = cc
 
 other : (a : Bool) (kind : Kind) → is_finish kind ≡ false → cond a Behind kind ≡ Finish → ⊥
-other true kind h e = cc
-other false kind h e = let g = sym h ∙ ap is_finish e in cc
+other a kind h1 h2 = search rules
 
 -- a token is never the end of the text
 never : (m : Marks) (kind : Kind) (text : List ℕ) → is_finish kind ≡ false → kind_here m kind text ≡ Finish → ⊥
-never m Finish text h e = cc
-never m OpenComment text h e = cc
-never m Header text h e = go m.ended (is_known m text) e
-  where
-    go : (a b : Bool) → cond a Behind (cond b HeaderAgain Header) ≡ Finish → ⊥
-    go true b e = cc
-    go false true e = cc
-    go false false e = cc
-never m kind text h e = other m.ended kind h e
+never m kind text h1 h2 = search (rules, other)
 
 module _ (source : List ℕ) (l : Lexeme) (marks : Marks) (h : IsLexeme source l) where
   -- a token stands here
@@ -141,20 +128,7 @@ module _ (source : List ℕ) (l : Lexeme) (marks : Marks) (h : IsLexeme source l
   pub rest_is : (at : ℕ) → l.stop ≤ at → lex at (drop at source) ≡ lex l.stop (drop l.stop source) →
       stream_of (record { source = source; at = at; marks = marks_behind source l marks }) ≡ behind_next (stream_of
       (before source l marks))
-  rest_is at on same =
-      let r = before source l marks in
-      let new : Reading = record { source = source; at = at; marks = marks_behind source l marks } in
-      (elim (dec_lt l.start (length source)) as (λ _. stream_of new ≡ behind_next (stream_of r)) [
-        | yes some ↦ shown new _ _ (ap (λ (ps : List (Piece Sign)). marked new.marks ps) same) refl
-            ∙ sym (behind_at (stream_of r) _ _ (found some) ∙ ap (λ (e : ℕ). record {
-              pieces = marked new.marks (lex l.stop (drop l.stop source));
-              end = e;
-            }) (end_is r))
-        | no none ↦
-            let done : length source ≤ l.start = omega arith in
-            let past : length source ≤ at = omega (arith, h.rises) in
-            stream_none new past ∙ sym (behind_at_end (stream_of r) (pieces_none r done) ∙ stream_none r done)
-      ])
+  rest_is at on same = search (rules, dec_lt, shown, behind_at, found, end_is, stream_none, behind_at_end, pieces_none)
 
   -- the end of the text is at no token, and nothing else is
   pub finish_iff : ((token_piece source l marks).sign.kind ≡ Finish) ↔ ((stream_of (before source l marks)).pieces ≡
@@ -163,10 +137,7 @@ module _ (source : List ℕ) (l : Lexeme) (marks : Marks) (h : IsLexeme source l
       let r = before source l marks in
       (elim (dec_lt l.start (length source)) as (λ _. ((token_piece source l marks).sign.kind ≡ Finish) ↔
       ((stream_of r).pieces ≡ [])) [
-        | yes some ↦ (
-          λ e. absurd (never marks l.kind _ (h.proper some) e),
-          λ e. absurd (no_piece _ _ (sym (found some) ∙ e)),
-        )
+        | yes some ↦ search (rules, never, no_piece, found)
         | no none ↦
             let done : length source ≤ l.start = omega arith in (
               λ _. pieces_none r done,
@@ -192,8 +163,7 @@ module _ {source : List ℕ} {marks : Marks} {kind : Kind} {token : Token} (k : 
         (λ e. sym same ∙ w.0 (sym here ∙ e), λ e. here ∙ w.1 (same ∙ e))
 
     pub kept_span : IsSpan r.source token
-    kept_span = subst (λ (s : Reading). IsSpan s.source token) at
-        (record { rises = k.lexeme.rises; within = k.lexeme.within; text = k.text })
+    kept_span = search rules
 
     pub kept_rest : {start next : ℕ} {behind : Marks} → start ≡ next → behind ≡ marks_after marks kind token.text.now →
         token.stop ≤ next → lex next (drop next source) ≡ lex token.stop (drop token.stop source) →
@@ -208,5 +178,4 @@ pub pieces_new : (source : List ℕ) (from at start : ℕ) (marks : Marks) (piec
     lex from (drop from source) ≡ pieces →
     (stream_of (record { source = source; at = start; marks = marks })).pieces ≡ marked fresh pieces
 unfolding stream_of
-pieces_new source from at start marks pieces e f same is =
-    λ i. marked (e i) ((ap (λ (k : ℕ). lex k (drop k source)) f ∙ same ∙ is) i)
+pieces_new source from at start marks pieces e f same is = search rules

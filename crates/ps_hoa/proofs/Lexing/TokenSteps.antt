@@ -2,13 +2,13 @@
 --     run_len, run_sound      runs of bytes
 --     comment_found, quoted_found      comments and strings
 --     stand_step      the step at a token
-use Rattle.std.proofs.Common.{◌≡◌, ◌≢◌, ℕ, suc, zero, ◌+◌, ◌<◌, ◌≤◌, ◌&&◌, ◌||◌, Bool, true, false, cond, List, [], ◌∷◌}
-use Rattle.std.proofs.Common.{◌++◌, length, take, drop, refl, ap, ◌∙◌, arith, length-append, append_assoc, inl, inr}
-use Rattle.std.specs.Prelude.{Option, None, Some, nat_eq, nat_lt}
+use Rattle.std.proofs.Common.{rules, ◌≡◌, ◌≢◌, ℕ, suc, ◌+◌, ◌<◌, ◌≤◌, ◌&&◌, ◌||◌, Bool, true, false, cond, List, []}
+use Rattle.std.proofs.Common.{◌∷◌, ◌++◌, length, take, drop, refl, ap, ◌∙◌, arith, length-append, append_assoc}
+use Rattle.std.specs.Prelude.{Option, Some, nat_eq, nat_lt}
 use Rattle.std.specs.List.{prefix_len}
 use Rattle.std.proofs.lemmas.Bool.Decides.{eqb_tells}
 use Rattle.std.proofs.Math.Seq.{drop-append_seam}
-use Rattle.ps_hoa.specs.Bytes.{class_of, is_digit, is_name_byte, digits, goes_on as names}
+use Rattle.ps_hoa.specs.Bytes.{class_of, is_digit, is_name_byte, goes_on as names}
 use Rattle.ps_hoa.specs.Tokens.{Ends, closes_last, closes, opens, goes_on, AllBytes, IsName, IsQuoted, nothing, plain}
 use Rattle.ps_hoa.specs.Tokens.{escaped, lengthens, StopsBefore, Stands}
 use Rattle.ps_hoa.specs.Scan.{one_more, comment_len, quoted_len, head_or_zero, step_of, class_step, text_by}
@@ -54,11 +54,7 @@ pub by_class : (b : ℕ) (bs : List ℕ) (c : Class) → class_of b ≡ c → st
 by_class b bs c e = step_is b bs ∙ ap (λ (k : Class). class_step k b bs) e
 
 digit_class : (b : ℕ) → is_digit b ≡ true → class_of b ≡ Digit
-digit_class b h = go (class_of b) h
-  where
-    go : (c : Class) → digits c ≡ true → c ≡ Digit
-    go Digit h = refl
-    go _ h = cc
+digit_class b h = search rules
 
 -- ## Runs
 
@@ -90,17 +86,13 @@ run_sound p (b ∷ bs) = go (run_sound p bs) (p b) refl
 
 -- what one more tells
 pub some_more : (o : Option ℕ) (n : ℕ) → one_more o ≡ Some n → (m : ℕ) × (o ≡ Some m) × (n ≡ suc m)
-some_more None n e = cc
-some_more (Some m) n e = (m, refl, cc)
+some_more o n h1 = search rules
 
 pub differ : (a b : ℕ) → a ≢ b → nat_eq a b ≡ false
 differ a b h = grind arith
 
 no_pair : (b a c d : ℕ) → ((b ≡ a) × (c ≡ d) → ⊥) → (nat_eq b a && nat_eq c d) ≡ false
-no_pair b a c d h = (elim (eqb_tells b a) [
-  | inl p ↦ (elim (eqb_tells c d) [ inl q ↦ absurd (h (p.1, q.1)) | inr q ↦ rw (p.0, q.0) refl ])
-  | inr p ↦ rw p.0 refl
-])
+no_pair b a c d h = search (rules, eqb_tells)
 
 pub comment_found : {depth : ℕ} {text : List ℕ} (more : List ℕ) → Ends depth text →
     comment_len (text ++ more) false depth ≡ Some (length text)
@@ -125,8 +117,7 @@ no_number n e = omega arith
 
 text_of_name : (name : List ℕ) → IsName name → (b : ℕ) × (bs : List ℕ) × (name ≡ b ∷ bs) × (class_of b ≡ Letter) ×
     AllBytes is_name_byte bs
-text_of_name [] h = absurd h
-text_of_name (b ∷ bs) h = (b, bs, refl, h.0, h.1)
+text_of_name name h1 = search rules
 
 name_58 : is_name_byte 58 ≡ false
 name_58 = ap names class_58
@@ -184,27 +175,20 @@ text_found inside rest q =
     ∙ ap text_by (quoted_found rest q) ∙ ap (λ (k : ℕ). Found Text k) len
 
 plain_test : (b n : ℕ) → (1 < suc n → b ≡ 48 → ⊥) → (nat_eq b 48 && nat_lt 0 n) ≡ false
-plain_test b zero h = (elim (eqb_tells b 48) [ inl p ↦ rw p.0 refl | inr p ↦ rw p.0 refl ])
-plain_test b (suc n) h = (elim (eqb_tells b 48) [ inl p ↦ absurd (h (omega arith) p.1) | inr p ↦ rw p.0 refl ])
+plain_test b n h1 = search (rules, eqb_tells)
 
 pub zero_test : (b n : ℕ) → b ≡ 48 → 1 < suc n → (nat_eq b 48 && nat_lt 0 n) ≡ true
-zero_test b zero e h = absurd (omega arith)
-zero_test b (suc n) e h = rw e (let more : nat_lt 0 (suc n) ≡ true = grind arith in more)
+zero_test b n h1 h2 = search rules
 
 pub stand_step : (kind : Kind) (text rest : List ℕ) → Stands kind text rest →
     (step_of (text ++ rest) ≡ Found kind (length text)) × (0 < length text)
-stand_step Header text rest s = let f = s.form in let n = text_of_name f.0 f.1 in
-    let is : text ≡ (n.0 ∷ n.1) ++ 58 ∷ [] = f.2 ∙ ap (λ (name : List ℕ). name ++ 58 ∷ []) n.2 in
-    rw is (header_step n.0 n.1 rest n.3 n.4, omega arith)
-stand_step Word text rest s =
-    let n = text_of_name text s.form in rw n.2 (word_step n.0 n.1 rest n.3 n.4 s.longest, omega arith)
+stand_step Header text rest s = search (rules, text_of_name, header_step)
+stand_step Word text rest s = search (rules, text_of_name, word_step)
 stand_step AliasName text rest s = let f = s.form in rw f.3 (alias_found f.0 rest f.1 f.2 s.longest, omega arith)
 stand_step Int [] rest s = absurd (let z : 0 < 0 = s.form.0 in omega arith)
-stand_step Int (b ∷ bs) rest s =
-    (number_found false b bs rest s.form.1 s.longest (plain_test b (length bs) s.form.2), omega arith)
+stand_step Int (b ∷ bs) rest s = search (rules, number_found, plain_test)
 stand_step ZeroRun [] rest s = absurd (let z : 1 < 0 = s.form.0 in omega arith)
-stand_step ZeroRun (b ∷ bs) rest s =
-    (number_found true b bs rest s.form.1 s.longest (zero_test b (length bs) s.form.2 s.form.0), omega arith)
+stand_step ZeroRun (b ∷ bs) rest s = search (rules, number_found, zero_test)
 stand_step Text text rest s = let f = s.form in rw f.2 (text_found f.0 rest f.1, omega arith)
 stand_step Body text rest s = rw s.form (by_class 45 _ Dash class_45, omega arith)
 stand_step End text rest s = rw s.form (by_class 45 _ Dash class_45, omega arith)

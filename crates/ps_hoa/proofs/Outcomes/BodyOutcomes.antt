@@ -1,7 +1,7 @@
 -- The body, and the whole text behind the version, have an outcome from each list of signs: they are read, or have a
 -- first fault.
 --     has_body, has_file      the outcomes
-use Rattle.std.proofs.Common.{ℕ, List, [], Option, None, refl}
+use Rattle.std.proofs.Common.{ℕ, List, [], Option, None, refl, rules}
 use Rattle.std.specs.Prelude.{codes}
 use Rattle.ps_label.specs.Expression.{Expression}
 use Rattle.ps_text.specs.Parts.{one, mapped, barred}
@@ -9,13 +9,13 @@ use Rattle.ps_text.proofs.Outcomes.{has_give, has_one, has_mapped, has_then, has
 use Rattle.ps_hoa.specs.Causes.{hoa_causes}
 use Rattle.ps_hoa.specs.Operands.{nesting_limit, mark_in, mark}
 use Rattle.ps_hoa.specs.Labels.{label}
-use Rattle.ps_hoa.specs.Files.{RowData, once}
-use Rattle.ps_hoa.specs.Header.{HeaderData, int_in, string, IsAlternating}
-use Rattle.ps_hoa.specs.Body.{BodyData, no_rows, IsBadState, IsBadSet, BadIn, sets_of, is_left_brace, is_right_brace}
-use Rattle.ps_hoa.specs.Body.{set_number, sets, marks, is_left_bracket, is_right_bracket, body_scope, some_label}
-use Rattle.ps_hoa.specs.Body.{label_in_brackets, state_label, is_bracket, IsBadBracket, IsBadPlainTarget, with_edge}
-use Rattle.ps_hoa.specs.Body.{labelled_edge, plain_edge, edge, edges, IsBadRow, nothing_of, state_name, empty_row}
-use Rattle.ps_hoa.specs.Body.{with_row, state_value, IsBadNext, state, is_end, IsBadClose, ended, body}
+use Rattle.ps_hoa.specs.Files.{RowData}
+use Rattle.ps_hoa.specs.Header.{HeaderData, int_in, IsAlternating}
+use Rattle.ps_hoa.specs.Body.{BodyData, no_rows, IsBadState, BadIn, sets_of, is_left_brace, is_right_brace, set_number}
+use Rattle.ps_hoa.specs.Body.{sets, marks, is_left_bracket, is_right_bracket, body_scope, some_label, label_in_brackets}
+use Rattle.ps_hoa.specs.Body.{state_label, is_bracket, IsBadBracket, with_edge, labelled_edge, plain_edge, edge, edges}
+use Rattle.ps_hoa.specs.Body.{IsBadRow, state_name, empty_row, with_row, state_value, IsBadNext, state, is_end}
+use Rattle.ps_hoa.specs.Body.{IsBadClose, ended, body}
 use Rattle.ps_hoa.specs.Texts.{file_of, file}
 use Rattle.ps_hoa.specs.declared.fault.HoaCause.{HoaCause}
 use Rattle.ps_hoa.specs.declared.tokens.Kind.TheVariants.{Header, Int, LeftBrace, RightBrace, LeftBracket, RightBracket}
@@ -24,18 +24,14 @@ use Rattle.ps_hoa.proofs.Grammar.OperandLaws.{Of, nothing_apart}
 use Rattle.ps_hoa.proofs.Grammar.ConditionLaws.{is_int}
 use Rattle.ps_hoa.proofs.Grammar.BodyLaws.{laws_set_number, joint_sets, joint_braces, laws_sets, laws_no_sets}
 use Rattle.ps_hoa.proofs.Grammar.BodyLaws.{joint_label, joint_bracket, laws_bracketed, laws_no_label}
-use Rattle.ps_hoa.proofs.Grammar.BodyLaws.{laws_target_number}
-use Rattle.ps_hoa.proofs.Grammar.BodyLaws.{number_barred, joint_edge_marks, joint_edge_target, joint_edge_label}
-use Rattle.ps_hoa.proofs.Grammar.BodyLaws.{joint_plain_marks, laws_labelled_edge, laws_plain_edge, bracket_int}
-use Rattle.ps_hoa.proofs.Grammar.BodyLaws.{laws_edge}
-use Rattle.ps_hoa.proofs.Grammar.BodyLaws.{edge_apart}
+use Rattle.ps_hoa.proofs.Grammar.BodyLaws.{laws_target_number, number_barred, joint_edge_marks, joint_edge_target}
+use Rattle.ps_hoa.proofs.Grammar.BodyLaws.{joint_edge_label, joint_plain_marks, laws_labelled_edge, laws_plain_edge}
+use Rattle.ps_hoa.proofs.Grammar.BodyLaws.{bracket_int, laws_edge, edge_apart}
 use Rattle.ps_hoa.proofs.Grammar.StateLaws.{laws_named, laws_no_name, joint_marks, joint_name, joint_number}
-use Rattle.ps_hoa.proofs.Grammar.StateLaws.{joint_state_label}
-use Rattle.ps_hoa.proofs.Grammar.StateLaws.{joint_state, laws_state, state_apart, joint_body}
+use Rattle.ps_hoa.proofs.Grammar.StateLaws.{joint_state_label, joint_state, laws_state, state_apart, joint_body}
 use Rattle.ps_hoa.proofs.Grammar.FileLaws.{joint_file}
 use Rattle.ps_hoa.proofs.Outcomes.Judging.{JudgesAll, judge_alternating, judge_in, judge_state, judge_mark}
-use Rattle.ps_hoa.proofs.Outcomes.Judging.{judge_bracket}
-use Rattle.ps_hoa.proofs.Outcomes.Judging.{judge_plain, judge_row, judge_next, judge_close}
+use Rattle.ps_hoa.proofs.Outcomes.Judging.{judge_bracket, judge_plain, judge_row, judge_next, judge_close}
 use Rattle.ps_hoa.proofs.Outcomes.LabelOutcomes.{Has, has_mark, has_label}
 use Rattle.ps_hoa.proofs.Outcomes.HeaderOutcomes.{has_string, has_header}
 
@@ -46,8 +42,7 @@ has_number Bad judge = has_one hoa_causes int_in (BadIn Bad) (record { kind = In
     (judge_in Bad judge)
 
 has_set_number : (count : ℕ) (ns : List ℕ) → Has (set_number count ns)
-has_set_number count ns = has_mapped hoa_causes (once ns) (one int_in (BadIn (IsBadSet count)))
-    (has_number (IsBadSet count) (judge_mark count))
+has_set_number count ns = search (rules, has_mapped, has_number, judge_mark)
 
 has_sets : (count : ℕ) → Has (sets count)
 has_sets count = has_then hoa_causes (joint_braces count) (has_mark is_left_brace LeftBrace refl) (λ _.
@@ -92,8 +87,7 @@ module _ (h : HeaderData) (before : ℕ) (row : RowData) where
       (has_marked label)))
 
   has_plain_edge : Has (plain_edge h before row)
-  has_plain_edge = has_then hoa_causes (joint_plain_marks h before row)
-      (has_target (IsBadPlainTarget h.states before row) (judge_plain h.states before row)) (has_marked None)
+  has_plain_edge = search (rules, has_then, joint_plain_marks, has_target, judge_plain, has_marked)
 
   has_edge : Has (edge h before row)
   has_edge = has_either hoa_causes (laws_labelled_edge h before row) (laws_plain_edge h before row)
@@ -105,8 +99,7 @@ has_edges h before row = has_many hoa_causes (edge h before) (laws_edge h before
 -- ## States
 
 has_state_name : Has state_name
-has_state_name = has_either hoa_causes laws_named laws_no_name (λ t a b. b)
-    (has_mapped hoa_causes nothing_of string has_string) (has_give hoa_causes tt)
+has_state_name = search (rules, has_either, laws_named, laws_no_name, has_mapped, has_string, has_give)
 
 has_state : (h : HeaderData) (b : BodyData) → Has (state h b)
 has_state h b = has_then hoa_causes (joint_state h b)

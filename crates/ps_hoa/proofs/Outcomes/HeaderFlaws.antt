@@ -1,7 +1,7 @@
 -- What is wrong with a header where `--BODY--` stands: the flaw of the least number, or none.
 --     judge_header      of a header
 --     judge_body_mark      of the sign
-use Rattle.std.proofs.Common.{◌≡◌, ℕ, List, [], ◌∷◌, length, Option, None, Some, refl, inl, inr}
+use Rattle.std.proofs.Common.{◌≡◌, ℕ, List, [], ◌∷◌, Option, None, Some, refl, inl, inr, rules}
 use Rattle.ps_label.specs.Expression.{Expression, constant, proposition, alias, not_of, all_of, any_of, Operands, last}
 use Rattle.ps_label.specs.Expression.{more}
 use Rattle.ps_text.proofs.Outcomes.{Judged, bad, good}
@@ -10,10 +10,9 @@ use Rattle.ps_hoa.specs.Causes.{cause_number}
 use Rattle.ps_hoa.specs.Conditions as conditions
 use Rattle.ps_hoa.specs.Conditions.{Condition, Conditions}
 use Rattle.ps_hoa.specs.Inner.Flaws.{IsLeastFlaw}
-use Rattle.ps_hoa.specs.Header.{AcceptanceData, HeaderData, state_limit, names_of, SpeaksBeyond, SomeSpeaksBeyond}
-use Rattle.ps_hoa.specs.Header.{AnAliasBeyond, NamesSetBeyond, SomeNamesSetBeyond, AnIndexBeyond, IsStartBeyond}
-use Rattle.ps_hoa.specs.Header.{IsStartTooLarge, IsConditionBeyond, IsControlBeyond, IsRangeBroken, IsBadHeader}
-use Rattle.ps_hoa.specs.Header.{IsBadBody}
+use Rattle.ps_hoa.specs.Header.{AcceptanceData, HeaderData, SpeaksBeyond, SomeSpeaksBeyond, AnAliasBeyond}
+use Rattle.ps_hoa.specs.Header.{NamesSetBeyond, SomeNamesSetBeyond, AnIndexBeyond, IsStartBeyond, IsStartTooLarge}
+use Rattle.ps_hoa.specs.Header.{IsConditionBeyond, IsControlBeyond, IsRangeBroken, IsBadHeader, IsBadBody}
 use Rattle.ps_hoa.specs.declared.fault.HoaCause.{HoaCause}
 use Rattle.ps_hoa.specs.declared.tokens.Kind.TheVariants.{Body}
 use Rattle.ps_hoa.proofs.Grammar.KindSets.{test_of}
@@ -59,27 +58,20 @@ module _ (count : ℕ) where
   index_beyond (n ∷ ns) = decide_one (decide_below count n) (index_beyond ns)
 
   control_beyond : (ns : Option (List ℕ)) → Decided (IsControlBeyond count ns)
-  control_beyond None = inr (λ h. h)
-  control_beyond (Some ns) = index_beyond ns
+  control_beyond ns = search (rules, index_beyond)
 
 condition_beyond : (a : Option AcceptanceData) → Decided (IsConditionBeyond a)
 condition_beyond None = inr (λ h. h)
 condition_beyond (Some a) = set_beyond a.sets a.condition
 
 start_beyond : (states start : Option ℕ) → Decided (IsStartBeyond states start)
-start_beyond (Some n) (Some start) = decide_below n start
-start_beyond (Some n) None = inr (λ h. h)
-start_beyond None start = inr (λ h. h)
+start_beyond states start = search (rules, decide_below)
 
 start_large : (states start : Option ℕ) → Decided (IsStartTooLarge states start)
-start_large None (Some start) = decide_below state_limit start
-start_large None None = inr (λ h. h)
-start_large (Some n) start = inr (λ h. h)
+start_large states start = search (rules, decide_below)
 
 range_broken : (h : HeaderData) → Decided (IsRangeBroken h)
-range_broken h = decide_one (start_beyond h.states h.start)
-    (decide_one (alias_beyond (length (names_of h)) h.aliases)
-    (decide_one (condition_beyond h.acceptance) (control_beyond (length (names_of h)) h.controllable)))
+range_broken h = search (rules, decide_one, start_beyond, alias_beyond, condition_beyond, control_beyond)
 
 -- ## The least flaw
 
@@ -97,8 +89,7 @@ module _ (h : HeaderData) where
   by_flaw (inr a) (inr b) (inr c) (inr d) (inr e) = good (none_is_sound h a b c d e)
 
   judge_header : Judged cause_number (IsBadHeader h)
-  judge_header = by_flaw (decide_none h.acceptance) (start_large h.states h.start) (decide_none h.start)
-      (range_broken h) (decide_none h.controllable)
+  judge_header = search (rules, by_flaw, decide_none, start_large, range_broken)
 
 pub judge_body_mark : (h : HeaderData) → JudgesAll (IsBadBody h)
 judge_body_mark h t = judge_also cause_number (decide_kind is_body Body (test_of is_body Body refl refl)

@@ -1,7 +1,7 @@
 -- The header has an outcome from each list of signs: it is read, or has a first fault.
 --     has_string      a string between quotes
 --     has_header      the outcome
-use Rattle.std.proofs.Common.{ℕ, List, [], refl}
+use Rattle.std.proofs.Common.{ℕ, List, [], refl, rules}
 use Rattle.std.specs.Prelude.{codes}
 use Rattle.ps_text.specs.Parts.{NoBad, one, times, many, mapped, barred}
 use Rattle.ps_text.proofs.Outcomes.{has_give, has_one, has_mapped, has_then, has_either, has_times, has_many}
@@ -10,28 +10,24 @@ use Rattle.ps_text.proofs.ChoiceOutcomes.{has_choice}
 use Rattle.ps_hoa.specs.Causes.{hoa_causes}
 use Rattle.ps_hoa.specs.Operands.{number_limit, nesting_limit}
 use Rattle.ps_hoa.specs.Labels.{label}
-use Rattle.ps_hoa.specs.Conditions.{condition}
-use Rattle.ps_hoa.specs.Header.{HeaderData, no_items, state_limit, proposition_limit, set_limit, name_value, item_name}
-use Rattle.ps_hoa.specs.Header.{IsAbove, int, int_in, string, string_in, with_states, states_item, IsSecondStart}
-use Rattle.ps_hoa.specs.Header.{IsAlternating, with_start, start_item, IsBadName, with_name, proposition_name}
-use Rattle.ps_hoa.specs.Header.{with_names, names_item, alias_value, IsBadAlias, header_scope, with_alias, alias_item}
-use Rattle.ps_hoa.specs.Header.{with_acceptance, acceptance_item, kept, index, with_controllable, controllable_item}
-use Rattle.ps_hoa.specs.Header.{unchanged, tool_item, name_item, other_value, read_over_value, read_over, other_item}
-use Rattle.ps_hoa.specs.Header.{form_of, item, body_value, IsBadBody, body_mark, header}
+use Rattle.ps_hoa.specs.Header.{HeaderData, no_items, proposition_limit, name_value, item_name, IsAbove, int, int_in}
+use Rattle.ps_hoa.specs.Header.{string, string_in, states_item, IsSecondStart, IsAlternating, with_start, start_item}
+use Rattle.ps_hoa.specs.Header.{IsBadName, with_name, proposition_name, with_names, names_item, alias_value, IsBadAlias}
+use Rattle.ps_hoa.specs.Header.{header_scope, with_alias, alias_item, acceptance_item, kept, index, with_controllable}
+use Rattle.ps_hoa.specs.Header.{controllable_item, unchanged, tool_item, name_item, other_value, read_over_value}
+use Rattle.ps_hoa.specs.Header.{read_over, other_item, form_of, item, body_value, IsBadBody, body_mark, header}
 use Rattle.ps_hoa.specs.ItemNames as items
 use Rattle.ps_hoa.specs.ItemNames.{ItemName}
-use Rattle.ps_hoa.specs.Inner.Items.{item_at}
+use Rattle.ps_hoa.specs.Inner.Items.{item_at, is_value}
 use Rattle.ps_hoa.specs.declared.tokens.Kind.TheVariants.{Header, Word, Int, Text, AliasName, Body}
 use Rattle.ps_hoa.proofs.Grammar.OperandLaws.{nothing_apart, Of}
 use Rattle.ps_hoa.proofs.Grammar.BodyLaws.{number_barred}
 use Rattle.ps_hoa.proofs.Grammar.ConditionLaws.{is_int}
 use Rattle.ps_hoa.proofs.Grammar.SignLaws.{is_string, same_name, laws_int, laws_proposition_name}
-use Rattle.ps_hoa.specs.Inner.Items.{is_value}
 use Rattle.ps_hoa.proofs.Grammar.HeaderLaws.{joint_states, joint_start, joint_names, joint_counted_names, joint_alias}
 use Rattle.ps_hoa.proofs.Grammar.HeaderLaws.{joint_named_label, joint_acceptance, joint_counted_condition}
-use Rattle.ps_hoa.proofs.Grammar.HeaderLaws.{joint_controllable}
-use Rattle.ps_hoa.proofs.Grammar.HeaderLaws.{joint_tool, joint_strings, joint_name_item, joint_other, laws_index}
-use Rattle.ps_hoa.proofs.Grammar.HeaderLaws.{laws_read_string, laws_no_string, laws_read_over}
+use Rattle.ps_hoa.proofs.Grammar.HeaderLaws.{joint_controllable, joint_tool, joint_strings, joint_name_item}
+use Rattle.ps_hoa.proofs.Grammar.HeaderLaws.{joint_other, laws_index, laws_read_string, laws_no_string, laws_read_over}
 use Rattle.ps_hoa.proofs.Grammar.WholeHeader.{laws_form, laws_item, item_apart, joint_header}
 use Rattle.ps_hoa.proofs.Outcomes.Judging.{no_bad, judge_above, judge_second, judge_alternating, judge_name}
 use Rattle.ps_hoa.proofs.Outcomes.Judging.{judge_alias}
@@ -53,8 +49,7 @@ has_string = has_one hoa_causes string_in NoBad (record { kind = Text; text = []
 -- ## Items
 
 has_states : (h : HeaderData) → Has (states_item h)
-has_states h = has_then hoa_causes (joint_states h) (has_name (codes "States:")) (λ _.
-    has_mapped hoa_causes (with_states h) (int state_limit) (has_int state_limit))
+has_states h = search (rules, has_then, joint_states, has_name, has_mapped, has_int)
 
 has_start : (h : HeaderData) → Has (start_item h)
 has_start h = has_then hoa_causes (joint_start h)
@@ -83,9 +78,16 @@ has_alias h = has_then hoa_causes (joint_alias h) (has_name (codes "Alias:")) (�
     (has_label (header_scope h) nesting_limit)))
 
 has_acceptance : (h : HeaderData) → Has (acceptance_item h)
-has_acceptance h = has_then hoa_causes (joint_acceptance h) (has_name (codes "Acceptance:")) (λ _.
-    has_then hoa_causes (joint_counted_condition h) (has_int set_limit) (λ n.
-    has_mapped hoa_causes (with_acceptance h n) (condition nesting_limit) (has_condition nesting_limit)))
+has_acceptance h = search (
+  rules,
+  has_then,
+  joint_acceptance,
+  has_name,
+  joint_counted_condition,
+  has_int,
+  has_mapped,
+  has_condition,
+)
 
 has_index : (ns : List ℕ) → Has (index ns)
 has_index ns = has_mapped hoa_causes (kept ns) (int number_limit) (has_int number_limit)

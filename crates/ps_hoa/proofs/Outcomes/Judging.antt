@@ -1,16 +1,15 @@
 -- What may be wrong with a sign of labels, conditions, the header and the body: the least cause, or that there is none.
 --     decide_kind      a sign's kind, where a test tells it
 --     judge_above, .., judge_close      the least cause of each
-use Rattle.std.proofs.Common.{◌≡◌, ℕ, suc, ◌+◌, ◌<◌, ◌≤◌, ◌^◌, Bool, true, List, length, Option, None, Some}
-use Rattle.std.proofs.Common.{refl, sym, inl, inr, ◌∙◌, subst}
+use Rattle.std.proofs.Common.{◌≡◌, ℕ, suc, ◌+◌, ◌<◌, ◌≤◌, Bool, true, List, length, Option, None, Some, rules, refl}
+use Rattle.std.proofs.Common.{sym, inr, ◌∙◌, subst}
 use Rattle.std.specs.Prelude.{codes}
 use Rattle.std.proofs.lemmas.Bool.{cases_eq}
 use Rattle.ps_text.specs.Digits.{decimal_value}
 use Rattle.ps_text.specs.Parts.{NoBad}
 use Rattle.ps_text.proofs.Outcomes.{Judged}
 use Rattle.ps_text.proofs.Decisions.{Decided, decide_true, decide_none, decide_not, decide_as, decide_both}
-use Rattle.ps_text.proofs.Decisions.{decide_below}
-use Rattle.ps_text.proofs.Decisions.{judge_none, judge_cause, judge_one, judge_as, judge_if, judge_also}
+use Rattle.ps_text.proofs.Decisions.{decide_below, judge_none, judge_cause, judge_one, judge_as, judge_if, judge_also}
 use Rattle.ps_text.proofs.Simple.{none_is_some, same_some}
 use Rattle.ps_hoa.specs.Causes.{cause_number}
 use Rattle.ps_hoa.specs.Operands.{number_limit, is_and}
@@ -18,20 +17,20 @@ use Rattle.ps_hoa.specs.Labels.{ScopeData, alias_number, IsBeyond, IsBadLeaf, Ba
 use Rattle.ps_hoa.specs.Conditions as conditions
 use Rattle.ps_hoa.specs.Conditions.{IsBadStart, BadStart}
 use Rattle.ps_hoa.specs.Files.{RowData}
-use Rattle.ps_hoa.specs.Header.{HeaderData, state_limit, name_value, int_in, IsAbove, string_in, IsSecondStart}
-use Rattle.ps_hoa.specs.Header.{IsAlternating, is_name_among, IsBadName, alias_limit, alias_value, IsBadAlias, names_of}
+use Rattle.ps_hoa.specs.Header.{HeaderData, state_limit, name_value, int_in, IsAbove, IsSecondStart, IsAlternating}
+use Rattle.ps_hoa.specs.Header.{IsBadName, IsBadAlias}
 use Rattle.ps_hoa.specs.Body.{BodyData, edge_limit, IsBadState, IsBadSet, BadIn, labelling, MayHaveNoLabel}
 use Rattle.ps_hoa.specs.Body.{MayHaveLabel, IsBadBracket, IsBadPlainTarget, IsWrongCount, last_row, IsBadEnd, has_row}
 use Rattle.ps_hoa.specs.Body.{IsBadRow, state_value, IsBadNext, is_end, IsBadClose, is_left_bracket}
 use Rattle.ps_hoa.specs.declared.edges.Labelling.{Labelling}
-use Rattle.ps_hoa.specs.declared.edges.Labelling.TheVariants.{ByState, ByEdge, ByPlace, NotKnown}
+use Rattle.ps_hoa.specs.declared.edges.Labelling.TheVariants.{ByPlace}
 use Rattle.ps_hoa.specs.declared.fault.HoaCause.{HoaCause}
 use Rattle.ps_hoa.specs.declared.fault.HoaCause.TheVariants as causes
 use Rattle.ps_hoa.specs.declared.tokens.Kind.{Kind}
 use Rattle.ps_hoa.specs.declared.tokens.Kind.TheVariants.{And, AliasName, Int, LeftBracket, LeftParen, Not}
 use Rattle.ps_hoa.specs.Inner.Signs.{IsTestOf}
 use Rattle.ps_hoa.proofs.Grammar.KindSets.{test_of}
-use Rattle.ps_hoa.proofs.Reading.BodyReading.{test_left_bracket}
+use Rattle.ps_hoa.proofs.Reading.MarkReading.{tests_left_bracket}
 
 abbrev pub JudgesAll : {A : Type 0} → (A → HoaCause → Type 0) → Type 0
 JudgesAll {A} Bad = (a : A) → Judged cause_number (Bad a)
@@ -64,8 +63,7 @@ pub judge_leaf : (scope : ScopeData) (room : ℕ) → JudgesAll (BadLeaf scope r
 judge_leaf scope room t = go t.kind t.text
   where
     go : (kind : Kind) (text : List ℕ) → Judged cause_number (IsBadLeaf scope room kind text)
-    go Int text = judge_one cause_number (large number_limit (decimal_value text))
-        (judge_cause cause_number causes.Range (decide_beyond scope.propositions (decimal_value text)))
+    go Int text = search (rules, judge_one, large, judge_cause, decide_beyond)
     go AliasName text = judge_cause cause_number causes.Alias (decide_none (alias_number scope.names text))
     go Not text = no_room room
     go LeftParen text = no_room room
@@ -101,13 +99,10 @@ judge_alternating state t = judge_cause cause_number causes.Alternating
     (decide_kind is_and And (test_of is_and And refl refl) t.kind)
 
 pub judge_name : (names : List (List ℕ)) → JudgesAll (IsBadName names)
-judge_name names t =
-    judge_if cause_number (string_in t) _ (λ name. judge_cause cause_number causes.Name (decide_true _))
+judge_name names t = search (rules, judge_if, judge_cause, decide_true)
 
 pub judge_alias : (names : List (List ℕ)) → JudgesAll (IsBadAlias names)
-judge_alias names t = judge_if cause_number (alias_value t.kind t.text) _ (λ name. judge_one cause_number
-    (judge_cause cause_number causes.Limit (decide_below alias_limit (length names)))
-    (judge_cause cause_number causes.Alias (decide_true (is_name_among name names))))
+judge_alias names t = search (rules, judge_if, judge_one, judge_cause, decide_below, decide_true)
 
 -- ## The body
 
@@ -115,25 +110,17 @@ pub judge_in : (Bad : ℕ → HoaCause → Type 0) → JudgesAll Bad → JudgesA
 judge_in Bad judge t = judge_if cause_number (int_in t) Bad judge
 
 pub judge_state : (states : Option ℕ) → JudgesAll (IsBadState states)
-judge_state (Some states) n = judge_one cause_number (large number_limit n)
-    (judge_cause cause_number causes.Range (decide_below states n))
+judge_state (Some states) n = search (rules, judge_one, large, judge_cause, decide_below)
 judge_state None n = judge_cause cause_number causes.Limit (decide_below state_limit n)
 
 pub judge_mark : (sets : ℕ) → JudgesAll (IsBadSet sets)
-judge_mark sets n = judge_one cause_number (large number_limit n)
-    (judge_cause cause_number causes.Range (decide_below sets n))
+judge_mark sets n = search (rules, judge_one, large, judge_cause, decide_below)
 
 may_have_no_label : (l : Labelling) → Decided (MayHaveNoLabel l)
-may_have_no_label ByEdge = inr (λ h. h)
-may_have_no_label ByState = inl tt
-may_have_no_label ByPlace = inl tt
-may_have_no_label NotKnown = inl tt
+may_have_no_label l = search rules
 
 may_have_label : (l : Labelling) → Decided (MayHaveLabel l)
-may_have_label ByEdge = inl tt
-may_have_label NotKnown = inl tt
-may_have_label ByState = inr (λ h. h)
-may_have_label ByPlace = inr (λ h. h)
+may_have_label l = search rules
 
 -- one edge too many
 full : (before : ℕ) (row : RowData) →
@@ -141,7 +128,8 @@ full : (before : ℕ) (row : RowData) →
 full before row = judge_cause cause_number causes.Limit (decide_below edge_limit (before + length row.edges))
 
 pub judge_bracket : (before : ℕ) (row : RowData) → JudgesAll (IsBadBracket before row)
-judge_bracket before row t = judge_also cause_number (decide_kind is_left_bracket LeftBracket test_left_bracket t.kind)
+judge_bracket before row t =
+    judge_also cause_number (decide_kind is_left_bracket LeftBracket tests_left_bracket.is t.kind)
     (judge_one cause_number (full before row)
     (judge_cause cause_number causes.Labels (decide_not (may_have_label (labelling row)))))
 
@@ -151,14 +139,10 @@ judge_plain states before row n = judge_one cause_number (judge_state states n)
     (judge_cause cause_number causes.Labels (decide_not (may_have_no_label (labelling row)))))
 
 by_place : (l : Labelling) → Decided (l ≡ ByPlace)
-by_place ByPlace = inl refl
-by_place ByState = inr (λ e. cc)
-by_place ByEdge = inr (λ e. cc)
-by_place NotKnown = inr (λ e. cc)
+by_place l = search rules
 
 wrong_count : (h : HeaderData) (row : RowData) → Decided (IsWrongCount h row)
-wrong_count h row = decide_both (by_place (labelling row))
-    (decide_not (cases_eq (length row.edges) (2 ^ length (names_of h))))
+wrong_count h row = search (rules, decide_both, by_place, decide_not, cases_eq)
 
 pub judge_end : (h : HeaderData) (body : BodyData) → Judged cause_number (IsBadEnd h body)
 judge_end h body = judge_cause cause_number causes.Labels (go (last_row body) refl)

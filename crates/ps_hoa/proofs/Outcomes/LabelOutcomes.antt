@@ -16,25 +16,21 @@ use Rattle.ps_hoa.specs.Operands.{single, with_last, joined, further, operands, 
 use Rattle.ps_hoa.specs.Labels as labels
 use Rattle.ps_hoa.specs.Labels.{ScopeData, leaf_in, BadLeaf, leaf, negation}
 use Rattle.ps_hoa.specs.Conditions as conditions
-use Rattle.ps_hoa.specs.Conditions.{SetData, Condition, constant_in, often_in, visits, set_in, BadSet, set, any_set}
-use Rattle.ps_hoa.specs.Conditions.{closed_set, often_or_not, visit, BadStart, atom}
+use Rattle.ps_hoa.specs.Conditions.{constant_in, often_in, visits, set_in, BadSet, set, any_set, visit, BadStart, atom}
 use Rattle.ps_hoa.specs.declared.connective.Connective.{Connective}
 use Rattle.ps_hoa.specs.declared.connective.Connective.TheVariants as connectives
 use Rattle.ps_hoa.specs.declared.fault.HoaCause.{HoaCause}
 use Rattle.ps_hoa.specs.declared.tokens.Kind.{Kind}
 use Rattle.ps_hoa.specs.declared.tokens.Kind.TheVariants.{Int, Word, Not, And, Or, LeftParen, RightParen}
 use Rattle.ps_hoa.proofs.Grammar.OperandLaws.{Odd, Of, nothing_apart, laws_behind, joint_mark, joint_closed}
-use Rattle.ps_hoa.proofs.Grammar.OperandLaws.{joint_operands}
-use Rattle.ps_hoa.proofs.Grammar.OperandLaws.{laws_held}
+use Rattle.ps_hoa.proofs.Grammar.OperandLaws.{joint_operands, laws_held}
 use Rattle.ps_hoa.proofs.Grammar.LabelLaws.{laws_not, laws_and, laws_or, laws_left, laws_right, not_left, single_nested}
 use Rattle.ps_hoa.proofs.Grammar.LabelLaws.{apart_or, apart_right, laws_both, laws_rows, laws_nested, laws_negation}
-use Rattle.ps_hoa.proofs.Grammar.LabelLaws.{laws_deep}
-use Rattle.ps_hoa.proofs.Grammar.LabelLaws.{laws_single, laws_operand}
+use Rattle.ps_hoa.proofs.Grammar.LabelLaws.{laws_deep, laws_single, laws_operand}
 use Rattle.ps_hoa.proofs.Grammar.ConditionLaws as conditions_laws
-use Rattle.ps_hoa.proofs.Grammar.ConditionLaws.{laws_set, not_int, laws_complement, laws_any_set, laws_behind_often}
-use Rattle.ps_hoa.proofs.Grammar.ConditionLaws.{laws_closed_set, joint_closed_set, behind_often, joint_visit}
-use Rattle.ps_hoa.proofs.Grammar.ConditionLaws.{laws_visit}
-use Rattle.ps_hoa.proofs.Grammar.ConditionLaws.{laws_constant, atom_often, laws_word, word_left}
+use Rattle.ps_hoa.proofs.Grammar.ConditionLaws.{laws_set, not_int, laws_complement, laws_closed_set, joint_closed_set}
+use Rattle.ps_hoa.proofs.Grammar.ConditionLaws.{joint_visit, laws_visit, laws_constant, atom_often, laws_word}
+use Rattle.ps_hoa.proofs.Grammar.ConditionLaws.{word_left}
 use Rattle.ps_hoa.proofs.Outcomes.Judging.{no_bad, judge_leaf, judge_set, judge_start}
 
 abbrev pub Has : {V : Type 0} → Part Sign V HoaCause → Type 0

@@ -1,5 +1,5 @@
 -- What is wrong with a header, by what is not: of several flaws that with the smallest number.
-use Rattle.std.proofs.Common.{◌≡◌, ◌≤◌, true, false, Option, None, Some, is_some, refl, sym, arith}
+use Rattle.std.proofs.Common.{◌≡◌, ◌≤◌, true, false, Option, None, is_some, arith, rules}
 use Rattle.std.specs.Option.{option_map}
 use Rattle.ps_text.proofs.Simple.{none_is_some}
 use Rattle.ps_hoa.specs.Causes.{cause_number}
@@ -66,25 +66,17 @@ module _ (h : HeaderData) where
               least _ (no_controllable e) = omega arith
 
           pub none_is_sound : (h.controllable ≡ None → ⊥) → IsSoundHeader h
-          none_is_sound controlled _ (no_acceptance e) = some e
-          none_is_sound controlled _ (start_too_large e) = small e
-          none_is_sound controlled _ (no_start e) = started e
-          none_is_sound controlled _ (out_of_range e) = within e
-          none_is_sound controlled _ (no_controllable e) = controlled e
+          none_is_sound h1 = search rules
 
 -- whether something is said
 pub said_none : {A B : Type 0} (see : A → B) (o : Option A) → is_some o ≡ false → option_map see o ≡ None
-said_none see None e = refl
-said_none see (Some x) e = absurd (false_true (sym e))
+said_none see o h1 = search (rules, false_true)
 
 pub said_some : {A B : Type 0} (see : A → B) (o : Option A) → is_some o ≡ true → option_map see o ≡ None → ⊥
-said_some see None e n = false_true e
-said_some see (Some x) e n = none_is_some (see x) (sym n)
+said_some see o h1 h2 = search (rules, false_true, none_is_some)
 
 pub is_said_none : {A : Type 0} (o : Option A) → is_some o ≡ false → o ≡ None
-is_said_none None e = refl
-is_said_none (Some x) e = absurd (false_true (sym e))
+is_said_none o h1 = search (rules, false_true)
 
 pub is_said_some : {A : Type 0} (o : Option A) → is_some o ≡ true → o ≡ None → ⊥
-is_said_some None e n = false_true e
-is_said_some (Some x) e n = none_is_some x (sym n)
+is_said_some o h1 h2 = search (rules, false_true, none_is_some)

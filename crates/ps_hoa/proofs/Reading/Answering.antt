@@ -12,7 +12,7 @@ use Rattle.ps_text.specs.Parts.{PartAnswers, IsRead, refusal_of}
 use Rattle.ps_text.specs.Readers.{Stops, Reads as PartReads}
 use Rattle.ps_text.proofs.Exits.{reads_then, reads_mapped, stops_first, stops_behind, stops_mapped}
 use Rattle.ps_text.proofs.Whole.{answers_ok, answers_fault, answers_trailing}
-use Rattle.ps_hoa.specs.Causes.{hoa_causes, found_of}
+use Rattle.ps_hoa.specs.Causes.{hoa_causes, found_of, HoaFault}
 use Rattle.ps_hoa.specs.Files.{FileData}
 use Rattle.ps_hoa.specs.Header.{HeaderData, header}
 use Rattle.ps_hoa.specs.Body.{BodyData, body}
@@ -20,7 +20,6 @@ use Rattle.ps_hoa.specs.Scan.{next_of}
 use Rattle.ps_hoa.specs.Texts.{file_of, file, ReadsFile, IsRefusedAs, IsFaultOf, IsFileAnswer}
 use Rattle.ps_hoa.specs.Tokens.{Sign}
 use Rattle.ps_hoa.specs.declared.fault.HoaCause.{HoaCause}
-use Rattle.ps_hoa.specs.Causes.{HoaFault}
 use Rattle.ps_text.specs.declared.faults.Fault.TheVariants.{Text, OutOfMemory}
 use Rattle.ps_hoa.proofs.Grammar.FileLaws.{laws_file, joint_file}
 

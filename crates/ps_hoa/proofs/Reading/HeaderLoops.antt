@@ -1,74 +1,59 @@
--- Which sign comes next in a header, and the loops that ask for it.
---     enters_at, avoids_at      a part is entered at a sign of a kind, and none of its first signs comes at another
---     enters_index, enters_string, enters_read_over      the parts that a kind decides
-use Rattle.std.proofs.Common.{◌≡◌, ℕ, Bool, true, false, List, Some, refl, sym, ap, subst, inl, ◌∙◌}
-use Rattle.ps_text.specs.Answers.{Stream, next_of as next_sign}
-use Rattle.ps_text.specs.Parts.{Part, NoBad, mapped}
-use Rattle.ps_text.proofs.Covered.{Avoids, Enters, enters_one, enters_mapped}
-use Rattle.ps_hoa.specs.Header.{kept}
-use Rattle.ps_hoa.specs.Header.{HeaderData, int, int_in, IsAbove, string, string_in, index, unchanged, read_over}
-use Rattle.ps_hoa.specs.Header.{read_over_value}
+-- The parts of a header that the next sign decides, and its loops.
+--     index_begins, read_over_begins      an index, or what is read over, stands next
+--     string_serves, no_string_serves      a second string, or none
+--     index_loop, read_over_loop, item_loop      the loops
+use Rattle.std.proofs.Common.{◌≡◌, ℕ, true, List, Some, refl, sym, ap, ◌∙◌}
+use Rattle.ps_text.specs.Answers.{Stream, next_of as there_of}
+use Rattle.ps_text.specs.Parts.{give, mapped}
+use Rattle.ps_text.proofs.Branches.{left_entered, right_otherwise}
+use Rattle.ps_text.proofs.Covered.{Enters, enters_mapped}
+use Rattle.ps_hoa.specs.Header.{HeaderData, int, IsAbove, string, kept, index, item, unchanged, read_over}
+use Rattle.ps_hoa.specs.Header.{second_string, read_over_value}
 use Rattle.ps_hoa.specs.Inner.Items.{is_value}
 use Rattle.ps_hoa.specs.Operands.{number_limit}
 use Rattle.ps_hoa.specs.Scan.{next_of}
 use Rattle.ps_hoa.specs.Tokens.{Sign}
-use Rattle.ps_hoa.specs.declared.fault.HoaCause.{HoaCause}
 use Rattle.ps_hoa.specs.declared.tokens.Kind.{Kind}
-use Rattle.ps_hoa.specs.declared.tokens.Kind.TheVariants.{Int, Text, Word, Finish}
+use Rattle.ps_hoa.specs.declared.tokens.Kind.TheVariants.{Int, Text, Word}
 use Rattle.ps_hoa.proofs.Grammar.ConditionLaws.{is_int}
-use Rattle.ps_hoa.proofs.Grammar.KindSets.{test_of}
-use Rattle.ps_hoa.proofs.Reading.NextSign.{next_there, next_same}
-use Rattle.ps_hoa.proofs.Grammar.OperandLaws.{Of, false_true}
-use Rattle.ps_hoa.proofs.Grammar.SignLaws.{is_string}
+use Rattle.ps_hoa.proofs.Grammar.HeaderLaws.{laws_index, laws_read_over, laws_read_string, laws_no_string}
+use Rattle.ps_hoa.proofs.Grammar.OperandLaws.{Of, false_true, nothing_apart}
+use Rattle.ps_hoa.proofs.Grammar.WholeHeader.{ItemFirst, laws_item, item_apart}
+use Rattle.ps_hoa.proofs.Reading.BodyReading.{int_begins}
+use Rattle.ps_hoa.proofs.Reading.Exits.{Serves, serves_as, Loop}
+use Rattle.ps_hoa.proofs.Reading.MarkReading.{tests_string, sign_begins, mark_elsewhere}
+use Rattle.ps_hoa.proofs.Reading.StateReading.{string_begins}
 
-enters_at : {V : Type 0} (part : Part Sign V HoaCause) (s : Stream Sign) (kind : Kind) → (next_of s).sign.kind ≡ kind →
-    (kind ≡ Finish → ⊥) →
-    ((text : List ℕ) → Enters part (Some (record { kind = kind; text = text }))) → Enters part (next_sign s)
-enters_at part s kind e proper h =
-    subst (Enters part) (sym (next_there s (λ f. proper (sym e ∙ f))
-    ∙ (λ i. Some (record { kind = e i; text = (next_of s).sign.text })))) (h (next_of s).sign.text)
+pub index_begins : (ns : List ℕ) (s : Stream Sign) → (next_of s).sign.kind ≡ Int → Enters (index ns) (there_of s)
+index_begins ns s e = enters_mapped (kept ns) (int number_limit) (there_of s) (int_begins _ s e)
 
-pub avoids_at : (test : Kind → Bool) (s : Stream Sign) (kind : Kind) → ((next_of s).sign.kind ≡ kind → ⊥) →
-    ((k : Kind) → test k ≡ true → k ≡ kind) → Avoids (Of test) (next_sign s)
-avoids_at test s kind differs only t e h = differs (ap (λ z. z.kind) (next_same s t e) ∙ only t.kind h)
+value_taken : (h : HeaderData) (kind : Kind) → is_value kind ≡ true → read_over_value h kind ≡ Some h
+value_taken h Int e = refl
+value_taken h Text e = refl
+value_taken h Word e = refl
+value_taken h kind e = absurd (false_true e)
 
-pub only_int : (k : Kind) → is_int k ≡ true → k ≡ Int
-only_int = (test_of is_int Int refl refl).1
+pub read_over_begins : (h : HeaderData) (s : Stream Sign) → is_value (next_of s).sign.kind ≡ true →
+    Enters (read_over h) (there_of s)
+read_over_begins h s e = sign_begins (λ s. read_over_value h s.kind) (IsAbove number_limit) s
+    (λ f. false_true (sym (ap is_value f) ∙ e)) (value_taken h (next_of s).sign.kind e)
 
-pub only_string : (k : Kind) → is_string k ≡ true → k ≡ Text
-only_string = (test_of is_string Text refl refl).1
+module _ (h : HeaderData) (s : Stream Sign) where
+  pub string_serves : (next_of s).sign.kind ≡ Text → Serves s (mapped (unchanged h) string) (second_string h)
+  string_serves e = serves_as s (left_entered (laws_read_string h) (laws_no_string h) (there_of s) (λ t a b. b)
+      (enters_mapped (unchanged h) string (there_of s) (string_begins s e)))
 
-pub enters_index : (ns : List ℕ) (s : Stream Sign) → (next_of s).sign.kind ≡ Int → Enters (index ns) (next_sign s)
-enters_index ns s e = enters_at (index ns) s Int e (λ f. cc)
-    (λ text. enters_mapped (kept ns) (int number_limit) (Some (record { kind = Int; text = text }))
-    (enters_one int_in (IsAbove number_limit) (record { kind = Int; text = text }) (inl (_, refl))))
+  pub no_string_serves : ((next_of s).sign.kind ≡ Text → ⊥) → Serves s (give h) (second_string h)
+  no_string_serves differs = serves_as s (right_otherwise (laws_read_string h) (laws_no_string h) (there_of s)
+      (mark_elsewhere tests_string s differs) (λ n. n))
 
-pub enters_string : (h : HeaderData) (s : Stream Sign) → (next_of s).sign.kind ≡ Text →
-    Enters (mapped (unchanged h) string) (next_sign s)
-enters_string h s e = enters_at (mapped (unchanged h) string) s Text e (λ f. cc)
-    (λ text. enters_mapped (unchanged h) string (Some (record { kind = Text; text = text }))
-    (enters_one string_in NoBad (record { kind = Text; text = text }) (inl (_, refl))))
+-- ## Loops
 
--- what is read over
-read_over_at : (h : HeaderData) (kind : Kind) (text : List ℕ) → is_value kind ≡ true →
-    Enters (read_over h) (Some (record { kind = kind; text = text }))
-read_over_at h Int text e =
-    enters_one (λ s. read_over_value h s.kind) (IsAbove number_limit) (record { kind = Int; text = text })
-    (inl (h, refl))
-read_over_at h Text text e =
-    enters_one (λ s. read_over_value h s.kind) (IsAbove number_limit) (record { kind = Text; text = text })
-    (inl (h, refl))
-read_over_at h Word text e =
-    enters_one (λ s. read_over_value h s.kind) (IsAbove number_limit) (record { kind = Word; text = text })
-    (inl (h, refl))
-read_over_at h kind text e = absurd (false_true e)
+pub index_loop : Loop index (Of is_int)
+index_loop = record { More = _; laws = laws_index; apart = nothing_apart _ }
 
-pub enters_read_over : (h : HeaderData) (s : Stream Sign) → is_value (next_of s).sign.kind ≡ true →
-    Enters (read_over h) (next_sign s)
-enters_read_over h s e =
-    enters_at (read_over h) s (next_of s).sign.kind refl (λ f. false_true (sym (ap is_value f) ∙ e))
-    (λ text. read_over_at h (next_of s).sign.kind text e)
+pub read_over_loop : Loop read_over (Of is_value)
+read_over_loop = record { More = _; laws = laws_read_over; apart = nothing_apart _ }
 
-pub avoids_read_over : (s : Stream Sign) → is_value (next_of s).sign.kind ≡ false →
-    Avoids (Of is_value) (next_sign s)
-avoids_read_over s e t x h = false_true (sym e ∙ ap (λ z. is_value z.kind) (next_same s t x) ∙ h)
+pub item_loop : Loop item ItemFirst
+item_loop = record { More = _; laws = laws_item; apart = item_apart }

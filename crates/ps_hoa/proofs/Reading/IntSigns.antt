@@ -9,12 +9,11 @@ use Rattle.std.proofs.lemmas.Result.{err_from_is_err_and}
 use Rattle.ps_text.specs.Answers.{Piece}
 use Rattle.ps_text.proofs.Simple.{none_is_some, same_some}
 use Rattle.ps_hoa.specs.Tokens.{Sign}
-use Rattle.ps_hoa.specs.Causes.{cause_number}
+use Rattle.ps_hoa.specs.Causes.{cause_number, HoaFault}
 use Rattle.ps_hoa.specs.Header.{int_in}
 use Rattle.ps_hoa.specs.Body.{BadIn}
 use Rattle.ps_hoa.specs.Inner.Reads.{Takes, IsTaken, IsWorst, IsRefusal}
 use Rattle.ps_hoa.specs.declared.fault.HoaCause.{HoaCause}
-use Rattle.ps_hoa.specs.Causes.{HoaFault}
 use Rattle.ps_text.specs.declared.faults.Fault.TheVariants.{Text, OutOfMemory}
 
 -- what holds of the number that is there

@@ -1,18 +1,19 @@
 -- How labels are read: the forms of an operand.
-use Rattle.std.proofs.Common.{◌≡◌, ℕ, zero, suc, ◌-◌, ◌<◌, [], Option, Result, refl, subst, inl, inr, arith}
+--     label_operands      what is needed of its operands
+--     not_reads, not_fails      an operand behind `!`
+--     leaf_serves      an operand of one sign
+use Rattle.std.proofs.Common.{◌≡◌, ℕ, zero, suc, ◌-◌, ◌<◌, [], refl, subst, arith, ⊎_elim}
 use Rattle.ps_label.specs.Expression.{Expression, not_of}
-use Rattle.ps_text.specs.Answers.{Stream, Found, next_of as there_of}
+use Rattle.ps_text.specs.Answers.{Stream, next_of as there_of}
 use Rattle.ps_text.specs.Parts.{Part, either, mapped}
-use Rattle.ps_text.specs.Readers.{Stops, Reads, Meets}
-use Rattle.ps_text.proofs.Laws.{Laws, Joint, Nothing, Or}
+use Rattle.ps_text.specs.Readers.{Reads}
+use Rattle.ps_text.proofs.Laws.{Laws, Joint, Nothing}
 use Rattle.ps_text.proofs.Simple.{laws_mapped}
-use Rattle.ps_text.proofs.Covered.{Enters, Avoids, enters_then}
-use Rattle.ps_text.proofs.Exits.{reads_then, reads_mapped, stops_behind, stops_mapped}
-use Rattle.ps_text.proofs.Branches.{Stands, reads_as, stops_as_well, meets_as, left_entered, right_entered}
-use Rattle.ps_text.proofs.Branches.{left_otherwise}
-use Rattle.ps_hoa.specs.Causes.{HoaFault, hoa_causes, found_of}
+use Rattle.ps_text.proofs.Covered.{Enters}
+use Rattle.ps_text.proofs.Exits.{reads_then, reads_mapped}
+use Rattle.ps_text.proofs.Branches.{left_entered, right_entered, left_otherwise}
 use Rattle.ps_hoa.specs.Labels.{ScopeData, leaf_in, BadLeaf, leaf, together, negation, operand}
-use Rattle.ps_hoa.specs.Operands.{is_not, is_left, mark, inner, rows}
+use Rattle.ps_hoa.specs.Operands.{is_not, mark, inner, rows}
 use Rattle.ps_hoa.specs.Scan.{next_of, behind_next}
 use Rattle.ps_hoa.specs.Tokens.{Sign}
 use Rattle.ps_hoa.specs.declared.connective.Connective.TheVariants as connectives
@@ -20,106 +21,76 @@ use Rattle.ps_hoa.specs.declared.fault.HoaCause.{HoaCause}
 use Rattle.ps_hoa.specs.declared.tokens.Kind.TheVariants.{Int, Not, LeftParen}
 use Rattle.ps_hoa.proofs.Grammar.OperandLaws.{Odd, Of, joint_mark}
 use Rattle.ps_hoa.proofs.Grammar.LabelLaws.{is_start, laws_not, laws_rows, laws_nested, laws_negation, laws_deep}
-use Rattle.ps_hoa.proofs.Grammar.LabelLaws.{laws_single}
-use Rattle.ps_hoa.proofs.Grammar.LabelLaws.{laws_operand, not_left, single_nested, apart_right}
+use Rattle.ps_hoa.proofs.Grammar.LabelLaws.{laws_single, laws_operand, not_left, single_nested, apart_right}
+use Rattle.ps_hoa.proofs.Reading.Exits.{Serves, serves_as, itself, serves_both, Leads, behind, under, instead, entered}
 use Rattle.ps_hoa.proofs.Reading.SingleSigns.{IsOfSigns}
-use Rattle.ps_hoa.proofs.Reading.MarkReading.{tests_not, tests_left, mark_read, mark_elsewhere, mark_enters}
-use Rattle.ps_hoa.proofs.Reading.MarkReading.{enters_left}
-use Rattle.ps_hoa.proofs.Reading.MarkReading.{enters_right, enters_inner}
-use Rattle.ps_hoa.proofs.Reading.OperandReading.{Operands, stands_within}
+use Rattle.ps_hoa.proofs.Reading.MarkReading.{tests_not, tests_left, mark_read, mark_begins, mark_elsewhere}
+use Rattle.ps_hoa.proofs.Reading.MarkReading.{enters_left, enters_right, inner_begins}
+use Rattle.ps_hoa.proofs.Reading.OperandReading.{Operands}
 
 pub leaf_signs : (scope : ScopeData) (room : ℕ) → IsOfSigns (leaf_in scope.names) (BadLeaf scope room)
 leaf_signs scope room =
     record { sign = record { kind = Int; text = [] }; value = _; taken = refl; end = refl; good = λ f b. b }
 
--- ## The forms of an operand
-
 -- an operand where one more may nest
-module _ (scope : ScopeData) (room : ℕ) where
-  abbrev under : Part Sign Expression HoaCause
-  under = operand scope room
+module _ (scope : ScopeData) (room : ℕ) (old : Stream Sign) where
+  abbrev less : Part Sign Expression HoaCause
+  less = operand scope room
 
-  laws_under : Laws Odd under (Of is_start) Nothing ⊥
-  laws_under = laws_operand scope room
+  abbrev held : Part Sign Expression HoaCause
+  held = inner (rows together connectives.Or less)
 
-  laws_held_under : Laws Odd (inner (rows together connectives.Or under)) (Of is_left) Nothing ⊥
-  laws_held_under = laws_nested under together laws_under
+  laws_less : Laws Odd less (Of is_start) Nothing ⊥
+  laws_less = laws_operand scope room
 
-  joint_not : Joint (mark is_not) (λ _. mapped not_of under)
-  joint_not = joint_mark is_not laws_not (laws_mapped not_of under laws_under)
+  joint_not : Joint (mark is_not) (λ _. mapped not_of less)
+  joint_not = joint_mark is_not laws_not (laws_mapped not_of less laws_less)
 
-  enters_not : {old mid : Stream Sign} → Reads (mark is_not) old tt mid → Enters (negation under) (there_of old)
-  enters_not {old} r =
-      enters_then (mark is_not) (λ _. mapped not_of under) joint_not (there_of old) (mark_enters is_not laws_not r)
-
-  abbrev nested : Part Sign Expression HoaCause
-  nested = either (negation under) (inner (rows together connectives.Or under))
-
-  nests : (there : Option Sign) → Enters nested there → Stands there nested (operand scope (suc room))
+  serves_nested : Enters (either (negation less) held) (there_of old) →
+      Serves old (either (negation less) held) (operand scope (suc room))
   unfolding operand
-  nests there e = right_entered (laws_single scope room) (laws_deep under laws_under) there single_nested e
+  serves_nested e = serves_as old
+      (right_entered (laws_single scope room) (laws_deep less laws_less) (there_of old) single_nested e)
 
-  stands_not : {old mid : Stream Sign} → Reads (mark is_not) old tt mid →
-      Stands (there_of old) (negation under) (operand scope (suc room))
-  stands_not {old} r =
-      stands_within (there_of old) (left_entered (laws_negation under laws_under) laws_held_under (there_of old)
-      not_left (enters_not r))
-      (nests (there_of old) (enters_left (negation under) (inner (rows together connectives.Or under)) (there_of old)
-      (enters_not r)))
+  serves_not : (next_of old).sign.kind ≡ Not → Serves old (negation less) (operand scope (suc room))
+  serves_not k = let e = entered joint_not old (mark_begins tests_not old k) in
+      serves_both (serves_as old (left_entered (laws_negation less laws_less) (laws_nested less together laws_less)
+      (there_of old) not_left e))
+      (serves_nested (enters_left (negation less) held (there_of old) e))
 
-  stands_paren : {old mid : Stream Sign} → Reads (mark is_left) old tt mid →
-      Stands (there_of old) (inner (rows together connectives.Or under)) (operand scope (suc room))
-  stands_paren {old} r = let e = enters_inner (laws_rows under together laws_under) apart_right r in
-      stands_within (there_of old) (right_entered (laws_negation under laws_under) laws_held_under
-      (there_of old) not_left e)
-      (nests (there_of old) (enters_right (negation under) (inner (rows together connectives.Or under))
-      (there_of old) e))
-
-  leaf_under : {X : Type 0} (view : X → Expression) (old new : Stream Sign) (result : Result X HoaFault) →
-      Avoids (Or (Of is_not) (Of is_left)) (there_of old) →
-      Meets found_of hoa_causes view (leaf scope (suc room)) old result new →
-      Meets found_of hoa_causes view (operand scope (suc room)) old result new
-  unfolding operand
-  leaf_under view old new result a m =
-      meets_as found_of hoa_causes view old new result (left_otherwise (laws_single scope room)
-      (laws_deep under laws_under) (there_of old) a (λ h. h)) m
-
-module _ (scope : ScopeData) (room : ℕ) (some : 0 < room) where
-  one_less : suc (room - 1) ≡ room
-  one_less = omega (arith, some)
-
-  pub not_reads : {old mid new : Stream Sign} {v : Expression} → (next_of old).sign.kind ≡ Not → mid ≡ behind_next old →
-      Reads (operand scope (room - 1)) mid v new →
-      Reads (operand scope room) old (not_of v) new
-  not_reads {old} {mid} {new} {v} e n m =
-      let r = mark_read tests_not e n in subst (λ k. Reads (operand scope k) old (not_of v) new) one_less
-      (reads_as (stands_not scope (room - 1) r) (reads_then (joint_not scope (room - 1)) r (reads_mapped not_of m)))
-
-  pub not_fails : (old : Stream Sign) {mid : Stream Sign} (o : Option (Found HoaCause)) →
-      (next_of old).sign.kind ≡ Not → mid ≡ behind_next old → Stops hoa_causes (operand scope (room - 1)) mid o →
-      Stops hoa_causes (operand scope room) old o
-  not_fails old {mid} o e n s =
-      let r = mark_read tests_not e n in subst (λ k. Stops hoa_causes (operand scope k) old o) one_less
-      (stops_as_well hoa_causes old o (stands_not scope (room - 1) r)
-      (stops_behind hoa_causes (joint_not scope (room - 1)) r o
-      (stops_mapped hoa_causes not_of (operand scope (room - 1)) mid o s)))
+  serves_paren : (next_of old).sign.kind ≡ LeftParen → Serves old held (operand scope (suc room))
+  serves_paren k = let e = inner_begins (laws_rows less together laws_less) apart_right old k in
+      serves_both (serves_as old (right_entered (laws_negation less laws_less) (laws_nested less together laws_less)
+      (there_of old) not_left e))
+      (serves_nested (enters_right (negation less) held (there_of old) e))
 
 pub label_operands : (scope : ScopeData) → Operands together (operand scope)
-label_operands scope = record { laws = laws_operand scope; stands = stands_paren scope }
+label_operands scope = record { laws = laws_operand scope; serves = serves_paren scope }
+
+module _ (scope : ScopeData) (room : ℕ) (some : 0 < room) {old mid : Stream Sign} (e : (next_of old).sign.kind ≡ Not)
+    (n : mid ≡ behind_next old) where
+  served : Serves old (negation (operand scope (room - 1))) (operand scope room)
+  served = let one_less : suc (room - 1) ≡ room = omega arith in
+      subst (λ k. Serves old (negation (operand scope (room - 1))) (operand scope k)) one_less
+      (serves_not scope (room - 1) old e)
+
+  pub not_reads : {new : Stream Sign} {v : Expression} → Reads (operand scope (room - 1)) mid v new →
+      Reads (operand scope room) old (not_of v) new
+  not_reads m = served.reads _ _
+      (reads_then (joint_not scope (room - 1) old) (mark_read tests_not e n) (reads_mapped not_of m))
+
+  pub not_fails : Leads (operand scope room) old (operand scope (room - 1)) mid
+  not_fails = instead served (behind (joint_not scope (room - 1) old) (mark_read tests_not e n)
+      (under not_of (operand scope (room - 1))))
 
 -- neither `!` nor `(` stands there, or no more may nest
-pub leaf_stands : {X : Type 0} (view : X → Expression) (scope : ScopeData) (room : ℕ) (old new : Stream Sign)
-    (result : Result X HoaFault) →
+pub leaf_serves : (scope : ScopeData) (room : ℕ) (old : Stream Sign) →
     (0 < room → (next_of old).sign.kind ≡ Not → ⊥) → (0 < room → (next_of old).sign.kind ≡ LeftParen → ⊥) →
-    Meets found_of hoa_causes view (leaf scope room) old result new →
-    Meets found_of hoa_causes view (operand scope room) old result new
+    Serves old (leaf scope room) (operand scope room)
 unfolding operand
-leaf_stands view scope zero old new result no_not no_left m = m
-leaf_stands view scope (suc room) old new result no_not no_left m = leaf_under scope room view old new result avoids m
-  where
-    some : 0 < suc room
-    some = omega arith
-
-    avoids : Avoids (Or (Of is_not) (Of is_left)) (there_of old)
-    avoids t x (inl h) = mark_elsewhere tests_not old (no_not some) t x h
-    avoids t x (inr h) = mark_elsewhere tests_left old (no_left some) t x h
+leaf_serves scope zero old no_not no_left = itself
+leaf_serves scope (suc room) old no_not no_left =
+    let some : 0 < suc room = omega arith in
+    serves_as old (left_otherwise (laws_single scope room) (laws_deep (operand scope room) (laws_operand scope room))
+    (there_of old) (λ t x h. ⊎_elim (mark_elsewhere tests_not old (no_not some) t x)
+    (mark_elsewhere tests_left old (no_left some) t x) h) (λ h. h))

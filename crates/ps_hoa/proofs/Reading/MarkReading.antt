@@ -1,63 +1,75 @@
 -- How signs by themselves are read, and what stands between parentheses.
 --     Tests test kind      the test passes that kind, and no other
---     mark_read, mark_elsewhere      the sign stands there and was taken; it does not stand there
---     inner_reads, inner_fails, inner_stays_open      the exits of a part in parentheses, behind its `(`
-use Rattle.std.proofs.Common.{◌≡◌, ℕ, ◌≤◌, ◌↔◌, Bool, true, false, cond, List, [], ◌∷◌, length, Option, None, Some, Ok}
-use Rattle.std.proofs.Common.{refl, sym, ap, subst, ◌∙◌, inl, inr, arith}
-use Rattle.ps_text.specs.Answers.{Piece, Stream, Found, first_of, signs, next_of as there_of}
-use Rattle.ps_text.specs.Parts.{Part, then_by, either}
-use Rattle.ps_text.specs.Readers.{Stops, Reads}
-use Rattle.ps_text.proofs.Laws.{Laws, Joint, Nothing, Apart}
-use Rattle.ps_text.proofs.Simple.{none_is_some, same_some}
-use Rattle.ps_text.proofs.Covered.{Enters, Avoids, enters_read, enters_then}
-use Rattle.ps_text.proofs.Exits.{reads_then, reads_mapped, stops_first, stops_behind, stops_mapped}
-use Rattle.ps_hoa.specs.Causes.{hoa_causes}
-use Rattle.ps_hoa.specs.Operands.{is_not, is_and, is_or, is_left, is_right, mark, inner, before, closed}
+--     sign_begins, avoids_kind      the next sign begins its part, and none of those that a test passes
+--     mark_read, mark_begins, mark_elsewhere      the sign stands there: it was taken, and begins a part; it does not
+--               stand there
+--     tests_not, .., tests_string      the tests of the grammar
+--     inner_begins, inner_reads, inner_fails, inner_stays_open      a part in parentheses, and its exits behind its `(`
+use Rattle.std.proofs.Common.{◌≡◌, ℕ, ◌≤◌, Bool, true, cond, List, [], ◌∷◌, length, Option, None, Some, Ok, refl, sym}
+use Rattle.std.proofs.Common.{ap, subst, ◌∙◌, inl, inr, arith}
+use Rattle.ps_text.specs.Answers.{Piece, Stream, next_of as there_of}
+use Rattle.ps_text.specs.Parts.{Part, NoBad, one, then_by, either}
+use Rattle.ps_text.specs.Readers.{Reads}
+use Rattle.ps_text.proofs.Laws.{Laws, Joint, Apart}
+use Rattle.ps_text.proofs.Covered.{Enters, Avoids, enters_one}
+use Rattle.ps_text.proofs.Exits.{reads_then, reads_mapped}
+use Rattle.ps_hoa.specs.Body.{is_left_brace, is_right_brace, is_left_bracket, is_right_bracket}
+use Rattle.ps_hoa.specs.Operands.{is_not, is_and, is_or, is_left, is_right, mark_in, mark, inner, before, closed}
 use Rattle.ps_hoa.specs.Scan.{next_of, behind_next}
 use Rattle.ps_hoa.specs.Tokens.{Sign}
 use Rattle.ps_hoa.specs.declared.fault.HoaCause.{HoaCause}
 use Rattle.ps_hoa.specs.declared.tokens.Kind.{Kind}
-use Rattle.ps_hoa.specs.declared.tokens.Kind.TheVariants.{Finish, Not, And, Or, LeftParen, RightParen}
+use Rattle.ps_hoa.specs.declared.tokens.Kind.TheVariants.{Finish, Not, And, Or, LeftParen, RightParen, Int, Text}
+use Rattle.ps_hoa.specs.declared.tokens.Kind.TheVariants.{LeftBrace, RightBrace, LeftBracket, RightBracket}
 use Rattle.ps_hoa.specs.Inner.Signs.{IsTestOf}
+use Rattle.ps_hoa.proofs.Grammar.ConditionLaws.{is_int}
 use Rattle.ps_hoa.proofs.Grammar.HeaderSigns.{signs_mark}
 use Rattle.ps_hoa.proofs.Grammar.KindSets.{test_of}
-use Rattle.ps_hoa.proofs.Grammar.OperandLaws.{Odd, Of, false_true, joint_mark, joint_closed, laws_held}
 use Rattle.ps_hoa.proofs.Grammar.LabelLaws.{laws_left, laws_right}
+use Rattle.ps_hoa.proofs.Grammar.OperandLaws.{Odd, Of, joint_mark, joint_closed, laws_held}
+use Rattle.ps_hoa.proofs.Grammar.SignLaws.{is_string}
+use Rattle.ps_hoa.proofs.Reading.Exits.{Leads, first, behind, under, entered}
+use Rattle.ps_hoa.proofs.Reading.NextSign.{next_there, next_same}
 use Rattle.ps_hoa.proofs.Reading.SingleSigns.{reads_one}
 
 pub record Tests (test : Kind → Bool) (kind : Kind) : Type 0 where
   pub is : IsTestOf test kind
   pub proper : kind ≡ Finish → ⊥
 
+-- a sign that is taken begins its part
+pub sign_begins : {V : Type 0} (take : Sign → Option V) (Bad : Sign → HoaCause → Type 0) (s : Stream Sign) {v : V} →
+    ((next_of s).sign.kind ≡ Finish → ⊥) → take (next_of s).sign ≡ Some v → Enters (one take Bad) (there_of s)
+sign_begins take Bad s {v} proper e =
+    subst (Enters (one take Bad)) (sym (next_there s proper)) (enters_one take Bad (next_of s).sign (inl (v, e)))
+
+-- no sign of a test is next, where the next token is none
+pub avoids_kind : (test : Kind → Bool) (s : Stream Sign) → (test (next_of s).sign.kind ≡ true → ⊥) →
+    Avoids (Of test) (there_of s)
+avoids_kind test s h t e k = h (ap (λ (u : Sign). test u.kind) (next_same s t e) ∙ k)
+
 module _ {test : Kind → Bool} {kind : Kind} (tests : Tests test kind) where
-  -- the sign stands there, and was taken
+  pub taken_there : (sign : Sign) → sign.kind ≡ kind → mark_in test sign ≡ Some tt
+  taken_there sign e = ap (λ (b : Bool). cond b (Some tt) None) (ap test e ∙ tests.is.0)
+
   pub mark_read : {old new : Stream Sign} → (next_of old).sign.kind ≡ kind → new ≡ behind_next old →
       Reads (mark test) old tt new
   mark_read {old = old} {new = new} e n =
-      reads_one (λ u. u) (signs_mark test kind tests.is tests.proper) old new (Ok tt) (record {
-        some = ap (λ b. cond b (Some tt) None) (ap test e ∙ tests.is.0);
-        good = λ f b. b;
-      }) n
+      reads_one (λ u. u) (signs_mark test kind tests.is tests.proper) old new (Ok tt)
+      (record { some = taken_there (next_of old).sign e; good = λ f b. b }) n
 
-  -- it does not stand there
+  pub mark_begins : (s : Stream Sign) → (next_of s).sign.kind ≡ kind → Enters (mark test) (there_of s)
+  mark_begins s e =
+      sign_begins (mark_in test) NoBad s (λ f. tests.proper (sym e ∙ f)) (taken_there (next_of s).sign e)
+
   pub mark_elsewhere : (s : Stream Sign) → ((next_of s).sign.kind ≡ kind → ⊥) → Avoids (Of test) (there_of s)
-  mark_elsewhere s differs = go s.pieces s.end differs
-    where
-      go : (ps : List (Piece Sign)) (end : ℕ) → ((next_of (record { pieces = ps; end = end })).sign.kind ≡ kind → ⊥) →
-          Avoids (Of test) (first_of (signs ps))
-      go [] end differs t x h = none_is_some t x
-      go (p ∷ ps) end differs t x h = differs (tests.is.1 p.sign.kind (subst (Of test) (sym (same_some p.sign t x)) h))
-
-  pub mark_avoided : (s : Stream Sign) (b : Bool) → (b ≡ true) ↔ ((next_of s).sign.kind ≡ kind) → b ≡ false →
-      Avoids (Of test) (there_of s)
-  mark_avoided s b w e = mark_elsewhere s (λ k. false_true (sym e ∙ w.1 k))
+  mark_elsewhere s differs = avoids_kind test s (λ h. differs (tests.is.1 (next_of s).sign.kind h))
 
 -- going on by a token leaves no more pieces
 pub behind_shrinks : (s new : Stream Sign) → new ≡ behind_next s → length new.pieces ≤ length s.pieces
 behind_shrinks s new e = subst (λ (x : Stream Sign). length x.pieces ≤ length s.pieces) (sym e) (go s.pieces s.end)
   where
-    go : (ps : List (Piece Sign)) (end : ℕ) → length (behind_next (record { pieces = ps; end = end })).pieces ≤ length
-        ps
+    go : (ps : List (Piece Sign)) (end : ℕ) →
+        length (behind_next (record { pieces = ps; end = end })).pieces ≤ length ps
     go [] end = omega arith
     go (p ∷ ps) end = omega arith
 
@@ -76,11 +88,23 @@ tests_left = record { is = test_of is_left LeftParen refl refl; proper = λ e. c
 pub tests_right : Tests is_right RightParen
 tests_right = record { is = test_of is_right RightParen refl refl; proper = λ e. cc }
 
--- the sign begins what was read from it on
-pub mark_enters : (test : Kind → Bool) → Laws Odd (mark test) (Of test) Nothing ⊥ → {old mid : Stream Sign} →
-    Reads (mark test) old tt mid → Enters (mark test) (there_of old)
-mark_enters test l {old} {mid} r =
-    enters_read (mark test) (signs old.pieces) (signs mid.pieces) tt (λ w h. l.null w h) r.1
+pub tests_left_brace : Tests is_left_brace LeftBrace
+tests_left_brace = record { is = test_of is_left_brace LeftBrace refl refl; proper = λ e. cc }
+
+pub tests_right_brace : Tests is_right_brace RightBrace
+tests_right_brace = record { is = test_of is_right_brace RightBrace refl refl; proper = λ e. cc }
+
+pub tests_left_bracket : Tests is_left_bracket LeftBracket
+tests_left_bracket = record { is = test_of is_left_bracket LeftBracket refl refl; proper = λ e. cc }
+
+pub tests_right_bracket : Tests is_right_bracket RightBracket
+tests_right_bracket = record { is = test_of is_right_bracket RightBracket refl refl; proper = λ e. cc }
+
+pub tests_int : Tests is_int Int
+tests_int = record { is = test_of is_int Int refl refl; proper = λ e. cc }
+
+pub tests_string : Tests is_string Text
+tests_string = record { is = test_of is_string Text refl refl; proper = λ e. cc }
 
 -- what begins a form of `either` begins the whole
 pub enters_left : {V : Type 0} (P Q : Part Sign V HoaCause) (there : Option Sign) → Enters P there →
@@ -105,22 +129,16 @@ module _ {V : Type 0} {P : Part Sign V HoaCause} {First More : Sign → Type 0} 
   joint_right : Joint P (λ v. closed v)
   joint_right = joint_closed laws_right l apart
 
-  pub enters_inner : {old mid : Stream Sign} → Reads (mark is_left) old tt mid → Enters (inner P) (there_of old)
-  enters_inner {old} r =
-      enters_then (mark is_left) (λ _. then_by P (λ v. closed v)) joint_left (there_of old)
-      (mark_enters is_left laws_left r)
+  pub inner_begins : (s : Stream Sign) → (next_of s).sign.kind ≡ LeftParen → Enters (inner P) (there_of s)
+  inner_begins s e = entered joint_left s (mark_begins tests_left s e)
 
   pub inner_reads : {old mid next new : Stream Sign} {v : V} → Reads (mark is_left) old tt mid → Reads P mid v next →
       Reads (mark is_right) next tt new → Reads (inner P) old v new
   inner_reads {v = v} r m n = reads_then joint_left r (reads_then joint_right m (reads_mapped (before v) n))
 
-  pub inner_fails : {old mid : Stream Sign} (o : Option (Found HoaCause)) → Reads (mark is_left) old tt mid →
-      Stops hoa_causes P mid o → Stops hoa_causes (inner P) old o
-  inner_fails {mid = mid} o r s = stops_behind hoa_causes joint_left r o (stops_first hoa_causes joint_right mid o s)
+  pub inner_fails : {old mid : Stream Sign} → Reads (mark is_left) old tt mid → Leads (inner P) old P mid
+  inner_fails r = behind joint_left r (first joint_right)
 
-  pub inner_stays_open : {old mid next : Stream Sign} {v : V} (o : Option (Found HoaCause)) →
-      Reads (mark is_left) old tt mid → Reads P mid v next →
-      Stops hoa_causes (mark is_right) next o → Stops hoa_causes (inner P) old o
-  inner_stays_open {next = next} {v = v} o r m s =
-      stops_behind hoa_causes joint_left r o (stops_behind hoa_causes joint_right m o
-      (stops_mapped hoa_causes (before v) (mark is_right) next o s))
+  pub inner_stays_open : {old mid next : Stream Sign} {v : V} → Reads (mark is_left) old tt mid → Reads P mid v next →
+      Leads (inner P) old (mark is_right) next
+  inner_stays_open {v = v} r m = behind joint_left r (behind joint_right m (under (before v) (mark is_right)))

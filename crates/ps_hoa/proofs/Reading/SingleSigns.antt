@@ -7,12 +7,11 @@ use Rattle.ps_text.specs.Parts.{one}
 use Rattle.ps_text.specs.Readers.{Meets}
 use Rattle.ps_text.proofs.Simple.{none_is_some, same_some}
 use Rattle.ps_text.proofs.Meeting.{meets_next, meets_bad_next, meets_refusal}
-use Rattle.ps_hoa.specs.Causes.{hoa_causes, found_of}
+use Rattle.ps_hoa.specs.Causes.{hoa_causes, found_of, HoaFault}
 use Rattle.ps_hoa.specs.Inner.Reads.{Takes, IsWorst, IsRefusal}
 use Rattle.ps_hoa.specs.Scan.{next_of, behind_next}
 use Rattle.ps_hoa.specs.Tokens.{Sign}
 use Rattle.ps_hoa.specs.declared.fault.HoaCause.{HoaCause}
-use Rattle.ps_hoa.specs.Causes.{HoaFault}
 use Rattle.ps_text.specs.declared.faults.Fault.TheVariants.{Text, OutOfMemory}
 use Rattle.ps_hoa.specs.declared.tokens.Kind.TheVariants.{Finish}
 

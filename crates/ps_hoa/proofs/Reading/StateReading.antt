@@ -1,35 +1,36 @@
 -- The exits of the reading functions of states.
 --     next_signs, end_signs      `State:` and `--END--`
---     enters_state, avoids_state      `State:` stands next, or does not
---     at_label, at_no_label; at_name, at_no_name      a state has a label, or none; and so with its name
---     of_empty_row, stops_of_empty_row      the edges of a row that has none yet
-use Rattle.std.proofs.Common.{◌≡◌, ℕ, true, false, List, [], Option, None, Some, is_some, refl, sym, ap, subst, inl}
-use Rattle.std.proofs.Common.{◌∙◌}
-use Rattle.std.specs.Prelude.{codes}
-use Rattle.ps_label.specs.Expression.{Expression}
-use Rattle.ps_text.specs.Answers.{Stream, Found}
-use Rattle.ps_text.specs.Answers as texts
-use Rattle.ps_text.specs.Parts.{Part, NoBad, give, then_by, mapped}
-use Rattle.ps_text.specs.Readers.{Reads, Stops}
-use Rattle.ps_text.proofs.Covered.{Avoids, Enters, enters_one, enters_then, enters_mapped}
-use Rattle.ps_text.proofs.Branches.{Stands, left_entered, right_otherwise}
+--     state_enters, avoids_state      `State:` stands next, or does not
+--     label_serves, no_label_serves      a state has a label, or none
+--     name_serves, no_name_serves      and so with its name
+--     edges_serve      the edges of a row that has none yet
+--     state_loop, edge_loop, set_loop      the loops of the body
+use Rattle.std.proofs.Common.{◌≡◌, true, false, List, [], Option, None, Some, is_some, refl, sym, ap, subst, ◌∙◌}
+use Rattle.std.specs.Prelude.{codes, ℕ}
+use Rattle.ps_text.specs.Answers.{Stream, next_of as there_of}
+use Rattle.ps_text.specs.Parts.{NoBad, give, then_by, mapped}
+use Rattle.ps_text.proofs.Covered.{Avoids, Enters, enters_mapped}
+use Rattle.ps_text.proofs.Branches.{left_entered, right_otherwise}
 use Rattle.ps_hoa.specs.Tokens.{Sign}
-use Rattle.ps_hoa.specs.Causes.{hoa_causes}
 use Rattle.ps_hoa.specs.Files.{RowData}
 use Rattle.ps_hoa.specs.Header.{HeaderData, string_value, string_in, string}
 use Rattle.ps_hoa.specs.Operands.{mark_in, mark}
-use Rattle.ps_hoa.specs.Body.{BodyData, is_left_bracket, label_in_brackets, state_label, edges, state_value, IsBadNext}
-use Rattle.ps_hoa.specs.Body.{state_begins, state, is_end, IsBadClose, nothing_of, state_name}
+use Rattle.ps_hoa.specs.Body.{BodyData, is_left_bracket, label_in_brackets, state_label, edges, edge, set_number}
+use Rattle.ps_hoa.specs.Body.{state_value, IsBadNext, state, is_end, IsBadClose, nothing_of, state_name}
+use Rattle.ps_hoa.specs.Inner.Ahead.{begins_edge}
 use Rattle.ps_hoa.specs.Scan.{next_of}
-use Rattle.ps_hoa.specs.declared.fault.HoaCause.{HoaCause}
+use Rattle.ps_hoa.proofs.Grammar.ConditionLaws.{is_int}
 use Rattle.ps_hoa.specs.declared.tokens.Kind.{Kind}
-use Rattle.ps_hoa.specs.declared.tokens.Kind.TheVariants.{Text, Header, LeftBracket, End, Finish}
-use Rattle.ps_hoa.proofs.Grammar.OperandLaws.{Of, false_true}
-use Rattle.ps_hoa.proofs.Grammar.SignLaws.{is_string}
-use Rattle.ps_hoa.proofs.Grammar.BodyLaws.{laws_bracketed, laws_no_label, joint_bracket}
-use Rattle.ps_hoa.proofs.Grammar.StateLaws.{IsState, text_of_state, laws_named, laws_no_name, from_label, joint_state}
-use Rattle.ps_hoa.proofs.Reading.BodyReading.{next_of_kind, test_left_bracket, enters_mark}
-use Rattle.ps_hoa.proofs.Reading.NextSign.{next_there, next_same}
+use Rattle.ps_hoa.specs.declared.tokens.Kind.TheVariants.{Text, Header, LeftBracket, End}
+use Rattle.ps_hoa.proofs.Grammar.OperandLaws.{Of, false_true, nothing_apart}
+use Rattle.ps_hoa.proofs.Grammar.BodyLaws.{laws_bracketed, laws_no_label, joint_bracket, laws_edge, edge_apart}
+use Rattle.ps_hoa.proofs.Grammar.BodyLaws.{laws_set_number}
+use Rattle.ps_hoa.proofs.Grammar.StateLaws.{IsState, text_of_state, laws_named, laws_no_name, joint_state, laws_state}
+use Rattle.ps_hoa.proofs.Grammar.StateLaws.{state_apart}
+use Rattle.ps_hoa.proofs.Reading.Exits.{Serves, serves_as, itself, entered, Loop}
+use Rattle.ps_hoa.proofs.Reading.MarkReading.{tests_left_bracket, tests_string, sign_begins, mark_begins}
+use Rattle.ps_hoa.proofs.Reading.MarkReading.{mark_elsewhere}
+use Rattle.ps_hoa.proofs.Reading.NextSign.{next_same}
 use Rattle.ps_hoa.proofs.Reading.SingleSigns.{IsOfSigns}
 
 pub next_signs : (h : HeaderData) (b : BodyData) → IsOfSigns state_value (IsBadNext h b)
@@ -54,70 +55,61 @@ end_signs h b =
 
 -- ## `State:`
 
-there : (o : Option (Unit {0})) → is_some o ≡ true → (v : Unit {0}) × (o ≡ Some v)
+there : (o : Option (Unit {0})) → is_some o ≡ true → o ≡ Some tt
 there None e = absurd (false_true e)
-there (Some v) e = (v, refl)
+there (Some v) e = refl
 
-header_is_no_end : Header ≡ Finish → ⊥
-header_is_no_end e = let x : Header ≡ Finish = e in cc
-
-pub enters_state : (h : HeaderData) (b : BodyData) (s : Stream Sign) → is_some (state_value (next_of s).sign) ≡ true →
-    Enters (state h b) (texts.next_of s)
-enters_state h b s e =
+pub state_enters : (h : HeaderData) (b : BodyData) (s : Stream Sign) → is_some (state_value (next_of s).sign) ≡ true →
+    Enters (state h b) (there_of s)
+state_enters h b s e =
     let v = there (state_value (next_of s).sign) e in
-    enters_then (state_begins h b) (λ _. from_label h b) (joint_state h b) (texts.next_of s)
-    (subst (Enters (state_begins h b)) (sym (next_there s (λ f.
-    header_is_no_end (sym (text_of_state (next_of s).sign.kind (next_of s).sign.text v.0 v.1).0 ∙ f))))
-    (enters_one state_value (IsBadNext h b) (next_of s).sign (inl v)))
+    entered (joint_state h b) s (sign_begins state_value (IsBadNext h b) s
+    (λ f. let x = sym (text_of_state (next_of s).sign.kind (next_of s).sign.text tt v).0 ∙ f in cc) v)
 
-pub avoids_state : (s : Stream Sign) → is_some (state_value (next_of s).sign) ≡ false → Avoids IsState (texts.next_of s)
+pub avoids_state : (s : Stream Sign) → is_some (state_value (next_of s).sign) ≡ false → Avoids IsState (there_of s)
 avoids_state s e t n k = false_true (sym e ∙ ap is_some (ap state_value (next_same s t n) ∙ k.1))
 
--- ## The label of a state
+-- ## The label and the name of a state
 
-module _ (h : HeaderData) where
-  abbrev pub Bracketed : Part Sign (Option Expression) HoaCause
-  Bracketed = then_by (mark is_left_bracket) (λ _. label_in_brackets h)
+module _ (h : HeaderData) (s : Stream Sign) where
+  pub label_serves : (next_of s).sign.kind ≡ LeftBracket →
+      Serves s (then_by (mark is_left_bracket) (λ _. label_in_brackets h)) (state_label h)
+  label_serves e = serves_as s (left_entered (laws_bracketed h) laws_no_label (there_of s) (λ t a b. b)
+      (entered (joint_bracket h) s (mark_begins tests_left_bracket s e)))
 
-  pub at_label : (s : Stream Sign) → (next_of s).sign.kind ≡ LeftBracket →
-      Stands (texts.next_of s) Bracketed (state_label h)
-  at_label s e = left_entered (laws_bracketed h) laws_no_label (texts.next_of s) (λ t a b. b)
-      (enters_then (mark is_left_bracket) (λ _. label_in_brackets h) (joint_bracket h) (texts.next_of s)
-      (enters_mark is_left_bracket LeftBracket test_left_bracket refl s e))
+  pub no_label_serves : ((next_of s).sign.kind ≡ LeftBracket → ⊥) → Serves s (give None) (state_label h)
+  no_label_serves differs = serves_as s (right_otherwise (laws_bracketed h) laws_no_label (there_of s)
+      (mark_elsewhere tests_left_bracket s differs) (λ k. k))
 
-  pub at_no_label : (s : Stream Sign) → Avoids (Of is_left_bracket) (texts.next_of s) →
-      Stands (texts.next_of s) (give None) (state_label h)
-  at_no_label s a = right_otherwise (laws_bracketed h) laws_no_label (texts.next_of s) a (λ k. k)
+module _ (s : Stream Sign) where
+  pub string_next : (next_of s).sign.kind ≡ Text → (v : List ℕ) × (string_in (next_of s).sign ≡ Some v)
+  string_next e = (_, ap (λ (k : Kind). string_value k (next_of s).sign.text) e)
 
--- ## The name of a state
+  pub string_begins : (next_of s).sign.kind ≡ Text → Enters string (there_of s)
+  string_begins e = sign_begins string_in NoBad s (λ f. tests_string.proper (sym e ∙ f)) (string_next e).1
 
-string_at : (kind : Kind) (text : List ℕ) → kind ≡ Text → (v : List ℕ) × (string_value kind text ≡ Some v)
-string_at kind text e = subst (λ k. (v : List ℕ) × (string_value k text ≡ Some v)) (sym e) (_, refl)
+  pub name_serves : (next_of s).sign.kind ≡ Text → Serves s (mapped nothing_of string) state_name
+  name_serves e = serves_as s (left_entered laws_named laws_no_name (there_of s) (λ t a b. b)
+      (enters_mapped nothing_of string (there_of s) (string_begins e)))
 
-pub string_next : (s : Stream Sign) → (next_of s).sign.kind ≡ Text →
-    (v : List ℕ) × (string_in (next_of s).sign ≡ Some v)
-string_next s e = string_at (next_of s).sign.kind (next_of s).sign.text e
+  pub no_name_serves : ((next_of s).sign.kind ≡ Text → ⊥) → Serves s (give tt) state_name
+  no_name_serves differs = serves_as s (right_otherwise laws_named laws_no_name (there_of s)
+      (mark_elsewhere tests_string s differs) (λ k. k))
 
-pub at_name : (s : Stream Sign) → (next_of s).sign.kind ≡ Text →
-    Stands (texts.next_of s) (mapped nothing_of string) state_name
-at_name s e = left_entered laws_named laws_no_name (texts.next_of s) (λ t a b. b)
-    (enters_mapped nothing_of string (texts.next_of s) (subst (Enters string) (sym (next_of_kind s Text refl e))
-    (enters_one string_in NoBad (next_of s).sign (inl (string_next s e)))))
+-- the edges of a new row
+pub edges_serve : (h : HeaderData) {before count : ℕ} {row empty : RowData} → before ≡ count → row ≡ empty →
+    (s : Stream Sign) → Serves s (edges h before row) (edges h count empty)
+edges_serve h {before} {count} {row} e q s =
+    subst (λ (x : RowData). Serves s (edges h before row) (edges h count x)) q
+    (subst (λ n. Serves s (edges h before row) (edges h n row)) e itself)
 
-pub at_no_name : (s : Stream Sign) → Avoids (Of is_string) (texts.next_of s) →
-    Stands (texts.next_of s) (give tt) state_name
-at_no_name s a = right_otherwise laws_named laws_no_name (texts.next_of s) a (λ k. k)
+-- ## Loops
 
--- ## The edges of a new row
+pub state_loop : (h : HeaderData) → Loop (state h) IsState
+state_loop h = record { More = _; laws = laws_state h; apart = state_apart }
 
-module _ (h : HeaderData) (before count : ℕ) (row empty : RowData) where
-  pub of_empty_row : before ≡ count → row ≡ empty → {old new : Stream Sign} {v : RowData} →
-      Reads (edges h before row) old v new → Reads (edges h count empty) old v new
-  of_empty_row e q {old} {new} {v} r =
-      subst (λ (x : RowData). Reads (edges h count x) old v new) q (subst (λ n. Reads (edges h n row) old v new) e r)
+pub edge_loop : (h : HeaderData) (before : ℕ) → Loop (edge h before) (Of begins_edge)
+edge_loop h before = record { More = _; laws = laws_edge h before; apart = edge_apart }
 
-  pub stops_of_empty_row : before ≡ count → row ≡ empty → (old : Stream Sign) (o : Option (Found HoaCause)) →
-      Stops hoa_causes (edges h before row) old o → Stops hoa_causes (edges h count empty) old o
-  stops_of_empty_row e q old o s =
-      subst (λ (x : RowData). Stops hoa_causes (edges h count x) old o) q
-      (subst (λ n. Stops hoa_causes (edges h n row) old o) e s)
+pub set_loop : (count : ℕ) → Loop (set_number count) (Of is_int)
+set_loop count = record { More = _; laws = laws_set_number count; apart = nothing_apart _ }

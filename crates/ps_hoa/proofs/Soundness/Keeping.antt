@@ -25,9 +25,9 @@ keeps_less part h k text v i q = h v (k text v i q)
 pub keeps_give : {T V F : Type 0} (S : V → Type 0) (v : V) → S v → Keeps (give {T = T} {V = V} {F = F} v) S
 keeps_give S v s text w i q = subst S (sym i.1) s
 
-pub keeps_one : {T V F : Type 0} (S : V → Type 0) (take : T → Option V) (Bad : T → F → Type 0) →
+pub keeps_one : {T V F : Type 0} {S : V → Type 0} (take : T → Option V) (Bad : T → F → Type 0) →
     ((t : T) (v : V) → take t ≡ Some v → ((f : F) → Bad t f → ⊥) → S v) → Keeps (one take Bad) S
-keeps_one S take Bad h text v i q = h i.0 v i.2 (λ f b. q [] [] i.0 f i.1 (refl, b))
+keeps_one take Bad h text v i q = h i.0 v i.2 (λ f b. q [] [] i.0 f i.1 (refl, b))
 
 pub keeps_then : {T A B F : Type 0} {S : A → Type 0} {R : B → Type 0} {P : Part T A F} {Q : A → Part T B F} →
     Keeps P S → ((a : A) → S a → Keeps (Q a) R) → Keeps (then_by P Q) R
@@ -51,6 +51,10 @@ keeps_then {P = P} {Q = Q} p q text b i quiet = q i.value (p i.left i.value i.is
           is_cause = c;
         }))
 
+pub keeps_behind : {T A B F : Type 0} {R : B → Type 0} (P : Part T A F) {Q : A → Part T B F} →
+    ((a : A) → Keeps (Q a) R) → Keeps (then_by P Q) R
+keeps_behind P q = keeps_then (keeps_nothing P) (λ a _. q a)
+
 pub keeps_either : {T V F : Type 0} {S : V → Type 0} {P Q : Part T V F} → Keeps P S → Keeps Q S → Keeps (either P Q) S
 keeps_either p q text v (inl i) quiet = p text v i (λ front rest t f e c. quiet front rest t f e (inl c))
 keeps_either p q text v (inr i) quiet = q text v i (λ front rest t f e c. quiet front rest t f e (inr c))
@@ -70,7 +74,7 @@ keeps_barred P Bad k text v i quiet = k text v i (λ front rest t f e c. quiet f
 module _ {T C F : Type 0} {S : C → Type 0} (item : C → Part T C F) (k : (c : C) → S c → Keeps (item c) S) where
   pub keeps_times : (n : ℕ) (c : C) → S c → Keeps (times n item c) S
   keeps_times zero c s = keeps_give S c s
-  keeps_times (suc n) c s = keeps_then (k c s) (λ d r. keeps_times n d r)
+  keeps_times (suc n) c s = keeps_then (k c s) (keeps_times n)
 
   pub keeps_many : (c : C) → S c → Keeps (many item c) S
   keeps_many c s text v i quiet = keeps_times i.0 c s text v i.1 (λ front rest t f e d. quiet front rest t f e (i.0, d))

@@ -1,16 +1,15 @@
 -- Names in a table, and what stands between quotes.
 --     list_any-is_name_among      a table has a name
 --     inside-range      a text without its first and its last byte, as a part of it
-use Rattle.std.proofs.Common.{◌≡◌, ℕ, suc, ◌-◌, ◌||◌, Bool, true, false, cond, List, [], ◌∷◌, map, length, take, refl}
-use Rattle.std.proofs.Common.{ap, ◌∙◌, arith}
+use Rattle.std.proofs.Common.{◌≡◌, ℕ, suc, ◌-◌, ◌||◌, Bool, true, cond, List, [], ◌∷◌, map, length, take, refl, ap, ◌∙◌}
+use Rattle.std.proofs.Common.{arith, rules}
 use Rattle.std.specs.Str.{bytes_eq}
 use Rattle.std.specs.List.{list_any, slice_range}
 use Rattle.ps_hoa.specs.Header.{is_name_among, without_last}
 use Rattle.ps_hoa.specs.Inner.Signs.{inside}
 
-or_cond : (b r : Bool) → (b || r) ≡ cond b true r
-or_cond true r = refl
-or_cond false r = refl
+pub or_cond : (b r : Bool) → (b || r) ≡ cond b true r
+or_cond b r = search rules
 
 pub list_any-is_name_among : {X : Type 0} (see : X → List ℕ) (name : List ℕ) (xs : List X) →
     list_any (λ x. bytes_eq name (see x)) xs ≡ is_name_among name (map see xs)

@@ -1,10 +1,9 @@
 -- What the states and edges of a body that was read are.
 --     keeps_body      for each body
-use Rattle.std.proofs.Common.{◌≡◌, ℕ, suc, ◌+◌, ◌-◌, ◌<◌, ◌≤◌, ◌⊎◌, Bool, true, false, cond, List, [], ◌∷◌, ◌++◌}
-use Rattle.std.proofs.Common.{length, Option, None, Some, refl, sym, ap, subst, inl, inr, ◌∙◌, arith, length-append}
+use Rattle.std.proofs.Common.{◌≡◌, ℕ, suc, ◌+◌, ◌-◌, ◌<◌, ◌≤◌, ◌⊎◌, false, cond, List, [], ◌∷◌, ◌++◌, length, Option}
+use Rattle.std.proofs.Common.{None, Some, refl, sym, ap, subst, inl, inr, ◌∙◌, arith, length-append}
 use Rattle.std.specs.Option.{IfSome}
 use Rattle.std.specs.List.{AllByRecursion, slice_get}
-use Rattle.std.proofs.Math.Decide.{dec_lt}
 use Rattle.std.proofs.lemmas.List.Sums.{sum_by_push}
 use Rattle.ps_label.specs.Expression.{Expression}
 use Rattle.ps_text.specs.Parts.{one}
@@ -12,35 +11,32 @@ use Rattle.ps_text.proofs.Simple.{none_is_some}
 use Rattle.ps_hoa.specs.Body.{edge_limit, BodyData, no_rows, IsBadState, IsBadSet, BadIn, sets_of, is_left_brace}
 use Rattle.ps_hoa.specs.Body.{is_right_brace, set_number, marks, is_left_bracket, is_right_bracket, body_scope}
 use Rattle.ps_hoa.specs.Body.{some_label, label_in_brackets, state_label, first_labelling, labelling, MayHaveNoLabel}
-use Rattle.ps_hoa.specs.Body.{MayHaveLabel, IsBadBracket, is_bracket, labelled_target, IsBadPlainTarget, guard_of}
-use Rattle.ps_hoa.specs.Body.{with_edge, labelled_edge, plain_edge, edge, edges, IsWrongCount, last_row, has_row}
-use Rattle.ps_hoa.specs.Body.{IsBadRow, state_name, empty_row, with_row, state_value, IsBadNext, state_begins, state}
-use Rattle.ps_hoa.specs.Body.{is_end, IsBadClose, ended, body}
+use Rattle.ps_hoa.specs.Body.{MayHaveLabel, IsBadBracket, is_bracket, IsBadPlainTarget, guard_of, with_edge}
+use Rattle.ps_hoa.specs.Body.{labelled_edge, plain_edge, edge, edges, IsWrongCount, last_row, has_row, IsBadRow}
+use Rattle.ps_hoa.specs.Body.{state_name, empty_row, with_row, state_value, IsBadNext, state_begins, state, is_end}
+use Rattle.ps_hoa.specs.Body.{IsBadClose, ended, body}
 use Rattle.ps_hoa.specs.Files.{GuardData, EdgeData, RowData, stated, of_state, at_letter, once}
 use Rattle.ps_hoa.specs.Header.{HeaderData, int_in, state_limit, IsAlternating}
 use Rattle.ps_hoa.specs.Labels.{label}
 use Rattle.ps_hoa.specs.Operands.{nesting_limit, mark_in, mark}
 use Rattle.ps_hoa.specs.Sound.{AreDifferent, IsStated, IsOfState, AreAtLetters, AreRowsOnce, edges_of}
-use Rattle.ps_hoa.proofs.Soundness.Differences.{nat_eq_not, all_once, different_once}
+use Rattle.ps_hoa.proofs.Soundness.Differences.{neither, nat_eq_not, all_once, different_once}
 use Rattle.ps_hoa.specs.declared.edges.Labelling.{Labelling}
 use Rattle.ps_hoa.specs.declared.edges.Labelling.TheVariants.{ByState, ByEdge, ByPlace}
 use Rattle.ps_hoa.specs.declared.fault.HoaCause.{HoaCause}
 use Rattle.ps_hoa.specs.declared.fault.HoaCause.TheVariants as causes
 use Rattle.ps_hoa.specs.declared.tokens.Kind.{Kind}
 use Rattle.ps_hoa.specs.declared.tokens.Kind.TheVariants.{LeftBracket}
-use Rattle.ps_hoa.proofs.Soundness.Keeping.{Keeps, keeps_nothing, keeps_less, keeps_give, keeps_one, keeps_then}
-use Rattle.ps_hoa.proofs.Soundness.Keeping.{keeps_either}
-use Rattle.ps_hoa.proofs.Soundness.Keeping.{keeps_mapped, keeps_many, keeps_barred}
+use Rattle.std.proofs.lemmas.Bool.{false_from_ne_true}
+use Rattle.ps_hoa.proofs.Reading.MarkReading.{tests_left_bracket}
+use Rattle.ps_hoa.proofs.Soundness.Keeping.{Keeps, keeps_less, keeps_give, keeps_one, keeps_then, keeps_behind}
+use Rattle.ps_hoa.proofs.Soundness.Keeping.{keeps_either, keeps_mapped, keeps_many, keeps_barred}
+use Rattle.ps_hoa.proofs.Soundness.SoundHeaders.{keeps_number}
 use Rattle.std.specs.Prelude.{nat_eq}
-use Rattle.ps_hoa.proofs.Grammar.OperandLaws.{false_true, taken_mark}
-use Rattle.ps_hoa.proofs.Soundness.SoundLabels.{InScope, keeps_label, all_push}
+use Rattle.ps_hoa.proofs.Grammar.OperandLaws.{taken_mark}
+use Rattle.ps_hoa.proofs.Soundness.SoundLabels.{InScope, below, keeps_label, all_push}
 
 -- ## Numbers
-
--- an INT that is not bad
-keeps_number : (Bad : ℕ → HoaCause → Type 0) → Keeps (one int_in (BadIn Bad)) (λ n. (f : HoaCause) → Bad n f → ⊥)
-keeps_number Bad = keeps_one (λ n. (f : HoaCause) → Bad n f → ⊥) int_in (BadIn Bad)
-    (λ t n e good f b. good f (subst (λ o. IfSome o (λ m. Bad m f)) (sym e) b, λ k. none_is_some n (sym k ∙ e)))
 
 -- the states that there may be
 abbrev pub IsStateOf : Option ℕ → ℕ → Type 0
@@ -48,41 +44,27 @@ IsStateOf (Some states) n = n < states
 IsStateOf None n = n < state_limit
 
 is_state : (states : Option ℕ) (n : ℕ) → ((f : HoaCause) → IsBadState states n f → ⊥) → IsStateOf states n
-is_state (Some states) n good =
-    elim (dec_lt n states) as (λ _. n < states) [
-      | yes h ↦ h
-      | no h ↦
-          absurd (good causes.Range (inr (omega arith, refl)))
-    ]
-is_state None n good =
-    elim (dec_lt n state_limit) as (λ _. n < state_limit) [
-      | yes h ↦ h
-      | no h ↦ absurd (good causes.Limit (omega arith, refl))
-    ]
+is_state (Some states) n good = below (λ l. good causes.Range (inr (l, refl)))
+is_state None n good = below (λ l. good causes.Limit (l, refl))
 
 -- ## Sets
-
-is_set : (count n : ℕ) → (count ≤ n → ⊥) → n < count
-is_set count n s = elim (dec_lt n count) as (λ _. n < count) [ yes h ↦ h | no h ↦ absurd (s (omega arith)) ]
 
 module _ (h : HeaderData) where
   abbrev pub AreSets : List ℕ → Type 0
   AreSets ns = AllByRecursion (λ n. n < sets_of h) ns × AreDifferent ns
 
   keeps_set_number : (ns : List ℕ) → AreSets ns → Keeps (set_number (sets_of h) ns) AreSets
-  keeps_set_number ns a = keeps_mapped AreSets (once ns) (one int_in (BadIn (IsBadSet (sets_of h))))
-      (λ text n i q. (
-        all_once (λ m. m < sets_of h) ns n a.0 (is_set (sets_of h) n
-            (λ l. keeps_number (IsBadSet (sets_of h)) text n i q causes.Range (inr (l, refl)))),
-        different_once ns n a.1,
-      ))
+  keeps_set_number ns a = keeps_mapped _ (once ns) (one int_in (BadIn (IsBadSet (sets_of h)))) (λ text n i q. (
+    all_once (λ m. m < sets_of h) ns n a.0
+        (below (λ l. keeps_number (IsBadSet (sets_of h)) text n i q causes.Range (inr (l, refl)))),
+    different_once ns n a.1,
+  ))
 
   keeps_marks : Keeps (marks h) AreSets
-  keeps_marks = keeps_either
-      (keeps_then (keeps_nothing (mark is_left_brace)) (λ _ _. keeps_then
-      (keeps_many (set_number (sets_of h)) keeps_set_number [] (tt, tt))
-      (λ ns a. keeps_mapped AreSets (λ _. ns) (mark is_right_brace) (λ text u i q. a))))
-      (keeps_give AreSets [] (tt, tt))
+  keeps_marks = keeps_either (keeps_behind (mark is_left_brace) (λ _.
+      keeps_then (keeps_many (set_number (sets_of h)) keeps_set_number [] (tt, tt))
+      (λ ns a. keeps_mapped _ (λ _. ns) (mark is_right_brace) (λ text u i q. a))))
+      (keeps_give _ [] (tt, tt))
 
   -- ## Labels between brackets
 
@@ -93,18 +75,13 @@ module _ (h : HeaderData) where
   HasLabel o = (e : Expression) × (o ≡ Some e) × IsScoped e
 
   keeps_label_in_brackets : Keeps (label_in_brackets h) HasLabel
-  keeps_label_in_brackets =
-      keeps_then (keeps_label (body_scope h) nesting_limit) (λ e s.
-      keeps_mapped HasLabel (some_label e) (mark is_right_bracket) (λ text u i q. (e, refl, s)))
-
-  if_label : (o : Option Expression) → HasLabel o → IfSome o IsScoped
-  if_label o l = subst (λ z. IfSome z IsScoped) (sym l.1) l.2
+  keeps_label_in_brackets = keeps_then (keeps_label (body_scope h) nesting_limit)
+      (λ e s. keeps_mapped _ (some_label e) (mark is_right_bracket) (λ text u i q. (e, refl, s)))
 
   keeps_state_label : Keeps (state_label h) (λ o. IfSome o IsScoped)
-  keeps_state_label =
-      keeps_either (keeps_then (keeps_nothing (mark is_left_bracket))
-      (λ _ _. keeps_less (label_in_brackets h) if_label keeps_label_in_brackets))
-      (keeps_give (λ o. IfSome o IsScoped) None tt)
+  keeps_state_label = keeps_either (keeps_behind (mark is_left_bracket) (λ _.
+      keeps_less (label_in_brackets h) (λ o l. subst (λ z. IfSome z IsScoped) (sym l.1) l.2) keeps_label_in_brackets))
+      (keeps_give _ None tt)
 
   -- ## Edges
 
@@ -132,23 +109,17 @@ way o es = elim o [ Some e ↦ ByState | None ↦ first_labelling es ]
 abbrev plain_by : Option Expression → ℕ → GuardData
 plain_by o n = elim o [ Some e ↦ of_state | None ↦ at_letter n ]
 
-letters_push : (k : ℕ) (es : List EdgeData) (x : EdgeData) → AreAtLetters k es → x.guard ≡ at_letter (k + length es) →
-    AreAtLetters k (es ++ x ∷ [])
-letters_push k [] x a g = (let z : k + 0 ≡ k = omega arith in subst (λ n. x.guard ≡ at_letter n) z g, tt)
-letters_push k (y ∷ es) x a g = (
-  a.0,
-  letters_push (k + 1) es x a.1 (let z : k + suc (length es) ≡ (k + 1) + length es = omega arith in
-      subst (λ n. x.guard ≡ at_letter n) z g),
-)
+letters_push : (k n : ℕ) (es : List EdgeData) (x : EdgeData) → AreAtLetters k es → n ≡ k + length es →
+    x.guard ≡ at_letter n → AreAtLetters k (es ++ x ∷ [])
+letters_push k n [] x a e g = (let z : n ≡ k = omega arith in rw z at g, tt)
+letters_push k n (y ∷ es) x a e g = (a.0, letters_push (k + 1) n es x a.1 (omega (arith, e)) g)
 
 push_plain : (o : Option Expression) (es : List EdgeData) (x : EdgeData) → x.guard ≡ plain_by o (length es) →
     LabelledBy o es → ((MayHaveNoLabel (way o es) → ⊥) → ⊥) → LabelledBy o (es ++ x ∷ [])
 push_plain (Some e) es x g l m = all_push IsOfState es x l g
 push_plain None [] x g l m = inr (g, tt)
 push_plain None (y ∷ es) x g (inl s) m = absurd (m (λ h. subst (λ z. MayHaveNoLabel (way_of z)) s.0.1 h))
-push_plain None (y ∷ es) x g (inr a) m =
-    inr (letters_push 0 (y ∷ es) x a (let z : length (y ∷ es) ≡ 0 + length (y ∷ es) = omega arith in
-    subst (λ n. x.guard ≡ at_letter n) z g))
+push_plain None (y ∷ es) x g (inr a) m = inr (letters_push 0 (length (y ∷ es)) (y ∷ es) x a (omega arith) g)
 
 push_stated : (o : Option Expression) (es : List EdgeData) (x : EdgeData) → IsStated x → LabelledBy o es →
     ((MayHaveLabel (way o es) → ⊥) → ⊥) → LabelledBy o (es ++ x ∷ [])
@@ -176,18 +147,7 @@ module _ (h : HeaderData) (before : ℕ) (n : ℕ) where
   abbrev RowOf : RowData → Type 0
   RowOf row = IsRowKept h row × (row.state ≡ n) × (before + length row.edges ≤ edge_limit)
 
-  keeps_labelled_target : Keeps (labelled_target h) (IsStateOf h.states)
-  keeps_labelled_target = keeps_barred (one int_in (BadIn (IsBadState h.states))) IsAlternating
-      (keeps_less (one int_in (BadIn (IsBadState h.states))) (is_state h.states) (keeps_number (IsBadState h.states)))
-
   module _ (row : RowData) (k : RowOf row) where
-    room : (label : Option Expression) (target : ℕ) (ns : List ℕ) → (edge_limit ≤ before + length row.edges → ⊥) →
-        before + length (with_edge row label target ns).edges ≤ edge_limit
-    room label target ns r = let l = is_set edge_limit (before + length row.edges) r in
-        let m : length (with_edge row label target ns).edges ≡ length row.edges + 1 = length-append row.edges _ in
-        let z : before + (length row.edges + 1) ≤ edge_limit = omega (arith, l) in
-        subst (λ k. before + k ≤ edge_limit) (sym m) z
-
     one_more : (label : Option Expression) (target : ℕ) (ns : List ℕ) → IsGuardKept h (guard_of row label) →
         IsStateOf h.states target → AreSets h ns →
         (edge_limit ≤ before + length row.edges → ⊥) → LabelledBy row.label (with_edge row label target ns).edges →
@@ -201,36 +161,28 @@ module _ (h : HeaderData) (before : ℕ) (n : ℕ) where
         labelled = l;
       },
       k.1,
-      room label target ns r,
+      (let m : length (with_edge row label target ns).edges ≡ length row.edges + 1 = length-append row.edges _ in
+          let s : before + length row.edges < edge_limit = below r in omega arith),
     )
 
     abbrev MayBegin : Unit {0} → Type 0
     MayBegin _ = (edge_limit ≤ before + length row.edges → ⊥) × ((MayHaveLabel (labelling row) → ⊥) → ⊥)
 
     keeps_bracket : Keeps (one is_bracket (IsBadBracket before row)) MayBegin
-    keeps_bracket = keeps_one MayBegin is_bracket (IsBadBracket before row)
-        (λ t v e good. (
-          λ full. good causes.Limit (bracket_kind t.kind v e, inl (full, refl)),
-          λ no. good causes.Labels (bracket_kind t.kind v e, inr (no, refl)),
+    keeps_bracket = keeps_one is_bracket (IsBadBracket before row) (λ t v e good.
+        let at : t.kind ≡ LeftBracket = tests_left_bracket.is.1 t.kind (taken_mark is_left_bracket t v e) in (
+          λ full. good causes.Limit (at, inl (full, refl)),
+          λ no. good causes.Labels (at, inr (no, refl)),
         ))
 
     keeps_labelled_edge : Keeps (labelled_edge h before row) RowOf
-    keeps_labelled_edge =
-        keeps_then keeps_bracket (λ _ m. keeps_then (keeps_label_in_brackets h)
-        (λ label l. keeps_then keeps_labelled_target (λ target t.
-        keeps_mapped RowOf (with_edge row label target) (marks h) (λ text ns i q.
+    keeps_labelled_edge = keeps_then keeps_bracket (λ _ m. keeps_then (keeps_label_in_brackets h) (λ label l.
+        keeps_then (keeps_barred (one int_in (BadIn (IsBadState h.states))) IsAlternating
+        (keeps_number (IsBadState h.states))) (λ target good.
+        keeps_mapped _ (with_edge row label target) (marks h) (λ text ns i q.
         let g : guard_of row label ≡ stated l.0 = ap (guard_of row) l.1 in
-        one_more label target ns (subst (IsGuardKept h) (sym g) l.2) t (keeps_marks h text ns i q) m.0
-        (push_stated row.label row.edges _ (l.0, g) k.0.labelled m.1)))))
-
-    good_plain : (target : ℕ) → ((f : HoaCause) → IsBadPlainTarget h.states before row target f → ⊥) →
-        IsStateOf h.states target × ((MayHaveNoLabel (labelling row) → ⊥) → ⊥) ×
-        (edge_limit ≤ before + length row.edges → ⊥)
-    good_plain target good = (
-      is_state h.states target (λ f c. good f (inl c)),
-      λ no. good causes.Labels (inr (inr (no, refl))),
-      λ full. good causes.Limit (inr (inl (full, refl))),
-    )
+        one_more label target ns (subst (IsGuardKept h) (sym g) l.2) (is_state h.states target good)
+        (keeps_marks h text ns i q) m.0 (push_stated row.label row.edges _ (l.0, g) k.0.labelled m.1)))))
 
     plain_kept : (o : Option Expression) → IsGuardKept h (plain_by o (length row.edges))
     plain_kept None = tt
@@ -239,17 +191,14 @@ module _ (h : HeaderData) (before : ℕ) (n : ℕ) where
     keeps_plain_edge : Keeps (plain_edge h before row) RowOf
     keeps_plain_edge =
         keeps_then (keeps_barred (one int_in (BadIn (IsBadPlainTarget h.states before row))) IsAlternating
-        (keeps_less (one int_in (BadIn (IsBadPlainTarget h.states before row))) good_plain
-        (keeps_number (IsBadPlainTarget h.states before row)))) (λ target t.
-        keeps_mapped RowOf (with_edge row None target) (marks h) (λ text ns i q.
-        one_more None target ns (plain_kept row.label) t.0 (keeps_marks h text ns i q) t.2
-        (push_plain row.label row.edges _ refl k.0.labelled t.1)))
-
-    keeps_edge : Keeps (edge h before row) RowOf
-    keeps_edge = keeps_either keeps_labelled_edge keeps_plain_edge
+        (keeps_number (IsBadPlainTarget h.states before row))) (λ target good.
+        keeps_mapped _ (with_edge row None target) (marks h) (λ text ns i q.
+        one_more None target ns (plain_kept row.label) (is_state h.states target (λ f c. good f (inl c)))
+        (keeps_marks h text ns i q) (λ full. good causes.Limit (inr (inl (full, refl))))
+        (push_plain row.label row.edges _ refl k.0.labelled (λ no. good causes.Labels (inr (inr (no, refl)))))))
 
   keeps_edges : (row : RowData) → RowOf row → Keeps (edges h before row) RowOf
-  keeps_edges row k = keeps_many (edge h before) keeps_edge row k
+  keeps_edges = keeps_many (edge h before) (λ row k. keeps_either (keeps_labelled_edge row k) (keeps_plain_edge row k))
 
 -- ## States
 
@@ -278,26 +227,17 @@ right_push h [] row a = tt
 right_push h (r ∷ []) row a = (a.0, tt)
 right_push h (r ∷ s ∷ rs) row a = (a.0, right_push h (s ∷ rs) row a.1)
 
+no_row_of : (n : ℕ) (rows : List RowData) (row : RowData) → has_row n rows ≡ false → nat_eq n row.state ≡ false →
+    has_row n (rows ++ row ∷ []) ≡ false
+no_row_of n [] row e d = rw d refl
+no_row_of n (r ∷ rows) row e d =
+    let f = neither (nat_eq n r.state) (has_row n rows) e in rw (f.0, no_row_of n rows row f.1 d) refl
+
 rows_push : (rows : List RowData) (row : RowData) → AreRowsOnce rows → has_row row.state rows ≡ false →
     AreRowsOnce (rows ++ row ∷ [])
 rows_push [] row a e = (refl, tt)
-rows_push (r ∷ rs) row a e = go (nat_eq row.state r.state) refl e (rows_push rs row a.1)
-  where
-    apart : (ss : List RowData) → has_row r.state ss ≡ false → nat_eq r.state row.state ≡ false →
-        has_row r.state (ss ++ row ∷ []) ≡ false
-    apart [] h k = ap (λ t. cond t true false) k
-    apart (s ∷ ss) h k = at (nat_eq r.state s.state) h (apart ss)
-      where
-        at : (t : Bool) → cond t true (has_row r.state ss) ≡ false →
-            (has_row r.state ss ≡ false → nat_eq r.state row.state ≡ false → has_row r.state (ss ++ row ∷ []) ≡ false) →
-            cond t true (has_row r.state (ss ++ row ∷ [])) ≡ false
-        at true h more = h
-        at false h more = more h k
-
-    go : (t : Bool) → nat_eq row.state r.state ≡ t → cond t true (has_row row.state rs) ≡ false →
-        (has_row row.state rs ≡ false → AreRowsOnce (rs ++ row ∷ [])) → AreRowsOnce (r ∷ rs ++ row ∷ [])
-    go true h k more = absurd (false_true (sym k))
-    go false h k more = (apart rs a.0 (nat_eq_not row.state r.state h), more k)
+rows_push (r ∷ rows) row a e = let f = neither (nat_eq row.state r.state) (has_row row.state rows) e in
+    (no_row_of r.state rows row a.0 (nat_eq_not row.state r.state f.0), rows_push rows row a.1 f.1)
 
 pub record IsBodyKept (h : HeaderData) (b : BodyData) : Type 0 where
   pub rows : AllByRecursion (IsRowKept h) b.rows
@@ -317,16 +257,8 @@ module _ (h : HeaderData) (b : BodyData) where
   LastIsRight = (row : RowData) → last_row b ≡ Some row → HasRightCount h row
 
   keeps_state_begins : Keeps (state_begins h b) (λ _. LastIsRight)
-  keeps_state_begins =
-      keeps_one (λ _. LastIsRight) state_value (IsBadNext h b) (λ t v e good row l wrong.
+  keeps_state_begins = keeps_one state_value (IsBadNext h b) (λ t v e good row l wrong.
       good causes.Labels ((λ k. none_is_some v (sym k ∙ e)), ((row, l, wrong), refl)))
-
-  no_row : (n : ℕ) → ((f : HoaCause) → IsBadRow h b n f → ⊥) → has_row n b.rows ≡ false
-  no_row n good = go (has_row n b.rows) refl
-    where
-      go : (t : Bool) → has_row n b.rows ≡ t → has_row n b.rows ≡ false
-      go false e = e
-      go true e = absurd (good causes.StateTwice (inr (e, refl)))
 
   starts : (label : Option Expression) (n : ℕ) (ns : List ℕ) → IfSome label (IsScoped h) → IsStateOf h.states n →
       AreSets h ns → b.edges ≤ edge_limit → RowOf h b.edges n (empty_row n label ns)
@@ -344,30 +276,30 @@ module _ (h : HeaderData) (b : BodyData) where
   keeps_state k =
       keeps_then keeps_state_begins (λ _ r. keeps_then (keeps_state_label h)
       (λ label l. keeps_then (keeps_number (IsBadRow h b)) (λ n g.
-      keeps_then (keeps_nothing state_name) (λ _ _. keeps_then (keeps_marks h) (λ ns a.
-      keeps_mapped (IsBodyKept h) (with_row b) (edges h b.edges (empty_row n label ns)) (λ text row i q.
+      keeps_behind state_name (λ _. keeps_then (keeps_marks h) (λ ns a.
+      keeps_mapped _ (with_row b) (edges h b.edges (empty_row n label ns)) (λ text row i q.
       let e =
       keeps_edges h b.edges n (empty_row n label ns) (starts label n ns l (is_state h.states n (λ f c. g f (inl c)))
       a k.few) text row i q in
+      let new : has_row n b.rows ≡ false = false_from_ne_true (has_row n b.rows) (λ t. g causes.StateTwice
+      (inr (t, refl))) in
       record {
         rows = all_push (IsRowKept h) b.rows row k.rows e.0;
-        once = rows_push b.rows row k.once (subst (λ m. has_row m b.rows ≡ false) (sym e.1) (no_row n g));
+        once = rows_push b.rows row k.once (subst (λ m. has_row m b.rows ≡ false) (sym e.1) new);
         counts = right_push h b.rows row (last_right h b.rows k.counts r);
         edges = ap (λ m. m + length row.edges) k.edges ∙ sym (sum_by_push (λ r. length r.edges) b.rows row);
         few = e.2;
       }))))))
 
   keeps_ended : IsBodyKept h b → Keeps (ended h b) (IsBodyDone h)
-  keeps_ended k =
-      keeps_less (ended h b) (λ g p. subst (IsBodyDone h) p.0 (record {
+  keeps_ended k = keeps_mapped _ (λ _. b) (one (mark_in is_end) (IsBadClose h b))
+      (keeps_one (mark_in is_end) (IsBadClose h b) (λ t v e good. record {
         rows = k.rows;
         once = k.once;
-        counts = last_right h b.rows k.counts p.1;
+        counts = last_right h b.rows k.counts (λ row l wrong. good causes.Labels
+            (taken_mark is_end t v e, ((row, l, wrong), refl)));
         few = subst (λ m. m ≤ edge_limit) k.edges k.few;
       }))
-      (keeps_mapped (λ g. (b ≡ g) × LastIsRight) (λ _. b) (one (mark_in is_end) (IsBadClose h b))
-      (keeps_one (λ _. (b ≡ b) × LastIsRight) (mark_in is_end) (IsBadClose h b)
-      (λ t v e good. (refl, λ row l wrong. good causes.Labels (taken_mark is_end t v e, ((row, l, wrong), refl))))))
 
 pub keeps_body : (h : HeaderData) → Keeps (body h) (IsBodyDone h)
 keeps_body h =

@@ -1,9 +1,8 @@
 -- Each file that was read is sound.
-use Rattle.std.proofs.Common.{◌≡◌, ℕ, ◌^◌, ◌<◌, ◌≤◌, ◌⊎◌, ◌≢◌, max, eqb, true, false, List, [], ◌∷◌, length, Option}
-use Rattle.std.proofs.Common.{None, Some, Ok, refl, ap, subst, inl, inr, arith}
+use Rattle.std.proofs.Common.{◌≡◌, ℕ, ◌^◌, ◌<◌, ◌≤◌, ◌≢◌, max, true, List, [], ◌∷◌, length, Option, None, Some, Ok}
+use Rattle.std.proofs.Common.{refl, ap, subst, inl, inr, arith}
 use Rattle.std.specs.Option.{IfSome, unwrap_or}
 use Rattle.std.specs.List.{AllByRecursion}
-use Rattle.std.proofs.Math.Decide.{dec_lt}
 use Rattle.std.proofs.lemmas.Bool.Decides.{eqb_tells}
 use Rattle.ps_label.specs.Expression.{Expression}
 use Rattle.ps_text.specs.Answers.{signs}
@@ -25,29 +24,29 @@ use Rattle.ps_hoa.specs.declared.edges.Labelling.TheVariants.{ByPlace}
 use Rattle.ps_hoa.specs.declared.fault.HoaCause.TheVariants as causes
 use Rattle.ps_hoa.proofs.Soundness.Keeping.{Keeps, keeps_then, keeps_mapped}
 use Rattle.ps_hoa.proofs.Soundness.SoundBodies.{AreSets, IsStateOf, IsScoped, IsGuardKept, IsEdgeKept, IsRowKept}
-use Rattle.ps_hoa.proofs.Soundness.SoundBodies.{HasRightCount}
-use Rattle.ps_hoa.proofs.Soundness.SoundBodies.{IsBodyDone, LabelledBy, way_of, way, keeps_body}
+use Rattle.ps_hoa.proofs.Soundness.SoundBodies.{HasRightCount, IsBodyDone, LabelledBy, way_of, way, keeps_body}
 use Rattle.ps_hoa.proofs.Soundness.SoundHeaders.{Kept, HasNoFlaw, keeps_header, sound_aliases}
-use Rattle.ps_hoa.proofs.Soundness.SoundLabels.{NamesBelow, label_from}
+use Rattle.ps_hoa.proofs.Soundness.SoundLabels.{NamesBelow, below, label_from}
 use Rattle.ps_hoa.proofs.Soundness.SoundLaws.{all_at}
 
 -- ## How many states there are
 
 target_rises : (s : ℕ) (es : List EdgeData) → s ≤ greatest_target s es
 target_rises s [] = omega arith
-target_rises s (e ∷ es) = let m = target_rises (max s e.target) es in omega (arith, m)
+target_rises s (e ∷ es) = omega (arith, target_rises (max s e.target) es)
 
 state_rises : (s : ℕ) (rows : List RowData) → s ≤ greatest_state s rows
 state_rises s [] = omega arith
-state_rises s (r ∷ rows) =
-    let m = target_rises (max s r.state) r.edges in
-    let n = state_rises (greatest_target (max s r.state) r.edges) rows in
-    omega (arith, m, n)
+state_rises s (r ∷ rows) = omega (
+  arith,
+  target_rises (max s r.state) r.edges,
+  state_rises (greatest_target (max s r.state) r.edges) rows,
+)
 
 targets_up_to : (g s : ℕ) (es : List EdgeData) → greatest_target s es ≤ g → AllByRecursion (λ e. e.target ≤ g) es
 targets_up_to g s [] l = tt
 targets_up_to g s (e ∷ es) l =
-    ((let m = target_rises (max s e.target) es in omega (arith, m, l)), targets_up_to g (max s e.target) es l)
+    (omega (arith, target_rises (max s e.target) es), targets_up_to g (max s e.target) es l)
 
 abbrev IsUpTo : ℕ → RowData → Type 0
 IsUpTo g row = (row.state ≤ g) × AllByRecursion (λ e. e.target ≤ g) row.edges
@@ -56,14 +55,15 @@ rows_up_to : (g s : ℕ) (rows : List RowData) → greatest_state s rows ≤ g �
 rows_up_to g s [] l = tt
 rows_up_to g s (r ∷ rows) l =
     let next = greatest_target (max s r.state) r.edges in
-    let n = state_rises next rows in
-    let m = target_rises (max s r.state) r.edges in
-    ((omega (arith, l, m, n), targets_up_to g (max s r.state) r.edges (omega (arith, l, n))), rows_up_to g next rows l)
+    let n = state_rises next rows in (
+      (omega (arith, target_rises (max s r.state) r.edges), targets_up_to g (max s r.state) r.edges (omega arith)),
+      rows_up_to g next rows l,
+    )
 
 targets_below : (limit s : ℕ) (es : List EdgeData) → s < limit → AllByRecursion (λ e. e.target < limit) es →
     greatest_target s es < limit
 targets_below limit s [] l a = l
-targets_below limit s (e ∷ es) l a = targets_below limit (max s e.target) es (let t = a.0 in omega (arith, l, t)) a.1
+targets_below limit s (e ∷ es) l a = targets_below limit (max s e.target) es (omega arith) a.1
 
 abbrev IsBelow : ℕ → RowData → Type 0
 IsBelow limit row = (row.state < limit) × AllByRecursion (λ e. e.target < limit) row.edges
@@ -73,7 +73,7 @@ rows_below : (limit s : ℕ) (rows : List RowData) → s < limit → AllByRecurs
 rows_below limit s [] l a = l
 rows_below limit s (r ∷ rows) l a =
     rows_below limit (greatest_target (max s r.state) r.edges) rows
-    (targets_below limit (max s r.state) r.edges (let t = a.0.0 in omega (arith, l, t)) a.0.1) a.1
+    (targets_below limit (max s r.state) r.edges (omega arith) a.0.1) a.1
 
 all_map : {X : Type 0} {P Q : X → Type 0} → ((x : X) → P x → Q x) → (xs : List X) → AllByRecursion P xs →
     AllByRecursion Q xs
@@ -87,19 +87,18 @@ count_limit : (states : Option ℕ) (start : ℕ) (rows : List RowData) → IfSo
     IsStateOf states start → AllByRecursion (IsOf states) rows →
     count_of_states states start rows ≤ state_limit
 count_limit (Some n) start rows l s a = l
-count_limit None start rows l s a =
-    let g : greatest_state start rows < state_limit = rows_below state_limit start rows s a in omega (arith, g)
+count_limit None start rows l s a = omega (arith, rows_below state_limit start rows s a)
 
 start_below : (states : Option ℕ) (start : ℕ) (rows : List RowData) → IsStateOf states start →
     start < count_of_states states start rows
 start_below (Some n) start rows s = s
-start_below None start rows s = let g = state_rises start rows in omega (arith, g)
+start_below None start rows s = omega (arith, state_rises start rows)
 
 all_below : (states : Option ℕ) (start : ℕ) (rows : List RowData) → AllByRecursion (IsOf states) rows →
     AllByRecursion (IsBelow (count_of_states states start rows)) rows
 all_below (Some n) start rows a = a
 all_below None start rows a =
-    all_map (λ r u. (let x = u.0 in omega (arith, x), all_map (λ e m. omega (arith, m)) r.edges u.1)) rows
+    all_map (λ r u. (omega arith, all_map (λ e m. omega arith) r.edges u.1)) rows
     (rows_up_to (greatest_state start rows) start rows (omega arith))
 
 -- ## What the checks at `--BODY--` leave
@@ -107,10 +106,8 @@ all_below None start rows a =
 start_state : (states start : Option ℕ) → (start ≡ None → ⊥) → (IsStartTooLarge states start → ⊥) →
     (IsStartBeyond states start → ⊥) → IsStateOf states (unwrap_or start 0)
 start_state states None n l b = absurd (n refl)
-start_state None (Some s) n l b =
-    elim (dec_lt s state_limit) as (λ _. s < state_limit) [ yes h ↦ h | no h ↦ absurd (l (omega arith)) ]
-start_state (Some states) (Some s) n l b =
-    elim (dec_lt s states) as (λ _. s < states) [ yes h ↦ h | no h ↦ absurd (b (omega arith)) ]
+start_state None (Some s) n l b = below l
+start_state (Some states) (Some s) n l b = below b
 
 abbrev pub sets_in : Option AcceptanceData → ℕ
 sets_in o = elim o [ None ↦ 0 | Some a ↦ a.sets ]
@@ -122,14 +119,11 @@ few_sets : (o : Option AcceptanceData) → IfSome o (λ a. a.sets ≤ set_limit)
 few_sets None l = omega arith
 few_sets (Some a) l = l
 
-below : (count n : ℕ) → (count ≤ n → ⊥) → n < count
-below count n s = elim (dec_lt n count) as (λ _. n < count) [ yes h ↦ h | no h ↦ absurd (s (omega arith)) ]
-
 mutual
   condition_from : (count : ℕ) (c : Condition) → (NamesSetBeyond count c → ⊥) → IsCondition count c
   condition_from count (conditions.constant b) s = tt
-  condition_from count (conditions.infinitely set) s = below count set.number s
-  condition_from count (conditions.finitely set) s = below count set.number s
+  condition_from count (conditions.infinitely set) s = below s
+  condition_from count (conditions.finitely set) s = below s
   condition_from count (conditions.all_hold cs) s = conditions_from count cs s
   condition_from count (conditions.any_holds cs) s = conditions_from count cs s
 
@@ -144,7 +138,7 @@ condition_within (Some a) b = condition_from a.sets a.condition b
 
 indices_from : (count : ℕ) (ns : List ℕ) → (AnIndexBeyond count ns → ⊥) → AllByRecursion (λ n. n < count) ns
 indices_from count [] b = tt
-indices_from count (n ∷ ns) b = (below count n (λ h. b (inl h)), indices_from count ns (λ h. b (inr h)))
+indices_from count (n ∷ ns) b = (below (λ h. b (inl h)), indices_from count ns (λ h. b (inr h)))
 
 control_within : (count : ℕ) (o : Option (List ℕ)) → (IsControlBeyond count o → ⊥) → IfSome o AreDifferent →
     AreBelow count (unwrap_or o [])
@@ -159,13 +153,10 @@ labelled_right : (propositions : ℕ) (o : Option Expression) (es : List EdgeDat
 labelled_right propositions (Some e) es l c = l
 labelled_right propositions None es (inl s) c = inl s
 labelled_right propositions None [] (inr a) c = inl tt
-labelled_right propositions None (y ∷ es) (inr a) c = go (eqb_tells (length (y ∷ es)) (2 ^ propositions))
-  where
-    go : ((eqb (length (y ∷ es)) (2 ^ propositions) ≡ true) × (length (y ∷ es) ≡ 2 ^ propositions)) ⊎
-        ((eqb (length (y ∷ es)) (2 ^ propositions) ≡ false) × (length (y ∷ es) ≢ 2 ^ propositions)) →
-        AreLabelled propositions None (y ∷ es)
-    go (inl h) = inr (a, h.1)
-    go (inr h) = absurd (c (ap way_of a.0, h.1))
+labelled_right propositions None (y ∷ es) (inr a) c = (elim (eqb_tells (length (y ∷ es)) (2 ^ propositions)) [
+  | inl h ↦ inr (a, h.1)
+  | inr h ↦ absurd (c (ap way_of a.0, h.1))
+])
 
 module _ (h : HeaderData) (b : BodyData) (k : Kept h) (n : HasNoFlaw h) (d : IsBodyDone h b) where
   abbrev whole : FileData
@@ -173,7 +164,8 @@ module _ (h : HeaderData) (b : BodyData) (k : Kept h) (n : HasNoFlaw h) (d : IsB
 
   is_label : (e : Expression) → IsScoped h e → IsLabelOf whole e
   is_label e s =
-      label_from (length (names_of h)) (length h.aliases) e (subst (λ m. NamesBelow m e) k.2.one_each s.0) s.1
+      label_from (length (names_of h)) (length h.aliases) e (subst (λ m. NamesBelow m e) k.2.one_each s.0)
+      (s.1 (length (names_of h)) refl)
 
   guard_sound : (g : GuardData) → IsGuardKept h g → IsGuard whole g
   guard_sound (stated e) s = is_label e s
@@ -238,9 +230,8 @@ module _ (h : HeaderData) (b : BodyData) (k : Kept h) (n : HasNoFlaw h) (d : IsB
   }
 
 pub keeps_file : Keeps file IsSoundFile
-keeps_file =
-    keeps_then keeps_header (λ h k. keeps_mapped IsSoundFile (file_of h) (body h)
-    (λ text b i q. sound h b k.0 k.1 (keeps_body h text b i q)))
+keeps_file = keeps_then keeps_header (λ h k.
+    keeps_mapped _ (file_of h) (body h) (λ text b i q. sound h b k.0 k.1 (keeps_body h text b i q)))
 
 pub sound_file : (text : List ℕ) (f : FileData) → ReadsFile text (Ok f) → IsSoundFile f
 sound_file text f (by_tokens pieces short hoa version v1 tokens answer) =

@@ -3,12 +3,10 @@
 --     aliases_ordered      so are its aliases
 --     sound_row, sound_edge      each row is sound, and so is each edge
 --     row_of_state      so is the row of a state, and it is of that state
-use Rattle.std.proofs.Common.{◌≡◌, ℕ, zero, suc, ◌+◌, ◌<◌, ◌≤◌, Bool, true, false, cond, List, [], ◌∷◌, length, Some}
-use Rattle.std.proofs.Common.{refl, sym, ap, subst, ◌∙◌, arith}
+use Rattle.std.proofs.Common.{◌≡◌, ℕ, zero, suc, ◌+◌, ◌≤◌, List, [], ◌∷◌, length, Some, sym, subst, arith, inl, inr}
 use Rattle.std.specs.List.{All, AllByRecursion, slice_get}
 use Rattle.std.specs.Option.{IfSome}
-use Rattle.std.specs.Prelude.{nat_eq}
-use Rattle.std.proofs.lemmas.Bool.{eqb-true}
+use Rattle.std.proofs.lemmas.Bool.Decides.{eqb_tells}
 use Rattle.ps_label.specs.Expression.{Expression, constant, proposition, alias, not_of, all_of, any_of, Operands, last}
 use Rattle.ps_label.specs.Expression.{more, IsWithin, AreWithin, AreOrderedFrom, AreOrdered}
 use Rattle.ps_text.proofs.Simple.{none_is_some, same_some}
@@ -19,7 +17,7 @@ use Rattle.ps_hoa.specs.Sound.{IsLabel, AreLabels, AreAliases, IsGuard, IsSoundE
 mutual
   pub label_within : (names count : ℕ) (e : Expression) → count ≤ 64 → IsLabel names count e → IsWithin names e
   label_within names count (constant b) l i = tt
-  label_within names count (proposition p) l i = let h : p < count = i in omega (arith, l, h)
+  label_within names count (proposition p) l i = omega arith
   label_within names count (alias k) l i = i
   label_within names count (not_of e) l i = label_within names count e l i
   label_within names count (all_of es) l i = labels_within names count es l i
@@ -34,14 +32,14 @@ aliases_ordered k count [] l a = tt
 aliases_ordered k count (e ∷ es) l a = (label_within k count e l a.0, aliases_ordered (k + 1) count es l a.1)
 
 pub all_at : {X : Type 0} (P : X → Type 0) (xs : List X) → AllByRecursion P xs → All P xs
-all_at P [] a k d l = absurd (let z : k < 0 = l in omega (arith, z))
+all_at P [] a k d l = absurd (omega arith)
 all_at P (x ∷ xs) a zero d l = a.0
-all_at P (x ∷ xs) a (suc k) d l = all_at P xs a.1 k d (let z : suc k < suc (length xs) = l in omega (arith, z))
+all_at P (x ∷ xs) a (suc k) d l = all_at P xs a.1 k d (omega arith)
 
 pub all_get : {X : Type 0} (P : X → Type 0) (xs : List X) → All P xs → (k : ℕ) (x : X) → slice_get xs k ≡ Some x → P x
 all_get P [] a k x e = absurd (none_is_some x e)
 all_get P (y ∷ xs) a zero x e = subst P (same_some y x e) (a 0 y (omega arith))
-all_get P (y ∷ xs) a (suc k) x e = all_get P xs (λ n d l. a (suc n) d (omega (arith, l))) k x e
+all_get P (y ∷ xs) a (suc k) x e = all_get P xs (λ n d l. a (suc n) d (omega arith)) k x e
 
 pub sound_edge : (file : FileData) (row : RowData) → IsSoundRow file row → (j : ℕ) (edge : EdgeData) →
     slice_get row.edges j ≡ Some edge → IsSoundEdge file edge
@@ -68,16 +66,10 @@ module _ (file : FileData) (s : IsSoundFile file) where
   among : (rows : List RowData) (q : ℕ) (row : RowData) → All (IsSoundRow file) rows → row_among rows q ≡ Some row →
       IsSoundRow file row × (row.state ≡ q)
   among [] q row a e = absurd (none_is_some row e)
-  among (r ∷ rows) q row a e = go (nat_eq q r.state) refl e (among rows q row (λ k d l. a (suc k) d (omega (arith, l))))
-    where
-      go : (t : Bool) → nat_eq q r.state ≡ t → cond t (Some r) (row_among rows q) ≡ Some row →
-          (row_among rows q ≡ Some row → IsSoundRow file row × (row.state ≡ q)) → IsSoundRow file row × (row.state ≡ q)
-      go true n h rest = let same : r ≡ row = same_some r row h in (
-        subst (IsSoundRow file) same (a 0 r (omega arith)),
-        ap (λ z. z.state) (sym same)
-            ∙ sym (eqb-true q r.state n),
-      )
-      go false n h rest = rest h
+  among (r ∷ rows) q row a e = (elim (eqb_tells q r.state) [
+    | inl n ↦ (let same : r ≡ row = same_some r row (rw n.0 at e) in rw (← same) (a 0 r (omega arith), sym n.1))
+    | inr n ↦ among rows q row (λ k d l. a (suc k) d (omega arith)) (rw n.0 at e)
+  ])
 
   pub row_of_state : (q : ℕ) (row : RowData) → row_of file q ≡ Some row → IsSoundRow file row × (row.state ≡ q)
   row_of_state q row e = among file.rows q row s.rows e

@@ -1,4 +1,4 @@
-use Rattle.std.proofs.Common.{◌+◌, [], ap, refl, sym, ◌∙◌}
+use Rattle.std.proofs.Common.{◌+◌, ap, refl, sym, ◌∙◌}
 use Rattle.ps_automaton.proofs.Gatherings.{gather_link, gather_first_other, gather_further_other, gathered_all}
 use Rattle.ps_automaton.proofs.Gatherings.{gathered_but, from_here, kept}
 use Rattle.ps_automaton.specs.declared.chain.Link.{Link}

@@ -3,13 +3,12 @@ use Rattle.ps_components.proofs.arranging.arrange.Goals as goal
 
 pub returns-in-Some : goal.returns-in-Some
 returns-in-Some g c =
-    first-knot (g.G.Graph.graph c.args.graph.now) _ c.in_ok-components.ensures.components c.in_ok-components.ensures.met
-    c.in-Some.item c.in-Some.ensures.knot c.in-Some.ensures.first
+    let e = c.in_ok-components.ensures in
+    first-knot e.components e.met c.in-Some.item c.in-Some.ensures.knot c.in-Some.ensures.first
 
 pub returns-in-None : goal.returns-in-None
 returns-in-None g c =
-    let gr = g.G.Graph.graph c.args.graph.now in
     let e = c.in_ok-components.ensures in (
-      rw c.into_order.ensures (order-of_components gr _ e.components e.met c.in-None.ensures.none),
-      no_cycle gr _ e.components e.met c.in-None.ensures.none,
+      rw c.into_order.ensures (order-of_components e.components e.met c.in-None.ensures.none),
+      no_cycle e.components e.met c.in-None.ensures.none,
     )

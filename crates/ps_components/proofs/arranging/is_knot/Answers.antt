@@ -1,4 +1,4 @@
-use Rattle.std.proofs.Common.{◌≡◌, sym, arith, rules}
+use Rattle.std.proofs.Common.{◌≡◌, arith, rules}
 use Rattle.ps_components.specs.ComponentLists.{IsIn}
 use Rattle.ps_components.proofs.arranging.is_knot.Goals as goal
 
@@ -6,18 +6,11 @@ pub returns-then-eq : goal.returns-then-eq
 returns-then-eq g c =
     let same : c.number-there.result ≡ c.number-here.result = search (rules, c.if-eq.ensures, c.eq.ensures) in
     let met = c.requires.met c.args.item c.requires.item in
-    let h = c.number-here.ensures in
-    let t = c.number-there.ensures in
-    let is : IsIn c.args.components.now c.in-Some.to met.0 = (let m = met.1 in cc) in (
+    let is : IsIn c.args.components.now c.in-Some.to met.0 =
+    cc (met.1, c.number-here.ensures, c.number-there.ensures) in (
       λ _. record {
         to = c.in-Some.to;
-        link = record {
-          from = c.requires.item;
-          place = c.loop-place.place;
-          at = omega arith;
-          target =
-              sym c.in-Some.ensures.target;
-        };
+        link = search rules;
         number = met.0;
         here = met.1;
         there = is;

@@ -5,24 +5,17 @@ use Rattle.ps_game.proofs.ranking.priorities_of.Goals as goal
 use Rattle.ps_game.proofs.ranking.priorities_of.Goals.{then-priority-parity+in_ok-push, else-priority-parity}
 
 pub loop-vertex-preserved : goal.loop-vertex-preserved
-loop-vertex-preserved g c = elim c.if-priority-parity.branch [
-  | then-priority-parity+in_ok-push w ↦
-      let e = c.priority-priority.ensures in
-      rw (w.priorities-is, w.in_ok-push.ensures.items, e)
-      (lists_push (g.A.Arena.game c.args.arena.now) c.args.parity c.loop-vertex.vertex c.loop-vertex.priorities.items
-      (omega (arith, c.count-vertex-end.ensures.vertices)) (rw e at w.if-priority-parity.true)
-      c.loop-vertex.invariant)
-  | else-priority-parity w ↦
-      rw w.priorities-is (lists_skip (g.A.Arena.game c.args.arena.now) c.args.parity c.loop-vertex.vertex
-      c.loop-vertex.priorities.items (rw c.priority-priority.ensures at w.if-priority-parity.false)
-      c.loop-vertex.invariant)
-]
+loop-vertex-preserved g c =
+    let e = c.priority-priority.ensures in
+    elim c.if-priority-parity.branch [
+      | then-priority-parity+in_ok-push w ↦ rw (w.priorities-is, w.in_ok-push.ensures.items, e)
+          (lists_push c.loop-vertex.invariant (omega (arith, c.count-vertex-end.ensures.vertices))
+          (rw e at w.if-priority-parity.true))
+      | else-priority-parity w ↦
+          rw w.priorities-is (lists_skip c.loop-vertex.invariant (rw e at w.if-priority-parity.false))
+    ]
 
 pub returns : goal.returns
 returns g c =
-    let all = c.loop-vertex.invariant in
-    lists_from (g.A.Arena.game c.args.arena.now) c.args.parity c.loop-vertex.priorities.items
-    c.sort_unstable.new.self.items c.dedup.new.self.items
-    (λ v lt h. all.complete v (omega (arith, c.count-vertex-end.ensures.vertices)) h) all.right_parity all.present
-    c.sort_unstable.ensures.permutation c.sort_unstable.ensures.sorted
-    (dedup_is eqb c.sort_unstable.new.self.items c.dedup.new.self.items c.dedup.ensures.filtered)
+    lists_from c.loop-vertex.invariant (omega (arith, c.loop-vertex-test.false, c.count-vertex-end.ensures.vertices))
+    c.sort_unstable.ensures.permutation c.sort_unstable.ensures.sorted (dedup_is eqb _ _ c.dedup.ensures.filtered)

@@ -1,27 +1,17 @@
-use Rattle.std.proofs.Common.{◌*◌, ◌∙◌, get_or, map, ap, arith}
-use Rattle.std.specs.Prelude.{bit_and}
+use Rattle.std.proofs.Common.{◌*◌, ◌∙◌, map, ap, arith}
 use Rattle.std.specs.Int.{bit_not, w64}
 use Rattle.std.specs.Simd.Lanes.{chunk}
 use Rattle.std.proofs.lemmas.List.{get_or-map, length-map}
-use Rattle.std.proofs.lemmas.Simd.{length-chunk}
-use Rattle.ps_game.proofs.Groups.{group_combined, group_rest, lanes_are}
+use Rattle.std.proofs.lemmas.Simd.{get_or-chunk, length-chunk}
+use Rattle.ps_game.proofs.Groups.{group_combined}
 use Rattle.ps_game.proofs.words.subtract_groups.Goals as goal
 
 pub loop-group-preserved : goal.loop-group-preserved
 loop-group-preserved c =
-    let group = c.loop-group.group in
-    let others = c.args.others.now in
-    let loaded = chunk (group * 8) 8 others in
-    let lanes = map (bit_not w64) loaded in
-    let long = length-chunk (group * 8) 8 others (omega arith) in
-    let eight = length-map loaded (bit_not w64) ∙ long in record {
-      subtracted =
-          group_combined bit_and c.args.words.now c.loop-group.words lanes (λ k. bit_not w64 (get_or others k 0)) group
-          (omega (arith, c.loop-group.auto.words)) eight
-          (λ j less. get_or-map (bit_not w64) loaded j 0 0 (omega (arith, long))
-          ∙ ap (bit_not w64) (lanes_are others group j less))
-          c.loop-group.invariant.subtracted c.loop-group.invariant.rest;
-      rest =
-          group_rest bit_and c.args.words.now c.loop-group.words lanes group (omega (arith, c.loop-group.auto.words))
-          eight c.loop-group.invariant.rest;
-    }
+    let start = c.loop-group.group * 8 in
+    let loaded = chunk start 8 c.args.others.now in
+    let long = length-chunk start 8 c.args.others.now (omega arith) in
+    group_combined (map (bit_not w64) loaded) c.loop-group.group c.loop-group.invariant
+    (omega (arith, c.loop-group.auto.words)) (length-map loaded (bit_not w64) ∙ long)
+    (λ j less. get_or-map (bit_not w64) loaded j 0 0 (omega (arith, long))
+    ∙ ap (bit_not w64) (get_or-chunk start 8 c.args.others.now j 0 less))

@@ -1,21 +1,12 @@
-use Rattle.std.proofs.Common.{◌*◌, get_or, arith}
-use Rattle.std.specs.Prelude.{bit_or}
+use Rattle.std.proofs.Common.{◌*◌, arith}
 use Rattle.std.specs.Simd.Lanes.{chunk}
-use Rattle.std.proofs.lemmas.Simd.{length-chunk}
-use Rattle.ps_game.proofs.Groups.{group_combined, group_rest, lanes_are}
+use Rattle.std.proofs.lemmas.Simd.{get_or-chunk, length-chunk}
+use Rattle.ps_game.proofs.Groups.{group_combined}
 use Rattle.ps_game.proofs.words.unite_groups.Goals as goal
 
 pub loop-group-preserved : goal.loop-group-preserved
 loop-group-preserved c =
-    let group = c.loop-group.group in
-    let others = c.args.others.now in
-    let lanes = chunk (group * 8) 8 others in
-    let eight = length-chunk (group * 8) 8 others (omega arith) in record {
-      united =
-          group_combined bit_or c.args.words.now c.loop-group.words lanes (λ k. get_or others k 0) group
-          (omega (arith, c.loop-group.auto.words)) eight
-          (lanes_are others group) c.loop-group.invariant.united c.loop-group.invariant.rest;
-      rest =
-          group_rest bit_or c.args.words.now c.loop-group.words lanes group (omega (arith, c.loop-group.auto.words))
-          eight c.loop-group.invariant.rest;
-    }
+    let start = c.loop-group.group * 8 in
+    group_combined (chunk start 8 c.args.others.now) c.loop-group.group c.loop-group.invariant
+    (omega (arith, c.loop-group.auto.words)) (length-chunk start 8 c.args.others.now (omega arith))
+    (λ j less. get_or-chunk start 8 c.args.others.now j 0 less)

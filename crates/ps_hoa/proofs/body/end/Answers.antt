@@ -1,13 +1,11 @@
-use Rattle.std.proofs.Common.{subst}
 use Rattle.ps_text.specs.Parts.{one}
 use Rattle.ps_text.proofs.Meeting.{meets_mapped}
 use Rattle.ps_hoa.specs.Body.{is_end, IsBadClose}
 use Rattle.ps_hoa.specs.Causes.{found_of, hoa_causes}
 use Rattle.ps_hoa.specs.Operands.{mark_in}
-use Rattle.ps_hoa.specs.Inner.Reads.{Takes}
 use Rattle.ps_hoa.specs.Inner.Rows.{body_data}
 use Rattle.ps_hoa.specs.Views.{header_data}
-use Rattle.ps_hoa.proofs.Reading.SingleSigns.{reads_one}
+use Rattle.ps_hoa.proofs.Grammar.HeaderSigns.{reads_token}
 use Rattle.ps_hoa.proofs.Reading.StateReading.{end_signs}
 use Rattle.ps_hoa.proofs.body.end.Goals as goal
 
@@ -16,6 +14,5 @@ returns c =
     let h = header_data c.args.header.now in
     let b = body_data c.args.rows.now in
     meets_mapped found_of hoa_causes (λ u. u) (λ _. b) (one (mark_in is_end) (IsBadClose h b)) _ _ c.end_of.result
-    (reads_one (λ u. u) (end_signs h b) _ _ c.end_of.result
-    (subst (λ p. Takes (λ u. u) (mark_in is_end) (IsBadClose h b) p c.end_of.result) c.advance-token.ensures.next
-    c.end_of.ensures) c.advance-token.ensures.rest)
+    (reads_token (λ u. u) (end_signs h b) _ _ _ _ c.end_of.ensures c.advance-token.ensures.next
+    c.advance-token.ensures.rest)

@@ -1,15 +1,13 @@
 use Rattle.ps_text.proofs.Exits.{reads_then}
-use Rattle.ps_hoa.proofs.Reading.HeaderExits.{exit, first_fails, rest_fails}
+use Rattle.ps_hoa.proofs.Reading.Exits.{exit, first, behind, here}
 use Rattle.ps_hoa.proofs.Grammar.WholeHeader.{joint_header}
 use Rattle.ps_hoa.proofs.items.header.Goals as goal
 
 pub returns-in_err-header : goal.returns-in_err-header
-returns-in_err-header c =
-    exit _ _ _ _ _ _ (first_fails joint_header _ _ c.in_err-header.ensures) c.from_residual.ensures.1
+returns-in_err-header c = exit _ _ _ _ (first joint_header) c.in_err-header.ensures c.from_residual.ensures.1
 
 pub returns-in_err-body_mark : goal.returns-in_err-body_mark
-returns-in_err-body_mark c =
-    exit _ _ _ _ _ _ (rest_fails joint_header c.in_ok-header.ensures _ c.in_err-body_mark.ensures)
+returns-in_err-body_mark c = exit _ _ _ _ (behind joint_header c.in_ok-header.ensures here) c.in_err-body_mark.ensures
     c.from_residual-in_err-body_mark.ensures.1
 
 pub returns : goal.returns

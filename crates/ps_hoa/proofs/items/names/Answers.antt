@@ -3,19 +3,18 @@ use Rattle.ps_text.specs.Parts.{times}
 use Rattle.ps_text.proofs.Exits.{reads_then, reads_mapped}
 use Rattle.ps_hoa.specs.Header.{with_names, proposition_name}
 use Rattle.ps_hoa.specs.Views.{header_data}
-use Rattle.ps_hoa.proofs.Reading.HeaderExits.{exit, first_fails, rest_fails, value_fails}
+use Rattle.ps_hoa.proofs.Reading.Exits.{exit, first, behind, under}
 use Rattle.ps_hoa.proofs.Grammar.HeaderLaws.{joint_counted_names}
 use Rattle.ps_hoa.proofs.items.names.Goals as goal
 
 pub returns-in_err-count : goal.returns-in_err-count
-returns-in_err-count c =
-    exit _ _ _ _ _ _ (first_fails (joint_counted_names (header_data c.args.header.now)) _ _ c.in_err-count.ensures.part)
-    c.from_residual.ensures.1
+returns-in_err-count c = exit _ _ _ _ (first (joint_counted_names (header_data c.args.header.now)))
+    c.in_err-count.ensures.part c.from_residual.ensures.1
 
 pub returns-in_err-propositions : goal.returns-in_err-propositions
 returns-in_err-propositions c = let h = header_data c.args.header.now in
-    exit _ _ _ _ _ _ (rest_fails (joint_counted_names h) c.in_ok-count.ensures.part _
-    (value_fails (with_names h) (times c.in_ok-count.count proposition_name []) _ _ c.in_err-propositions.ensures))
+    exit _ _ _ _ (behind (joint_counted_names h) c.in_ok-count.ensures.part
+    (under (with_names h) (times c.in_ok-count.count proposition_name []))) c.in_err-propositions.ensures
     c.from_residual-in_err-propositions.ensures.1
 
 pub returns : goal.returns

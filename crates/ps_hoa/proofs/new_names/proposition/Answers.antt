@@ -1,16 +1,14 @@
 use Rattle.std.proofs.Common.{sym}
 use Rattle.ps_text.specs.Parts.{one}
 use Rattle.ps_text.proofs.Exits.{reads_mapped}
-use Rattle.ps_hoa.specs.Header.{proposition_name, with_name, string_in, IsBadName}
-use Rattle.ps_hoa.proofs.Reading.HeaderExits.{exit, value_fails, value_is}
+use Rattle.ps_hoa.specs.Header.{with_name, string_in, IsBadName}
+use Rattle.ps_hoa.proofs.Reading.Exits.{exit, under, value_is}
 use Rattle.ps_hoa.proofs.new_names.proposition.Goals as goal
 
 pub returns-in_err-name : goal.returns-in_err-name
 returns-in_err-name c = let names = c.args.names.now in
-    exit _ _ _ _ _ _ (value_fails (with_name names) (one string_in (IsBadName names)) _ _ c.in_err-name.ensures.part)
+    exit _ _ _ _ (under (with_name names) (one string_in (IsBadName names))) c.in_err-name.ensures.part
     c.from_residual.ensures.1
 
 pub returns : goal.returns
-returns c = let names = c.args.names.now in
-    value_is (proposition_name names) _ _ _ _ (sym c.in_ok-push.ensures.ok)
-    (reads_mapped (with_name names) c.in_ok-name.ensures.part)
+returns c = value_is (sym c.in_ok-push.ensures.ok) (reads_mapped (with_name c.args.names.now) c.in_ok-name.ensures.part)

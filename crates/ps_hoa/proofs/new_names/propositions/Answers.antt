@@ -6,28 +6,27 @@ use Rattle.ps_text.proofs.Exits.{carries_start, carries_reads, carries_stops}
 use Rattle.ps_hoa.specs.Causes.{hoa_causes}
 use Rattle.ps_hoa.specs.Header.{proposition_name}
 use Rattle.ps_hoa.specs.Scan.{stream_of}
-use Rattle.ps_hoa.proofs.Reading.HeaderExits.{exit}
+use Rattle.ps_hoa.proofs.Reading.Exits.{exit, here}
 use Rattle.ps_hoa.proofs.Grammar.OperandLaws.{Of, nothing_apart}
 use Rattle.ps_hoa.proofs.Grammar.SignLaws.{is_string, laws_proposition_name}
 use Rattle.ps_hoa.proofs.new_names.propositions.Goals as goal
 
 pub names-init : goal.names-init
 names-init c =
+    let s = stream_of c.args.tokens.now in
     let whole = times c.args.count proposition_name [] in
     let none : c.args.count - 0 ≡ c.args.count = omega arith in
-    subst (λ n. Carries hoa_causes whole (stream_of c.args.tokens.now) (times n proposition_name c.new-names.result)
-    (stream_of c.args.tokens.now)) (sym none)
-    (subst (λ names. Carries hoa_causes whole (stream_of c.args.tokens.now) (times c.args.count proposition_name names)
-    (stream_of c.args.tokens.now)) (sym c.new-names.ensures)
-    (carries_start hoa_causes whole (stream_of c.args.tokens.now)))
+    subst (λ n. Carries hoa_causes whole s (times n proposition_name c.new-names.result) s) (sym none)
+    (subst (λ names. Carries hoa_causes whole s (times c.args.count proposition_name names) s) (sym c.new-names.ensures)
+    (carries_start hoa_causes whole s))
 
 pub returns-in_err-proposition : goal.returns-in_err-proposition
 returns-in_err-proposition c =
-    exit _ _ _ _ _ _ (carries_stops hoa_causes (times c.args.count proposition_name [])
+    exit _ _ _ _ here (carries_stops hoa_causes (times c.args.count proposition_name [])
     (times (c.args.count - c.names.counter) proposition_name c.names.names) _ _ _ c.names.invariant
     (times_fails proposition_name laws_proposition_name (nothing_apart (Of is_string)) hoa_causes
-    (c.args.count - c.names.counter) c.names.names _ _
-    (let t = c.names-test.true in omega (arith, t)) c.in_err-proposition.ensures)) c.from_residual.ensures.1
+    (c.args.count - c.names.counter) c.names.names _ _ (omega arith) c.in_err-proposition.ensures))
+    c.from_residual.ensures.1
 
 pub names-preserved : goal.names-preserved
 names-preserved c =
@@ -35,11 +34,10 @@ names-preserved c =
     subst (λ n. Carries hoa_causes (times c.args.count proposition_name []) (stream_of c.args.tokens.now)
     (times n proposition_name c.proposition.new.names) (stream_of c.proposition.new.tokens)) left
     (carries_times proposition_name laws_proposition_name (nothing_apart (Of is_string)) hoa_causes
-    (c.args.count - c.names.counter)
-    (let t = c.names-test.true in omega (arith, t)) c.names.invariant c.in_ok-proposition.ensures)
+    (c.args.count - c.names.counter) (omega arith) c.names.invariant c.in_ok-proposition.ensures)
 
 pub returns : goal.returns
 returns c =
     carries_reads hoa_causes c.names.invariant (times_ends proposition_name laws_proposition_name
     (nothing_apart (Of is_string)) (c.args.count - c.names.counter) c.names.names (stream_of c.names.tokens)
-    (let t = c.names-test.false in omega (arith, t)))
+    (omega arith))

@@ -1,5 +1,4 @@
-use Rattle.std.proofs.Common.{refl}
-use Rattle.std.proofs.Common.{◌≡◌, ◌-◌, arith, length, take, drop, length-drop, sym, ◌∙◌, ap}
+use Rattle.std.proofs.Common.{refl, ◌≡◌, ◌-◌, arith, length, take, drop, length-drop, sym, ◌∙◌, ap}
 use Rattle.std.proofs.lemmas.List.{take_all}
 use Rattle.ps_hoa.specs.declared.tokens.Step.TheVariants.{Skip}
 use Rattle.ps_hoa.specs.Scan.{step_of}

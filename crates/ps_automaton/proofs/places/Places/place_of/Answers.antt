@@ -3,7 +3,8 @@ use Rattle.std.specs.List.{slice_get}
 use Rattle.std.specs.Result.{is_ok}
 use Rattle.ps_automaton.specs.Places.{AreDistinct}
 use Rattle.ps_automaton.specs.declared.targets.Target.{Target}
-use Rattle.ps_automaton.proofs.PlaceTables.{at_end, distinct_by_table, table_push, table_same}
+use Rattle.ps_automaton.proofs.Distinct.{at_end}
+use Rattle.ps_automaton.proofs.PlaceTables.{distinct_by_table, table_push, table_same}
 use Rattle.ps_automaton.proofs.places.Places.place_of.Goals as goal
 
 pub returns-in-Some-clause-placed : goal.returns-in-Some-clause-placed

@@ -1,34 +1,14 @@
-use Rattle.std.proofs.Common.{◌<◌, ◌∙◌, length, sym, ap, arith}
+use Rattle.std.proofs.Common.{◌∙◌, arith}
 use Rattle.std.proofs.lemmas.Grind.{get_or_default_zero}
-use Rattle.ps_game.specs.Games.{ParityGame, vertex_count, owner_of}
-use Rattle.ps_game.proofs.FlatArrays.{vertices_inside, owner_inside}
+use Rattle.ps_game.proofs.FlatArrays.{stands}
 use Rattle.ps_game.proofs.flat.FlatGameArena.owner.Goals as goal
 
 pub index-requires : goal.index-requires
 index-requires g c =
-    let s = c.self.inside in
-    omega (
-      arith,
-      c.requires,
-      c.self.invariant.priority_each,
-      s.owners.ok.0,
-      s.priorities.ok.0,
-      vertices_inside s.offsets s.successors s.owners.items s.priorities.items,
-      ap vertex_count c.self.view_is,
-    )
+    let at = stands c.self.invariant.tell c.self.view_is c.requires in omega (arith, c.self.inside.owners.ok.0)
 
 pub returns : goal.returns
 returns g c =
-    let s = c.self.inside in
-    let v = c.args.vertex in
-    let lt : v < length s.owners.items =
-    omega (
-      arith,
-      c.requires,
-      vertices_inside s.offsets s.successors s.owners.items s.priorities.items,
-      ap vertex_count c.self.view_is,
-    ) in
-    c.index.ensures ∙ get_or_default_zero s.owners.items v c.index.result.now
-    (omega (arith, c.self.invariant.priority_each))
-    ∙ sym (owner_inside s.offsets s.successors s.owners.items s.priorities.items v lt)
-    ∙ ap (λ (game : ParityGame). owner_of game v) c.self.view_is
+    let at = stands c.self.invariant.tell c.self.view_is c.requires in
+    c.index.ensures ∙ get_or_default_zero c.self.inside.owners.items c.args.vertex c.index.result.now at.owned
+    ∙ at.owner_is

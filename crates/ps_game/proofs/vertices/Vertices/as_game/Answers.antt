@@ -1,18 +1,16 @@
-use Rattle.std.proofs.Common.{◌≡◌, sym, subst, ◌∙◌}
+use Rattle.std.proofs.Common.{◌∙◌}
 use Rattle.std.proofs.lemmas.List.{map-id}
-use Rattle.ps_game.specs.Games.{ParityGame, IsGame}
 use Rattle.ps_game.proofs.FlatArrays.{game_flat}
 use Rattle.ps_game.proofs.vertices.Vertices.as_game.Goals as goal
 
 pub invariant_of-result : goal.invariant_of-result
 invariant_of-result c =
-    let offsets : c.of.result ≡ c.self.inside.offsets.items = c.of.ensures ∙ map-id _ in
-    let successors : c.of-2.result ≡ c.self.inside.successors.items = c.of-2.ensures ∙ map-id _ in
-    rw (offsets, successors) (game_flat _ _ _ _ _ c.self.invariant.tell
-    (subst (λ (game : ParityGame). IsGame game) (sym c.self.view_is) c.requires))
+    let offsets = c.of.ensures ∙ map-id _ in
+    let successors = c.of-2.ensures ∙ map-id _ in
+    rw (offsets, successors) (game_flat c.self.invariant.tell (rw c.self.view_is c.requires))
 
 pub returns : goal.returns
 returns c =
-    let offsets : c.of.result ≡ c.self.inside.offsets.items = c.of.ensures ∙ map-id _ in
-    let successors : c.of-2.result ≡ c.self.inside.successors.items = c.of-2.ensures ∙ map-id _ in
+    let offsets = c.of.ensures ∙ map-id _ in
+    let successors = c.of-2.ensures ∙ map-id _ in
     rw (offsets, successors) c.self.view_is

@@ -1,5 +1,5 @@
 use Rattle.std.proofs.Common.{◌≡◌, ◌≢◌, ◌<◌, ◌==◌, ℕ, List, length, get_or, Option, None, Some, IfSome, sym, ap, subst}
-use Rattle.std.proofs.Common.{◌∙◌, arith, position}
+use Rattle.std.proofs.Common.{◌∙◌, arith, position, rules}
 use Rattle.std.proofs.lemmas.Grind.{common_steps, get_or_default_zero}
 use Rattle.std.specs.BTreeMap.{get}
 use Rattle.std.specs.Option.{is_some}
@@ -7,8 +7,6 @@ use Rattle.std.specs.Ordering.{nat_cmp}
 use Rattle.ps_ids.specs.Ids.{own_place}
 use Rattle.ps_ids.proofs.IdPlaces.{position_here, position_by_table, position_within, some_position}
 use Rattle.ps_ids.proofs.ids.Ids.place.Goals as goal
-use Rattle.ps_ids.proofs.ids.Ids.place.Goals.{else-place-len-via-then-place-len+else-index-id}
-use Rattle.ps_ids.proofs.ids.Ids.place.Goals.{else-place-len-via-else-place-len}
 
 pub returns-then-index-id-clause-place : goal.returns-then-index-id-clause-place
 returns-then-index-id-clause-place c =
@@ -26,11 +24,7 @@ returns-else-place-len-clause-place c =
     let own = own_place c.self.inside.first c.args.id in
     let place = c.own_place-place.result in
     let is : place ≡ own = c.own_place-place.ensures in
-    let not_there : place < length ids → get_or ids place 0 ≢ c.args.id = elim c.else-place-len.branch [
-      | else-place-len-via-then-place-len+else-index-id w ↦ (λ l same.
-          w.if-index-id.false (grind (arith, common_steps, get_or_default_zero ids place w.index.result.now l)))
-      | else-place-len-via-else-place-len w ↦ (λ l same. absurd (omega (arith, l, w.if-place-len.false, c.len.ensures)))
-    ] in
+    let not_there : place < length ids → get_or ids place 0 ≢ c.args.id = search (rules, get_or_default_zero) in
     let not_own : own < length ids → get_or ids own 0 ≢ c.args.id =
     subst (λ p. p < length ids → get_or ids p 0 ≢ c.args.id) is not_there in
     c.copied.ensures ∙ c.get.ensures.value ∙ position_by_table c.self.inside.first ids
@@ -50,5 +44,4 @@ returns-then-index-id-clause-member c =
     ap is_some (returns-then-index-id-clause-place c) ∙ some_position (λ other. c.args.id == other) c.args.self.now
 
 pub returns-else-place-len-clause-member : goal.returns-else-place-len-clause-member
-returns-else-place-len-clause-member c =
-    ap is_some (returns-else-place-len-clause-place c) ∙ some_position (λ other. c.args.id == other) c.args.self.now
+returns-else-place-len-clause-member c = search (rules, returns-else-place-len-clause-place, some_position)

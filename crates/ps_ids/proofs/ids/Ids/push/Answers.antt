@@ -1,12 +1,11 @@
-use Rattle.std.proofs.Common.{◌++◌, ◌∷◌, [], ℕ, List, cond, rules, arith, refl, sym, ap, subst, ◌∙◌}
+use Rattle.std.proofs.Common.{◌++◌, ◌∷◌, [], ℕ, List, cond, rules, arith, sym, ap, subst, ◌∙◌}
 use Rattle.std.specs.Result.{is_ok}
 use Rattle.std.specs.List.{Contains}
 use Rattle.ps_ids.proofs.IdPlaces.{table_push, table_same}
 use Rattle.ps_ids.proofs.ids.Ids.push.Goals as goal
 
 pub invariant_of-self : goal.invariant_of-self
-invariant_of-self c =
-    table_same c.self.inside.first c.self.inside.list.items _ _ _ c.self.invariant c.reserve.ensures.items (λ q. refl)
+invariant_of-self c = search (rules, table_same)
 
 pub invariant_of-self-in_err-keep_place : goal.invariant_of-self-in_err-keep_place
 invariant_of-self-in_err-keep_place c =

@@ -1,0 +1,69 @@
+-- The laws of composed parts, with sets that are no larger than they need be.
+--     both_within, wider_first, wider_more      two sets within a third one; larger sets
+--     laws_first      one sign, which is of a set if it is taken and if it is bad
+--     laws_forms      one of two parts, none of them empty
+--     laws_option      a part that goes on with no sign, or nothing
+--     laws_all, laws_times_all      any number of items, or so many, that go on with no sign
+--     laws_maybe, laws_last      a part behind one that may be empty; and where the second one ends the whole
+--     joint_tight      a part behind one that goes on with no sign
+use Rattle.std.proofs.Common.{◌≡◌, ℕ, Option, Some, inl, inr}
+use Rattle.ps_text.specs.Parts.{Part, give, one, then_by, either, times, many}
+use Rattle.ps_text.proofs.Laws.{Laws, Joint, Nothing, Or, Within, Apart, weaker}
+use Rattle.ps_text.proofs.Joined.{joint}
+use Rattle.ps_text.proofs.Simple.{Taken, BadSign, laws_give, laws_one, laws_then}
+use Rattle.ps_text.proofs.Covered.{laws_either}
+use Rattle.ps_text.proofs.Repeated.{laws_times, laws_many}
+
+pub both_within : {T : Type 0} {A B C : T → Type 0} → Within A C → Within B C → Within (Or A B) C
+both_within f g t (inl h) = f t h
+both_within f g t (inr h) = g t h
+
+module _ {T V F : Type 0} {odd : T → Type 0} where
+  pub wider_first : {P : Part T V F} {First First' More : T → Type 0} {Null : Type 0} →
+      Laws odd P First More Null → Within First First' → Laws odd P First' More Null
+  wider_first l f = weaker l f (λ t h. h) (λ n. n)
+
+  pub wider_more : {P : Part T V F} {First More More' : T → Type 0} {Null : Type 0} →
+      Laws odd P First More Null → Within More More' → Laws odd P First More' Null
+  wider_more l m = weaker l (λ t h. h) m (λ n. n)
+
+  pub laws_first : {take : T → Option V} {Bad : T → F → Type 0} {First : T → Type 0} (t : T) (v : V) →
+      take t ≡ Some v → Apart First odd → Within (Taken take) First → Within (BadSign Bad) First →
+      Laws odd (one take Bad) First Nothing ⊥
+  laws_first {take} {Bad} t v e plain taken bad = wider_first
+      (laws_one take Bad odd t v e (λ u h. plain u (taken u h)) (λ u h. plain u (bad u h))) (both_within taken bad)
+
+  pub laws_forms : {P Q : Part T V F} {F1 F2 More : T → Type 0} → Laws odd P F1 More ⊥ → Laws odd Q F2 More ⊥ →
+      Apart F1 F2 → Laws odd (either P Q) (Or F1 F2) More ⊥
+  laws_forms l r apart = weaker (laws_either l r apart (λ n _. n)) (λ t h. h)
+      (both_within (both_within (λ t h. h) (λ t h. h)) (both_within (λ t h. absurd h.0) (λ t h. absurd h.0)))
+      (λ n. elim n [ inl x ↦ x | inr x ↦ x ])
+
+  pub laws_option : {P : Part T V F} {First : T → Type 0} → Laws odd P First Nothing ⊥ → (v : V) →
+      Laws odd (either P (give v)) First First (Unit {0})
+  laws_option l v = weaker (laws_either l (laws_give odd v) (λ t _ b. b) (λ n _. n))
+      (both_within (λ t h. h) (λ t h. absurd h))
+      (both_within (both_within (λ t h. absurd h) (λ t h. absurd h)) (both_within (λ t h. absurd h.0) (λ t h. h.1)))
+      (λ _. tt)
+
+  module _ (item : V → Part T V F) {First : T → Type 0} (l : (c : V) → Laws odd (item c) First Nothing ⊥) where
+    pub laws_all : (c : V) → Laws odd (many item c) First First (Unit {0})
+    laws_all c = wider_more (laws_many item l (λ t h _. h) c) (both_within (λ t h. absurd h) (λ t h. h))
+
+    pub laws_times_all : (n : ℕ) (c : V) → Laws odd (times n item c) First First (Unit {0})
+    laws_times_all n c = wider_more (laws_times item l (λ t h _. h) n c) (both_within (λ t h. absurd h) (λ t h. h))
+
+module _ {T A B F : Type 0} {odd : T → Type 0} {P : Part T A F} {Q : A → Part T B F} {F1 F2 : T → Type 0} where
+  pub joint_tight : {M2 : T → Type 0} {N1 N2 : Type 0} → Laws odd P F1 Nothing N1 →
+      ((a : A) → Laws odd (Q a) F2 M2 N2) → Joint P Q
+  joint_tight l r = joint l r (λ t h _. h)
+
+  pub laws_maybe : {M1 M2 : T → Type 0} {Null : Type 0} → Laws odd P F1 M1 (Unit {0}) →
+      ((a : A) → Laws odd (Q a) F2 M2 Null) → Apart M1 F2 → Laws odd (then_by P Q) (Or F1 F2) (Or M2 M1) Null
+  laws_maybe l r apart = weaker (laws_then l r apart) (both_within (λ t h. inl h) (λ t h. inr h.1))
+      (both_within (λ t h. inl h) (λ t h. inr h.1)) (λ n. n.1)
+
+  pub laws_last : {M1 : T → Type 0} → Laws odd P F1 M1 (Unit {0}) → ((a : A) → Laws odd (Q a) F2 Nothing ⊥) →
+      Apart M1 F2 → Laws odd (then_by P Q) (Or F1 F2) Nothing ⊥
+  laws_last l r apart = weaker (laws_then l r apart) (both_within (λ t h. inl h) (λ t h. inr h.1))
+      (both_within (λ t h. h) (λ t h. absurd h.0)) (λ n. n.1)
