@@ -1,6 +1,6 @@
 -- A table with one cell more.
-use Rattle.std.proofs.Common.{◌≡◌, ℕ, ◌+◌, ◌<◌, ◌≤◌, Bool, true, false, List, [], ◌∷◌, ◌++◌, length, get_or, refl, ap}
-use Rattle.std.proofs.Common.{sym, ◌∙◌, arith, length-append, inl, inr, ◌⊎◌, fold, Some}
+use Rattle.std.proofs.Common.{◌≡◌, ℕ, ◌+◌, ◌<◌, ◌≤◌, Bool, true, false, List, [], ◌∷◌, ◌++◌, length, get_or, refl}
+use Rattle.std.proofs.Common.{sym, ◌∙◌, arith, length-append, inl, inr, ◌⊎◌, fold, Some, rules}
 use Rattle.std.proofs.lemmas.List.{get_or_append_left, get_or_push}
 use Rattle.std.proofs.lemmas.List.Sums.{fold_push}
 use Rattle.std.proofs.lemmas.Option.{slice_get_within, get_or_from_slice_get}
@@ -9,8 +9,8 @@ use Rattle.std.proofs.lemmas.Bool.{cases_Bool, cases_lt}
 use Rattle.std.specs.List.{list_any, slice_get}
 use Rattle.indexmap.specs.IndexSet.{insert_key}
 use Rattle.ps_diagram.specs.declared.view.View.{View}
-use Rattle.ps_diagram.specs.declared.view.View.TheVariants.{Nothing, Leaf, Test}
-use Rattle.ps_diagram.specs.Tree.{Tree, empty, choice, IsFrom, IsReduced}
+use Rattle.ps_diagram.specs.declared.view.View.TheVariants.{Nothing}
+use Rattle.ps_diagram.specs.Tree.{Tree, empty, IsFrom, IsReduced}
 use Rattle.ps_diagram.specs.Parts.{IsPart}
 use Rattle.ps_diagram.specs.Table.{Table, tree_by, trees_of, tree_at, tree_in, tree_of, IsNode, IsWithin, IsSoundTable}
 use Rattle.ps_diagram.specs.Table.{Keeps}
@@ -41,32 +41,21 @@ tree_at-old cells cell k h =
     rw (trees_push cells cell) (get_or_append_left (trees_of cells) _ empty k (omega (arith, length_trees cells)))
 
 pub tree_at-new : (cells : List View) (cell : View) → tree_at (cells ++ cell ∷ []) (length cells) ≡ tree_in cells cell
-tree_at-new cells cell = rw (trees_push cells cell)
-    (get_or_push (trees_of cells) (tree_by (trees_of cells) cell) empty (length cells) (length_trees cells))
+tree_at-new cells cell = search (rules, trees_push, get_or_push, length_trees)
 
 -- the tree of a cell whose nodes are held stays
 pub tree_in-old : (cells : List View) (cell c : View) → IsWithin (length cells) c →
     tree_in (cells ++ cell ∷ []) c ≡ tree_in cells c
-tree_in-old cells cell Nothing h = refl
-tree_in-old cells cell (Leaf k) h = refl
-tree_in-old cells cell (Test p low high) h = cc (tree_at-old cells cell low h.0, tree_at-old cells cell high h.1)
+tree_in-old cells cell c h1 = search (rules, tree_at-old)
 
 pub within-weaker : {a : ℕ} (b : ℕ) (c : View) → a ≤ b → IsWithin a c → IsWithin b c
-within-weaker b Nothing le h = tt
-within-weaker b (Leaf k) le h = tt
-within-weaker b (Test p low high) le h = omega arith
+within-weaker b c h1 h2 = search rules
 
 -- equal trees are of equal cells, where equal trees are one node
 pub same_cell : (t : Table) → IsSoundTable t → (a b : View) → IsWithin (length t.cells) a →
     IsWithin (length t.cells) b → tree_in t.cells a ≡ tree_in t.cells b → a ≡ b
 unfolding tree_of
-same_cell t s Nothing Nothing ha hb e = refl
-same_cell t s (Leaf k) (Leaf m) ha hb e = cc
-same_cell t s (Test p l h) (Test q m g) ha hb e =
-    let low : l ≡ m = s.one l m ha.0 hb.0 (cc) in
-    let high : h ≡ g = s.one h g ha.1 hb.1 (cc) in
-    cc
-same_cell t s a b ha hb e = cc
+same_cell t h1 a b h2 h3 h4 = search rules
 
 pub bool_cases : (b : Bool) → (b ≡ true) ⊎ (b ≡ false)
 bool_cases b = cases_Bool b
@@ -85,10 +74,7 @@ old_or_new k n h = elim (cases_lt k n) [ inl lt ↦ inl lt | inr ge ↦ inr (ome
 pub push_each : {X : Type 0} (P : ℕ → X → Type 0) (d : X) (xs : List X) {more : List X} (x : X) {count : ℕ} →
     length xs ≡ count → more ≡ xs ++ x ∷ [] → ((i : ℕ) → i < count → P i (get_or xs i d)) → P count x → (i : ℕ) →
     i < count + 1 → P i (get_or more i d)
-push_each P d xs x {count} size is each last i lt = rw is (elim (cases_lt i (length xs)) [
-  | inl before ↦ rw (get_or_append_left xs (x ∷ []) d i before) (each i (omega arith))
-  | inr past ↦ let same : i ≡ count = omega arith in rw (get_or_push xs x d i (omega arith), same) last
-])
+push_each P d xs x {count} size is each last i lt = search (rules, cases_lt, get_or_append_left, get_or_push)
 
 pub keeps_more : (t : Table) (cell : View) → Keeps t (more t cell)
 unfolding tree_of
@@ -146,10 +132,7 @@ pub record Interned (t u : Table) (cell : View) (place : ℕ) : Type 0 where
 at_place : {t u : Table} {cell : View} (place : ℕ) → IsSoundTable u → Keeps t u →
     tree_in u.cells cell ≡ tree_in t.cells cell → slice_get u.cells place ≡ Some cell → Interned t u cell place
 unfolding tree_of
-at_place {u} {cell} place s keeps stays e =
-    let held = slice_get_within u.cells place cell e in
-    let is = get_or_from_slice_get u.cells place cell Nothing e in
-    record { sound = s; keeps = keeps; held = held; tree = s.built place held ∙ ap (tree_in u.cells) is ∙ stays }
+at_place {u} {cell} place s keeps stays e = search (rules, slice_get_within, get_or_from_slice_get)
 
 pub interned : {t : Table} {cells : List View} {cell : View} (place : ℕ) (eq : View → View → Bool) →
     ((a b : View) → eq a b ≡ true → a ≡ b) → ((a : View) → eq a a ≡ true) → IsSoundTable t →
@@ -164,8 +147,7 @@ interned {t} {cells} {cell} place eq sound_eq refl_eq s w o r is stored =
           rw same (at_place place s (keeps_refl t) refl (rw same at stands))
       | inr not ↦
           let same : cells ≡ t.cells ++ cell ∷ [] = rw not at is in
-          let new : (k : ℕ) → k < length t.cells → cell ≡ get_or t.cells k Nothing → ⊥ = λ k h one.
-          let yes = list_any_at (eq cell) t.cells k Nothing h (rw (← one) (refl_eq cell)) in cc in
+          let new : (k : ℕ) → k < length t.cells → cell ≡ get_or t.cells k Nothing → ⊥ = search (rules, list_any_at) in
           rw same (at_place place (sound_more s w o r new) (keeps_more t cell) (tree_in-old t.cells cell cell w)
           (rw same at stands))
     ]
@@ -173,22 +155,4 @@ interned {t} {cells} {cell} place eq sound_eq refl_eq s w o r is stored =
 pub part_of : {t : Table} {node : ℕ} (cell : View) → IsSoundTable t → IsNode t node →
     get_or t.cells node Nothing ≡ cell → IsPart t node cell
 unfolding tree_of
-part_of {t} {node} (Test p low high) s h e =
-    let tree : tree_of t node ≡ choice p (tree_of t low) (tree_of t high) =
-    s.built node h ∙ ap (tree_in t.cells) e in
-    let earlier : IsWithin node (Test p low high) = rw e at (s.earlier node h) in
-    let ordered = rw tree at (s.ordered node h) in
-    let reduced = rw tree at (s.reduced node h) in
-    record {
-      few = s.few;
-      below = ordered.1;
-      low_earlier = earlier.0;
-      high_earlier = earlier.1;
-      low_held = omega arith;
-      high_held = omega arith;
-      low_from = ordered.2;
-      high_from = ordered.3;
-      differ = reduced.0;
-      tree = tree;
-    }
-part_of {t} {node} cell s h e = s.built node h ∙ ap (tree_in t.cells) e
+part_of cell h1 h2 h3 = search rules

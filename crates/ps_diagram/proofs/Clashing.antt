@@ -1,5 +1,5 @@
 -- A clash is told at a numbered letter.
-use Rattle.std.proofs.Common.{◌≡◌, ◌↔◌, ℕ, ◌<◌, ◌^◌, Bool, IsTrue, eqb, sym, ap, ◌∙◌}
+use Rattle.std.proofs.Common.{◌≡◌, ◌↔◌, ℕ, ◌<◌, ◌^◌, Bool, IsTrue, eqb, sym, ap, ◌∙◌, rules}
 use Rattle.std.proofs.lemmas.Bool.{eqb-true, eq-eqb}
 use Rattle.ps_diagram.specs.Tree.{HaveSameLeaves}
 use Rattle.ps_diagram.proofs.Canon.{same_tree}
@@ -26,10 +26,7 @@ tells_clash s ha hb OutOfMemory h = tt
 -- nodes with the same leaves are one
 pub one_node : {t : Table} → IsSoundTable t → {a b : ℕ} → IsNode t a → IsNode t b →
     HaveSameLeaves (tree_of t a) (tree_of t b) → a ≡ b
-one_node {t} s {a} {b} ha hb e =
-    let n = t.propositions in
-    s.one a b ha hb (same_tree n (tree_of t a) 0 (s.ordered a ha) (s.reduced a ha) (tree_of t b) 0 (s.ordered b hb)
-    (s.reduced b hb) e)
+one_node {t} s {a} {b} ha hb e = search (rules, same_tree)
 
 pub same_node : {t : Table} → IsSoundTable t → {a b : ℕ} → IsNode t a → IsNode t b → {r : Bool} → r ≡ eqb a b →
     IsTrue r ↔ ((letter : ℕ) → letter < 2 ^ t.propositions → leaf_of t a letter ≡ leaf_of t b letter)

@@ -1,5 +1,5 @@
 -- The classes of letters, from a divided diagram and its leaves.
-use Rattle.std.proofs.Common.{◌≡◌, ◌↔◌, ℕ, ◌<◌, ◌^◌, Bool, true, false, List, length, Option, Some, refl, ap}
+use Rattle.std.proofs.Common.{◌≡◌, ◌↔◌, ℕ, ◌<◌, ◌^◌, Bool, true, false, List, length, Option, Some, refl, ap, rules}
 use Rattle.std.proofs.Common.{sym, ◌∙◌, arith, inl, inr}
 use Rattle.std.proofs.lemmas.Bool.{cases_lt, false_from_ne_true}
 use Rattle.std.proofs.lemmas.List.{get_or_default}
@@ -58,10 +58,7 @@ leads_kept k {node} h leaf letter =
 
 least_kept : {t u : Table} → Keeps t u → {node leaf letter : ℕ} → IsNode t node → IsLeast (LeadsTo t node leaf) letter →
     IsLeast (LeadsTo u node leaf) letter
-least_kept k {leaf} {letter} h is = record {
-  here = (leads_kept k h leaf letter).0 is.here;
-  none_before = λ x e before. is.none_before x ((leads_kept k h leaf x).1 e) before;
-}
+least_kept k {leaf} {letter} h is = search (rules, leads_kept)
 
 leaves_kept : {t u : Table} → Keeps t u → {node : ℕ} → IsNode t node → {leaves : List (ℕ × ℕ)} →
     AreLeaves t node leaves → AreLeaves u node leaves
@@ -113,12 +110,7 @@ mixed_alike mask f g w q on = elim (bool_cases (is_in q mask)) [ inl is ↦ rw i
 -- letters over n propositions, some of them changed
 
 joined_letter : (n mask x : ℕ) (w : ℕ → Bool) → x < 2 ^ n → AgreeOn mask x (letter_of n (mixed mask (assignment x) w))
-joined_letter n mask x w h p is =
-    let f = mixed mask (assignment x) w in
-    elim (cases_lt p n) [
-      | inl lt ↦ rw (letter_is n f p lt, is)
-      | inr ge ↦ no_bit n x p h ge ∙ sym (no_bit n (letter_of n f) p (letter_lt n f) ge)
-    ]
+joined_letter n mask x w h p is = search (rules, cases_lt, letter_is, no_bit, letter_lt)
 
 others_agree : (n mask x y : ℕ) (w : ℕ → Bool) → AgreeOff mask (letter_of n (mixed mask (assignment x) w))
     (letter_of n (mixed mask (assignment y) w))
@@ -168,10 +160,16 @@ module _ {s u : Table} (m : Made s u) where
   together x y e v w on_x on_y off =
       let p = (place_at (assignment x)).1 in
       let q = known_at (assignment y) (sym e ∙ p.is) in
-      sym (same_letters (mixed m.mask (assignment x) (assignment v)) (assignment v) (λ i. mixed_first m.mask x v i on_x))
-      ∙ same_letters (mixed m.mask (assignment x) (assignment v)) (mixed m.mask (assignment x) (assignment w))
-      (λ i. mixed_second m.mask x v w i off) ∙ sym (p.leaf (assignment w)) ∙ q.leaf (assignment w)
-      ∙ same_letters (mixed m.mask (assignment y) (assignment w)) (assignment w) (λ i. mixed_first m.mask y w i on_y)
+      let f = mixed m.mask (assignment x) (assignment v) in
+      cc (
+        same_letters f (assignment v) (λ i. mixed_first m.mask x v i on_x),
+        same_letters f
+            (mixed m.mask (assignment x) (assignment w)) (λ i. mixed_second m.mask x v w i off),
+        p.leaf (assignment w),
+        q.leaf (assignment w),
+        same_letters (mixed m.mask (assignment y) (assignment w)) (assignment w)
+            (λ i. mixed_first m.mask y w i on_y),
+      )
 
   -- and letters that lead alike have one place
   apart : (x y : ℕ) → x < 2 ^ u.propositions → y < 2 ^ u.propositions → LeadAlike s m.node m.mask x y →
@@ -199,7 +197,10 @@ module _ {s u : Table} (m : Made s u) where
       let n = u.propositions in
       let d = tree_of u m.divided in
       let g = changed (assignment c.letter) p false in
-      let lt : p < n = elim (cases_lt p n) [ inl l ↦ l | inr ge ↦ let no = no_bit n c.letter p first.here.0 ge in cc ] in
+      let lt : p < n = elim (cases_lt p n) [
+        | inl l ↦ l
+        | inr ge ↦ let none = no_bit n c.letter p first.here.0 ge in cc
+      ] in
       let same : leaf_at d g ≡ leaf_at d (assignment c.letter) = heeds_mask g (assignment c.letter)
       (λ q on. changed-other (assignment c.letter) p false q (λ e. let on_p = rw e at on in cc)) in
       first.none_before (letter_of n g) (

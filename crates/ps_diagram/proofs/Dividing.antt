@@ -1,5 +1,5 @@
 -- Diagrams whose leaves are nodes.
-use Rattle.std.proofs.Common.{◌≡◌, ℕ, ◌+◌, Bool, true, false, cond, Option, Some, eqb, ◌&&◌, ap, sym, ◌∙◌}
+use Rattle.std.proofs.Common.{◌≡◌, ℕ, ◌+◌, Bool, true, false, cond, Option, Some, ap, sym, ◌∙◌, rules}
 use Rattle.std.proofs.Common.{inl, inr}
 use Rattle.std.specs.Prelude.{IsSome}
 use Rattle.std.proofs.lemmas.Bool.{eqb-true}
@@ -20,18 +20,7 @@ are_tested : {t : Table} {test : (ℕ → Bool) → Bool} {x y z : Option ℕ} {
     y ≡ Some high → z ≡ Some made → IsNode t low → IsNode t high → IsNode t made →
     ((g : ℕ → Bool) → leaf_at (tree_of t made) g ≡ cond (test g) (leaf_at (tree_of t high) g)
     (leaf_at (tree_of t low) g)) → AreTested t test x y z
-are_tested {low} {high} {made} low_is high_is made_is low_held high_held held leaf = record {
-  low = low;
-  high = high;
-  made = made;
-  low_is = low_is;
-  high_is = high_is;
-  made_is = made_is;
-  low_held = low_held;
-  high_held = high_held;
-  held = held;
-  leaf = leaf;
-}
+are_tested {low} {high} {made} low_is high_is made_is low_held high_held held leaf = search rules
 
 -- what is kept where a table grows
 
@@ -68,8 +57,11 @@ divided_leads t mask level a d h b f =
       x.0,
       x.1,
       x.2,
-      (λ u v e. x.3 u ∙ b (mixed mask f u) (mixed mask f v)
-          (λ q le. ap (λ y. cond (is_in q mask) (f q) y) (e q le)) ∙ sym (x.3 v)),
+      (λ u v e. cc (
+        x.3 u,
+        b (mixed mask f u) (mixed mask f v) (λ q le. ap (λ y. cond (is_in q mask) (f q) y) (e q le)),
+        x.3 v,
+      )),
     )
 
 tested_alike : {t : Table} → IsSoundTable t → (p : ℕ) (a b d : Tree) → IsTested t p a b d → (f g : ℕ → Bool) →
@@ -128,10 +120,7 @@ tested_same t p level a h f =
 -- a test of trees of nodes that are tested
 tested_test : (t : Table) (p q : ℕ) (a al ah b bl bh d dl dh : Tree) → IsTestOf q al ah a → IsTestOf q bl bh b →
     IsTestOf q dl dh d → IsTested t p al bl dl → IsTested t p ah bh dh → IsTested t p a b d
-tested_test t p q a al ah b bl bh d dl dh ta tb td l h f = rw (ta f, tb f, td f) (elim (bool_cases (f q)) [
-  | inl is ↦ rw is (h f)
-  | inr is ↦ rw is (l f)
-])
+tested_test t p q a al ah b bl bh d dl dh ta tb td l h f = search (rules, bool_cases)
 
 -- what is known stays known as the table grows, and one more is known
 
@@ -142,19 +131,10 @@ known_divided_kept s {t} {u} mask known k h =
     (r.0, r.1, divided_kept k mask (tree_of s node) (tree_of t made) r.2))
 
 pub tests_kept : {t u : Table} (known : ℕ × ℕ × ℕ → Option ℕ) → Keeps t u → KnowsTests t known → KnowsTests u known
-tests_kept known k h p a b made e =
-    let r = h p a b made e in (
-      k.held a r.0,
-      k.held b r.1,
-      k.held made r.2,
-      rw (k.same a r.0, k.same b r.1, k.same made r.2) (λ f. tested_kept k (r.3 f)),
-    )
+tests_kept known k h p a b made e = search (rules, tested_kept)
 
 test_same : (a b : ℕ × ℕ × ℕ) → test_eq a b ≡ true → a ≡ b
-test_same (n, x, y) (p, a, b) e =
-    let last = and_both (eqb n p && eqb x a) (eqb y b) e in
-    let both = and_both (eqb n p) (eqb x a) last.0 in
-    cc (eqb-true n p both.0, eqb-true x a both.1, eqb-true y b last.1)
+test_same (n, x, y) (p, a, b) e = search (rules, and_both, eqb-true)
 
 pub tests_more : {t : Table} (known new : ℕ × ℕ × ℕ → Option ℕ) (n : ℕ) {x y value : ℕ} →
     ((q : ℕ × ℕ × ℕ) → new q ≡ cond (test_eq (n, x, y) q) (Some value) (known q)) → KnowsTests t known → IsNode t x →
@@ -214,6 +194,4 @@ pub sides_divided : {s t u v : Table} → Keeps t u → Keeps u v → (mask : �
     IsDividedTest v mask p (tree_of u low) (tree_of u high) (tree_of v made) →
     IsDivided v mask (tree_of s a) (tree_of v made)
 sides_divided {s} {t} {u} {v} k m mask {a} {p} {al} {ah} {low} high made sides held l h test =
-    divided_test v mask p (tree_of s a) (tree_of s al) (tree_of s ah) (tree_of v made) (tree_of u low) (tree_of u high)
-    sides.leaf test (divided_kept m mask (tree_of s al) (tree_of u low) (divided_side k mask (tree_of s al) held l))
-    (divided_kept m mask (tree_of s ah) (tree_of u high) h)
+    search (rules, divided_test, divided_kept, divided_side)

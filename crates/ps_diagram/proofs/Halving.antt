@@ -1,5 +1,5 @@
 -- Rows of nodes, proposition by proposition.
-use Rattle.std.proofs.Common.{◌≡◌, ℕ, suc, ◌+◌, ◌*◌, ◌%◌, ◌^◌, ◌<◌, ◌≤◌, true, false, List, [], ◌∷◌, ◌++◌}
+use Rattle.std.proofs.Common.{◌≡◌, ℕ, ◌+◌, ◌*◌, ◌%◌, ◌^◌, ◌<◌, ◌≤◌, true, false, List, [], ◌∷◌, ◌++◌, rules}
 use Rattle.std.proofs.Common.{length, length-append, get_or, min, Option, None, ap, sym, ◌∙◌, add-one, arith, inl, inr}
 use Rattle.std.proofs.Common.{◌⊎◌}
 use Rattle.std.specs.List.{slice_get}
@@ -23,10 +23,7 @@ use Rattle.ps_diagram.proofs.Cells.{bool_cases, push_each}
 -- ## Letters by their first propositions
 
 pub one_bit : (p : ℕ) → p < 64 → 1 * 2 ^ p % 2 ^ 64 ≡ 2 ^ p
-one_bit p h =
-    let small : suc p ≤ 64 = omega arith in
-    let one : 1 * 2 ^ p ≡ 2 ^ p = omega arith in
-    rw one (mod-eq_of_lt (omega (arith, pow_mono {i = suc p} {j = 64} small, pow-suc 2 p, pow_pos p)))
+one_bit p h = search (rules, mod-eq_of_lt, pow_mono, pow-suc, pow_pos)
 
 pub few_bits : (p : ℕ) → p < 64 → 2 ^ p ≤ 2 ^ 63
 few_bits p h = let small : p ≤ 63 = omega arith in pow_mono {i = p} {j = 63} small
@@ -37,9 +34,7 @@ first_bits p letter =
     rw twice (mod-mul letter {m = 2} {c = 2 ^ p} (omega arith) (pow_pos p))
 
 bits_below : (p letter : ℕ) → is_in p letter ≡ false → letter % 2 ^ (p + 1) ≡ letter % 2 ^ p
-bits_below p letter isnt =
-    let is : bit_at letter p ≡ 0 = omega (arith, bit_at-lt letter p, eqb-false (bit_at letter p) 1 isnt) in
-    rw (first_bits p letter, is) (omega arith)
+bits_below p letter isnt = search (rules, bit_at-lt, eqb-false, first_bits)
 
 bits_above : (p letter : ℕ) → is_in p letter ≡ true → letter % 2 ^ (p + 1) ≡ 2 ^ p + letter % 2 ^ p
 bits_above p letter is =
@@ -61,10 +56,7 @@ has_leaf_kept {t} {u} k node leaf h =
 
 pub leaf_nodes_kept : {t u : Table} {leaves nodes : List ℕ} {count : ℕ} → Keeps t u →
     AreLeafNodes t leaves count nodes → AreLeafNodes u leaves count nodes
-leaf_nodes_kept {t} {u} {leaves} {nodes} k a = record {
-  one_each = a.one_each;
-  each = λ i lt. has_leaf_kept k (get_or nodes i 0) (slice_get leaves i) (a.each i lt);
-}
+leaf_nodes_kept {t} {u} {leaves} {nodes} k a = search (rules, has_leaf_kept)
 
 pub leaf_nodes_more : {t u : Table} {leaves nodes more : List ℕ} {count : ℕ} (node : ℕ) → Keeps t u →
     AreLeafNodes t leaves count nodes → more ≡ nodes ++ node ∷ [] →
@@ -79,17 +71,10 @@ leaf_nodes_more {t} {u} {leaves} {nodes} {more} {count} node k a is h = record {
 module _ {t : Table} {leaves nodes : List ℕ} (none : ℕ) (nothing : HasLeaf t none None)
     (a : AreLeafNodes t leaves (length leaves) nodes) where
   leaf_there : (i : ℕ) → HasLeaf t (get_or nodes i none) (slice_get leaves i)
-  leaf_there i = elim (cases_lt i (length leaves)) [
-    | inl lt ↦ rw (get_or_default nodes i none 0 (omega (arith, a.one_each))) (a.each i lt)
-    | inr past ↦ rw (get_or_past nodes i none (omega (arith, a.one_each)), slice_get_past leaves i past) nothing
-  ]
+  leaf_there i = search (rules, cases_lt, get_or_default, get_or_past, slice_get_past)
 
   pub first_row : IsRow t t.propositions none nodes
-  first_row = record {
-    nothing = nothing;
-    held = λ i. (leaf_there i).0;
-    later = λ i f g _. (leaf_there i).1 f ∙ sym ((leaf_there i).1 g);
-  }
+  first_row = search (rules, leaf_there)
 
   pub first_leads : LeadsOn t leaves t.propositions none nodes
   first_leads letter = (leaf_there (letter % 2 ^ t.propositions)).1 (assignment letter)
@@ -130,34 +115,20 @@ module _ {t u : Table} {p none : ℕ} {nodes made : List ℕ} (row : IsRow t (p 
 
   made_there : (i : ℕ) → Made i
   unfolding Made
-  made_there i = elim (cases_lt i (min (length nodes) (2 ^ p))) [
-    | inl lt ↦ inl (omega arith, rw (get_or_default made i none 0 (omega (arith, a.one_each))) (a.each i lt))
-    | inr past ↦ inr (get_or_past made i none (omega (arith, a.one_each)))
-  ]
+  made_there i = search (rules, cases_lt, get_or_default, get_or_past)
 
   nothing_now : HasLeaf u none None
   nothing_now = has_leaf_kept keeps none None row.nothing
 
   pub half_row : IsRow u p none made
   unfolding Made
-  half_row = record {
-    nothing = nothing_now;
-    held = λ i. elim (made_there i) [ inl h ↦ h.1.0 | inr is ↦ rw is nothing_now.0 ];
-    later = λ i. elim (made_there i) [
-      | inl h ↦ test_blind p (tree_of t (get_or nodes i none)) (tree_of t (get_or nodes (2 ^ p + i) none))
-          (tree_of u (get_or made i none)) h.1.1 (row.later i) (row.later (2 ^ p + i))
-      | inr is ↦ rw is (empty_blind p (tree_of u none) nothing_now.1)
-    ];
-  }
+  half_row = search (rules, nothing_now, made_there, test_blind, empty_blind)
 
   -- the leaf of a test at a letter is that of the row behind it
   leads_by : (letter : ℕ) → IsTestOf p (tree_of t (get_or nodes (letter % 2 ^ p) none))
       (tree_of t (get_or nodes (2 ^ p + letter % 2 ^ p) none)) (tree_of u (get_or made (letter % 2 ^ p) none)) →
       leaf_of u (get_or made (letter % 2 ^ p) none) letter ≡ leaf_of t (get_or nodes (letter % 2 ^ (p + 1)) none) letter
-  leads_by letter h = rw (h (assignment letter)) (elim (bool_cases (is_in p letter)) [
-    | inl is ↦ rw (is, bits_above p letter is)
-    | inr isnt ↦ rw (isnt, bits_below p letter isnt)
-  ])
+  leads_by letter h = search (rules, bool_cases, bits_above, bits_below)
 
   leads_here : (letter : ℕ) → leaf_of u (get_or made (letter % 2 ^ p) none) letter ≡ leaf_of t
       (get_or nodes (letter % 2 ^ (p + 1)) none) letter

@@ -1,5 +1,5 @@
 -- What is known stays known as the table grows, and one more is known.
-use Rattle.std.proofs.Common.{◌≡◌, ℕ, Bool, true, cond, eqb, Option, Some, None, sym, ◌∙◌, inl, inr}
+use Rattle.std.proofs.Common.{◌≡◌, ℕ, Bool, true, cond, eqb, Option, Some, rules}
 use Rattle.std.specs.Option.{unwrap_or}
 use Rattle.std.proofs.lemmas.Bool.{eqb-true}
 use Rattle.ps_diagram.specs.Tree.{Tree}
@@ -9,16 +9,11 @@ use Rattle.ps_diagram.proofs.Cells.{bool_cases, keeps_refl}
 use Rattle.ps_diagram.proofs.Keys.{and_both}
 
 pub keeps_trans : {t u v : Table} → Keeps t u → Keeps u v → Keeps t v
-keeps_trans a b = record {
-  propositions = b.propositions ∙ a.propositions;
-  held = λ node h. b.held node (a.held node h);
-  same = λ node h. b.same node (a.held node h) ∙ a.same node h;
-}
+keeps_trans a b = search rules
 
 -- the table that is read, another one or else the one that grows
 pub read_keeps : (other : Option Table) {t u : Table} → Keeps t u → Keeps (unwrap_or other t) (unwrap_or other u)
-read_keeps None k = k
-read_keeps (Some s) k = keeps_refl s
+read_keeps other h1 = search (rules, keeps_refl)
 
 pub kept : (P : Tree → Type 0) {t u : Table} → Keeps t u → {node : ℕ} → IsNode t node → P (tree_of t node) →
     P (tree_of u node)
@@ -44,23 +39,17 @@ pub one_more : {K : Type 0} (F : K → ℕ → Type 0) (eq : K → K → Bool) �
     ((q : K) → new q ≡ cond (eq key q) (Some value) (known q)) →
     ((q : K) (made : ℕ) → known q ≡ Some made → F q made) → F key value → (q : K) (made : ℕ) → new q ≡ Some made →
     F q made
-one_more F eq same known new {key} {value} update h f q made e = elim (bool_cases (eq key q)) [
-  | inl is ↦
-      let new_is = rw is at (update q) in
-      let value_is : value ≡ made = cc in
-      rw (← same key q is, ← value_is) f
-  | inr isnt ↦ h q made (sym (rw isnt at (update q)) ∙ e)
-]
+one_more F eq same known new {key} {value} update h f q made e = search (rules, bool_cases)
 
 pub knows_more : (R : Tree → Tree → Type 0) (s t : Table) (known new : ℕ → Option ℕ) {key value : ℕ} →
     ((q : ℕ) → new q ≡ cond (eqb key q) (Some value) (known q)) →
     Knows R s t known → IsNode s key → IsNode t value → R (tree_of s key) (tree_of t value) → Knows R s t new
 knows_more R s t known new update h hk hv r =
-    one_more (λ k v. IsNode s k × IsNode t v × R (tree_of s k) (tree_of t v)) eqb eqb-true known new update h (hk, hv, r)
+    one_more (λ k v. IsNode s k × IsNode t v × R (tree_of s k) (tree_of t v)) eqb eqb-true known new update h
+    (hk, hv, r)
 
 pair_same : (a b : ℕ × ℕ) → pair_eq a b ≡ true → a ≡ b
-pair_same (x, y) (a, b) e =
-    let both = and_both (eqb x a) (eqb y b) e in cc (eqb-true x a both.0, eqb-true y b both.1)
+pair_same (x, y) (a, b) e = search (rules, and_both, eqb-true)
 
 pub pairs_more : (R : Tree → Tree → Tree → Type 0) (t : Table) (known new : ℕ × ℕ → Option ℕ) {x y value : ℕ} →
     ((q : ℕ × ℕ) → new q ≡ cond (pair_eq (x, y) q) (Some value) (known q)) → KnowsPairs R t known → IsNode t x →

@@ -1,5 +1,5 @@
 -- Leaves with their least letters, made to classes.
-use Rattle.std.proofs.Common.{◌≡◌, ℕ, ◌+◌, ◌<◌, cond, eqb, List, [], ◌∷◌, ◌++◌, length, get_or}
+use Rattle.std.proofs.Common.{◌≡◌, ℕ, ◌+◌, ◌<◌, cond, eqb, List, [], ◌∷◌, ◌++◌, length, rules}
 use Rattle.std.proofs.Common.{Option, Some, None, refl, ap, sym, ◌∙◌, arith, inl, inr}
 use Rattle.std.proofs.lemmas.Bool.{eqb-true, eq-eqb}
 use Rattle.std.proofs.lemmas.List.{get_or_append_left, get_or_push, length_push}
@@ -13,9 +13,7 @@ use Rattle.ps_diagram.proofs.Cells.{bool_cases, push_each}
 -- leaves with least letters that rise are different
 pub leaves_differ : {t : Table} {node : ℕ} {found : List (ℕ × ℕ)} → AreLeaves t node found →
     AllPairs (λ a b. a.0 ≢ b.0) found
-leaves_differ {found} h i j d lt below e =
-    (h.least j d below).none_before (get_or found i d).1 (rw e at (h.least i d (omega arith)).here)
-    (h.rising i j d lt below)
+leaves_differ {found} h i j d lt below e = search rules
 
 pub of_push : {leaves : List (ℕ × ℕ)} {n leaf letter : ℕ} {list : List Class} → AreOf leaves n list →
     leaf ≡ (pair_at leaves n).0 → letter ≡ (pair_at leaves n).1 →
@@ -38,15 +36,11 @@ placed_push {places} new letter k {at} {list} at_is new_key update h =
     let longer = length_push list made in
     record {
       found = λ q i e. elim (bool_cases (eqb k q)) [
-        | inl is ↦
-            let value = rw is at (update q) in
-            let same : at ≡ i = cc in
-            let place : length list ≡ i = omega arith in
-            (omega arith, ap (λ (c : Class). c.rest) (get_or_push list made none i place) ∙ eqb-true k q is)
+        | inl is ↦ search (rules, get_or_push, eqb-true)
         | inr isnt ↦
             let was = h.found q i (sym (rw isnt at (update q)) ∙ e) in (
               omega (arith, was.0),
-              ap (λ (c : Class). c.rest) (get_or_append_left list (made ∷ []) none i was.0) ∙ was.1,
+              cc (get_or_append_left list (made ∷ []) none i was.0, was.1),
             )
       ];
       placed = λ i lt. push_each (λ j c. new c.rest ≡ Some j) none list made refl refl

@@ -1,6 +1,6 @@
 -- Diagrams of truths: what is made of them, and that they stay as the table grows.
 use Rattle.std.proofs.Common.{◌≡◌, ℕ, ◌+◌, ◌<◌, Bool, true, false, cond, List, [], ◌∷◌, ◌++◌, length, get_or, Option}
-use Rattle.std.proofs.Common.{Some, refl, ap, sym, ◌∙◌, arith, drop, drop-cons, add-one, length-append}
+use Rattle.std.proofs.Common.{Some, refl, ap, sym, ◌∙◌, arith, drop, drop-cons, add-one, length-append, rules}
 use Rattle.std.proofs.lemmas.List.{get_or-map, length-map}
 use Rattle.ps_label.specs.declared.label.Label.{Label}
 use Rattle.ps_label.specs.Expression.{constant, AreOrdered, expression}
@@ -16,8 +16,7 @@ use Rattle.ps_diagram.specs.Table.{Table, IsNode, Keeps, leaf_of}
 use Rattle.ps_diagram.proofs.Cells.{push_each}
 
 is_one : (b : Bool) {x : ℕ} → one_where b ≡ Some x → x ≡ 1
-is_one true {x} e = cc
-is_one false e = cc
+is_one b h1 = search rules
 
 one_leaf : {leaf : Option ℕ} {x : ℕ} → IsOneOrNone leaf → leaf ≡ Some x → x ≡ 1
 one_leaf {x} h e = is_one h.0 (sym h.1 ∙ e)
@@ -29,10 +28,7 @@ no_clash t a b x y ha hb c = c.4 (one_leaf (ha c.0) c.2 ∙ sym (one_leaf (hb c.
 
 pub truths_kept : {t u : Table} {nodes : List ℕ} {known : ℕ → List Bool} → Keeps t u → HaveTruths t nodes known →
     HaveTruths u nodes known
-truths_kept k h = record {
-  held = λ j lt. k.held _ (h.held j lt);
-  leaf = λ j letter lt. ap (λ x. leaf_at x (assignment letter)) (k.same _ (h.held j lt)) ∙ h.leaf j letter lt;
-}
+truths_kept k h = search rules
 
 -- the leaf of a node that was held
 pub leaf_kept : {t u : Table} {node : ℕ} (letter : ℕ) → Keeps t u → IsNode t node →
@@ -40,59 +36,38 @@ pub leaf_kept : {t u : Table} {node : ℕ} (letter : ℕ) → Keeps t u → IsNo
 leaf_kept {node} letter k h = ap (λ x. leaf_at x (assignment letter)) (k.same node h)
 
 pub opposite_of : (b : Bool) → opposite (one_where b) ≡ one_where (cond b false true)
-opposite_of true = refl
-opposite_of false = refl
+opposite_of b = search rules
 
 pub joined_of : (a b : Bool) → joined (one_where a) (one_where b) ≡ one_where (cond a true b)
-joined_of true b = refl
-joined_of false b = refl
+joined_of a b = search rules
 
--- so far some operand is true; or else the ones still to come decide
-pub record IsAny (leaf : Option ℕ) (rest whole : Bool) : Type 0 where
+-- so far some operand decides, a true one where any will do, a false one where all have to; or else the rest decides
+pub record IsDecided (any : Bool) (leaf : Option ℕ) (rest whole : Bool) : Type 0 where
   pub so_far : Bool
   pub is : leaf ≡ one_where so_far
-  pub decides : cond so_far true rest ≡ whole
+  pub decides : cond so_far any rest ≡ whole
 
--- so far some operand is false; or else the ones still to come decide
-pub record IsNotAll (leaf : Option ℕ) (rest whole : Bool) : Type 0 where
-  pub so_far : Bool
-  pub is : leaf ≡ one_where so_far
-  pub decides : cond so_far false rest ≡ whole
+decided_cases : (any a b rest : Bool) → cond (cond a true (cond any b (cond b false true))) any rest ≡ cond a any
+    (cond b (cond any true rest) (cond any rest false))
+decided_cases true true b rest = refl
+decided_cases true false b rest = refl
+decided_cases false true b rest = refl
+decided_cases false false true rest = refl
+decided_cases false false false rest = refl
 
-any_cases : (a b rest : Bool) → cond (cond a true b) true rest ≡ cond a true (cond b true rest)
-any_cases true b rest = refl
-any_cases false b rest = refl
-
-all_cases : (a b rest : Bool) → cond (cond a true (cond b false true)) false rest ≡ cond a false (cond b rest false)
-all_cases true b rest = refl
-all_cases false true rest = refl
-all_cases false false rest = refl
-
-pub any_more : {old new made : Option ℕ} (b rest : Bool) {whole : Bool} → IsAny old (cond b true rest) whole →
-    made ≡ one_where b → new ≡ joined old made → IsAny new rest whole
-any_more {made} b rest h e j = record {
-  so_far = cond h.so_far true b;
-  is = j ∙ ap (λ x. joined x made) h.is ∙ ap (λ x. joined (one_where h.so_far) x) e ∙ joined_of h.so_far b;
-  decides = any_cases h.so_far b rest ∙ h.decides;
-}
-
-pub all_more : {old new made other : Option ℕ} (b rest : Bool) {whole : Bool} → IsNotAll old (cond b rest false) whole →
-    made ≡ one_where b → other ≡ opposite made → new ≡ joined old other → IsNotAll new rest whole
-all_more {other} b rest h e o j = record {
-  so_far = cond h.so_far true (cond b false true);
-  is = j ∙ ap (λ x. joined x other) h.is ∙ ap (λ x. joined (one_where h.so_far) x) (o ∙ ap opposite e ∙ opposite_of b)
-      ∙ joined_of h.so_far (cond b false true);
-  decides = all_cases h.so_far b rest ∙ h.decides;
+pub decided_more : (any : Bool) {old new made : Option ℕ} (b rest : Bool) {whole : Bool} →
+    IsDecided any old (cond b (cond any true rest) (cond any rest false)) whole →
+    made ≡ one_where (cond any b (cond b false true)) → new ≡ joined old made → IsDecided any new rest whole
+decided_more any b rest h e j = record {
+  so_far = cond h.so_far true (cond any b (cond b false true));
+  is = rw (j, h.is, e) (joined_of h.so_far (cond any b (cond b false true)));
+  decides = decided_cases any h.so_far b rest ∙ h.decides;
 }
 
 -- the expressions from a place on are the one there and those behind it
 pub drop_is : (items : List Label) (k : ℕ) {x : Label} → k < length items → x ≡ get_or items k x →
     expressions (drop k items) ≡ expression x ∷ expressions (drop (k + 1) items)
 drop_is items k {x} lt is = rw (add-one, drop-cons items k x, ← is)
-
-pub some_kept : {t u : Table} {nodes : List ℕ} → Keeps t u → ((known : ℕ → List Bool) × HaveTruths t nodes known) →
-    (known : ℕ → List Bool) × HaveTruths u nodes known
-some_kept {t} {u} {nodes} k h = (h.0, truths_kept k h.1)
 
 -- ## The nodes of aliases
 

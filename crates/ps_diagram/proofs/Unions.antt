@@ -1,23 +1,26 @@
 -- Diagrams of truths, joined by halves.
-use Rattle.std.proofs.Common.{◌≡◌, ℕ, suc, true, false, cond, List, [], ◌∷◌, ◌++◌, All, Option, None, Some, take, drop}
-use Rattle.std.proofs.Common.{refl, ap, sym, subst, ◌∙◌, arith}
+use Rattle.std.proofs.Common.{◌≡◌, ℕ, suc, Bool, true, false, cond, length, List, [], ◌∷◌, ◌++◌, All, Option, None}
+use Rattle.std.proofs.Common.{take, drop}
+use Rattle.std.proofs.Common.{refl, ap, sym, subst, ◌∙◌, arith, rules}
 use Rattle.std.proofs.lemmas.List.{map-append, take-append-drop}
 use Rattle.std.proofs.lemmas.List.Elements.{All-drop, All-push, All-take}
-use Rattle.ps_diagram.specs.Labels.{IsOneOrNone, one_where}
+use Rattle.ps_label.specs.Expression.{Expression, row_of}
+use Rattle.ps_label.specs.Truth.{truth, all_true, any_true}
+use Rattle.ps_diagram.specs.Labels.{AreOver, HaveTruths, IsOneOrNone, one_where}
 use Rattle.ps_diagram.specs.Leaves.{joined}
 use Rattle.ps_diagram.specs.Table.{Table, IsNode, Keeps, leaf_of}
 use Rattle.ps_diagram.specs.Unions.{IsTruth, first_leaf, leaves_of}
-use Rattle.ps_diagram.proofs.Truths.{joined_of, leaf_kept}
+use Rattle.ps_diagram.proofs.Cells.{keeps_refl}
+use Rattle.ps_diagram.proofs.KnownLemmas.{keeps_trans}
+use Rattle.ps_diagram.proofs.Truths.{IsDecided, decided_more, joined_of, leaf_kept, truths_kept}
 
 -- ## Leaves
 
 joined_none : (a : Option ℕ) → joined a None ≡ a
-joined_none None = refl
-joined_none (Some x) = refl
+joined_none a = search rules
 
 joined_assoc : (a b c : Option ℕ) → joined (joined a b) c ≡ joined a (joined b c)
-joined_assoc None b c = refl
-joined_assoc (Some x) b c = refl
+joined_assoc a b c = search rules
 
 pub first_leaf-append : (xs ys : List (Option ℕ)) → first_leaf (xs ++ ys) ≡ joined (first_leaf xs) (first_leaf ys)
 first_leaf-append [] ys = refl
@@ -27,10 +30,7 @@ first_leaf-append (x ∷ xs) ys = ap (joined x) (first_leaf-append xs ys)
 -- one node more
 pub first_leaf-push : (t : Table) (nodes : List ℕ) {more : List ℕ} (node letter : ℕ) → more ≡ nodes ++ node ∷ [] →
     first_leaf (leaves_of t more letter) ≡ joined (first_leaf (leaves_of t nodes letter)) (leaf_of t node letter)
-first_leaf-push t nodes node letter e = ap (λ (ns : List ℕ). first_leaf (leaves_of t ns letter)) e
-    ∙ ap first_leaf (map-append (λ n. leaf_of t n letter) nodes (node ∷ []))
-    ∙ first_leaf-append (leaves_of t nodes letter) (leaf_of t node letter ∷ [])
-    ∙ ap (joined (first_leaf (leaves_of t nodes letter))) (joined_none (leaf_of t node letter))
+first_leaf-push t nodes node letter e = search (rules, map-append, first_leaf-append, joined_none)
 
 -- the two halves
 pub first_leaf-halves : (t : Table) (nodes : List ℕ) (m letter : ℕ) →
@@ -116,3 +116,55 @@ pub back_kept : {s t : Table} (nodes : List ℕ) {back : List ℕ} (m : ℕ) →
     All (IsTruth s) nodes → All (IsTruth t) back
 back_kept {s} {t} nodes {back} m e k h =
     all_kept back k (subst (All (IsTruth s)) (sym e) (All-drop (IsTruth s) m nodes h))
+
+-- ## The operands of a label, one after another
+
+-- The nodes are those of the operands so far, each that of a truth: of its own, or of its opposite, where all operands
+-- are asked for. The rest decides, where none so far does.
+pub record AreOperands (any : Bool) (s t : Table) (named made : List ℕ) (rest : List Expression) (label : Expression) :
+    Type 0 where
+  pub keeps : Keeps s t
+  pub nodes : All (IsTruth t) made
+  pub aliases : (known : ℕ → List Bool) × HaveTruths t named known
+  pub within : AreOver (length named) t.propositions (row_of rest)
+  pub leaf : (known : ℕ → List Bool) → HaveTruths s named known → (letter : ℕ) →
+      IsDecided any (first_leaf (leaves_of t made letter)) (cond any (any_true (known letter) letter (row_of rest))
+      (all_true (known letter) letter (row_of rest))) (truth (known letter) letter label)
+
+pub no_operands : (any : Bool) {s : Table} {named made : List ℕ} {rest : List Expression} (label : Expression) →
+    made ≡ [] → (known : ℕ → List Bool) × HaveTruths s named known →
+    AreOver (length named) s.propositions (row_of rest) → ((known : List Bool) (letter : ℕ) →
+    cond any (any_true known letter (row_of rest)) (all_true known letter (row_of rest)) ≡ truth known letter label) →
+    AreOperands any s s named made rest label
+no_operands any {s} label none given within decides = record {
+  keeps = keeps_refl s;
+  nodes = no_nodes s none;
+  aliases = given;
+  within = within;
+  leaf = λ known h letter. record { so_far = false; is = rw none; decides = decides (known letter) letter };
+}
+
+pub operands_more : (any : Bool) {s t u : Table} {named made more : List ℕ} {e : Expression} {rest : List Expression}
+    {label : Expression} {node : ℕ} → (known : ℕ → List Bool) × HaveTruths s named known →
+    AreOperands any s t named made (e ∷ rest) label → Keeps t u → IsNode u node →
+    ((known : ℕ → List Bool) → HaveTruths t named known → (letter : ℕ) → leaf_of u node letter ≡ one_where
+    (cond any (truth (known letter) letter e) (cond (truth (known letter) letter e) false true))) →
+    more ≡ made ++ node ∷ [] → AreOperands any s u named more rest label
+operands_more any {made = made} {e = e} {rest = rest} {node = node} a v k held leaf is = record {
+  keeps = keeps_trans v.keeps k;
+  nodes = truths_more made k v.nodes (record {
+    held = held;
+    leaf = λ letter. (_, leaf a.0 (truths_kept v.keeps a.1) letter);
+  }) is;
+  aliases = (v.aliases.0, truths_kept k v.aliases.1);
+  within = rw k.propositions v.within.1;
+  leaf = λ known h letter. decided_more any (truth (known letter) letter e) _ (by any (truth (known letter) letter e)
+      (any_true (known letter) letter (row_of rest)) (all_true (known letter) letter (row_of rest))
+      (v.leaf known h letter)) (leaf known (truths_kept v.keeps h) letter) (union_more made node letter k v.nodes is);
+}
+  where
+    by : (any b some all : Bool) {whole : Bool} {old : Option ℕ} →
+        IsDecided any old (cond any (cond b true some) (cond b all false)) whole →
+        IsDecided any old (cond b (cond any true (cond any some all)) (cond any (cond any some all) false)) whole
+    by true b some all h = h
+    by false b some all h = h

@@ -1,6 +1,6 @@
 -- Letters of the two players, their sums, and the order of letters.
-use Rattle.std.proofs.Common.{◌≡◌, ℕ, zero, suc, ◌+◌, ◌^◌, ◌<◌, Bool, true, false, cond, not, refl, ap, sym, subst, ◌∙◌}
-use Rattle.std.proofs.Common.{arith, inl, inr, ◌⊎◌}
+use Rattle.std.proofs.Common.{◌≡◌, ℕ, zero, suc, ◌+◌, ◌^◌, ◌<◌, Bool, true, false, cond, not, ap, sym, ◌∙◌}
+use Rattle.std.proofs.Common.{arith, inl, inr, ◌⊎◌, rules}
 use Rattle.std.specs.Prelude.{◌||◌, ◌&&◌}
 use Rattle.std.proofs.lemmas.Bool.{cases_lt}
 use Rattle.ps_label.specs.Truth.{is_in}
@@ -26,9 +26,7 @@ sum_of zero f g apart = omega arith
 sum_of (suc n) f g apart = sum_step (f n) (g n) (letter_of n f) (letter_of n g) (2 ^ n) (apart n) (sum_of n f g apart)
 
 number_is : (n x : ℕ) → x < 2 ^ n → x ≡ letter_of n (assignment x)
-number_is n x lt =
-    same_letter n x (letter_of n (assignment x)) lt (letter_lt n (assignment x))
-    (λ q below. sym (letter_is n (assignment x) q below))
+number_is n x lt = search (rules, same_letter, letter_lt, letter_is)
 
 sum_is : (n x y : ℕ) → x < 2 ^ n → y < 2 ^ n → ((p : ℕ) → (is_in p x && is_in p y) ≡ false) →
     x + y ≡ letter_of n (λ p. is_in p x || is_in p y)
@@ -37,29 +35,23 @@ sum_is n x y a b apart =
     ∙ sum_of n (assignment x) (assignment y) apart
 
 and_false-right : (a : Bool) {b : Bool} → b ≡ false → (a && b) ≡ false
-and_false-right true e = e
-and_false-right false e = refl
+and_false-right a h1 = search rules
 
 and_false-left : (a b : Bool) → a ≡ false → (a && b) ≡ false
 and_false-left a b e = ap (λ x. x && b) e
 
 or_false-right : (a b : Bool) → b ≡ false → (a || b) ≡ a
-or_false-right true b e = refl
-or_false-right false b e = e
+or_false-right a b h1 = search rules
 
 or_false-left : {a b : Bool} → a ≡ false → (a || b) ≡ b
 or_false-left {b} e = ap (λ x. x || b) e
 
 and_true-right : (a : Bool) {b : Bool} → b ≡ true → (a && b) ≡ a
-and_true-right true e = e
-and_true-right false e = refl
+and_true-right a h1 = search rules
 
 module _ (board : Board) where
   apart : (x y : ℕ) → IsFirstLetter board x → IsSecondLetter board y → (p : ℕ) → (is_in p x && is_in p y) ≡ false
-  apart x y hx hy p = elim (bool_cases (board.is_first p)) [
-    | inl is ↦ and_false-right (is_in p x) (hy.own p is)
-    | inr isnt ↦ and_false-left (is_in p x) (is_in p y) (hx.own p isnt)
-  ]
+  apart x y hx hy p = search (rules, bool_cases, and_false-right, and_false-left)
 
   both : (x y : ℕ) → IsFirstLetter board x → IsSecondLetter board y →
       x + y ≡ letter_of board.propositions (λ p. is_in p x || is_in p y)
@@ -70,8 +62,7 @@ module _ (board : Board) where
 
   sum_bit : (x y p : ℕ) → IsFirstLetter board x → IsSecondLetter board y → p < board.propositions →
       is_in p (x + y) ≡ (is_in p x || is_in p y)
-  sum_bit x y p hx hy lt =
-      ap (is_in p) (both x y hx hy) ∙ letter_is board.propositions (λ q. is_in q x || is_in q y) p lt
+  sum_bit x y p hx hy lt = search (rules, both, letter_is)
 
   pub sum_first : {x y : ℕ} (p : ℕ) → IsFirstLetter board x → IsSecondLetter board y → p < board.propositions →
       board.is_first p ≡ true → is_in p (x + y) ≡ is_in p x
@@ -84,10 +75,7 @@ module _ (board : Board) where
   -- ## The mask of the first player
 
   pub mask_below : (mask p : ℕ) → IsMaskOf board mask → is_in p mask ≡ true → p < board.propositions
-  mask_below mask p m is = elim (cases_lt p board.propositions) [
-    | inl lt ↦ lt
-    | inr ge ↦ absurd (true_is_not_false (sym is ∙ no_bit board.propositions mask p m.within ge))
-  ]
+  mask_below mask p m is = search (rules, cases_lt, true_is_not_false, no_bit)
 
   pub agree_on : {mask x y : ℕ} → IsMaskOf board mask → IsFirstLetter board x → IsSecondLetter board y →
       AgreeOn mask x (x + y)
@@ -110,13 +98,7 @@ module _ (board : Board) where
   -- a letter over the mask alone is the first player's
   pub masked_first : {mask x : ℕ} → IsMaskOf board mask → x < 2 ^ board.propositions →
       ((p : ℕ) → is_in p mask ≡ false → is_in p x ≡ false) → IsFirstLetter board x
-  masked_first {x} m lt masked = record {
-    within = lt;
-    own = λ p isnt. elim (cases_lt p board.propositions) [
-      | inl below ↦ masked p (m.is p below ∙ isnt)
-      | inr ge ↦ no_bit board.propositions x p lt ge
-    ];
-  }
+  masked_first {x} m lt masked = search (rules, cases_lt, no_bit)
 
   -- ## What is the second player's in a letter
 
@@ -124,26 +106,13 @@ module _ (board : Board) where
   second_of u = letter_of board.propositions (λ p. is_in p u && not (board.is_first p))
 
   pub second_is : (u : ℕ) → IsSecondLetter board (second_of u)
-  second_is u = record {
-    within = letter_lt board.propositions (λ p. is_in p u && not (board.is_first p));
-    own = λ p is. elim (cases_lt p board.propositions) [
-      | inl below ↦ letter_is board.propositions (λ q. is_in q u && not (board.is_first q)) p below
-          ∙ and_false-right (is_in p u) (ap not is)
-      | inr ge ↦ no_bit board.propositions (second_of u) p (letter_lt board.propositions
-          (λ q. is_in q u && not (board.is_first q))) ge
-    ];
-  }
+  second_is u = search (rules, letter_lt, cases_lt, letter_is, and_false-right, no_bit)
 
   pub second_bit : (u p : ℕ) → p < board.propositions → board.is_first p ≡ false → is_in p (second_of u) ≡ is_in p u
-  second_bit u p lt isnt = letter_is board.propositions (λ q. is_in q u && not (board.is_first q)) p lt
-      ∙ and_true-right (is_in p u) (ap not isnt)
+  second_bit u p lt isnt = search (rules, letter_is, and_true-right)
 
   second_off : (mask y : ℕ) → IsMaskOf board mask → y < 2 ^ board.propositions → AgreeOff mask y (second_of y)
-  second_off mask y m lt p isnt = elim (cases_lt p board.propositions) [
-    | inl below ↦ sym (second_bit y p below (sym (m.is p below) ∙ isnt))
-    | inr ge ↦ no_bit board.propositions y p lt ge ∙ sym (no_bit board.propositions (second_of y) p
-        (second_is y).within ge)
-  ]
+  second_off mask y m lt p isnt = search (rules, cases_lt, second_bit, no_bit, second_is)
 
   -- a letter is that of a first letter and of its own second one, where it agrees with the first
   pub as_sum : {mask x : ℕ} (u p : ℕ) → IsMaskOf board mask → IsFirstLetter board x → AgreeOn mask x u →
@@ -163,18 +132,12 @@ module _ (board : Board) where
   ]
 
   pub zero_second : IsSecondLetter board 0
-  zero_second = record {
-    within = omega (arith, letter_lt board.propositions (λ _. false));
-    own = λ p is. no_bit 0 0 p (omega arith) (omega arith);
-  }
+  zero_second = search (rules, letter_lt, no_bit)
 
 -- ## The order of letters
 
 bool_same : (a b : Bool) → (a ≡ b) ⊎ (a ≡ b → ⊥)
-bool_same true true = inl refl
-bool_same true false = inr true_is_not_false
-bool_same false true = inr (λ e. true_is_not_false (sym e))
-bool_same false false = inl refl
+bool_same a b = search (rules, true_is_not_false)
 
 -- the first proposition at which two letters differ
 record Differ (n : ℕ) (f g : ℕ → Bool) : Type 0 where
@@ -184,10 +147,7 @@ record Differ (n : ℕ) (f g : ℕ → Bool) : Type 0 where
   same : (p : ℕ) → p < at → f p ≡ g p
 
 alike_more : (n : ℕ) (f g : ℕ → Bool) → ((q : ℕ) → q < n → f q ≡ g q) → f n ≡ g n → (q : ℕ) → q < suc n → f q ≡ g q
-alike_more n f g h e q lt = elim (cases_lt q n) [
-  | inl less ↦ h q less
-  | inr ge ↦ (let P : ℕ → Type 0 = λ k. f k ≡ g k in let same : n ≡ q = omega (arith, lt, ge) in subst P same e)
-]
+alike_more n f g h e q lt = search (rules, cases_lt)
 
 first_difference : (n : ℕ) {f g : ℕ → Bool} → ((q : ℕ) → q < n → f q ≡ g q) ⊎ Differ n f g
 first_difference zero = inl (λ q lt. absurd (omega (arith, lt)))
@@ -196,47 +156,24 @@ first_difference (suc n) {f} {g} = elim (first_difference n) [
     | inl e ↦ inl (alike_more n f g h e)
     | inr ne ↦ inr (record { at = n; below = omega arith; differ = ne; same = h })
   ]
-  | inr d ↦ inr (record {
-    at = d.at;
-    below = (let lt = d.below in omega (arith, lt));
-    differ = d.differ;
-    same = d.same;
-  })
+  | inr d ↦ search rules
 ]
 
 not_true : {a : Bool} (b : Bool) → (a ≡ b → ⊥) → a ≡ true → b ≡ false
-not_true true ne e = absurd (ne e)
-not_true false ne e = refl
+not_true b h1 h2 = search rules
 
 not_false : {a : Bool} (b : Bool) → (a ≡ b → ⊥) → a ≡ false → b ≡ true
-not_false true ne e = refl
-not_false false ne e = absurd (ne e)
+not_false b h1 h2 = search rules
 
 pub compared : (n x y : ℕ) → x < 2 ^ n → y < 2 ^ n → (x ≡ y) ⊎ (IsBefore x y ⊎ IsBefore y x)
 compared n x y lx ly = elim (first_difference n) [
   | inl h ↦ inl (same_letter n x y lx ly h)
-  | inr d ↦ elim (bool_cases (is_in d.at x)) [
-    | inl is ↦ inr (inr (record {
-      first = d.at;
-      is_false = not_true (is_in d.at y) d.differ is;
-      is_true = is;
-      same = λ p lt. sym (d.same p lt);
-    }))
-    | inr isnt ↦ inr (inl (record {
-      first = d.at;
-      is_false = isnt;
-      is_true = not_false (is_in d.at y) d.differ isnt;
-      same = d.same;
-    }))
-  ]
+  | inr d ↦ search (rules, bool_cases, not_true, not_false)
 ]
 
 -- two letters neither of which comes before the other are one
 pub neither_before : (n : ℕ) {x y : ℕ} → x < 2 ^ n → y < 2 ^ n → (IsBefore x y → ⊥) → (IsBefore y x → ⊥) → x ≡ y
-neither_before n {x} {y} lx ly a b = elim (compared n x y lx ly) [
-  | inl same ↦ same
-  | inr before ↦ elim before [ inl h ↦ absurd (a h) | inr h ↦ absurd (b h) ]
-]
+neither_before n {x} {y} lx ly a b = search (rules, compared)
 
 pub not_before_itself : {x : ℕ} → IsBefore x x → ⊥
 not_before_itself b = true_is_not_false (sym b.is_true ∙ b.is_false)
@@ -244,23 +181,7 @@ not_before_itself b = true_is_not_false (sym b.is_true ∙ b.is_false)
 -- a letter is the second player's where what is the second player's in it doesn't come before it
 pub second_itself : (board : Board) (y : ℕ) → y < 2 ^ board.propositions → (IsBefore (second_of board y) y → ⊥) →
     IsSecondLetter board y
-second_itself board y lt never = subst (IsSecondLetter board) same (second_is board y)
-  where
-    fewer : (a b : Bool) → (a && b) ≡ true → a ≡ true
-    fewer true b e = refl
-    fewer false b e = e
-
-    later : IsBefore y (second_of board y) → ⊥
-    later b = elim (cases_lt b.first board.propositions) [
-      | inl below ↦ true_is_not_false (sym (fewer (is_in b.first y) (not (board.is_first b.first))
-          (sym (letter_is board.propositions (λ q. is_in q y && not (board.is_first q)) b.first below) ∙ b.is_true))
-          ∙ b.is_false)
-      | inr ge ↦ true_is_not_false (sym b.is_true ∙ no_bit board.propositions (second_of board y) b.first
-          (second_is board y).within ge)
-    ]
-
-    same : second_of board y ≡ y
-    same = neither_before board.propositions (second_is board y).within lt never later
+second_itself board y lt never = search (rules, second_is, cases_lt, true_is_not_false, letter_is, no_bit, neither_before)
 
 pub second_agrees : (board : Board) (mask y : ℕ) → IsMaskOf board mask → y < 2 ^ board.propositions →
     AgreeOff mask y (second_of board y)

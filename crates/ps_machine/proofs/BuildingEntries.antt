@@ -1,6 +1,6 @@
 -- Entries of a certificate, one after another.
-use Rattle.std.proofs.Common.{◌≡◌, ◌⊎◌, inl, inr, ℕ, ◌+◌, ◌<◌, List, [], ◌∷◌, ◌++◌, length, get_or, Option, Bool, true}
-use Rattle.std.proofs.Common.{false, ap, ◌∙◌, arith}
+use Rattle.std.proofs.Common.{◌≡◌, ◌⊎◌, ℕ, ◌+◌, ◌<◌, List, [], ◌∷◌, ◌++◌, length, get_or, Option, Bool, true}
+use Rattle.std.proofs.Common.{false, ap, ◌∙◌, rules}
 use Rattle.std.proofs.lemmas.List.{length_push, get_or_push, get_or_append_left}
 use Rattle.ps_game.specs.Games.{ParityGame}
 use Rattle.ps_game.specs.Regions.{has}
@@ -14,11 +14,7 @@ module _ (game : ParityGame) (region : List Bool) (first second : ℕ → Option
     each_entry : (P : ℕ → EntryData → Type 0) (n : ℕ) (entries : List EntryData) (e : EntryData) → length entries ≡ n →
         ((v : ℕ) → v < n → P v (get_or entries v no_entry)) → P n e →
         (v : ℕ) → v < n + 1 → P v (get_or (entries ++ e ∷ []) v no_entry)
-    each_entry P n entries e long before last v within = by (less_or_last v n within)
-      where
-        by : (v < n) ⊎ (v ≡ n) → P v (get_or (entries ++ e ∷ []) v no_entry)
-        by (inl less) = rw (get_or_append_left entries (e ∷ []) no_entry v (omega (arith, less, long))) (before v less)
-        by (inr same) = rw (same, get_or_push entries e no_entry n long) last
+    each_entry P n entries e long before last v within = search (rules, less_or_last, get_or_append_left, get_or_push)
 
     pub entries_won : {n : ℕ} {entries : List EntryData} {e : EntryData} →
         AreEntries game region first second first_rows second_rows n entries → has region n ≡ true →

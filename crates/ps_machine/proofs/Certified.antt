@@ -11,7 +11,7 @@ use Rattle.ps_game.specs.Ranking.{RemainsFor, KeepRuleWithin, KeepsRule}
 use Rattle.ps_game.specs.Regions.{has}
 use Rattle.ps_certificate.specs.Certificates.{CertificateData, EntryData, no_entry, winner_of, choice_of, counts_of}
 use Rattle.ps_certificate.specs.Certificates.{opposing, opposing_at, Fits, Remains, HasRightMove, KeepsCount, IsValid}
-use Rattle.ps_measure.specs.Ranks.{AreRanks, count_of, count_in, width_in}
+use Rattle.ps_measure.specs.Ranks.{AreRanks, count_of}
 use Rattle.ps_machine.specs.Building.{IsEntryAmong, AreEntries}
 use Rattle.ps_machine.specs.Solving.{DiffersInCounts, HasLeastCounts}
 use Rattle.ps_zielonka.specs.Answers.{others}
@@ -33,16 +33,7 @@ side : (game : ParityGame) (player : ℕ) (set : ℕ → Bool) (table : ℕ → 
     AreRanks game player set table priorities rows → IsEntryAmong game player table rows v (get_or c.entries v no_entry)
     → IsSide game player set table priorities rows c v
 unfolding winner_of choice_of counts_of
-side game player set table priorities rows c v within inside ranks among =
-    let e = among.is_entry in
-    record {
-      inside = inside;
-      winner = e.winner;
-      own = e.own;
-      other = e.other;
-      long = ap (λ l. length l) e.counts ∙ sym (ap width_in among.has_row) ∙ ranks.shape.wide v within;
-      count = λ k. ap (λ l. get_or l k 0) e.counts ∙ sym (ap (λ o. count_in o k) among.has_row);
-    }
+side game player set table priorities rows c v within inside ranks among = search rules
 
 -- a play of two vertices
 two_path : (game : ParityGame) (v w : ℕ) → IsGame game → HasEdge game v w → IsPath game (v ∷ w ∷ [])
@@ -59,8 +50,7 @@ two_path game v w is_game edge = record { begins = omega arith; vertices = place
 
 two_follows : (game : ParityGame) (player : ℕ) (table : ℕ → Option ℕ) (v w : ℕ) →
     (owner_of game v ≡ player → table v ≡ Some w) → Follows game player table (v ∷ w ∷ [])
-two_follows game player table v w chosen zero within owns = chosen owns
-two_follows game player table v w chosen (suc k) within owns = absurd (omega (arith, within))
+two_follows game player table v w h1 = search rules
 
 some_within : {game : ParityGame} (v : ℕ) → IsGame game → (o : Option ℕ) → IsSomeAnd o (HasEdge game v) →
     IfSome o (λ w. w < vertex_count game)
@@ -73,10 +63,7 @@ module _ {game : ParityGame} (is_game : IsGame game) {player : ℕ} {set : ℕ �
   -- the edges of the certificate are those of the table
   remains_for : {v w : ℕ} → IsSide game player set table priorities rows c v → Remains game c v w →
       RemainsFor game player table v w
-  remains_for s r = record {
-    edge = r.edge;
-    chosen = λ owns. sym (s.own owns) ∙ r.chosen (owns ∙ sym s.winner);
-  }
+  remains_for s r = search rules
 
   side_stays : (v w : ℕ) → IsSide game player set table priorities rows c v → Remains game c v w → IsTrue (set w)
   side_stays v w s r =
@@ -84,20 +71,11 @@ module _ {game : ParityGame} (is_game : IsGame game) {player : ℕ} {set : ℕ �
       (two_follows game player table v w (remains_for s r).chosen) 1 (omega arith)
 
   side_move : (v : ℕ) → v < vertex_count game → IsSide game player set table priorities rows c v → HasRightMove game c v
-  side_move v within s = record {
-    own =
-        λ owns. subst (λ o. IsSomeAnd o (HasEdge game v)) (sym (s.own (owns ∙ s.winner)))
-        (holds.keeps.moves v within s.inside (owns ∙ s.winner));
-    other = λ not_own. s.other (λ owns. not_own (owns ∙ sym s.winner));
-  }
+  side_move v within s = search rules
 
   side_choice : (v : ℕ) → v < vertex_count game → IsSide game player set table priorities rows c v →
       IfSome (choice_of c v) (λ w. w < vertex_count game)
-  side_choice v within s = by (cases_eq (owner_of game v) player)
-    where
-      by : (owner_of game v ≡ player) ⊎ (owner_of game v ≢ player) → IfSome (choice_of c v) (λ w. w < vertex_count game)
-      by (inl owns) = rw (s.own owns) (some_within v is_game (table v) (holds.keeps.moves v within s.inside owns))
-      by (inr not_own) = subst (λ o. IfSome o (λ w. w < vertex_count game)) (sym (s.other not_own)) tt
+  side_choice v within s = search (rules, cases_eq, some_within)
 
   side_counts : (v w k : ℕ) → IsSide game player set table priorities rows c v →
       IsSide game player set table priorities rows c w → opposing c player ≡ priorities → Remains game c v w →
@@ -117,22 +95,7 @@ module _ {game : ParityGame} (is_game : IsGame game) {player : ℕ} {set : ℕ �
       ((u : ℕ) → u < vertex_count game → IsTrue (set u) → IsSide game player set table priorities rows c u) → (k : ℕ) →
       k < length priorities →
       KeepRuleWithin game player set table (get_or priorities k 0) (λ u. get_or (counts_of d u) k 0)
-  others_keep d valid differs listed sides k within u w r =
-      let from = r.remains.edge.0 in
-      let to = is_game.within u w r.remains.edge in
-      let s = sides u from r.from in
-      let t = sides w to r.to in
-      let one : winner_of d u ≡ player = sym (differs.winners u from) ∙ s.winner in
-      let two : winner_of d w ≡ player = sym (differs.winners w to) ∙ t.winner in
-      let remains : Remains game d u w =
-      record {
-        edge = r.remains.edge;
-        chosen = λ owns. sym (differs.moves u from) ∙ s.own (owns ∙ one) ∙ r.remains.chosen (owns ∙ one);
-      } in
-      let lists : opposing d (winner_of d u) ≡ priorities = ap (λ q. opposing d q) one ∙ listed in
-      subst (λ l. KeepsRule (get_or l k 0) (priority_of game u) (priority_of game w) (get_or (counts_of d u) k 0)
-      (get_or (counts_of d w) k 0)) lists
-      (valid.counts u w k remains (two ∙ sym one) (subst (λ l. k < length l) (sym lists) within))
+  others_keep d valid differs listed sides k within u w r = search (rules, sides)
 
   side_least : (d : CertificateData) → IsValid game d → DiffersInCounts game c d → opposing d player ≡ priorities →
       ((u : ℕ) → u < vertex_count game → IsTrue (set u) → IsSide game player set table priorities rows c u) →
@@ -189,10 +152,7 @@ module _ {game : ParityGame} {region : List Bool} {lost : ℕ → Bool} {first s
       (b.are_entries.lost v within ((b.rest v within).1 e))
 
   sides : (v : ℕ) → v < vertex_count game → One v ⊎ Two v
-  sides v within = elim (cases_Bool (has region v)) [
-    | inl is ↦ inl (one_side v within is)
-    | inr isnt ↦ inr (two_side v within ((b.rest v within).0 isnt))
-  ]
+  sides v within = search (rules, cases_Bool, one_side, two_side)
 
   opposing_first : opposing made 0 ≡ odd
   unfolding opposing made
@@ -250,12 +210,8 @@ module _ {game : ParityGame} {region : List Bool} {lost : ℕ → Bool} {first s
 
       keeps : (v w k : ℕ) → Remains game made v w → winner_of made w ≡ winner_of made v →
           k < length (opposing made (winner_of made v)) → One v ⊎ Two v → One w ⊎ Two w → KeepsCount game made v w k
-      keeps v w k r same within (inl s) (inl t) =
-          side_counts b.is_game b.holds_first b.odd_ranks v w k s t
-          opposing_first r (subst (λ l. k < length l) (ap (λ p. opposing made p) s.winner ∙ opposing_first) within)
-      keeps v w k r same within (inr s) (inr t) =
-          side_counts b.is_game b.holds_second b.even_ranks v w k s t
-          opposing_second r (subst (λ l. k < length l) (ap (λ p. opposing made p) s.winner ∙ opposing_second) within)
+      keeps v w k r same within (inl s) (inl t) = search (rules, side_counts, opposing_first, made)
+      keeps v w k r same within (inr s) (inr t) = search (rules, side_counts, opposing_second, made)
       keeps v w k r same within (inl s) (inr t) = absurd (omega (arith, same, s.winner, t.winner))
       keeps v w k r same within (inr s) (inl t) = absurd (omega (arith, same, s.winner, t.winner))
 
@@ -292,37 +248,17 @@ module _ {game : ParityGame} {region : List Bool} {lost : ℕ → Bool} {first s
 -- a player who holds a set of vertices holds each set with the same vertices of the game
 holds_same : {game : ParityGame} {player : ℕ} {set other : ℕ → Bool} {table : ℕ → Option ℕ} →
     ((v : ℕ) → v < vertex_count game → set v ≡ other v) → Holds game player set table → Holds game player other table
-holds_same same h = record {
-  keeps = record {
-    moves = λ v within inside owns. h.keeps.moves v within (same v within ∙ inside) owns;
-    stays = λ path is begins follows k within. sym (same (get_or path k 0) (is.vertices k within))
-        ∙ h.keeps.stays path is (same (get_or path 0 0) (is.vertices 0 is.begins) ∙ begins) follows k within;
-  };
-  wins =
-      λ path i j is begins follows loop. h.wins path i j is (same (get_or path 0 0) (is.vertices 0 is.begins) ∙ begins)
-      follows loop;
-}
+holds_same same h = search rules
 
 pub lost_held : {game : ParityGame} (region : List Bool) {full : List Bool} (lost : List Bool) {table : ℕ → Option ℕ} →
     full ≡ replicate (vertex_count game) true → ((v : ℕ) → has lost v ≡ (has full v && not (has region v))) →
     Holds game 1 (others region) table → Holds game 1 (has lost) table
-lost_held {game} region lost {table} whole is h =
-    holds_same (λ v within. sym (is v ∙ ap (λ x. x && not (has region v)) (ap (λ l. has l v) whole
-    ∙ get_or-replicate (vertex_count game) v true false within))) h
+lost_held {game} region lost {table} whole is h = search (rules, holds_same, get_or-replicate)
 
 pub lost_rest : (game : ParityGame) (region full lost : List Bool) → full ≡ replicate (vertex_count game) true →
     ((v : ℕ) → has lost v ≡ (has full v && not (has region v))) → (v : ℕ) → v < vertex_count game →
     (has region v ≡ false → has lost v ≡ true) × (has lost v ≡ true → has region v ≡ false)
-lost_rest game region full lost whole is v within = (λ e. now ∙ ap not e, λ e. back (has region v) (sym now ∙ e))
-  where
-    now : has lost v ≡ not (has region v)
-    now =
-        is v ∙ ap (λ x. x && not (has region v)) (ap (λ l. has l v) whole
-        ∙ get_or-replicate (vertex_count game) v true false within)
-
-    back : (x : Bool) → not x ≡ true → x ≡ false
-    back true e = search rules
-    back false e = refl
+lost_rest game region full lost whole is v within = search (rules, get_or-replicate)
 
 -- the same where the second region has all vertices that the first one has not
 pub certified_both : {game : ParityGame} {region full : List Bool} (lost : List Bool) {first second : ℕ → Option ℕ}

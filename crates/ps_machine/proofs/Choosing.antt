@@ -1,5 +1,6 @@
 -- What can be told of letters and steps by definition: the class of a letter of the first player, and the move of one
 -- of the second.
+use Rattle.std.proofs.Common.{rules}
 use Rattle.std.proofs.Common.{◌≡◌, ◌⊎◌, inl, inr, ℕ, ◌+◌, ◌^◌, ◌<◌, Bool, true, false, not, refl, ap, sym, subst, ◌∙◌}
 use Rattle.std.specs.Prelude.{◌&&◌}
 use Rattle.std.proofs.lemmas.Bool.{cases_eq, cases_lt}
@@ -27,13 +28,7 @@ module _ (n : ℕ) (mine : ℕ → Bool) where
 
   pub part_over : (x : ℕ) → IsOver n mine (part x)
   unfolding part
-  part_over x = record {
-    within = letter_lt n (λ p. mine p && is_in p x);
-    own = λ p not_mine. elim (cases_lt p n) [
-      | inl less ↦ letter_is n (λ q. mine q && is_in q x) p less ∙ ap (λ b. b && is_in p x) not_mine
-      | inr more ↦ no_bit n (part x) p (letter_lt n (λ q. mine q && is_in q x)) more
-    ];
-  }
+  part_over x = search (rules, letter_lt, cases_lt, letter_is, no_bit, part)
 
   pub part_same : (x y : ℕ) → ((p : ℕ) → p < n → mine p ≡ true → is_in p x ≡ is_in p y) → part x ≡ part y
   unfolding part
@@ -65,14 +60,11 @@ module _ (n : ℕ) (mine : ℕ → Bool) where
   ]
 
 pub not_false : (b : Bool) → not b ≡ false → b ≡ true
-not_false true e = refl
-not_false false e = sym e
+not_false b h1 = search rules
 
 -- what two facts say together can be told where each can
 pub both_or_not : (P Q : Type 0) → P ⊎ (P → ⊥) → Q ⊎ (Q → ⊥) → (P × Q) ⊎ (P × Q → ⊥)
-both_or_not P Q (inr never) q = inr (λ b. never b.0)
-both_or_not P Q (inl p) (inr never) = inr (λ b. never b.1)
-both_or_not P Q (inl p) (inl q) = inl (p, q)
+both_or_not P Q h1 h2 = search rules
 
 module _ (board : Board) where
   pub first_over : (x : ℕ) → IsFirstLetter board x → IsOver board.propositions board.is_first x
@@ -102,19 +94,12 @@ module _ (board : Board) where
   -- ## Steps that are the same
 
   pub step_or_not : {q one other : ℕ} → SameStep board q one other ⊎ (SameStep board q one other → ⊥)
-  step_or_not {q} {one} {other} = elim (cases_eq (board.auto.next q one) (board.auto.next q other)) [
-    | inr apart ↦ inr (λ s. apart s.state)
-    | inl state ↦ elim (cases_eq (board.auto.priority q one) (board.auto.priority q other)) [
-      | inr apart ↦ inr (λ s. apart s.priority)
-      | inl priority ↦ inl (record { state = state; priority = priority })
-    ]
-  ]
+  step_or_not {q} {one} {other} = search (rules, cases_eq)
 
   pub steps_or_not : (q one other : ℕ) → SameSteps board q one other ⊎ (SameSteps board q one other → ⊥)
   steps_or_not q one other = elim (some_or_none Differ differ_or_not (2 ^ board.propositions) (λ y d. d.0.within)) [
     | inl differ ↦ inr (λ same. differ.1.1 (same differ.0 differ.1.0))
-    | inr none ↦ inl (λ y second. elim (step_or_not)
-        [ inl same ↦ same | inr apart ↦ absurd (none (y, (second, apart))) ])
+    | inr none ↦ search (rules, step_or_not)
   ]
     where
       Differ : ℕ → Type 0
@@ -127,11 +112,7 @@ module _ (board : Board) where
       ]
 
   pub steps_trans : (q a b c : ℕ) → SameSteps board q a b → SameSteps board q b c → SameSteps board q a c
-  steps_trans q a b c one other y second =
-      record {
-        state = (one y second).state ∙ (other y second).state;
-        priority = (one y second).priority ∙ (other y second).priority;
-      }
+  steps_trans q a b c one other y second = search rules
 
   pub steps_sym : (q a b : ℕ) → SameSteps board q a b → SameSteps board q b a
   steps_sym q a b same y second = record { state = sym (same y second).state; priority = sym (same y second).priority }
@@ -166,11 +147,7 @@ module _ (board : Board) where
         l.0,
         record {
           here = (here.0, record { state = refl; priority = refl });
-          none_before =
-              λ other is before. l.1.none_before other (
-                is.0,
-                record { state = is.1.state ∙ here.1.state; priority = is.1.priority ∙ here.1.priority },
-              ) before;
+          none_before = search rules;
         },
         here.1,
       )
@@ -179,13 +156,11 @@ module _ (board : Board) where
 
 pub other_over : (b : Bool) (board : Board) (x : ℕ) → IsOther b board x →
     IsOver board.propositions (is_others b board) x
-other_over true board x other = second_over board x other
-other_over false board x other = first_over board x other
+other_over b board x h1 = search (rules, second_over, first_over)
 
 pub over_other : (b : Bool) (board : Board) {x : ℕ} → IsOver board.propositions (is_others b board) x →
     IsOther b board x
-over_other true board over = over_second board over
-over_other false board over = over_first board over
+over_other b board h1 = search (rules, over_second, over_first)
 
 -- ## Keys
 

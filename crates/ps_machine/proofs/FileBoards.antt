@@ -1,10 +1,10 @@
 -- The board of an automaton that was built from a file is that of the file.
-use Rattle.std.proofs.Common.{◌≡◌, ℕ, List, length, ap, ap₂, subst, ◌∙◌}
+use Rattle.std.proofs.Common.{◌≡◌, List, subst, ◌∙◌, rules}
 use Rattle.ps_hoa.specs.Files.{FileData}
 use Rattle.ps_automaton.specs.Automata.{AutomatonData, IsBuiltFrom, auto_of}
 use Rattle.ps_automaton.specs.Chains.{Chain}
 use Rattle.ps_game.specs.Games.{NamedGameData}
-use Rattle.ps_machine.specs.Boards.{Board, IsGameOf, is_first_of}
+use Rattle.ps_machine.specs.Boards.{IsGameOf}
 use Rattle.ps_machine.specs.BuiltBoards.{board_of}
 use Rattle.ps_machine.specs.FileGames.{IsGameOfFile, board_of_file}
 use Rattle.ps_machine.specs.KeyNames.{AreNamed}
@@ -14,19 +14,7 @@ use Rattle.ps_machine.specs.declared.key.Order.{Order}
 
 pub board_is : (order : Order) {file : FileData} {chain : Chain} {a : AutomatonData} → IsBuiltFrom file chain a →
     board_of order a ≡ board_of_file order file (auto_of a)
-board_is order {file} {a} built =
-    ap₂ (λ (q n : ℕ). let board : Board = record {
-      auto = auto_of a;
-      states = q;
-      propositions = n;
-      is_first = is_first_of order a.controllable;
-    } in board) built.states (ap length built.names)
-    ∙ ap (λ (controllable : List ℕ). let board : Board = record {
-      auto = auto_of a;
-      states = file.states;
-      propositions = length file.names;
-      is_first = is_first_of order controllable;
-    } in board) built.controllable
+board_is order {file} {a} built = search rules
 
 abbrev pub game_of_file : (order : Order) (file : FileData) (chain : Chain) (a : AutomatonData) (keys : List Key)
     (game : NamedGameData) →

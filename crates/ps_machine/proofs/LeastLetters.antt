@@ -26,8 +26,7 @@ twice : (n : ℕ) → 2 ^ suc n ≡ 2 ^ n + 2 ^ n
 twice n = omega (arith, pow-suc 2 n)
 
 bit_more : (b : Bool) (n r : ℕ) → r < 2 ^ n → cond b (2 ^ n) 0 + r < 2 ^ suc n
-bit_more true n r h = omega (arith, twice n, h)
-bit_more false n r h = omega (arith, twice n, h)
+bit_more b n r h1 = search (rules, twice)
 
 pub rank_lt : (from n y : ℕ) → rank from n y < 2 ^ n
 unfolding rank
@@ -35,35 +34,26 @@ rank_lt from zero y = omega arith
 rank_lt from (suc n) y = bit_more (is_in from y) n (rank (from + 1) n y) (rank_lt (from + 1) n y)
 
 bit_decides : (b c : Bool) (n r s : ℕ) → b ≡ false → c ≡ true → r < 2 ^ n → cond b (2 ^ n) 0 + r < cond c (2 ^ n) 0 + s
-bit_decides false true n r s e f h = omega (arith, h)
-bit_decides true c n r s e f h = search rules
-bit_decides false false n r s e f h = search rules
+bit_decides b c n r s h1 h2 h3 = search rules
 
 bit_alike : {b c : Bool} (n r s : ℕ) → b ≡ c → r < s → cond b (2 ^ n) 0 + r < cond c (2 ^ n) 0 + s
-bit_alike {b} {c} n r s e h =
-    (let same : cond b (2 ^ n) 0 ≡ cond c (2 ^ n) 0 = ap (λ d. cond d (2 ^ n) 0) e in omega (arith, same, h))
+bit_alike {b} {c} n r s e h = search rules
 
 rank_rises : (from n x y first : ℕ) → from ≤ first → first < from + n → is_in first x ≡ false → is_in first y ≡ true →
     ((p : ℕ) → p < first → is_in p x ≡ is_in p y) → rank from n x < rank from n y
 unfolding rank
 rank_rises from zero x y first low high one other same = absurd (omega (arith, low, high))
 rank_rises from (suc n) x y first low high one other same = elim (cases_eq from first) [
-  | inl here ↦ bit_decides (is_in from x) (is_in from y) n (rank (from + 1) n x) (rank (from + 1) n y)
-      (ap (λ p. is_in p x) here ∙ one) (ap (λ p. is_in p y) here ∙ other) (rank_lt (from + 1) n x)
+  | inl here ↦ search (rules, bit_decides, rank, rank_lt)
   | inr later ↦ bit_alike n (rank (from + 1) n x) (rank (from + 1) n y) (same from (omega (arith, low, later)))
       (rank_rises (from + 1) n x y first (omega (arith, low, later)) (omega (arith, high)) one other same)
 ]
 
 true_is_within : (n y p : ℕ) → y < 2 ^ n → is_in p y ≡ true → p < n
-true_is_within n y p within is = elim (cases_lt p n) [
-  | inl less ↦ less
-  | inr more ↦ cc (no_bit n y p within more)
-]
+true_is_within n y p within is = search (rules, cases_lt, no_bit)
 
 pub before_ranks : (n : ℕ) {x y : ℕ} → y < 2 ^ n → IsBefore x y → rank 0 n x < rank 0 n y
-before_ranks n {x} {y} within before =
-    let first_within : before.first < 0 + n = omega (arith, true_is_within n y before.first within before.is_true) in
-    rank_rises 0 n x y before.first (omega arith) first_within before.is_false before.is_true before.same
+before_ranks n {x} {y} within before = search (rules, true_is_within, rank_rises)
 
 goes_down : (n : ℕ) (P : ℕ → Type 0) → ((y : ℕ) → P y → y < 2 ^ n) → ((y : ℕ) → IsLeast P y → ⊥) → (bound y : ℕ) → P y →
     rank 0 n y < bound → ⊥
@@ -101,13 +91,7 @@ down_to_least n P tell within (suc bound) y here small =
     Lower x = P x × (rank 0 n x < rank 0 n y)
 
     lower_or_not : (x : ℕ) → Lower x ⊎ (Lower x → ⊥)
-    lower_or_not x = elim (tell x) [
-      | inr not_so ↦ inr (λ l. not_so l.0)
-      | inl so ↦ elim (cases_lt (rank 0 n x) (rank 0 n y)) [
-        | inl less ↦ inl (so, less)
-        | inr most ↦ inr (λ l. omega (arith, most, l.1))
-      ]
-    ]
+    lower_or_not x = search (rules, cases_lt, rank)
 
 -- of letters with a property that can be told there is a least one, where there is one
 pub least_there : (n : ℕ) (P : ℕ → Type 0) → ((y : ℕ) → P y ⊎ (P y → ⊥)) → ((y : ℕ) → P y → y < 2 ^ n) → (y : ℕ) → P y →

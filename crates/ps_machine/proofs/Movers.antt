@@ -1,9 +1,7 @@
 -- The player whose choice comes first is one of two, in each order of moves.
-use Rattle.std.proofs.Common.{◌<◌, arith}
+use Rattle.std.proofs.Common.{◌<◌, rules}
 use Rattle.ps_machine.specs.Keys.{mover_of}
 use Rattle.ps_machine.specs.declared.key.Order.{Order}
-use Rattle.ps_machine.specs.declared.key.Order.TheVariants.{Mealy, Moore}
 
 pub small_mover : (order : Order) → mover_of order < 2
-small_mover Mealy = omega arith
-small_mover Moore = omega arith
+small_mover order = search rules

@@ -1,5 +1,5 @@
 -- What is left behind the letter of a class: it heeds the second player's propositions alone.
-use Rattle.std.proofs.Common.{◌≡◌, ℕ, zero, suc, ◌+◌, ◌^◌, ◌<◌, Bool, true, false, cond, List, length, get_or}
+use Rattle.std.proofs.Common.{◌≡◌, ℕ, zero, suc, ◌+◌, ◌^◌, ◌<◌, Bool, true, false, cond, List, length, get_or, rules}
 use Rattle.std.proofs.Common.{option_map, Option, Some, refl, ap, sym, subst, ◌∙◌, arith, inl, inr}
 use Rattle.std.specs.Prelude.{IfSome, slice_get, slice_index, Any}
 use Rattle.std.proofs.lemmas.Bool.{cases_lt}
@@ -35,8 +35,7 @@ other_bit : {b : Bool} (c : Bool) {d : Bool} → b ≡ false → cond b c d ≡ 
 other_bit c {d} e = ap (λ x. cond x c d) e
 
 cond_alike : (b c : Bool) {d e : Bool} → (b ≡ false → d ≡ e) → cond b c d ≡ cond b c e
-cond_alike true c alike = refl
-cond_alike false c alike = alike refl
+cond_alike b c h1 = search rules
 
 -- the letter with one letter's bits on the mask, and another's elsewhere
 module _ (n mask class : ℕ) (small : mask < 2 ^ n) where
@@ -99,16 +98,13 @@ module _ {order : Order} {a : AutomatonData} {mask : ℕ} {t : Table} {q : ℕ} 
           (there u)
 
       same : (p : ℕ) → p < length a.names → is_in p (like x) ≡ is_in p (like y)
-      same p lt =
-          joint_same (length a.names) mask c.letter f.is_mask.within x y p
-          (λ off. alike p lt (sym (f.is_mask.is p lt) ∙ off))
+      same p lt = search (rules, joint_same)
 
   pub left : {letter rest : ℕ} → Any (λ (c : Class). (c.letter ≡ letter) × (c.rest ≡ rest)) classes.list.items →
       Left order a mask t q letter rest
   left {letter} {rest} any =
       let c : Class = any.1 in
-      let at : slice_get classes.list.items any.0 ≡ Some c = slice_get-get_or classes.list.items any.0 c any.2
-      ∙ ap (λ x. Some x) any.3 in
+      let at : slice_get classes.list.items any.0 ≡ Some c = search (rules, slice_get-get_or) in
       record {
         fit = f;
         is_rest = rw (← any.4.0, ← any.4.1) (class_rest f of any.0 at);
@@ -119,14 +115,12 @@ module _ {order : Order} {a : AutomatonData} {mask : ℕ} {t : Table} {q : ℕ} 
 pub renamed : (t u : Table) (places values : List ℕ) (rest made : ℕ) → values ≡ places →
     ((x : ℕ) → leaf_of u made x ≡ option_map (λ k. slice_index values k) (leaf_of t rest x)) →
     (x : ℕ) → leaf_of u made x ≡ option_map (λ k. slice_index places k) (leaf_of t rest x)
-renamed t u places values rest made same named x = named x ∙ ap
-    (λ (l : List ℕ). option_map (λ k. slice_index l k) (leaf_of t rest x)) same
+renamed t u places values rest made same named x = search rules
 
 pub renamed_within : (t : Table) {places values : List ℕ} (rest : ℕ) → values ≡ places →
     ((x : ℕ) → x < 2 ^ t.propositions → IfSome (leaf_of t rest x) (λ k. k < length places)) →
     (x : ℕ) → x < 2 ^ t.propositions → IfSome (leaf_of t rest x) (λ k. k < length values)
-renamed_within t rest same within = subst
-    (λ (l : List ℕ). (x : ℕ) → x < 2 ^ t.propositions → IfSome (leaf_of t rest x) (λ k. k < length l)) (sym same) within
+renamed_within t rest same within = search rules
 
 -- a class of the list
 pub any_class : (list : List Class) {letter : ℕ} {c : Class} → c.letter ≡ letter → (k : ℕ) → k < length list →

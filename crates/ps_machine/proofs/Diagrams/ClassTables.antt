@@ -1,6 +1,6 @@
 -- The classes of states, which are remembered.
-use Rattle.std.proofs.Common.{◌≡◌, ◌≢◌, ◌∙◌, ℕ, ◌<◌, ◌≤◌, Bool, cond, eqb, Option, None, Some, Result, Ok, Err, List}
-use Rattle.std.proofs.Common.{length, get_or, ap, refl, subst, sym, inl, inr}
+use Rattle.std.proofs.Common.{◌≡◌, ◌≢◌, ◌∙◌, ℕ, ◌<◌, ◌≤◌, Bool, cond, eqb, Option, None, Some, Result, List}
+use Rattle.std.proofs.Common.{length, get_or, ap, subst, sym, inl, inr, rules}
 use Rattle.std.specs.Prelude.{IsSome, IsSomeAnd, OnOk}
 use Rattle.std.specs.List.{All, AllPairs}
 use Rattle.std.proofs.lemmas.Bool.{eqb-true}
@@ -18,7 +18,7 @@ use Rattle.ps_machine.specs.Knowing.{AreRemembered, HasAnswered, IsDivided, Know
 use Rattle.ps_machine.specs.Moving.{HasClass, IsFit, IsKnown, Remembers, class_keys}
 use Rattle.ps_machine.specs.Numbering.{StandsAt}
 use Rattle.ps_machine.specs.declared.key.Key.{Key}
-use Rattle.ps_machine.specs.declared.key.Key.TheVariants.{First, Second}
+use Rattle.ps_machine.specs.declared.key.Key.TheVariants.{First}
 use Rattle.ps_machine.specs.declared.key.Order.{Order}
 use Rattle.ps_machine.proofs.BoardSteps.{class_different, class_leads, class_some, known_first, still_known}
 use Rattle.ps_machine.proofs.Diagrams.Remembering.{fit_kept}
@@ -35,10 +35,7 @@ module _ {order : Order} {a : AutomatonData} {mask : ℕ} {t u : Table} {rests n
   remembered_kept : (q : ℕ) (c : Classes) → AreRemembered order a mask t rests q c →
       AreRemembered order a mask u now q c
   remembered_kept q c h = record {
-    are = record {
-      state = h.are.state;
-      are = classes_kept a.store t u keeps (node_of a q) mask c.places c.list.items h.are.are;
-    };
+    are = search (rules, classes_kept);
     known = λ k d within. before (get_or (class_keys q c.list.items) k d) (h.known k d within);
   }
 
@@ -57,10 +54,7 @@ module _ {order : Order} {a : AutomatonData} {mask : ℕ} {t u : Table} {rests n
     moves_more {q} {added} update b = record {
       is_known = before key is.is_known;
       are = λ r c e. elim (bool_cases (eqb q r)) [
-        | inl one ↦
-            (let value : added ≡ c = cc (update r ∙ ap (λ (x : Bool). cond x (Some added) (classes r)) one) in
-            subst (λ n. AreRemembered order a mask u now n c) (eqb-true q r one)
-            (subst (λ (v : Classes). AreRemembered order a mask u now q v) value b))
+        | inl one ↦ search (rules, eqb-true)
         | inr other ↦ remembered_kept r c
             (is.are r c (sym (update r ∙ ap (λ (x : Bool). cond x (Some added) (classes r)) other) ∙ e))
       ];
@@ -72,10 +66,7 @@ module _ {order : Order} {a : AutomatonData} {mask : ℕ} {s t u : Table} {rests
     (same : s ≡ a.store) (is : node ≡ node_of a q) (made : AreClasses s u node mask c.places c.list.items)
     (named : l ≡ c.list.items) (m : Remembers q l rests now) where
   of_state : AreClassesOf a mask u q c
-  of_state = record {
-    state = state;
-    are = rw (← same, ← is) made;
-  }
+  of_state = search rules
 
   pub known_before : (key : Key) → IsKnown order a mask t rests key → IsKnown order a mask u now key
   known_before key known = still_known (fit_kept keeps fit) of_state named keeps m key known
@@ -98,8 +89,7 @@ module _ {order : Order} {a : AutomatonData} {mask : ℕ} {t : Table} {rests : �
   leads_behind = rw (is_first, e) (class_leads known.is_known.fit of p)
 
   pub known_behind : All (KnowsMoves order a mask t rests classes) next
-  known_behind = subst (λ (keys : List Key). All (KnowsMoves order a mask t rests classes) keys) (sym e)
-      (λ k d within. record { is_known = (known.are q c at).known k d within; are = known.are })
+  known_behind = search (rules, e)
 
   pub some_behind : 0 < length next
   some_behind = subst (λ (keys : List Key). 0 < length keys) (sym e) (class_some known.is_known.fit of)
@@ -117,16 +107,13 @@ answered_by is divided =
 
 pub divided_still : (old new : ℕ → Option Classes) → ((q : ℕ) → IsSome (old q) → IsSome (new q)) → (key : Key) →
     IsDivided old key → IsDivided new key
-divided_still old new still (First q p) h = still q h
-divided_still old new still (Second q x) h = h
+divided_still old new h1 key h2 = search rules
 
 pub on_ok : {X E : Type 0} (r : Result X E) (P : Type 0) → P → OnOk r P
-on_ok (Ok x) P p = p
-on_ok (Err e) P p = tt
+on_ok r P h1 = search (rules, e)
 
 some_of : (o : Option Classes) (P : Classes → Type 0) → IsSome o → ((c : Classes) → o ≡ Some c → P c) → IsSomeAnd o P
-some_of None P h all = absurd (true_is_not_false (sym h))
-some_of (Some c) P h all = all c refl
+some_of o P h1 h2 = search (rules, true_is_not_false)
 
 -- the classes of all keys that were answered
 pub all_divided : {order o : Order} {a b : AutomatonData} {mask : ℕ} {t : Table} {classes : ℕ → Option Classes}
@@ -144,8 +131,7 @@ all_divided {order} {b} {mask} {t} {classes} {keys} key same is begins all =
 -- ## What is lent
 
 pub is_divided : (o : Option Classes) (P : Classes → Type 0) → IsSomeAnd o P → IsSome o
-is_divided None P h = absurd h
-is_divided (Some c) P h = refl
+is_divided o P h1 = search rules
 
 pub classes_at : {o : Option Classes} (P : Classes → Type 0) {c : Classes} → IsSomeAnd o P → o ≡ Some c → P c
 classes_at P h e = subst (λ (x : Option Classes). IsSomeAnd x P) e h

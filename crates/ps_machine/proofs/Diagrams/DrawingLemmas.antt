@@ -1,9 +1,9 @@
 -- What the diagrams of both movers rest on: memories of vertices, used vertices, where they lead, and rows.
+use Rattle.std.proofs.Common.{if◌then◌else◌}
 use Rattle.std.proofs.Common.{◌≡◌, ◌≢◌, ℕ, ◌+◌, ◌-◌, ◌<◌, Bool, true, false, List, [], ◌∷◌, ◌++◌, length, get_or, map}
 use Rattle.std.proofs.Common.{Some, ap, sym, subst, ◌∙◌, arith, rules, eqb}
 use Rattle.std.specs.Prelude.{slice_get, slice_index, IfSome}
 use Rattle.std.specs.List.{All, AllPairs, AllZip, Contains, list_any, position}
-use Rattle.std.specs.Bool.{if◌then◌else◌}
 use Rattle.std.proofs.lemmas.Bool.{eq-eqb}
 use Rattle.std.proofs.lemmas.List.{get_or_default, length-map, get_or-map, get_or_append_left, get_or_push, length_push}
 use Rattle.std.proofs.lemmas.List.Elements.{All-push}
@@ -103,17 +103,12 @@ used_more {game} {certificate} {w} u edge within chosen =
 
 pub used_won : {game : ParityGame} {certificate : CertificateData} {v : ℕ} → IsClosed game certificate →
     IsUsed game certificate v → winner_of certificate v ≡ winner certificate
-used_won {game} {certificate} closed u =
-    let some = u.is_path.begins in
-    subst (λ x. winner_of certificate x ≡ winner certificate) u.ends
-    (path_stays game certificate (winner certificate) u.path closed u.is_path u.follows
-    (ap (winner_of certificate) u.begins) (length u.path - 1) (omega (arith, some)))
+used_won {game} {certificate} closed u = search (rules, path_stays)
 
 pub setting : {order : Order} {a : AutomatonData} {keys : List Key} {certificate : CertificateData} {is_first : Bool}
     {kept marks : List ℕ} → (plan : IsPlan order a keys certificate is_first kept marks) →
     Setting (board_of order a) (mover_of order) keys plan.game certificate
-setting {order} plan =
-    record { is_mover = small_mover order; by_keys = plan.is_game.by_keys; fits = plan.fits; valid = plan.valid }
+setting {order} plan = search (rules, small_mover)
 
 -- ## Where keys lead
 
@@ -126,8 +121,7 @@ module _ (keys : List Key) (key : ℕ → Key) (numbers : List ℕ) {P : ℕ →
       let within : c.0 < length letters =
       omega (arith, here.0, ap (λ (l : List Key). length l) are, length-map letters key) in
       let x = get_or letters c.0 0 in
-      let is : get_or next c.0 (key 0) ≡ key x = ap (λ l. get_or l c.0 (key 0)) are
-      ∙ get_or-map key letters c.0 0 (key 0) within in
+      let is : get_or next c.0 (key 0) ≡ key x = search (rules, get_or-map) in
       (x, listed.each c.0 0 within, subst (λ u. StandsAt keys u (key x)) c.2 (here.1 ∙ ap (λ k. Some k) is))
 
   number_of_letter : {x : ℕ} → P x → (w : ℕ) × Contains numbers w × StandsAt keys w (key x)
@@ -268,16 +262,12 @@ module _ {order : Order} {a : AutomatonData} {keys : List Key} {certificate : Ce
 -- ## Rows
 
 by_case : (P : List Row → Type 0) (b : Bool) (old more : List Row) → P old → P more → P (if b then old else more)
-by_case P true old more h g = h
-by_case P false old more h g = g
+by_case P b old more h1 h2 = search rules
 
 -- a row that is added, if it is not there, leaves the others at their places
 pub keeps_rows : (eq : Row → Row → Bool) {old : List Row} (row : Row) {new : List Row} → new ≡ insert_key eq old row →
     KeepsRows old new
-keeps_rows eq {old} row e =
-    subst (λ rows. KeepsRows old rows) (sym e)
-    (by_case (λ rows. KeepsRows old rows) (list_any (eq row) old) old (old ++ row ∷ [])
-    (record { same = λ leaf r is. is }) (record { same = λ leaf r is. slice_get-left old (row ∷ []) leaf is }))
+keeps_rows eq {old} row e = search (rules, by_case, slice_get-left)
 
 pub all_rows : (P : Row → Type 0) (eq : Row → Row → Bool) (old : List Row) (row : Row) {new : List Row} →
     new ≡ insert_key eq old row → All P old → P row → All P new
@@ -302,15 +292,7 @@ drawn_kept {t} {u} {node} k rows d =
       state = d.state;
       priority = d.priority;
       stands = d.stands;
-      leads = λ x other.
-          (let l = d.leads x other in
-          record {
-            leaf = l.leaf;
-            is_leaf = same x ∙ l.is_leaf;
-            row = l.row;
-            is_row = rows.same l.leaf l.row l.is_row;
-            is_right = l.is_right;
-          });
+      leads = search rules;
       heeds = λ x y alike. same x ∙ d.heeds x y alike ∙ sym (same y);
     }
   where

@@ -1,6 +1,6 @@
 -- The diagram of a memory of a player who moves first.
 use Rattle.std.proofs.Common.{not, is_some, ◌≡◌, ◌≢◌, ℕ, ◌+◌, ◌^◌, ◌<◌, Bool, true, List, length, get_or, option_map}
-use Rattle.std.proofs.Common.{Option, Some, None, refl, ap, sym, subst, ◌∙◌, arith, inl, inr}
+use Rattle.std.proofs.Common.{Option, Some, None, refl, ap, sym, subst, ◌∙◌, arith, rules}
 use Rattle.std.specs.Prelude.{IfSome, slice_get, slice_index}
 use Rattle.std.specs.Option.{unwrap_or}
 use Rattle.std.specs.List.{All, Contains}
@@ -56,16 +56,7 @@ module _ {a : AutomatonData} {keys : List Key} {is_first : Bool} {board : Board}
       record {
         same_rows = keeps_rows_trans h.same_rows k;
         each = all_rows (IsRow is_first board kept) eq rows row e h.each is;
-        placed = λ i d within.
-            (let p = h.placed i d within in
-            record {
-              place = p.place;
-              is_noted = p.is_noted;
-              row = p.row;
-              is_row = k.same p.place p.row p.is_row;
-              plays = p.plays;
-              next = p.next;
-            });
+        placed = search rules;
       }
 
   -- and its place is noted
@@ -75,34 +66,7 @@ module _ {a : AutomatonData} {keys : List Key} {is_first : Bool} {board : Board}
       StandsFor is_first keys kept row.memory v (pair_of a leaf).state) →
       slice_get more leaf ≡ Some place → ((other i : ℕ) → other ≢ leaf → slice_get places other ≡ Some i →
       slice_get more other ≡ Some i) → AreNoted a keys is_first board kept letter found old rows more (n + 1)
-  note_more {rows} {places} {more} {n} {leaf} {place} {row} h is at plays next noted others = record {
-    same_rows = h.same_rows;
-    each = h.each;
-    placed = λ k d within. at_leaf (λ differ. h.placed k d (earlier k d differ within));
-  }
-    where
-      earlier : (k : ℕ) (d : ℕ × ℕ) → (get_or found k d).0 ≢ leaf → k < n + 1 → k < n
-      earlier k d differ within = elim (cases_eq k n) [
-        | inl same ↦ absurd (differ (ap (λ i. (get_or found i d).0) same ∙ is d))
-        | inr other ↦ omega (arith, other, within)
-      ]
-
-      at_leaf : {other : ℕ} → (other ≢ leaf → IsPlaced a keys is_first kept rows places letter other) →
-          IsPlaced a keys is_first kept rows more letter other
-      at_leaf {other} was = elim (cases_eq other leaf) [
-        | inl same ↦ subst (λ l. IsPlaced a keys is_first kept rows more letter l) (sym same)
-            (record { place = place; is_noted = noted; row = row; is_row = at; plays = plays; next = next })
-        | inr differ ↦ (
-            let p = was differ in
-            record {
-              place = p.place;
-              is_noted = others other p.place differ p.is_noted;
-              row = p.row;
-              is_row = p.is_row;
-              plays = p.plays;
-              next = p.next;
-            })
-      ]
+  note_more {rows} {places} {more} {n} {leaf} {place} {row} h is at plays next noted others = search (rules, cases_eq, noted)
 
 -- ## The move of a player who moves first
 
@@ -143,13 +107,7 @@ module _ {order : Order} {a : AutomatonData} {keys : List Key} {certificate : Ce
   class_chosen : (v : ℕ) {chosen : ℕ} {q p : ℕ} → Contains kept v → StandsAt keys v (First q p) →
       choice_of certificate v ≡ Some chosen → (letter : ℕ) × IsClass (board_of order a) q letter ×
       StandsAt keys chosen (Second q letter)
-  class_chosen v {chosen} {q} is_kept at choice =
-      let to = to_class v is_kept at in (
-        to.letter,
-        to.is_class,
-        subst (λ n. StandsAt keys n (Second q to.letter))
-            (some_nat to.chosen chosen (sym to.choice ∙ choice)) to.stands,
-      )
+  class_chosen v {chosen} {q} is_kept at choice = search (rules, to_class, some_nat)
 
   pub has_choice : (v : ℕ) → Contains kept v → is_some (choice_of certificate v) ≡ true
   has_choice v is_kept =
@@ -174,15 +132,7 @@ module _ {order : Order} {a : AutomatonData} {keys : List Key} {certificate : Ce
       get_or keys chosen (First 0 0) ≡ Second r letter → (q p : ℕ) → StandsAt keys v (First q p) →
       PlaysClass (board_of order a) keys certificate v q letter
   plays_class v chosen r letter is_kept choice is q p at =
-      let to = class_chosen v is_kept at choice in
-      let same : to.0 ≡ letter =
-      same_letter (sym (get_or_from_slice_get keys chosen (Second q to.0) (First 0 0) to.2) ∙ is) in
-      record {
-        chosen = chosen;
-        choice = choice;
-        stands = subst (λ x. StandsAt keys chosen (Second q x)) same to.2;
-        is_class = subst (IsClass (board_of order a) q) same to.1;
-      }
+      search (rules, class_chosen, same_letter, get_or_from_slice_get)
 
   -- the pair of each leaf behind that class is entered
   pub entered : {mask : ℕ} {t : Table} {v q p letter rest : ℕ} {found : List (ℕ × ℕ)} → Contains kept v →
@@ -270,24 +220,10 @@ module _ {order : Order} {a : AutomatonData} {keys : List Key} {certificate : Ce
           let stands = n.is_entered.enters.stands in
           record {
             leaf = w.place;
-            is_leaf = named x ∙ ap (λ o. option_map (λ k. slice_index places k) o) n.is_leaf
-                ∙ ap (λ k. Some k) (get_or_from_slice_get places n.leaf w.place 0 w.is_noted);
+            is_leaf = search (rules, get_or_from_slice_get);
             row = w.row;
             is_row = w.is_row;
-            is_right = record {
-              played =
-                  record {
-                    chosen = plays.chosen;
-                    choice = plays.choice;
-                    stands = subst (λ k. StandsAt keys plays.chosen (Second q k)) (sym w.plays) plays.stands;
-                  };
-              entered = vertex;
-              goes =
-                  record { stands = subst (λ (s : Step). StandsAt keys vertex (First s.state s.priority)) step stands };
-              next = subst (λ b. StandsFor b keys kept w.row.memory vertex (board.auto.next q (x + w.row.letter))) first
-                  (subst (λ (s : Step). StandsFor is_first keys kept w.row.memory vertex s.state) step
-                  (w.next vertex stands));
-            };
+            is_right = search (rules, entered);
           }
 
       pub drawn_first : IsDrawn is_first (board_of order a) keys kept certificate u rows v made

@@ -1,6 +1,6 @@
 -- The diagrams of a machine whose player moves second.
 use Rattle.std.proofs.Common.{◌≡◌, ◌≢◌, ℕ, ◌+◌, ◌<◌, Bool, true, false, List, [], ◌∷◌, ◌++◌, length, get_or, take}
-use Rattle.std.proofs.Common.{Option, Some, None, ap, ap₂, sym, subst, ◌∙◌, arith, ◌==◌}
+use Rattle.std.proofs.Common.{Option, Some, ap, sym, subst, ◌∙◌, arith, ◌==◌, rules}
 use Rattle.std.specs.Prelude.{Any, IfSome, IsSomeAnd, MatchOption, slice_get, slice_index, option_map}
 use Rattle.std.specs.List.{All, AllZip, position}
 use Rattle.std.specs.Option.{unwrap_or}
@@ -118,27 +118,14 @@ module _ {order : Order} {a : AutomatonData} {keys : List Key} {certificate : Ce
     -- what the table of keys has where the winner moves to
     pub reply_key : (at : ℕ) {chosen : ℕ} {slice : List Key} {k : Key} (d : Key) → StandsAt keys at (Second q x) →
         choice_of certificate at ≡ Some chosen → slice ≡ keys → get_or slice chosen d ≡ k → k ≡ pair a q (x + r.letter)
-    reply_key at {chosen} d there choice e is =
-        let same : chosen ≡ r.chosen = some_nat chosen r.chosen (sym choice ∙ reply_choice at there) in
-        sym is ∙ ap (λ (l : List Key). get_or l chosen d) e ∙ ap (λ n. get_or keys n d) same
-        ∙ get_or_from_slice_get keys r.chosen (pair a q (x + r.letter)) d r.goes.stands
+    reply_key at {chosen} d there choice e is = search (rules, some_nat, reply_choice, get_or_from_slice_get)
 
     module _ (step : Step) (e : step_key step ≡ pair a q (x + r.letter)) where
       same_step : step ≡ step_of a q (x + r.letter)
       same_step = step_of_key e
 
       pub reply_is : IsReply (board_of order a) keys certificate q x step.state step.priority
-      reply_is = record {
-        at = r.at;
-        stands = r.stands;
-        chosen = r.chosen;
-        choice = r.choice;
-        entered = subst (λ k. StandsAt keys r.chosen k) (sym e) r.goes.stands;
-        letter = r.letter;
-        second = r.second;
-        state = sym (ap (λ (s : Step). s.state) same_step);
-        priority = sym (ap (λ (s : Step). s.priority) same_step);
-      }
+      reply_is = search (rules, same_step)
 
       pub reply_enters : CanEnter order a keys certificate is_first kept marks step.state step.priority
       reply_enters = rw same_step r.enters
@@ -168,10 +155,7 @@ module _ {order : Order} {a : AutomatonData} {mask : ℕ} {t : Table} {keys : Li
       ((v : ℕ) → StandsAt keys v (First step.state step.priority) → StandsFor false keys kept memory v step.state) →
       IsReplyRow (board_of order a) keys kept certificate q x (record { memory = memory; letter = letter })
   answer_by {kept} letter memory class move is stands v =
-      let goes : GoesTo keys (board_of order a) q (x + letter) reply.chosen =
-      record {
-        stands = subst (λ (s : Step). StandsAt keys reply.chosen (First s.state s.priority)) (sym is) reply.entered;
-      } in
+      let goes : GoesTo keys (board_of order a) q (x + letter) reply.chosen = search rules in
       record {
         played = record {
           class = x;
@@ -183,22 +167,12 @@ module _ {order : Order} {a : AutomatonData} {mask : ℕ} {t : Table} {keys : Li
           choice = reply.choice;
           least = record {
             here = (move.here.0, goes);
-            none_before = λ z other before.
-                (let same = step_of_key (same_some (sym other.1.stands ∙ goes.stands)) in
-                move.none_before z (
-                  other.0,
-                  record {
-                    state = ap (λ (s : Step). s.state) same;
-                    priority = ap (λ (s : Step). s.priority) same;
-                  },
-                ) before);
+            none_before = search (rules, step_of_key, same_some);
           };
         };
         entered = reply.chosen;
         goes = goes;
-        next =
-            subst (λ (s : Step). StandsFor false keys kept memory reply.chosen s.state) (sym is)
-            (stands reply.chosen reply.entered);
+        next = search rules;
       }
 
   pub answered : {kept : List ℕ} (letter memory : ℕ) → IsClass (board_of order a) q x →
@@ -265,31 +239,7 @@ module _ {board : Board} {keys : List Key} {kept : List ℕ} {certificate : Cert
   -- letters that step alike have one row
   alike_row : {v x c : ℕ} {row : Row} → SameSteps board q x c → IsRowAt false board keys kept certificate v q c row →
       IsRowAt false board keys kept certificate v q x row
-  alike_row {v} {x} {c} {row} same r =
-      let played = r.played in
-      let step = same row.letter played.least.here.0 in
-      let key : First (board.auto.next q (x + row.letter)) (board.auto.priority q (x + row.letter)) ≡ First
-      (board.auto.next q (c + row.letter)) (board.auto.priority q (c + row.letter)) =
-      ap₂ (λ s p. First s p) step.state step.priority in
-      record {
-        played = record {
-          class = played.class;
-          is_class = played.is_class;
-          same =
-              λ y second. record {
-                state = (same y second).state ∙ (played.same y second).state;
-                priority = (same y second).priority ∙ (played.same y second).priority;
-              };
-          at = played.at;
-          stands = played.stands;
-          chosen = played.chosen;
-          choice = played.choice;
-          least = played.least;
-        };
-        entered = r.entered;
-        goes = record { stands = subst (λ k. StandsAt keys r.entered k) (sym key) r.goes.stands };
-        next = subst (λ s. StandsFor false keys kept row.memory r.entered s) (sym step.state) r.next;
-      }
+  alike_row {v} {x} {c} {row} same r = search rules
 
 -- ## The diagram
 
@@ -304,8 +254,7 @@ pub class_each : {order : Order} {a : AutomatonData} {mask : ℕ} {t : Table} {q
 class_each {c} f of k d within = class_is f of k (slice_get-get_or c.list.items k d within)
 
 some_if : (o : Option ℕ) {n m : ℕ} → m ≡ n → IsSomeAnd o (λ k. k < n) → IfSome o (λ k. k < m)
-some_if None e is = tt
-some_if (Some k) e is = omega (arith, e, is)
+some_if o h1 h2 = search rules
 
 module _ (keys : List Key) (kept : List ℕ) (certificate : CertificateData) (rows : List Row) (values : List ℕ)
     {order : Order} {a : AutomatonData} {mask : ℕ} {t : Table} {q : ℕ} {classes : Classes} (f : IsFit order a mask t)
@@ -315,9 +264,7 @@ module _ (keys : List Key) (kept : List ℕ) (certificate : CertificateData) (ro
   list = classes.list.items
 
   pub places_within : (letter : ℕ) → IfSome (leaf_of t classes.places letter) (λ k. k < length values)
-  places_within letter =
-      some_if (leaf_of t classes.places letter)
-      (AllZip-long (Names (board_of order a) keys kept certificate q rows) list values named) (of.are.placed letter)
+  places_within letter = search (rules, some_if, AllZip-long)
 
   module _ (u : Table) (node : ℕ) (leaf : (letter : ℕ) → leaf_of u node letter ≡ option_map (λ k. slice_index values k)
       (leaf_of t classes.places letter)) where
@@ -352,5 +299,4 @@ module _ (keys : List Key) (kept : List ℕ) (certificate : CertificateData) (ro
 
     pub drawn_second : (v p : ℕ) → StandsAt keys v (First q p) → IsNode u node →
         IsDrawn false (board_of order a) keys kept certificate u rows v node
-    drawn_second v p at held =
-        record { held = held; state = q; priority = p; stands = at; leads = to_row v; heeds = heeds_first }
+    drawn_second v p at held = search (rules, to_row, heeds_first)

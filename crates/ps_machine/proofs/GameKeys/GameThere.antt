@@ -1,5 +1,6 @@
 -- A game is there for each admitted file: keys are visited by definition, and there are only so many.
-use Rattle.std.proofs.Common.{◌≡◌, ◌≢◌, ◌⊎◌, inl, inr, ℕ, zero, suc, ◌+◌, ◌^◌, ◌<◌, ◌≤◌, Bool, true, false, not, List}
+use Rattle.std.proofs.Common.{rules}
+use Rattle.std.proofs.Common.{◌≡◌, ◌≢◌, ◌⊎◌, inl, inr, ℕ, zero, suc, ◌+◌, ◌^◌, ◌<◌, ◌≤◌, Bool, true, not, List}
 use Rattle.std.proofs.Common.{[], ◌∷◌, ◌++◌, length, map, take, get_or, Some, refl, ap, sym, subst, ◌∙◌, arith, add-one}
 use Rattle.std.specs.Bool.{Decides}
 use Rattle.std.specs.Cmp.{IsEquivalence}
@@ -51,29 +52,13 @@ module _ (n : ℕ) (P : ℕ → Type 0) (tell : (y : ℕ) → P y ⊎ (P y → �
     rising : AllPairs IsBefore letters
 
   same_rank : (x y : ℕ) → P x → P y → rank 0 n x ≡ rank 0 n y → x ≡ y
-  same_rank x y one other same = elim (compared n x y (within x one) (within y other)) [
-    | inl is ↦ is
-    | inr (inl before) ↦ absurd (omega (arith, same, before_ranks n (within y other) before))
-    | inr (inr before) ↦ absurd (omega (arith, same, before_ranks n (within x one) before))
-  ]
+  same_rank x y one other same = search (rules, compared, before_ranks)
 
   lower_before : {x y : ℕ} → P x → P y → rank 0 n x < rank 0 n y → IsBefore x y
-  lower_before {x} {y} one other lower = elim (compared n x y (within x one) (within y other)) [
-    | inl is ↦ absurd (let same : rank 0 n x ≡ rank 0 n y = ap (rank 0 n) is in omega (arith, same, lower))
-    | inr (inl before) ↦ before
-    | inr (inr before) ↦ absurd (omega (arith, lower, before_ranks n (within x one) before))
-  ]
+  lower_before {x} {y} one other lower = search (rules, compared, rank, before_ranks)
 
   list_below : (count : ℕ) → (letters : List ℕ) × ListedBelow letters count
-  list_below zero = (
-    [],
-    record {
-      each = All-nil P;
-      low = All-nil (λ y. rank 0 n y < 0);
-      complete = λ y is low. absurd (omega (arith, low));
-      rising = λ i j d less inside. absurd (omega (arith, inside));
-    },
-  )
+  list_below zero = search (rules, All-nil, rank)
   list_below (suc count) =
       (let l = list_below count in elim (some_or_none Here here_or_not (2 ^ n) (λ y h. within y h.0)) [
         | inl found ↦ (
@@ -92,28 +77,14 @@ module _ (n : ℕ) (P : ℕ → Type 0) (tell : (y : ℕ) → P y ⊎ (P y → �
                 (let low = l.1.low k d inside in omega (arith, low, found.1.1)));
           },
         )
-        | inr none ↦ (
-          l.0,
-          record {
-            each = l.1.each;
-            low = raised l.0 l.1.low;
-            complete = λ y is low. elim (cases_eq (rank 0 n y) count) [
-              | inl here ↦ absurd (none (y, (is, here)))
-              | inr other ↦ l.1.complete y is (omega (arith, low, other))
-            ];
-            rising = l.1.rising;
-          },
-        )
+        | inr none ↦ search (rules, cases_eq, rank)
       ])
     where
       Here : ℕ → Type 0
       Here y = P y × (rank 0 n y ≡ count)
 
       here_or_not : (y : ℕ) → Here y ⊎ (Here y → ⊥)
-      here_or_not y = elim (tell y) [
-        | inr not_so ↦ inr (λ h. not_so h.0)
-        | inl so ↦ elim (cases_eq (rank 0 n y) count) [ inl same ↦ inl (so, same) | inr other ↦ inr (λ h. other h.1) ]
-      ]
+      here_or_not y = search (rules, cases_eq, rank)
 
       raised : (letters : List ℕ) → All (λ y. rank 0 n y < count) letters → All (λ y. rank 0 n y < suc count) letters
       raised letters low k d inside = (let less = low k d inside in omega (arith, less))
@@ -148,18 +119,10 @@ told_apart : (a b : Key) → Decides (is_key a b) (a ≡ b)
 told_apart a b = (same_key a b, λ e. subst (λ k. is_key a k ≡ true) e (key_same a))
 
 both_ways : (a b : Bool) → (a ≡ true → b ≡ true) → (b ≡ true → a ≡ true) → a ≡ b
-both_ways true b there back = sym (there refl)
-both_ways false true there back = back refl
-both_ways false false there back = refl
+both_ways a b h1 h2 = search rules
 
 key_laws : IsEquivalence is_key
-key_laws = record {
-  refl = key_same;
-  symm =
-      λ a b. both_ways (is_key a b) (is_key b a) (λ e. (told_apart b a).1 (sym (same_key a b e)))
-      (λ e. (told_apart a b).1 (sym (same_key b a e)));
-  congr = λ a b c e. ap (λ k. is_key k c) (same_key a b e);
-}
+key_laws = search (rules, key_same, both_ways, told_apart, same_key)
 
 -- different keys of a list are no more than the list has
 keys_fit : (all keys : List Key) → AllPairs (λ x y. x ≢ y) keys → All (Contains all) keys → length keys ≤ length all
@@ -249,8 +212,7 @@ module _ (board : Board) (mover : ℕ) (start : board.auto.start ≤ board.state
       Contains (keys_below count) k
   below_state q zero k less c = absurd (omega (arith, less))
   below_state q (suc count) k less c = elim (cases_eq q count) [
-    | inl same ↦ Contains-append_left (keys_at count (2 ^ board.propositions)) (keys_below count) k
-        (subst (λ p. Contains (keys_at p (2 ^ board.propositions)) k) same c)
+    | inl same ↦ search (rules, Contains-append_left)
     | inr other ↦ Contains-append_right (keys_at count (2 ^ board.propositions)) (keys_below count) k
         (below_state q count k (omega (arith, less, other)) c)
   ]
@@ -261,8 +223,7 @@ module _ (board : Board) (mover : ℕ) (start : board.auto.start ≤ board.state
   Known (Second q x) = (q ≤ board.states) × IsFirstLetter board x × Contains all_keys (Second q x)
 
   known_listed : (k : Key) → Known k → Contains all_keys k
-  known_listed (First q p) known = known.1
-  known_listed (Second q x) known = known.2
+  known_listed k h1 = search rules
 
   known_first : Known (First board.auto.start 0)
   unfolding all_keys
@@ -344,17 +305,13 @@ module _ (board : Board) (mover : ℕ) (start : board.auto.start ≤ board.state
   Explored draft v = IsExplored (LeadsTo board) Known mover (First board.auto.start 0) draft v
 
   few_keys : (draft : DraftData) (v : ℕ) → Explored draft v → length draft.keys ≤ length all_keys
-  few_keys draft v e =
-      keys_fit all_keys draft.keys e.different (λ k d within. known_listed (get_or draft.keys k d)
-      (e.all_known k d within))
+  few_keys draft v e = search (rules, keys_fit, all_keys, known_listed)
 
   abbrev SomeGame : Type 0
   SomeGame = (keys : List Key) × (game : ParityGame) × IsGameOf board mover keys game
 
   done : (draft : DraftData) (v : ℕ) → Explored draft v → length draft.keys ≤ v → SomeGame
-  done draft v e all =
-      let is = by_keys e (slice_get_past draft.keys v all) refl refl in
-      (draft.keys, draft.game, record { by_keys = is.0; numbered = is.1 })
+  done draft v e all = search (rules, by_keys, slice_get_past)
 
   explore : (fuel : ℕ) (draft : DraftData) (v : ℕ) → Explored draft v → length all_keys ≤ v + fuel → SomeGame
   explore zero draft v e enough = done draft v e (let few = few_keys draft v e in omega (arith, few, enough))

@@ -1,5 +1,5 @@
 -- Names of keys, as they are written.
-use Rattle.std.proofs.Common.{◌≡◌, ◌≢◌, ℕ, suc, ◌+◌, ◌^◌, ◌<◌, Bool, true, false, List, [], ◌∷◌, ◌++◌, Some}
+use Rattle.std.proofs.Common.{◌≡◌, ◌≢◌, ℕ, suc, ◌+◌, ◌^◌, ◌<◌, Bool, true, false, List, [], ◌∷◌, ◌++◌, Some, rules}
 use Rattle.std.proofs.Common.{decimal, refl, ap, ap₂, subst, ◌∙◌, arith, append_assoc}
 use Rattle.std.specs.List.{AllPairs, range_with_len}
 use Rattle.ps_text.proofs.Decimals.{number_text}
@@ -45,11 +45,7 @@ no_quote bytes plain has = All-contains (λ b. b ≢ quote) bytes quote plain ha
 
 -- ids
 pub ids_differ : (n : ℕ) → AllPairs (λ x y. x ≢ y) (range_with_len 0 n)
-ids_differ n i j d less lt e =
-    let within : j < n = omega (arith, lt, length-range_with_len 0 n) in
-    let first = get_or-range_with_len 0 n i d (omega (arith, less, within)) in
-    let second = get_or-range_with_len 0 n j d within in
-    omega (arith, first, second, e, less)
+ids_differ n i j d less lt e = search (rules, length-range_with_len, get_or-range_with_len)
 
 pub range_more : (n : ℕ) {old new : List ℕ} → old ≡ range_with_len 0 n → new ≡ old ++ n ∷ [] →
     new ≡ range_with_len 0 (n + 1)

@@ -1,6 +1,6 @@
 -- The game of an automaton, from that of its keys.
 use Rattle.std.proofs.Common.{◌≡◌, ℕ, ◌+◌, ◌<◌, ◌≤◌, List, ◌∷◌, [], ◌++◌, length, map, take, get_or, Option, Some, Vec}
-use Rattle.std.proofs.Common.{ap, ap₂, sym, subst, ◌∙◌, arith}
+use Rattle.std.proofs.Common.{ap, ap₂, sym, subst, ◌∙◌, rules}
 use Rattle.std.specs.List.{All}
 use Rattle.std.specs.Global.{Global}
 use Rattle.std.proofs.lemmas.List.{map_push, map_more}
@@ -23,8 +23,7 @@ use Rattle.ps_machine.proofs.GameKeys.NamingLemmas.{no_quote}
 
 pub known_start : {order : Order} {a b : AutomatonData} {mask : ℕ} {t : Table} {rests : ℕ × ℕ → Option ℕ} {q : ℕ} →
     b ≡ a → IsFit order b mask t → q < a.states → IsKnown order b mask t rests (First q 0)
-known_start {q} same fit lt =
-    record { fit = fit; has_rest = subst (λ (d : AutomatonData). q ≤ d.states) (sym same) (omega (arith, lt)) }
+known_start {q} same fit lt = search rules
 
 pub game_is : {order o : Order} {a b : AutomatonData} {q : ℕ} {keys : List Key} {game : ParityGame} → o ≡ order →
     b ≡ a → q ≡ a.start → IsGameByKeys (LeadsTo (board_of o b)) (mover_of order) (First q 0) keys game →

@@ -1,7 +1,7 @@
 -- A lasso of a machine is read on and on; and its letters are those of the automaton.
 use Rattle.std.proofs.Common.{◌≡◌, ℕ, zero, suc, ◌+◌, ◌-◌, ◌*◌, ◌/◌, ◌%◌, ◌^◌, ◌<◌, ◌≤◌, ◌⊎◌, inl, inr, Bool, true}
-use Rattle.std.proofs.Common.{false, cond, not, ltb, List, ◌++◌, length, get_or, refl, ap, sym, subst, ◌∙◌, arith}
-use Rattle.std.proofs.Common.{add-one}
+use Rattle.std.proofs.Common.{false, cond, ltb, List, ◌++◌, length, ap, sym, ◌∙◌, arith}
+use Rattle.std.proofs.Common.{add-one, rules}
 use Rattle.std.specs.Prelude.{slice_index}
 use Rattle.ps_diagram.proofs.Letters.{no_bit}
 use Rattle.std.proofs.Math.Nat.{div-add-mod, mod-lt}
@@ -10,12 +10,11 @@ use Rattle.std.proofs.lemmas.Nat.{mod-mul-add}
 use Rattle.std.proofs.lemmas.List.{length-append, get_or-append-add}
 use Rattle.std.proofs.lemmas.Bool.{cases_Bool, cases_lt, le-ltb, lt-ltb}
 use Rattle.ps_label.specs.Truth.{is_in}
-use Rattle.ps_hoa.specs.Files.{is_among}
 use Rattle.ps_automaton.specs.Words.{word}
 use Rattle.ps_automaton.proofs.Orbits.{word_within, word_behind}
 use Rattle.ps_machine.specs.Boards.{Board}
 use Rattle.ps_machine.specs.Behaviours.{Behaviour, IsMachine, IsInput, IsOutput, IsLasso, Makes}
-use Rattle.ps_machine.specs.Extracting.{HasPropositions, IsOther, is_others}
+use Rattle.ps_machine.specs.Extracting.{HasPropositions, IsOther}
 use Rattle.ps_machine.proofs.LeastLetters.{sum_within}
 use Rattle.ps_machine.proofs.Lassos.Walking.{IsEndless}
 
@@ -64,20 +63,11 @@ module _ {m : Behaviour} {stem lap : List ℕ} (l : IsLasso m stem lap) where
 
   place_within : (t : ℕ) → at_place t < length (stem ++ lap)
   unfolding at_place
-  place_within t = elim (cases_lt t (length stem)) [
-    | inl less ↦ (let is = folded_within (length stem) (length lap) less in omega (arith, is, less, long))
-    | inr more ↦ (let is = folded_behind (length stem) (length lap) t more in
-        omega (arith, is, long, mod-lt (t - length stem) l.some))
-  ]
+  place_within t = search (rules, cases_lt, folded_within, long, folded_behind, mod-lt)
 
   letter_at : (t : ℕ) → slice_index (stem ++ lap) (at_place t) ≡ word stem lap t
   unfolding at_place
-  letter_at t = elim (cases_lt t (length stem)) [
-    | inl less ↦ ap (λ n. get_or (stem ++ lap) n 0) (folded_within (length stem) (length lap) less)
-        ∙ get_or-append stem lap 0 t less ∙ sym (word_within stem lap t less)
-    | inr more ↦ ap (λ n. get_or (stem ++ lap) n 0) (folded_behind (length stem) (length lap) t more)
-        ∙ get_or-append-add stem lap ((t - length stem) % length lap) 0 ∙ sym (word_behind stem lap t more)
-  ]
+  letter_at t = search (rules, cases_lt, folded_within, get_or-append, word_within, folded_behind, get_or-append-add, word_behind)
 
   pub memories_on : ℕ → ℕ
   memories_on t = l.memories (at_place t)
@@ -92,12 +82,8 @@ module _ {m : Behaviour} {stem lap : List ℕ} (l : IsLasso m stem lap) where
       behind : (n : ℕ) → ((suc n) % length lap ≡ suc (n % length lap)) ⊎
           ((suc (n % length lap) ≡ length lap) × ((suc n) % length lap ≡ 0)) →
           l.memories (u + n % length lap + 1) ≡ l.memories (u + suc n % length lap)
-      behind n (inl is) =
-          (let same : u + n % length lap + 1 ≡ u + suc n % length lap = omega (arith, is) in ap l.memories same)
-      behind n (inr full) =
-          let last : u + n % length lap + 1 ≡ length (stem ++ lap) = omega (arith, full.0, long) in
-          let first : length stem ≡ u + suc n % length lap = omega (arith, full.1) in
-          ap l.memories last ∙ sym l.returns ∙ ap l.memories first
+      behind n (inl is) = search rules
+      behind n (inr full) = search (rules, long)
 
       by : (t < u) ⊎ (u ≤ t) → (suc t < u) ⊎ (u ≤ suc t) → l.memories (folded u (length lap) t + 1) ≡ l.memories
           (folded u (length lap) (suc t))
@@ -110,8 +96,7 @@ module _ {m : Behaviour} {stem lap : List ℕ} (l : IsLasso m stem lap) where
           let here = folded_within u (length lap) less in
           let there = folded_behind u (length lap) (suc t) next in
           let none : suc t - u ≡ 0 * length lap + 0 = omega (arith, less) in
-          let begin : (suc t - u) % length lap ≡ 0 = ap (λ n. n % length lap) none
-          ∙ mod-mul-add 0 (length lap) 0 l.some in
+          let begin : (suc t - u) % length lap ≡ 0 = search (rules, mod-mul-add) in
           let same : folded u (length lap) t + 1 ≡ folded u (length lap) (suc t) =
           omega (arith, here, there, begin, less, next) in
           ap l.memories same
@@ -126,18 +111,14 @@ module _ {m : Behaviour} {stem lap : List ℕ} (l : IsLasso m stem lap) where
   unfolding memories_on at_place
   endless = record {
     begins = by (cases_lt 0 (length stem));
-    makes = λ t.
-        let makes = l.makes (at_place t) (place_within t) in
-        subst (λ n. Makes m (memories_on t) (word stem lap t) n) (goes_on t)
-        (subst (λ x. Makes m (memories_on t) x (l.memories (at_place t + 1))) (letter_at t) makes);
+    makes = search (rules, at_place, place_within, memories_on, goes_on, letter_at);
   }
     where
       by : (0 < length stem) ⊎ (length stem ≤ 0) → l.memories (folded (length stem) (length lap) 0) ≡ 0
       by (inl less) = ap l.memories (folded_within (length stem) (length lap) less) ∙ l.begins
       by (inr more) =
           let none : 0 - length stem ≡ 0 * length lap + 0 = omega arith in
-          let begin : (0 - length stem) % length lap ≡ 0 = ap (λ n. n % length lap) none
-          ∙ mod-mul-add 0 (length lap) 0 l.some in
+          let begin : (0 - length stem) % length lap ≡ 0 = search (rules, mod-mul-add) in
           let is : folded (length stem) (length lap) 0 ≡ 0 =
           omega (arith, folded_behind (length stem) (length lap) 0 more, begin, more) in
           ap l.memories is ∙ l.begins
@@ -157,25 +138,14 @@ module _ {m : Behaviour} {stem lap : List ℕ} (l : IsLasso m stem lap) where
       ap l.memories same
 
   pub letter_returns : word stem lap (length stem + length lap) ≡ word stem lap (length stem)
-  letter_returns =
-      let u = length stem in
-      let n = length lap in
-      let here : u + n - u ≡ 1 * n + 0 = omega arith in
-      let none : u - u ≡ 0 * n + 0 = omega arith in
-      let same : (u + n - u) % n ≡ (u - u) % n = ap (λ k. k % n) here ∙ mod-mul-add 1 n 0 l.some
-      ∙ sym (mod-mul-add 0 n 0 l.some) ∙ ap (λ k. k % n) (sym none) in
-      word_behind stem lap (u + n) (omega arith) ∙ ap (λ k. get_or lap k 0) same
-      ∙ sym (word_behind stem lap u (omega arith))
+  letter_returns = search (rules, mod-mul-add, word_behind)
 
 -- ## Letters
 
 module _ {m : Behaviour} (is_machine : IsMachine m) where
   -- a letter that it reads and one that it plays have no proposition in common
   apart : (x y : ℕ) → IsInput m x → IsOutput m y → (p : ℕ) → is_in p x ≡ true → is_in p y ≡ false
-  apart x y input output p is = elim (cases_Bool (is_among p m.inputs)) [
-    | inl among ↦ output.own p (is_machine.apart p among)
-    | inr none ↦ cc (input.own p none)
-  ]
+  apart x y input output p is = search (rules, cases_Bool)
 
   -- what it makes is a letter
   pub letter_within : {memory letter next : ℕ} → memory < m.memories → Makes m memory letter next →
@@ -197,20 +167,4 @@ module _ {m : Behaviour} (is_machine : IsMachine m) where
 
   pub reads_other : {names : List (List ℕ)} {board : Board} → HasPropositions names board m → (x : ℕ) → IsInput m x →
       IsOther m.is_first board x
-  reads_other {board} h x input = by m.is_first refl
-    where
-      within : x < 2 ^ board.propositions
-      within =
-          (let many : length m.names ≡ board.propositions = ap length h.names_are ∙ h.as_many in
-          subst (λ n. x < 2 ^ n) many input.within)
-
-      -- of what the other one does not play nothing is true
-      own : (p : ℕ) → is_others m.is_first board p ≡ false → is_in p x ≡ false
-      own p not_others = elim (cases_lt p board.propositions) [
-        | inl less ↦ input.own p (h.reads p less ∙ not_others)
-        | inr more ↦ no_bit board.propositions x p within more
-      ]
-
-      by : (b : Bool) → m.is_first ≡ b → IsOther b board x
-      by true is = record { within = within; own = λ p first. own p (ap (λ b. is_others b board p) is ∙ ap not first) }
-      by false is = record { within = within; own = λ p first. own p (ap (λ b. is_others b board p) is ∙ first) }
+  reads_other {board} h x input = search (rules, cases_lt, no_bit)

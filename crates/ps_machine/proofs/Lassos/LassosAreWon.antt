@@ -1,4 +1,5 @@
 -- Each word of the machine of a valid certificate is won by the winner of vertex 0.
+use Rattle.std.proofs.Common.{rules}
 use Rattle.std.proofs.Common.{◌≡◌, ℕ, ◌+◌, ◌*◌, ◌%◌, ◌^◌, ◌<◌, List, ◌++◌, length, get_or, ap, sym, subst, ◌∙◌, arith}
 use Rattle.std.specs.Prelude.{All, slice_index}
 use Rattle.std.proofs.Math.ListN.{get_or-append}
@@ -40,10 +41,7 @@ module _ {file : FileData} {chain : Chain} {a : AutomatonData} (order : Order) {
 
   module _ {stem lap : List ℕ} (l : IsLasso m stem lap) where
     each_letter : (t : ℕ) → t < length (stem ++ lap) → slice_index (stem ++ lap) t < 2 ^ length file.names
-    each_letter t within =
-        let less = letter_within is_machine
-        (memories_of_lasso is_machine l t (omega (arith, within))) (l.makes t within) in
-        subst (λ n. slice_index (stem ++ lap) t < 2 ^ n) names_are less
+    each_letter t within = search (rules, letter_within, memories_of_lasso, names_are)
 
     in_stem : All (λ letter. letter < 2 ^ length file.names) stem
     in_stem t d within =
@@ -95,9 +93,7 @@ module _ {file : FileData} {chain : Chain} {a : AutomatonData} (order : Order) {
     returned : state_at (auto_of a) (word stem lap) (length stem + (0 + 1) * length lap) ≡ state_at (auto_of a)
         (word stem lap) (length stem + 0 * length lap)
     unfolding from count
-    returned =
-        (let same : length stem + (0 + 1) * length lap ≡ from + count = omega arith in
-        ap (state_at (auto_of a) (word stem lap)) same ∙ returns)
+    returned = search (rules, from, count, returns)
 
     if_even : m.player ≡ 0 → IsAccepted file stem lap
     unfolding from count
@@ -115,7 +111,4 @@ module _ {file : FileData} {chain : Chain} {a : AutomatonData} (order : Order) {
         even
 
   pub each_lasso_won : LassosWon file m
-  each_lasso_won = record {
-    accepted = λ is stem lap l. if_even l is;
-    rejected = λ other stem lap l accepted. other (only_even l accepted);
-  }
+  each_lasso_won = search (rules, if_even, only_even)

@@ -1,9 +1,9 @@
 -- A function whose values follow edges gives a path: the list of its values.
 use Rattle.std.proofs.Common.{◌≡◌, ℕ, zero, suc, ◌+◌, ◌<◌, List, [], ◌∷◌, length, get_or, max, Option, Some, refl, ap}
-use Rattle.std.proofs.Common.{ap₂, sym, subst, ◌∙◌, arith, add-one}
+use Rattle.std.proofs.Common.{ap₂, sym, subst, ◌∙◌, arith, add-one, rules}
 use Rattle.std.specs.Prelude.{slice_index}
 use Rattle.ps_automaton.specs.Autos.{greatest_from}
-use Rattle.ps_game.specs.Games.{ParityGame, vertex_count, owner_of, HasEdge}
+use Rattle.ps_game.specs.Games.{ParityGame, owner_of, HasEdge}
 use Rattle.ps_game.specs.Plays.{IsPath, Follows}
 
 -- the values of a function as a list
@@ -34,8 +34,7 @@ module _ (game : ParityGame) (f : ℕ → ℕ) (edge : (k : ℕ) → HasEdge gam
       let long = length-list_of f (suc n) in
       record {
         begins = omega (arith, long);
-        vertices =
-            λ k within. subst (λ v. v < vertex_count game) (sym (there k (omega (arith, long, within)))) (edge k).0;
+        vertices = search (rules, there);
         edges = λ k within. subst (λ v. HasEdge game v (slice_index (list_of f (suc n)) (k + 1)))
             (sym (there k (omega (arith, long, within))))
             (subst (λ w. HasEdge game (f k) w) (sym (next_there k (omega (arith, long, within)))) (edge k));
@@ -43,11 +42,7 @@ module _ (game : ParityGame) (f : ℕ → ℕ) (edge : (k : ℕ) → HasEdge gam
 
   pub list_follows : (player : ℕ) (table : ℕ → Option ℕ) → ((k : ℕ) → owner_of game (f k) ≡ player →
       table (f k) ≡ Some (f (suc k))) → Follows game player table (list_of f (suc n))
-  list_follows player table each k within own =
-      let long = length-list_of f (suc n) in
-      let here = there k (omega (arith, long, within)) in
-      let next = next_there k (omega (arith, long, within)) in
-      ap table here ∙ each k (ap (owner_of game) (sym here) ∙ own) ∙ ap (λ v. Some v) (sym next)
+  list_follows player table each k within own = search (rules, length-list_of, there, next_there)
 
 unfoldable pub twice : ℕ → ℕ
 twice zero = zero

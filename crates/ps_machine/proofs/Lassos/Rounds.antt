@@ -1,6 +1,6 @@
 -- One step of the machine is two steps through the game: to the vertex of a class, and on to that of a pair.
 use Rattle.std.proofs.Common.{◌≡◌, ◌≢◌, ℕ, ◌+◌, ◌-◌, ◌<◌, inl, inr, List, length, map, get_or, Some, refl, ap, ap₂, sym}
-use Rattle.std.proofs.Common.{subst, ◌∙◌, arith}
+use Rattle.std.proofs.Common.{subst, ◌∙◌, arith, rules}
 use Rattle.std.specs.Prelude.{IsSomeAnd, slice_get}
 use Rattle.std.specs.List.{AllPairs, Contains}
 use Rattle.std.proofs.lemmas.Option.{slice_get_within, get_or_from_slice_get}
@@ -22,14 +22,7 @@ use Rattle.ps_machine.proofs.LeastLetters.{none_without_least, contained_or_not}
 -- of different items each stands at one place
 pub one_place : {X : Type 0} (xs : List X) → AllPairs (λ x y. x ≢ y) xs → (v w : ℕ) {x : X} →
     slice_get xs v ≡ Some x → slice_get xs w ≡ Some x → v ≡ w
-one_place xs differ v w {x} at there =
-    let below : v < w → ⊥ = λ less. apart v w less at there in
-    let above : w < v → ⊥ = λ less. apart w v less there at in
-    omega (arith, below, above)
-  where
-    apart : (u t : ℕ) → u < t → slice_get xs u ≡ Some x → slice_get xs t ≡ Some x → ⊥
-    apart u t less a b = differ u t x less (slice_get_within xs t x b)
-        (get_or_from_slice_get xs u x x a ∙ sym (get_or_from_slice_get xs t x x b))
+one_place xs differ v w {x} at there = search (rules, slice_get_within, get_or_from_slice_get)
 
 pub map_contains : (f : ℕ → Key) (letters : List ℕ) (k : ℕ) {y : ℕ} → k < length letters → get_or letters k y ≡ y →
     Contains (map f letters) (f y)
@@ -117,14 +110,7 @@ module _ {board : Board} {mover : ℕ} {keys : List Key} {game : ParityGame} {ce
       none_without_least board.propositions P (λ z is. is.0.within) (λ z least.
       let move : IsMove board q class z = record {
         here = (least.here.0, record { state = refl; priority = refl });
-        none_before =
-            λ x is before. least.none_before x (
-              is.0,
-              record {
-                state = is.1.state ∙ least.here.1.state;
-                priority = is.1.priority ∙ least.here.1.priority;
-              },
-            ) before;
+        none_before = search rules;
       } in
       let c = leads.1.complete z move in
       let same : pair z ≡ pair y = ap₂ (λ a b. First a b) least.here.1.state least.here.1.priority in
@@ -147,12 +133,10 @@ module _ {board : Board} {mover : ℕ} {keys : List Key} {game : ParityGame} {ce
       record {
         between = steps.chosen;
         there = edge_by_move v (First q p) at own steps.choice;
-        on = to_pair steps.chosen w q letter x steps.stands second (subst (λ n. GoesTo keys board q n w) sum goes);
+        on = search (rules, to_pair);
         priority = priority_here steps.chosen steps.stands;
         first = λ o. steps.choice;
-        second =
-            λ o. (let other : 1 - mover ≡ mover = sym (second_owner steps.chosen steps.stands) ∙ o
-            ∙ sym wins in absurd (omega (arith, other, s.is_mover)));
+        second = search (rules, second_owner);
       }
 
   pub round_second : (v u q p x letter w : ℕ) → mover ≢ winner certificate → winner certificate < 2 →
@@ -160,22 +144,4 @@ module _ {board : Board} {mover : ℕ} {keys : List Key} {game : ParityGame} {ce
       winner_of certificate steps.at ≡ winner certificate →
       GoesTo keys board q (x + letter) w → Round game certificate v w
   round_second v u q p x letter w loses small at steps here goes =
-      let owner : owner_of game steps.at ≡ winner_of certificate steps.at =
-      (let is = second_owner steps.at steps.stands in
-      omega (arith, is, loses, small, s.is_mover, here)) in
-      let goes_there = steps.least.here.1 in
-      let same = steps.same letter steps.least.here.0 in
-      let pair : First (board.auto.next q (x + letter)) (board.auto.priority q (x + letter)) ≡ First
-      (board.auto.next q (steps.class + letter)) (board.auto.priority q (steps.class + letter)) =
-      ap₂ (λ a b. First a b) same.state same.priority in
-      let entered : steps.chosen ≡ w = same_place steps.chosen w goes_there.stands
-      (subst (λ k. StandsAt keys w k) pair goes.stands) in
-      let choice : choice_of certificate steps.at ≡ Some w = steps.choice ∙ ap (λ n. Some n) entered in
-      record {
-        between = steps.at;
-        there = to_class v steps.at q p at steps.stands steps.is_class;
-        on = edge_by_move steps.at (Second q steps.class) steps.stands owner choice;
-        priority = priority_here steps.at steps.stands;
-        first = λ o. absurd (loses (sym (first_owner v at) ∙ o));
-        second = λ o. choice;
-      }
+      search (rules, second_owner, same_place, to_class, edge_by_move, priority_here, first_owner)

@@ -36,21 +36,11 @@ same_number e f = cc
 same_state : {first : Bool} {keys : List Key} {kept : List ℕ} {memory v q : ℕ} (p : ℕ) {u r : ℕ} (o : ℕ) →
     StandsFor first keys kept memory v q → StandsAt keys v (First q p) → slice_get kept memory ≡ Some u →
     StandsAt keys u (First r o) → r ≡ q
-same_state {first} {keys} {kept} {memory} {v} {q} p {u} {r} o f at is there =
-    let same : f.vertex ≡ u = same_number f.is_kept is in
-    let state : r ≡ f.state =
-    one_state keys u o f.priority there (subst (λ n. StandsAt keys n (First f.state f.priority)) same f.stands) in
-    state ∙ by first f.shares
-  where
-    by : (b : Bool) → Shares b f.vertex f.state v q → f.state ≡ q
-    by true shares =
-        one_state keys v f.priority p (subst (λ n. StandsAt keys n (First f.state f.priority)) shares f.stands) at
-    by false shares = shares
+same_state {first} {keys} {kept} {memory} {v} {q} p {u} {r} o f at is there = search (rules, same_number, one_state)
 
 same_vertex : (first : Bool) {keys : List Key} {kept : List ℕ} {memory v q u : ℕ} →
     StandsFor first keys kept memory v q → slice_get kept memory ≡ Some u → first ≡ true → u ≡ v
-same_vertex true f is e = same_number is f.is_kept ∙ f.shares
-same_vertex false f is e = search rules
+same_vertex first h1 h2 h3 = search (rules, same_number)
 
 -- ## The walk
 
@@ -70,8 +60,7 @@ module _ {board : Board} {mover : ℕ} {keys : List Key} {game : ParityGame} {ce
   won_along : (v : ℕ) {w : ℕ} → winner_of certificate v ≡ winner certificate → HasEdge game v w →
       (owner_of game v ≡ winner certificate → choice_of certificate v ≡ Some w) →
       winner_of certificate w ≡ winner certificate
-  won_along v {w} here edge chosen =
-      s.valid.closed.stays v w (record { edge = edge; chosen = λ o. chosen (o ∙ here) }) ∙ here
+  won_along v {w} here edge chosen = search rules
 
   small_winner : winner certificate < 2
   small_winner = s.fits.winners 0 (within_game s 0 s.by_keys.begins)
@@ -116,9 +105,7 @@ module _ {board : Board} {mover : ℕ} {keys : List Key} {game : ParityGame} {ce
       record {
         vertex = step.entered;
         stands = goes.stands;
-        at_memory =
-            subst (λ n. StandsFor m.is_first keys made.kept (m.next memory x) step.entered
-            (board.auto.next n (x + letter))) state step.next;
+        at_memory = search rules;
         won = won_along round.between (won_along v here round.there round.first) round.on round.second;
         round = round;
       }
@@ -129,11 +116,7 @@ module _ {board : Board} {mover : ℕ} {keys : List Key} {game : ParityGame} {ce
   start_kept = record {
     state = board.auto.start;
     priority = 0;
-    here =
-        record {
-          used = used_first game certificate (within_game s 0 s.by_keys.begins);
-          stands = s.by_keys.begins;
-        };
+    here = search (rules, used_first, within_game);
     least = λ w r p less. absurd (omega (arith, less));
   }
 
@@ -145,8 +128,7 @@ module _ {board : Board} {mover : ℕ} {keys : List Key} {game : ParityGame} {ce
       first (suc k) within is = absurd (omega (arith, made.rising 0 (suc k) 0 (omega arith) within, is))
 
   start_shares : (first : Bool) → Shares first 0 board.auto.start 0 board.auto.start
-  start_shares true = refl
-  start_shares false = refl
+  start_shares first = search rules
 
   -- ## On and on
 
@@ -170,14 +152,7 @@ module _ {board : Board} {mover : ℕ} {keys : List Key} {game : ParityGame} {ce
         let n = next_vertex (entering a w t) now.stands now.at_memory now.won makes.is_input in
         let letter : makes.input + m.plays (memories t) makes.input ≡ w t = sym makes.joined in
         record {
-          next = record {
-            vertex = n.vertex;
-            stands = subst (λ l. StandsAt keys n.vertex (First (a.next q l) (a.priority q l))) letter n.stands;
-            at_memory = subst (λ k. StandsFor m.is_first keys made.kept k n.vertex (a.next q (w t))) (sym makes.next_is)
-                (subst (λ l. StandsFor m.is_first keys made.kept (m.next (memories t) makes.input) n.vertex
-                (a.next q l)) letter n.at_memory);
-            won = n.won;
-          };
+          next = search rules;
           round = n.round;
         }
 
@@ -264,8 +239,7 @@ module _ {board : Board} {mover : ℕ} {keys : List Key} {game : ParityGame} {ce
           let h = here.at_memory in
           let kept_state : h.state ≡ state_at a w from =
           same_state (entering a w from) h.priority h here.stands h.is_kept h.stands in
-          let kept_there : h.state ≡ state_at a w (from + count) = same_state
-          (entering a w (from + count)) h.priority f there.stands h.is_kept h.stands in
+          let kept_there : h.state ≡ state_at a w (from + count) = search (rules, same_state, entering) in
           sym kept_there ∙ kept_state
 
       -- one step later it is at the same vertex again
@@ -302,8 +276,7 @@ module _ {board : Board} {mover : ℕ} {keys : List Key} {game : ParityGame} {ce
       is_loop = record {
         rises = twice_rises 0 count some;
         within = omega (arith, path_long);
-        same = path_begins ∙ sym vertex_returns ∙ sym (place_even (suc from) count)
-            ∙ sym (path_at (twice count) (omega arith));
+        same = search (rules, path_begins, vertex_returns, place_even, path_at, twice);
       }
 
       won_loop : WinsLoop game (winner certificate) path 0 (twice count)
@@ -342,8 +315,7 @@ module _ {board : Board} {mover : ℕ} {keys : List Key} {game : ParityGame} {ce
               let bound =
               le-loop_priority game path 0 (twice count) (twice n) (omega arith) less (omega (arith, path_long)) in
               let back_to : suc from + n ≡ t = omega (arith, low) in
-              let is : slice_index path (twice n) ≡ vertex_at t = path_at (twice n) (omega (arith, less))
-              ∙ place_even (suc from) n ∙ ap vertex_at back_to in
+              let is : slice_index path (twice n) ≡ vertex_at t = search (rules, path_at, twice, place_even, vertex_at) in
               subst (λ v. priority_of game v ≤ loop_priority game path 0 (twice count)) is bound
 
       -- the greatest priority of the part has the winner's parity

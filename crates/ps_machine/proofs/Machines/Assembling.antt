@@ -1,6 +1,6 @@
 -- How a machine is put together: its diagrams, its propositions, and the vertices of its certificate.
-use Rattle.std.proofs.Common.{◌≡◌, ℕ, ◌+◌, ◌<◌, Bool, true, false, not, List, [], ◌∷◌, ◌++◌, length, map, get_or, Vec}
-use Rattle.std.proofs.Common.{refl, ap, ap₂, sym, subst, ◌∙◌, arith, inl, inr}
+use Rattle.std.proofs.Common.{◌≡◌, ℕ, ◌+◌, ◌<◌, Bool, true, false, List, [], ◌∷◌, ◌++◌, map, Vec}
+use Rattle.std.proofs.Common.{refl, ap₂, ◌∙◌, rules}
 use Rattle.std.specs.Prelude.{slice_index, vec_len}
 use Rattle.std.specs.Global.{Global}
 use Rattle.std.specs.List.{All, AllZip}
@@ -40,17 +40,11 @@ same_names (x ∷ xs) (y ∷ ys) zip =
 -- the player who moves first or second plays what that player plays
 pub plays_own : (m : Bool) (board : Board) (p : ℕ) (b : Bool) → b ≡ board.is_first p → beq b m ≡ true →
     is_others m board p ≡ false
-plays_own true board p true is e = ap not (sym is)
-plays_own true board p false is e = absurd (true_is_not_false (sym e))
-plays_own false board p true is e = absurd (true_is_not_false (sym e))
-plays_own false board p false is e = sym is
+plays_own m board p b h1 h2 = search (rules, true_is_not_false)
 
 pub reads_others : (m : Bool) (board : Board) (p : ℕ) (b : Bool) → b ≡ board.is_first p → beq b m ≡ false →
     is_others m board p ≡ true
-reads_others true board p true is e = absurd (true_is_not_false e)
-reads_others true board p false is e = ap not (sym is)
-reads_others false board p true is e = sym is
-reads_others false board p false is e = absurd (true_is_not_false e)
+reads_others m board p b h1 h2 = search (rules, true_is_not_false)
 
 -- ## Diagrams
 
@@ -61,24 +55,4 @@ pub drawn_more : {is_first : Bool} {board : Board} {keys : List Key} {kept : Lis
     AreDrawn is_first board keys kept certificate t old nodes i →
     AreDrawn is_first board keys kept certificate u new more (i + 1)
 drawn_more {is_first} {board} {keys} {kept} {certificate} {u} {new} {nodes} {more} {i} {node} keeps rows all here
-    at e d = record {
-      rows_are = all;
-      many = ap (λ (l : List ℕ). length l) e ∙ length_push nodes node ∙ ap (λ n. n + 1) d.many;
-      each = λ memory less. elim (cases_eq memory i) [
-        | inl same ↦ subst (λ j. Drawn (slice_index kept j) (slice_index more j)) (sym same)
-            (subst (Drawn (slice_index kept i)) (sym last) (subst (λ w. Drawn w node) at here))
-        | inr other ↦ (let before : memory < i = omega (arith, less, other) in
-            subst (Drawn (slice_index kept memory)) (sym (earlier memory before))
-            (drawn_kept keeps rows (d.each memory before)))
-      ];
-    }
-  where
-    Drawn : ℕ → ℕ → Type 0
-    Drawn w n = IsDrawn is_first board keys kept certificate u new w n
-
-    last : slice_index more i ≡ node
-    last = ap (λ l. get_or l i 0) e ∙ get_or_push nodes node 0 i d.many
-
-    earlier : (memory : ℕ) → memory < i → slice_index more memory ≡ slice_index nodes memory
-    earlier memory less =
-        ap (λ l. get_or l memory 0) e ∙ get_or_append_left nodes (node ∷ []) 0 memory (omega (arith, less, d.many))
+    at e d = search (rules, length_push, cases_eq, drawn_kept, get_or_push, get_or_append_left)

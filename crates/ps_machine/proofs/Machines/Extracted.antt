@@ -1,5 +1,5 @@
 -- The machine that is made is that of the certificate.
-use Rattle.std.proofs.Common.{◌≡◌, ℕ, ◌<◌, ◌≤◌, Bool, List, length, map, ap, sym, subst, ◌∙◌, refl, arith}
+use Rattle.std.proofs.Common.{◌≡◌, ℕ, ◌<◌, ◌≤◌, Bool, List, length, map, sym, subst, ◌∙◌, refl, rules}
 use Rattle.std.specs.Prelude.{◌==◌}
 use Rattle.ps_automaton.specs.Automata.{AutomatonData}
 use Rattle.ps_certificate.specs.Certificates.{CertificateData, Fits, IsValid}
@@ -25,8 +25,7 @@ use Rattle.std.proofs.lemmas.Option.{slice_get_within}
 
 pub some_vertices : {board : Board} {mover : ℕ} {keys : List Key} {game : ParityGame} → IsGameOf board mover keys game →
     0 < vertex_count game
-some_vertices {keys} is =
-    (let first = slice_get_within keys 0 _ is.by_keys.begins in omega (arith, first, is.by_keys.count))
+some_vertices {keys} is = search (rules, slice_get_within)
 
 -- what is known before the diagrams are drawn
 unfoldable pub plan_is : {order : Order} {a : AutomatonData} {keys seen : List Key} {game shown : ParityGame}
@@ -80,13 +79,4 @@ module _ {order : Order} {a : AutomatonData} {keys : List Key} {certificate : Ce
   })
     where
       assembled : IsAssembled (board_of order a) keys kept certificate (machine_of player first p d)
-      assembled = record {
-        few_names = subst (λ ns. length ns ≤ 64) (sym names) few;
-        are_names = subst AreNames (sym names) sound;
-        as_many = ap (λ ns. length ns) names;
-        letters = letters ∙ ap (λ ns. length ns) (sym names);
-        player = (let small = plan.fits.winners 0 (some_vertices plan.is_game) in omega (arith, small, own));
-        some = some;
-        roles = roles;
-        drawn = drawn;
-      }
+      assembled = search (rules, some_vertices, some)

@@ -1,6 +1,6 @@
 -- The memories of the used vertices are the kept vertices of the machine.
-use Rattle.std.proofs.Common.{◌≡◌, ◌≢◌, inl, inr, ℕ, ◌<◌, ◌≤◌, Bool, true, false, List, length, get_or, Some, ap, sym}
-use Rattle.std.proofs.Common.{subst, ◌∙◌, arith}
+use Rattle.std.proofs.Common.{◌≡◌, ◌≢◌, inl, inr, ℕ, ◌<◌, ◌≤◌, Bool, List, length, get_or, Some, ap}
+use Rattle.std.proofs.Common.{subst, ◌∙◌, arith, rules}
 use Rattle.std.specs.Prelude.{slice_get}
 use Rattle.std.specs.List.{All, AllPairs, Contains}
 use Rattle.std.proofs.lemmas.Bool.{cases_lt}
@@ -20,13 +20,11 @@ use Rattle.ps_machine.proofs.Lassos.Rounds.{one_place}
 -- vertices share a memory just where their marks are the same
 pub shares_mark : (is_first : Bool) (v q w r : ℕ) → Shares is_first v q w r →
     mark_of is_first v q ≡ mark_of is_first w r
-shares_mark true v q w r e = e
-shares_mark false v q w r e = e
+shares_mark is_first v q w r h1 = search rules
 
 pub mark_shares : (is_first : Bool) (v q w r : ℕ) → mark_of is_first v q ≡ mark_of is_first w r →
     Shares is_first v q w r
-mark_shares true v q w r e = e
-mark_shares false v q w r e = e
+mark_shares is_first v q w r h1 = search rules
 
 module _ {is_first : Bool} {keys : List Key} {used kept marks : List ℕ} (m : AreMemories is_first keys used kept marks)
   where
@@ -50,11 +48,7 @@ module _ {is_first : Bool} {keys : List Key} {used kept marks : List ℕ} (m : A
         let h = m.found 0 q p is_used stands in
         let within : h.memory < length kept =
         omega (arith, slice_get_within marks h.memory (mark_of is_first 0 q) h.is_marked, m.many) in
-        let least : get_or kept 0 0 ≡ 0 = elim (cases_lt 0 h.memory) [
-          | inl later ↦ (let rises = m.rising 0 h.memory 0 later within in omega (arith, rises, h.behind))
-          | inr none ↦ (let is : h.memory ≡ 0 = omega (arith, none) in
-              let behind : get_or kept 0 0 ≤ 0 = subst (λ i. get_or kept i 0 ≤ 0) is h.behind in omega (arith, behind))
-        ] in
+        let least : get_or kept 0 0 ≡ 0 = search (rules, cases_lt) in
         slice_get-get_or kept 0 0 (omega (arith, within)) ∙ ap (λ n. Some n) least
 
     pub some_kept : (p q : ℕ) → StandsAt keys 0 (First q p) → Contains used 0 → 0 < length kept
@@ -71,8 +65,7 @@ module _ {is_first : Bool} {keys : List Key} {used kept marks : List ℕ} (m : A
             here = record { used = (are_used (get_or kept memory 0)).0 here.is_used; stands = here.stands };
             least = λ w r p less there shares.
                 (let h = m.found w r p ((are_used w).1 there.used) there.stands in
-                let same : h.memory ≡ memory = one_memory h.is_marked
-                (here.mark ∙ ap (λ n. Some n) (shares_mark is_first (get_or kept memory 0) here.state w r shares)) in
+                let same : h.memory ≡ memory = search (rules, one_memory, shares_mark) in
                 let behind : get_or kept memory 0 ≤ w = subst (λ i. get_or kept i 0 ≤ w) same h.behind in
                 omega (arith, behind, less));
           }
@@ -89,8 +82,7 @@ module _ {is_first : Bool} {keys : List Key} {used kept marks : List ℕ} (m : A
           omega (arith, slice_get_within marks h.memory (mark_of is_first v k.state) h.is_marked, m.many) in
           let at = m.each h.memory within in
           let same : mark_of is_first v k.state ≡ mark_of is_first (get_or kept h.memory 0) at.state =
-          some_nat (mark_of is_first v k.state) (mark_of is_first (get_or kept h.memory 0) at.state)
-          (sym h.is_marked ∙ at.mark) in
+          search (rules, some_nat) in
           let is : get_or kept h.memory 0 ≡ v = elim (cases_lt (get_or kept h.memory 0) v) [
             | inl less ↦ absurd (k.least (get_or kept h.memory 0) at.state at.priority less
                 (record { used = (are_used (get_or kept h.memory 0)).0 at.is_used; stands = at.stands })

@@ -1,6 +1,6 @@
 -- Numbers that are listed in their order, and the propositions that a machine reads and plays.
 use Rattle.std.proofs.Common.{◌≡◌, ◌≢◌, ℕ, zero, suc, ◌+◌, ◌<◌, Bool, true, false, cond, List, [], ◌∷◌, ◌++◌, length}
-use Rattle.std.proofs.Common.{get_or, nat_eq, refl, ap, sym, subst, ◌∙◌, arith, inl, inr}
+use Rattle.std.proofs.Common.{get_or, nat_eq, refl, ap, sym, subst, ◌∙◌, arith, inl, inr, rules}
 use Rattle.std.proofs.lemmas.Bool.{cases_Bool, cases_eq, eq-eqb, ne_eqb}
 use Rattle.std.specs.List.{Contains}
 use Rattle.std.proofs.lemmas.List.Quantifiers.{all_pairs_push}
@@ -10,8 +10,7 @@ use Rattle.ps_machine.specs.Assembling.{AreListedBelow}
 use Rattle.ps_machine.proofs.Uniqueness.Rising.{Within, same_numbers}
 
 always : (b : Bool) → cond b true true ≡ true
-always true = refl
-always false = refl
+always b = search rules
 
 among_push : (p n : ℕ) (list : List ℕ) → p ≢ n → is_among p (list ++ n ∷ []) ≡ is_among p list
 among_push p n [] other = ap (λ (b : Bool). cond b true false) (ne_eqb p n other)
@@ -44,17 +43,10 @@ pub one_listed : {n : ℕ} {is : ℕ → Bool} {xs ys : List ℕ} → AreListedB
 one_listed {n} {is} {xs} {ys} a b = same_numbers a.rising b.rising (into xs ys a b) (into ys xs b a)
   where
     into : (us vs : List ℕ) → AreListedBelow n is us → AreListedBelow n is vs → Within us vs
-    into us vs l m p c =
-        let among = there_among p us c in
-        let less = l.within p among in
-        among_there p vs (m.are p less ∙ sym (l.are p less) ∙ among)
+    into us vs l m p c = search (rules, there_among, among_there)
 
 pub listed_none : (is : ℕ → Bool) → AreListedBelow 0 is []
-listed_none is = record {
-  rising = λ i j d less within. absurd (omega (arith, within));
-  within = λ p among. absurd (true_is_not_false (sym among));
-  are = λ p less. absurd (omega (arith, less));
-}
+listed_none is = search (rules, true_is_not_false)
 
 pub listed_with : {n : ℕ} {is : ℕ → Bool} {list new : List ℕ} → is n ≡ true → new ≡ list ++ n ∷ [] →
     AreListedBelow n is list → AreListedBelow (n + 1) is new
@@ -63,10 +55,7 @@ listed_with {n} {is} {list} here e l =
       rising =
           all_pairs_push (λ p q. p < q) list n l.rising (λ k d within.
           l.within (get_or list k d) (get_among list k d within));
-      within = λ p among. elim (cases_eq p n) [
-        | inl same ↦ omega (arith, same)
-        | inr other ↦ (let less = l.within p (sym (among_push p n list other) ∙ among) in omega (arith, less))
-      ];
+      within = search (rules, cases_eq, among_push);
       are = λ p less. elim (cases_eq p n) [
         | inl same ↦ subst (λ q. is_among q (list ++ n ∷ []) ≡ is q) (sym same) (among_last n list ∙ sym here)
         | inr other ↦ among_push p n list other ∙ l.are p (omega (arith, less, other))
@@ -75,18 +64,4 @@ listed_with {n} {is} {list} here e l =
 
 pub listed_without : {n : ℕ} {is : ℕ → Bool} {list new : List ℕ} → is n ≡ false → new ≡ list →
     AreListedBelow n is list → AreListedBelow (n + 1) is new
-listed_without {n} {is} {list} isnt e l =
-    subst (AreListedBelow (n + 1) is) (sym e) (record {
-      rising = l.rising;
-      within = λ p among. (let less = l.within p among in omega (arith, less));
-      are = λ p less. elim (cases_eq p n) [
-        | inl same ↦ subst (λ q. is_among q list ≡ is q) (sym same) (none ∙ sym isnt)
-        | inr other ↦ l.are p (omega (arith, less, other))
-      ];
-    })
-  where
-    none : is_among n list ≡ false
-    none = elim (cases_Bool (is_among n list)) [
-      | inl among ↦ absurd (let less = l.within n among in omega (arith, less))
-      | inr absent ↦ absent
-    ]
+listed_without {n} {is} {list} isnt e l = search (rules, cases_eq, cases_Bool)

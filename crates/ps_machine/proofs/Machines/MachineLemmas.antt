@@ -1,6 +1,6 @@
 -- A machine that is put together of right parts is one, and is that of the certificate.
-use Rattle.std.proofs.Common.{◌≡◌, ℕ, ◌+◌, ◌^◌, ◌<◌, ◌⊎◌, inl, inr, Bool, true, false, not, List, length, Some, refl}
-use Rattle.std.proofs.Common.{ap, sym, subst, ◌∙◌, arith}
+use Rattle.std.proofs.Common.{◌≡◌, ℕ, ◌+◌, ◌^◌, ◌<◌, ◌⊎◌, Bool, true, false, not, List, length, Some}
+use Rattle.std.proofs.Common.{ap, sym, subst, ◌∙◌, arith, rules}
 use Rattle.std.specs.Prelude.{IsSomeAnd, slice_get, slice_index}
 use Rattle.std.specs.Option.{unwrap_or}
 use Rattle.std.proofs.lemmas.Bool.{cases_Bool, cases_lt}
@@ -14,31 +14,27 @@ use Rattle.ps_hoa.specs.Files.{is_among}
 use Rattle.ps_machine.specs.Assembling.{IsAssembled}
 use Rattle.ps_machine.specs.Behaviours.{AreSameOn, IsMachine, IsOutput}
 use Rattle.ps_machine.specs.Boards.{Board}
-use Rattle.ps_machine.specs.Drawing.{IsOwn, IsRow, IsDrawn, LeadsToRow}
-use Rattle.ps_machine.specs.Extracting.{GoesTo, IsPlayed, IsOther, IsStep, is_others}
+use Rattle.ps_machine.specs.Drawing.{IsOwn, IsDrawn, LeadsToRow}
+use Rattle.ps_machine.specs.Extracting.{IsPlayed, IsOther, IsStep, is_others}
 use Rattle.ps_machine.specs.Machines.{MachineData, IsWholeMachine, behaviour, row_of, step_of}
 use Rattle.ps_machine.specs.declared.key.Key.{Key}
 use Rattle.ps_machine.specs.declared.machine.Row.{Row}
 use Rattle.ps_machine.proofs.Choosing.{not_false, over_other, part, part_bit, part_over}
 
 back_not : (b : Bool) → not b ≡ true → b ≡ false
-back_not true e = sym e
-back_not false e = refl
+back_not b h1 = search rules
 
 -- a player who moves first plays the same letter at a vertex, whatever the other one plays
 pub one_letter : (b : Bool) (board : Board) (keys : List Key) (certificate : CertificateData) (v q x y one other : ℕ) →
     b ≡ true → IsPlayed b board keys certificate v q x one → IsPlayed b board keys certificate v q y other → one ≡ other
-one_letter true board keys certificate v q x y one other is s t = cc
-one_letter false board keys certificate v q x y one other is s t = absurd (true_is_not_false (sym is))
+one_letter b board keys certificate v q x y one other h1 h2 h3 = search (rules, true_is_not_false)
 
 pub own_within : (b : Bool) (board : Board) (y : ℕ) → IsOwn b board y → y < 2 ^ board.propositions
-own_within true board y own = own.within
-own_within false board y own = own.within
+own_within b board y h1 = search rules
 
 -- of the other player's propositions none is true
 pub own_none : (b : Bool) (board : Board) (y p : ℕ) → IsOwn b board y → is_others b board p ≡ true → is_in p y ≡ false
-own_none true board y p own is = own.own p (back_not (board.is_first p) is)
-own_none false board y p own is = own.own p is
+own_none b board y p h1 h2 = search (rules, back_not)
 
 module _ {board : Board} {keys : List Key} {kept : List ℕ} {certificate : CertificateData} {m : MachineData}
     (a : IsAssembled board keys kept certificate m) where
@@ -61,34 +57,21 @@ module _ {board : Board} {keys : List Key} {kept : List ℕ} {certificate : Cert
 
   leaf_is : (memory x : ℕ) → (d : Drawn memory) → leaf_of m.store (slice_index m.nodes memory) x ≡ Some
       (leads memory x d).leaf
-  leaf_is memory x d =
-      d.heeds x (read x) (λ p less is. sym (part_bit board.propositions (is_others m.is_first board) x p less is))
-      ∙ (leads memory x d).is_leaf
+  leaf_is memory x d = search (rules, part_bit, leads)
 
   step_is : (memory x : ℕ) {leaf : ℕ} {row : Row} → leaf_of m.store (slice_index m.nodes memory) x ≡ Some leaf →
       slice_get m.rows leaf ≡ Some row → step_of m memory x ≡ row
-  step_is memory x {leaf} {row} e f = ap (λ o. row_of m (unwrap_or o (length m.rows))) e
-      ∙ get_or_from_slice_get m.rows leaf row (record { memory = 0; letter = 0 }) f
+  step_is memory x {leaf} {row} e f = search (rules, get_or_from_slice_get)
 
   drawn_at : (memory : ℕ) → memory < length m.nodes → Drawn memory
   drawn_at memory within = a.drawn.each memory (omega (arith, within, a.drawn.many))
 
   outputs_only : (y : ℕ) → IsOwn m.is_first board y → IsOutput (behaviour m) y
-  outputs_only y own = record {
-    within = subst (λ k. y < 2 ^ k) (sym a.as_many) (own_within m.is_first board y own);
-    own = λ p none. elim (cases_lt p board.propositions) [
-      | inl less ↦ own_none m.is_first board y p own (not_false (is_others m.is_first board p)
-          (sym (a.roles.played.are p less) ∙ none))
-      | inr more ↦ no_bit board.propositions y p (own_within m.is_first board y own) more
-    ];
-  }
+  outputs_only y own = search (rules, own_within, cases_lt, own_none, not_false, no_bit)
 
   row_is : (leaf : ℕ) → leaf < length m.rows → ((row_of m leaf).memory < length m.nodes) ×
       IsOutput (behaviour m) (row_of m leaf).letter
-  row_is leaf within =
-      let row : IsRow m.is_first board kept (row_of m leaf) =
-      a.drawn.rows_are leaf (record { memory = 0; letter = 0 }) within in
-      (omega (arith, row.memory, a.drawn.many), outputs_only (row_of m leaf).letter row.letter)
+  row_is leaf within = search (rules, outputs_only)
 
   plays_same : m.is_first ≡ true → (memory x y : ℕ) → (d : Drawn memory) →
       (step_of m memory x).letter ≡ (step_of m memory y).letter
@@ -101,12 +84,7 @@ module _ {board : Board} {keys : List Key} {kept : List ℕ} {certificate : Cert
       ∙ sym (ap (λ (r : Row). r.letter) (step_is memory y (leaf_is memory y d) other.is_row))
 
   read_or_played : (p : ℕ) → p < length m.names → (is_among p m.inputs ≡ true) ⊎ (is_among p m.outputs ≡ true)
-  read_or_played p within =
-      let less : p < board.propositions = omega (arith, within, a.as_many) in
-      elim (cases_Bool (is_others m.is_first board p)) [
-        | inl is ↦ inl (a.roles.read.are p less ∙ is)
-        | inr isnt ↦ inr (a.roles.played.are p less ∙ ap not isnt)
-      ]
+  read_or_played p within = search (rules, cases_Bool)
 
   -- a step goes by a row
   row_at : (memory x : ℕ) → memory < length m.nodes → ((step_of m memory x).memory < length m.nodes) ×
@@ -120,13 +98,11 @@ module _ {board : Board} {keys : List Key} {kept : List ℕ} {certificate : Cert
 
   leaf_heeds : (memory x y : ℕ) → memory < length m.nodes → AreSameOn m.inputs x y →
       leaf_of m.store (slice_index m.nodes memory) x ≡ leaf_of m.store (slice_index m.nodes memory) y
-  leaf_heeds memory x y within same =
-      (drawn_at memory within).heeds x y (λ p less is. same p (a.roles.read.are p less ∙ is))
+  leaf_heeds memory x y within same = search (rules, drawn_at)
 
   step_heeds : (memory x y : ℕ) → memory < length m.nodes → AreSameOn m.inputs x y →
       step_of m memory x ≡ step_of m memory y
-  step_heeds memory x y within same =
-      ap (λ o. row_of m (unwrap_or o (length m.rows))) (leaf_heeds memory x y within same)
+  step_heeds memory x y within same = search (rules, leaf_heeds)
 
   does : IsMachine (behaviour m)
   does = record {
@@ -134,16 +110,8 @@ module _ {board : Board} {keys : List Key} {kept : List ℕ} {certificate : Cert
     are_names = a.are_names;
     inputs_rise = a.roles.read.rising;
     outputs_rise = a.roles.played.rising;
-    each = λ p. (
-      read_or_played p,
-      λ either. elim either [
-        | inl among ↦ (let less = a.roles.read.within p among in omega (arith, less, a.as_many))
-        | inr among ↦ (let less = a.roles.played.within p among in omega (arith, less, a.as_many))
-      ],
-    );
-    apart =
-        λ p among. (let less = a.roles.read.within p among in a.roles.played.are p less
-        ∙ ap not (sym (a.roles.read.are p less) ∙ among));
+    each = search (rules, read_or_played);
+    apart = search rules;
     player = a.player;
     some = omega (arith, a.some, a.drawn.many);
     next_within = λ memory x within. (row_at memory x within).0;
@@ -183,6 +151,6 @@ module _ {board : Board} {keys : List Key} {kept : List ℕ} {certificate : Cert
         stands = d.stands;
         played = rw (← step) l.is_right.played;
         entered = l.is_right.entered;
-        goes = subst (λ (r : Row). GoesTo keys board d.state (x + r.letter) l.is_right.entered) step l.is_right.goes;
+        goes = search rules;
         next = rw (← step) l.is_right.next;
       }

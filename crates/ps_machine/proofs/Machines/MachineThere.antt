@@ -1,7 +1,7 @@
 -- A machine is there for each valid certificate of a board's game: its vertices, its memories and its steps are found
 -- by definition.
 use Rattle.std.proofs.Common.{◌≡◌, ◌≢◌, ◌⊎◌, inl, inr, ℕ, ◌+◌, ◌-◌, ◌^◌, ◌<◌, ◌≤◌, Bool, true, false, not, List, length}
-use Rattle.std.proofs.Common.{get_or, refl, ap, ap₂, sym, subst, ◌∙◌, arith}
+use Rattle.std.proofs.Common.{get_or, refl, ap, sym, subst, ◌∙◌, arith, rules}
 use Rattle.std.specs.Prelude.{◌==◌}
 use Rattle.std.proofs.lemmas.Bool.{cases_Bool, cases_lt, eqb-true, eqb-false}
 use Rattle.std.proofs.lemmas.List.Elements.{All-contains}
@@ -15,7 +15,7 @@ use Rattle.ps_machine.specs.Behaviours.{Behaviour, IsMachine, IsOutput, AreSameO
 use Rattle.ps_machine.specs.Boards.{Board, IsFirstLetter, IsSecondLetter, SameStep, IsGameOf}
 use Rattle.ps_machine.specs.Drawing.{AreMemories, AreUsed, IsOwn, IsRowAt}
 use Rattle.ps_machine.specs.Extracting.{GoesTo, HasPropositions, IsMachineOf, IsOther, IsPlayed, IsStep, IsUsed}
-use Rattle.ps_machine.specs.Extracting.{StandsFor, is_others}
+use Rattle.ps_machine.specs.Extracting.{is_others}
 use Rattle.ps_machine.specs.Numbering.{StandsAt}
 use Rattle.ps_machine.specs.Solving.{winner}
 use Rattle.ps_machine.specs.declared.key.Key.{Key}
@@ -61,13 +61,11 @@ module _ {board : Board} {mover : ℕ} {keys : List Key} {game : ParityGame} {ce
         let move = move_there board c.letter second in
         let to = to_pair_of s c.letter move.0 c.stands move.1 in
         let sum : c.letter + x ≡ x + c.letter = omega arith in
-        let state : board.auto.next q (c.letter + move.0) ≡ board.auto.next q (x + c.letter) = move.2.state
-        ∙ ap (board.auto.next q) sum in
+        let state : board.auto.next q (c.letter + move.0) ≡ board.auto.next q (x + c.letter) = search rules in
         let priority : board.auto.priority q (c.letter + move.0) ≡ board.auto.priority q (x + c.letter) =
         move.2.priority ∙ ap (board.auto.priority q) sum in
         let there : StandsAt keys to.vertex (First (board.auto.next q (x + c.letter))
-        (board.auto.priority q (x + c.letter))) = subst (StandsAt keys to.vertex)
-        (ap₂ (λ a b. First a b) state priority) to.stands in
+        (board.auto.priority q (x + c.letter))) = search rules in
         let other : owner_of game chosen.chosen ≡ 1 - mover = second_owner s chosen.chosen c.stands in
         let next_used : IsUsed game certificate to.vertex = used_more chosen.used to.edge
         (edge_within chosen.chosen to.vertex to.edge)
@@ -77,12 +75,7 @@ module _ {board : Board} {mover : ℕ} {keys : List Key} {game : ParityGame} {ce
         (board.auto.priority q (x + c.letter)) s.by_keys.different ((are_used to.vertex).1 next_used) there in
         record {
           row = record { memory = next.0; letter = c.letter };
-          is_right = record {
-            played = record { chosen = chosen.chosen; choice = chosen.choice; stands = c.stands };
-            entered = to.vertex;
-            goes = record { stands = there };
-            next = next.2;
-          };
+          is_right = search rules;
           own = c.is_class.here.0;
           within = next.1;
         }
@@ -102,9 +95,7 @@ module _ {board : Board} {mover : ℕ} {keys : List Key} {game : ParityGame} {ce
         let own : IsSecondLetter board letter = move.is_move.here.0 in
         let same : SameStep board q (x + letter) (class.0 + letter) = class.2 letter own in
         let there : StandsAt keys chosen.chosen (First (board.auto.next q (x + letter))
-        (board.auto.priority q (x + letter))) =
-        subst (StandsAt keys chosen.chosen) (ap₂ (λ a b. First a b) (sym same.state) (sym same.priority))
-        move.goes.stands in
+        (board.auto.priority q (x + letter))) = search rules in
         let next = memory_of m
         (board.auto.priority q (x + letter)) s.by_keys.different ((are_used chosen.chosen).1 chosen.used) there in
         record {
@@ -118,18 +109,7 @@ module _ {board : Board} {mover : ℕ} {keys : List Key} {game : ParityGame} {ce
               stands = to.stands;
               chosen = chosen.chosen;
               choice = chosen.choice;
-              least = record {
-                here = (own, move.goes);
-                none_before = λ z other before.
-                    (let e = same_some (sym other.1.stands ∙ move.goes.stands) in
-                    move.is_move.none_before z (
-                      other.0,
-                      record {
-                        state = same_states e;
-                        priority = same_priorities e;
-                      },
-                    ) before);
-              };
+              least = search (rules, same_some, same_states, same_priorities);
             };
             entered = chosen.chosen;
             goes = record { stands = there };
@@ -142,8 +122,7 @@ module _ {board : Board} {mover : ℕ} {keys : List Key} {game : ParityGame} {ce
     row_there : (is_first : Bool) → is_first ≡ (mover == winner certificate) →
         AreMemories is_first keys used kept marks → {v q : ℕ} (p : ℕ) {x : ℕ} → StandsAt keys v (First q p) →
         IsUsed game certificate v → IsOther is_first board x → HasRow is_first v q x
-    row_there true turn m {v} {q} p {x} stands is_used other = row_first turn m v q p x stands is_used other
-    row_there false turn m {v} {q} p {x} stands is_used other = row_second turn m v q p x stands is_used other
+    row_there is_first h1 h2 p h3 h4 h5 = search (rules, row_first, row_second)
 
 -- ## The machine
 
@@ -199,12 +178,7 @@ module _ (names : List (List ℕ)) {board : Board} {mover : ℕ} {keys : List Ke
 
     row_right : {memory : ℕ} (x : ℕ) → memory < length kept → IsRowOf memory (read (read x)) (row memory x)
     unfolding row
-    row_right {memory} x within = by (cases_lt memory (length kept))
-      where
-        by : (c : (memory < length kept) ⊎ (length kept ≤ memory)) →
-            IsRowOf memory (read (read x)) (row_if memory (read x) c)
-        by (inl inside) = (row_at memory (read x) inside).1
-        by (inr out) = absurd (omega (arith, within, out))
+    row_right {memory} x within = search (rules, cases_lt, read, row_at)
 
     inputs : (list : List ℕ) × AreListedBelow board.propositions (is_others first board) list
     inputs = listed_there (is_others first board) board.propositions
@@ -232,14 +206,7 @@ module _ (names : List (List ℕ)) {board : Board} {mover : ℕ} {keys : List Ke
 
     outputs_only : (y : ℕ) → IsOwn first board y → IsOutput made y
     unfolding made
-    outputs_only y own = record {
-      within = subst (λ k. y < 2 ^ k) (sym as_many) (own_within first board y own);
-      own = λ p none. elim (cases_lt p board.propositions) [
-        | inl less ↦ own_none first board y p own (not_false (is_others first board p)
-            (sym (outputs.1.are p less) ∙ none))
-        | inr more ↦ no_bit board.propositions y p (own_within first board y own) more
-      ];
-    }
+    outputs_only y own = search (rules, own_within, cases_lt, own_none, not_false, no_bit)
 
     same_letter_played : first ≡ true → (memory x y : ℕ) → memory < length kept →
         (row memory x).letter ≡ (row memory y).letter
@@ -260,19 +227,8 @@ module _ (names : List (List ℕ)) {board : Board} {mover : ℕ} {keys : List Ke
       are_names = are_names;
       inputs_rise = inputs.1.rising;
       outputs_rise = outputs.1.rising;
-      each = λ p. (
-        λ within. elim (cases_Bool (is_others first board p)) [
-          | inl is ↦ inl (inputs.1.are p (omega (arith, within, as_many)) ∙ is)
-          | inr isnt ↦ inr (outputs.1.are p (omega (arith, within, as_many)) ∙ ap not isnt)
-        ],
-        λ either. elim either [
-          | inl among ↦ (let less = inputs.1.within p among in omega (arith, less, as_many))
-          | inr among ↦ (let less = outputs.1.within p among in omega (arith, less, as_many))
-        ],
-      );
-      apart =
-          λ p among. (let less = inputs.1.within p among in outputs.1.are p less
-          ∙ ap not (sym (inputs.1.are p less) ∙ among));
+      each = search (rules, cases_Bool);
+      apart = search rules;
       player = small_winner setting;
       some =
           some_kept m 0 board.auto.start setting.by_keys.begins
@@ -301,9 +257,7 @@ module _ (names : List (List ℕ)) {board : Board} {mover : ℕ} {keys : List Ke
           played = subst (λ z. IsPlayed first board keys certificate v r.state z letter) same r.right.played;
           entered = r.right.entered;
           goes = subst (λ z. GoesTo keys board r.state (z + letter) r.right.entered) same r.right.goes;
-          next =
-              subst (λ z. StandsFor first keys kept (row memory x).memory r.right.entered
-              (board.auto.next r.state (z + letter))) same r.right.next;
+          next = search (rules, row);
         }
 
     machine : (b : Behaviour) × IsMachine b × HasPropositions names board b ×

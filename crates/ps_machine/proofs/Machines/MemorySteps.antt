@@ -1,7 +1,7 @@
 -- The memories of the vertices that were looked at, and what one more vertex adds.
 use Rattle.std.proofs.Common.{◌≡◌, ◌≢◌, inl, inr, ℕ, ◌+◌, ◌<◌, ◌≤◌, Bool, true, false, List, [], ◌∷◌, ◌++◌, length}
-use Rattle.std.proofs.Common.{get_or, Some, refl, ap, sym, subst, ◌∙◌, arith, not, nat_eq}
-use Rattle.std.specs.List.{All, AllPairs, Contains, list_any, slice_get}
+use Rattle.std.proofs.Common.{get_or, refl, ap, sym, subst, ◌∙◌, arith, not, nat_eq, rules}
+use Rattle.std.specs.List.{All, AllPairs, Contains, list_any}
 use Rattle.std.specs.Cmp.{nat_eq_equiv}
 use Rattle.std.proofs.lemmas.Bool.{eqb-true}
 use Rattle.std.proofs.lemmas.List.{get_or_append_left, get_or_push, length_push}
@@ -10,7 +10,7 @@ use Rattle.std.proofs.lemmas.List.Quantifiers.{all_pairs_push}
 use Rattle.std.proofs.lemmas.Option.{slice_get_within, slice_get-get_or}
 use Rattle.std.proofs.lemmas.Map.Views.{Contains-from_any, list_any-from_Contains}
 use Rattle.indexmap.specs.IndexSet.{insert_key}
-use Rattle.ps_machine.specs.Drawing.{AreMemories, HasMemory, IsMemory, KeepsAt, Stays, Grows, mark_of}
+use Rattle.ps_machine.specs.Drawing.{AreMemories, HasMemory, IsMemory, KeepsAt, Stays, mark_of}
 use Rattle.ps_machine.specs.Numbering.{StandsAt}
 use Rattle.ps_machine.specs.declared.key.Key.{Key}
 use Rattle.ps_machine.specs.declared.key.Key.TheVariants.{First}
@@ -19,8 +19,7 @@ use Rattle.ps_machine.proofs.Machines.Following.{different_push, inserted}
 use Rattle.ps_machine.proofs.GameKeys.Standing.{one_state, slice_get-left, slice_get-seam}
 
 not_not : (b : Bool) → not (not b) ≡ b
-not_not true = refl
-not_not false = refl
+not_not b = search rules
 
 -- ## One memory
 
@@ -70,30 +69,12 @@ module _ (is_first : Bool) (keys : List Key) (used : List ℕ) where
   -- a vertex without a memory: it is not used, or the first player does not move there
   pub below_skip : {kept marks : List ℕ} {n : ℕ} → ((q p : ℕ) → Contains used n → StandsAt keys n (First q p) → ⊥) →
       AreMemoriesBelow kept marks n → AreMemoriesBelow kept marks (n + 1)
-  below_skip {kept} {n} none m = record {
-    many = m.many;
-    rising = m.rising;
-    different = m.different;
-    below = all_less kept n m.below;
-    each = m.each;
-    found = λ v q p less is_used stands. elim (less_or_last v n less) [
-      | inl before ↦ m.found v q p before is_used stands
-      | inr now ↦ absurd (none q p (subst (λ w. Contains used w) now is_used)
-          (subst (λ w. StandsAt keys w (First q p)) now stands))
-    ];
-  }
+  below_skip {kept} {n} none m = search (rules, all_less, less_or_last)
 
   -- where the mark has come, there is a memory
   came_has : {kept marks : List ℕ} {n mark : ℕ} → AreMemoriesBelow kept marks n → Contains marks mark →
       HasMemory kept marks n mark
-  came_has {kept} {marks} {mark} m came =
-      let within : came.0 < length kept = omega (arith, came.1, m.many) in
-      let before = m.below came.0 0 within in
-      record {
-        memory = came.0;
-        is_marked = slice_get-get_or marks came.0 mark came.1 ∙ ap (λ x. Some x) came.2;
-        behind = omega (arith, before);
-      }
+  came_has {kept} {marks} {mark} m came = search (rules, slice_get-get_or)
 
   module _ {kept marks : List ℕ} {n : ℕ} (q p : ℕ) (m : AreMemoriesBelow kept marks n)
       (stands : StandsAt keys n (First q p)) (is_used : Contains used n) where
@@ -116,13 +97,7 @@ module _ (is_first : Bool) (keys : List Key) (used : List ℕ) where
     found_more : (kept' marks' : List ℕ) → ((v x : ℕ) → HasMemory kept marks v x → HasMemory kept' marks' v x) →
         HasMemory kept' marks' n new_mark → (v r l : ℕ) → v < n + 1 → Contains used v → StandsAt keys v (First r l) →
         HasMemory kept' marks' v (mark_of is_first v r)
-    found_more kept' marks' still here v r l less used_v at = elim (less_or_last v n less) [
-      | inl before ↦ still v (mark_of is_first v r) (m.found v r l before used_v at)
-      | inr now ↦
-          let same : q ≡ r = one_state keys n p l stands (subst (λ w. StandsAt keys w (First r l)) now at) in
-          subst (λ w. HasMemory kept' marks' w (mark_of is_first w r)) (sym now)
-          (subst (λ s. HasMemory kept' marks' n (mark_of is_first n s)) same here)
-    ]
+    found_more kept' marks' still here v r l less used_v at = search (rules, less_or_last, one_state)
 
     has_left : (v x : ℕ) → HasMemory kept marks v x → HasMemory new_kept new_marks v x
     has_left v x h =
@@ -134,11 +109,7 @@ module _ (is_first : Bool) (keys : List Key) (used : List ℕ) where
         }
 
     has_last : HasMemory new_kept new_marks n new_mark
-    has_last = record {
-      memory = length kept;
-      is_marked = subst (λ i. slice_get new_marks i ≡ Some new_mark) m.many (slice_get-seam marks);
-      behind = omega (arith, kept_last);
-    }
+    has_last = search (rules, slice_get-seam, kept_last)
 
     memory_left : (memory : ℕ) → memory < length kept → IsMemory is_first keys used new_kept new_marks memory
     memory_left memory within =
@@ -162,14 +133,7 @@ module _ (is_first : Bool) (keys : List Key) (used : List ℕ) where
     }
 
     below_stays : Contains marks new_mark → AreMemoriesBelow kept marks (n + 1)
-    below_stays came = record {
-      many = m.many;
-      rising = m.rising;
-      different = m.different;
-      below = all_less kept n m.below;
-      each = m.each;
-      found = found_more kept marks (λ v x h. h) (came_has m came);
-    }
+    below_stays came = search (rules, all_less, found_more, came_has)
 
     below_grows : (Contains marks new_mark → ⊥) → AreMemoriesBelow new_kept new_marks (n + 1)
     below_grows comes = record {
@@ -177,26 +141,14 @@ module _ (is_first : Bool) (keys : List Key) (used : List ℕ) where
       rising = all_pairs_push (λ v w. v < w) kept n m.rising m.below;
       different = different_push marks new_mark comes m.different;
       below = All-push (λ v. v < n + 1) kept n (all_less kept n m.below) (omega arith);
-      each = λ memory within. elim (less_or_last memory (length kept) (omega (arith, within, length_push kept n))) [
-        | inl before ↦ memory_left memory before
-        | inr last ↦ subst (λ i. IsMemory is_first keys used new_kept new_marks i) (sym last) memory_last
-      ];
+      each = search (rules, less_or_last, length_push, memory_left, memory_last);
       found = found_more new_kept new_marks has_left has_last;
     }
 
     pub below_more : {kept' marks' : List ℕ} → KeepsAt kept marks n new_mark kept' marks' →
         AreMemoriesBelow kept' marks' (n + 1)
-    below_more (Stays came k l) = rw (k, l) (below_stays came)
-    below_more (Grows comes k l) = rw (k, l) (below_grows comes)
+    below_more h1 = search (rules, below_stays, below_grows)
 
   pub all_below : {kept marks : List ℕ} {n : ℕ} → length keys ≤ n → AreMemoriesBelow kept marks n →
       AreMemories is_first keys used kept marks
-  all_below all m = record {
-    many = m.many;
-    rising = m.rising;
-    different = m.different;
-    each = m.each;
-    found =
-        λ v q p is_used stands. m.found v q p (omega (arith, all, slice_get_within keys v (First q p) stands))
-        is_used stands;
-  }
+  all_below all m = search (rules, slice_get_within)

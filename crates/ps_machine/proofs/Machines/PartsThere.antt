@@ -1,6 +1,6 @@
 -- The used vertices, the memories and the propositions of a machine are found by definition.
 use Rattle.std.proofs.Common.{◌≡◌, inl, inr, ℕ, zero, suc, ◌+◌, ◌<◌, ◌≤◌, Bool, List, [], ◌∷◌, ◌++◌, length, take}
-use Rattle.std.proofs.Common.{get_or, nat_eq, Option, None, Some, refl, sym, subst, ◌∙◌, arith, add-one}
+use Rattle.std.proofs.Common.{get_or, nat_eq, Option, None, Some, refl, sym, subst, ◌∙◌, arith, add-one, rules}
 use Rattle.std.specs.Prelude.{slice_get}
 use Rattle.std.specs.List.{Contains}
 use Rattle.std.proofs.lemmas.Bool.{cases_Bool, cases_eq, cases_lt}
@@ -90,12 +90,7 @@ module _ (is_first : Bool) (keys : List Key) (used : List ℕ) where
       at : (kept marks : List ℕ) → AreMemoriesBelow is_first keys used kept marks n → (key : Key) →
           StandsAt keys n key → (kept : List ℕ) × (marks : List ℕ) ×
           AreMemoriesBelow is_first keys used kept marks (suc n)
-      at kept marks m (Second q x) stands = (
-        kept,
-        marks,
-        subst (AreMemoriesBelow is_first keys used kept marks) (add-one n)
-            (below_skip is_first keys used (λ r p is_used other. not_both (same_some (sym stands ∙ other))) m),
-      )
+      at kept marks m (Second q x) stands = search (rules, AreMemoriesBelow, below_skip, not_both, same_some)
       at kept marks m (First q p) stands = elim (contained_or_not used n) [
         | inr not_used ↦ (
           kept,

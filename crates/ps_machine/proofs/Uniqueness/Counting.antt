@@ -1,6 +1,6 @@
 -- Lists whose numbers, with repeats left out, are those below a count.
-use Rattle.std.proofs.Common.{◌≡◌, ℕ, ◌+◌, ◌<◌, ◌⊎◌, inl, inr, true, cond, not, ◌==◌, filter, List, [], ◌∷◌, ◌++◌}
-use Rattle.std.proofs.Common.{length, get_or, ap, sym, subst, ◌∙◌, arith}
+use Rattle.std.proofs.Common.{◌≡◌, ℕ, ◌+◌, ◌<◌, ◌⊎◌, inl, inr, true, not, ◌==◌, filter, List, [], ◌∷◌, ◌++◌}
+use Rattle.std.proofs.Common.{length, get_or, ap, sym, subst, ◌∙◌, arith, rules}
 use Rattle.std.specs.List.{All, Contains, range_with_len, list_any}
 use Rattle.std.proofs.Math.ListN.{get_or-append}
 use Rattle.std.proofs.Math.Seq.{get_or-append_seam}
@@ -24,12 +24,10 @@ all_unfiltered : (P : ℕ → Type 0) (x : ℕ) (l : List ℕ) → P x → All P
 all_unfiltered P x [] here all = All-nil P
 all_unfiltered P x (z ∷ zs) here all = elim (cases_eq x z) [
   | inl same ↦
-      (let drops : filter (λ y. not (x == y)) (z ∷ zs) ≡ filter (λ y. not (x == y)) zs = ap
-      (λ b. cond (not b) (z ∷ filter (λ y. not (x == y)) zs) (filter (λ y. not (x == y)) zs)) (eq-eqb x z same) in
+      (let drops : filter (λ y. not (x == y)) (z ∷ zs) ≡ filter (λ y. not (x == y)) zs = search (rules, eq-eqb) in
       All-cons P z zs (subst P same here) (all_unfiltered P x zs here (subst (λ l. All P l) drops all)))
   | inr other ↦
-      (let keeps : filter (λ y. not (x == y)) (z ∷ zs) ≡ z ∷ filter (λ y. not (x == y)) zs = ap
-      (λ b. cond (not b) (z ∷ filter (λ y. not (x == y)) zs) (filter (λ y. not (x == y)) zs)) (ne_eqb x z other) in
+      (let keeps : filter (λ y. not (x == y)) (z ∷ zs) ≡ z ∷ filter (λ y. not (x == y)) zs = search (rules, ne_eqb) in
       let kept : All P (z ∷ filter (λ y. not (x == y)) zs) = subst (λ l. All P l) keeps all in
       All-cons P z zs (All-head P z (filter (λ y. not (x == y)) zs) kept)
       (all_unfiltered P x zs here (All-tail P z (filter (λ y. not (x == y)) zs) kept)))
@@ -48,19 +46,13 @@ counts_below list c e = all_from_distinct (λ w. w < c) list (subst (λ l. All (
     omega (arith, get_or-range_with_len 0 c k d small, small))))
 
 pub has_it : (xs : List ℕ) (y : ℕ) → list_any (λ z. z == y) xs ≡ true → Contains xs y
-has_it xs y e =
-    let any = Any-from_list_any (λ z. z == y) xs e in
-    let same : any.1 ≡ y = eqb-true any.1 y any.4 in
-    subst (Contains xs) same (any.0, any.2, any.3)
+has_it xs y e = search (rules, Any-from_list_any, eqb-true)
 
 pub counts_old : (list : List ℕ) (c x : ℕ) → Counts list c → x < c → Counts (list ++ x ∷ []) c
-counts_old list c x e lt =
-    distinct-push list x ∙ ap (λ b. cond b (distinct list) (distinct list ++ x ∷ [])) (came list c x e lt) ∙ e
+counts_old list c x e lt = search (rules, distinct-push, came)
 
 pub counts_new : (list : List ℕ) (c : ℕ) → Counts list c → Counts (list ++ c ∷ []) (c + 1)
-counts_new list c e =
-    distinct-push list c ∙ ap (λ b. cond b (distinct list) (distinct list ++ c ∷ []))
-    (not_come list c (counts_below list c e)) ∙ ap (λ l. l ++ c ∷ []) e ∙ range-push c
+counts_new list c e = search (rules, distinct-push, not_come, counts_below, range-push)
 
 pub none : (n : ℕ) → 0 + n ≡ n
 none n = omega arith
@@ -78,17 +70,7 @@ last_one list x m e =
     ∙ sym (get_or-range_with_len 0 x k 0 (omega (arith, within, x_is))))
 
 counts_last : (list : List ℕ) (x m : ℕ) → Counts (list ++ x ∷ []) m → (Counts list m × (x < m)) ⊎ Counts list x
-counts_last list x m e = elim (cases_Bool (list_any (λ y. y == x) list)) [
-  | inl is ↦
-      (let same : distinct (list ++ x ∷ []) ≡ distinct list = distinct-push list x
-      ∙ ap (λ b. cond b (distinct list) (distinct list ++ x ∷ [])) is in
-      let counts : Counts list m = sym same ∙ e in
-      inl (counts, All-contains (λ w. w < m) list x (counts_below list m counts) (has_it list x is)))
-  | inr isnt ↦
-      (let same : distinct (list ++ x ∷ []) ≡ distinct list ++ x ∷ [] = distinct-push list x
-      ∙ ap (λ b. cond b (distinct list) (distinct list ++ x ∷ [])) isnt in
-      inr (last_one list x m (sym same ∙ e)))
-]
+counts_last list x m e = search (rules, cases_Bool, distinct-push, All-contains, counts_below, has_it, last_one)
 
 pub counts_front : (list more : List ℕ) (m : ℕ) → Counts (list ++ more) m → (c : ℕ) × Counts list c
 counts_front list [] m e = (m, subst (λ l. Counts l m) (append-nil list) e)

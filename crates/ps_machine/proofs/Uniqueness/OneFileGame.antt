@@ -3,8 +3,8 @@
 --     listed_fine      each key that comes in a game has such a state, and a letter of the player who moves first
 --     leads_too      such a key leads to the same keys by either automaton
 --     game_too      so the game of one automaton is that of the other
-use Rattle.std.proofs.Common.{◌≡◌, ℕ, zero, suc, ◌+◌, ◌^◌, ◌<◌, ◌≤◌, List, [], ◌∷◌, ◌++◌, length, get_or, slice_get}
-use Rattle.std.proofs.Common.{codes, Option, Some, refl, ap, ap₂, sym, subst, ◌∙◌, arith, inl, inr}
+use Rattle.std.proofs.Common.{◌≡◌, ℕ, zero, suc, ◌+◌, ◌^◌, ◌<◌, ◌≤◌, List, [], ◌∷◌, ◌++◌, length, get_or}
+use Rattle.std.proofs.Common.{codes, Some, refl, ap, ap₂, sym, subst, ◌∙◌, arith, inl, inr, rules}
 use Rattle.std.specs.List.{All, Contains, range_with_len}
 use Rattle.std.proofs.lemmas.Bool.{cases_lt}
 use Rattle.std.proofs.lemmas.List.Elements.{All-contains, All-map, Contains-append_cases}
@@ -17,7 +17,7 @@ use Rattle.ps_game.specs.Games.{ParityGame, NamedGameData, vertex_count, success
 use Rattle.ps_machine.specs.Boards.{Board, IsFirstLetter, IsSecondLetter, SameStep, SameSteps, IsClass, IsMove}
 use Rattle.ps_machine.specs.Boards.{AreListed, LeadsTo, IsGameOf}
 use Rattle.ps_machine.specs.FileGames.{IsGameOfFile, board_of_file}
-use Rattle.ps_machine.specs.KeyNames.{digit_of, first_digits, key_name, key_names, state_name}
+use Rattle.ps_machine.specs.KeyNames.{first_digits, key_name, key_names, state_name}
 use Rattle.ps_machine.specs.Keys.{mover_of}
 use Rattle.ps_machine.specs.Numbering.{listed, StandsAt, IsVertexOf}
 use Rattle.ps_machine.specs.declared.key.Key.{Key}
@@ -38,11 +38,7 @@ pub record StepAlike (a b : Auto) (q letter : ℕ) : Type 0 where
 
 relisted : (P Q : ℕ → Type 0) (letters : List ℕ) → ((x : ℕ) → P x → Q x) → ((x : ℕ) → Q x → P x) → AreListed P letters →
     AreListed Q letters
-relisted P Q letters there back are = record {
-  each = λ k d within. there (get_or letters k d) (are.each k d within);
-  complete = λ x q. are.complete x (back x q);
-  rising = are.rising;
-}
+relisted P Q letters there back are = search rules
 
 module _ (order : Order) (file : FileData) (chain : Chain) where
   abbrev pub on : Auto → Board
@@ -60,9 +56,7 @@ module _ (order : Order) (file : FileData) (chain : Chain) where
     ]
 
     at_sink : (letter : ℕ) → letter < 2 ^ length file.names → StepAlike a b file.states letter
-    at_sink letter lt =
-        (let stays = is.sink_stays letter lt in let also = too.sink_stays letter lt in
-        record { next = stays.0 ∙ sym also.0; priority = stays.1 ∙ sym also.1 })
+    at_sink letter lt = search rules
 
     pub alike : (q letter : ℕ) → q ≤ file.states → letter < 2 ^ length file.names → StepAlike a b q letter
     alike q letter le lt = elim (cases_lt q file.states) [
@@ -137,12 +131,7 @@ module _ (order : Order) (file : FileData) (chain : Chain) where
         (sum_within (on a) fine.1 (leads.1.each k d within).here.0))))
 
     leads_too : (key : Key) (next : List Key) → IsFine key → LeadsTo (on a) key next → LeadsTo (on b) key next
-    leads_too (First q p) next le leads = (
-      leads.0,
-      relisted (IsClass (on a) q) (IsClass (on b) q) leads.0 (λ x. class_too is too q x le)
-          (λ x. class_too too is q x le) leads.1,
-      leads.2,
-    )
+    leads_too (First q p) next le leads = search (rules, relisted, class_too)
     leads_too (Second q x) next fine leads = (
       leads.0,
       relisted (IsMove (on a) q x) (IsMove (on b) q x) leads.0 (λ y. move_too is too q x y fine.0 fine.1)
@@ -168,11 +157,7 @@ module _ (order : Order) (file : FileData) (chain : Chain) where
           has_it (listed game v) v (came (listed game v) c.0 v c.1 (ahead (on a) mover keys game v c.0 g lt c.1))
 
       first_fine : (w : ℕ) (key : Key) → Contains (0 ∷ []) w → StandsAt keys w key → IsFine key
-      first_fine w key c at = elim (in_cons [] c) [
-        | inl zero_is ↦ subst IsFine (same_some
-            (sym g.by_keys.begins ∙ ap (λ n. slice_get keys n) zero_is ∙ at)) is.start_within
-        | inr later ↦ absurd (none_in w later)
-      ]
+      first_fine w key c at = search (rules, in_cons, same_some, none_in)
 
       listed_fine : (v : ℕ) → v ≤ vertex_count game → (w : ℕ) (key : Key) → Contains (listed game v) w →
           StandsAt keys w key → IsFine key
@@ -209,23 +194,13 @@ module _ (order : Order) (file : FileData) (chain : Chain) where
 
       -- the game of one of the automata is that of the other
       pub game_too : IsGameOf (on b) mover keys game
-      game_too = record {
-        by_keys = record {
-          count = g.by_keys.count;
-          begins = subst (λ q. StandsAt keys 0 (First q 0)) (is.start ∙ sym too.start) g.by_keys.begins;
-          different = g.by_keys.different;
-          vertices = vertex_too;
-        };
-        numbered = g.numbered;
-      }
+      game_too = search (rules, vertex_too)
 
 -- ## Names
 
 digits_too : (order : Order) (file : FileData) (a b : Auto) (x n : ℕ) →
     first_digits (board_of_file order file a) x n ≡ first_digits (board_of_file order file b) x n
-digits_too order file a b x zero = refl
-digits_too order file a b x (suc n) =
-    ap (λ l. l ++ digit_of (board_of_file order file b) x n) (digits_too order file a b x n)
+digits_too order file a b x n = search rules
 
 name_too : (order : Order) (file : FileData) (a b : Auto) (key : Key) →
     key_name (board_of_file order file a) key ≡ key_name (board_of_file order file b) key
@@ -243,17 +218,11 @@ names_too order file a b keys =
 -- ## One game of a file
 
 named_same : (x y : NamedGameData) → x.game ≡ y.game → x.ids ≡ y.ids → x.names ≡ y.names → x ≡ y
-named_same x y games ids names =
-    ap₂ (λ (g : ParityGame) (l : List ℕ). let n : NamedGameData = record { game = g; ids = l; names = x.names } in n)
-    games ids
-    ∙ ap (λ (l : List (Option (List ℕ))). let n : NamedGameData = record { game = y.game; ids = y.ids; names = l } in n)
-    names
+named_same x y games ids names = search rules
 
 pub one_chain : {order : Order} {file : FileData} {game other : NamedGameData} (a : IsGameOfFile order file game)
     (b : IsGameOfFile order file other) → IsAutoOf file b.chain a.auto
-one_chain {file} a b =
-    (let chains = same_value a.chain b.chain (sym a.is_chain ∙ b.is_chain) in
-    subst (λ chain. IsAutoOf file chain a.auto) chains a.is_auto)
+one_chain {file} a b = search (rules, same_value)
 
 pub one_game_of_file : (order : Order) (file : FileData) (game other : NamedGameData) → IsGameOfFile order file game →
     IsGameOfFile order file other → game ≡ other

@@ -1,5 +1,6 @@
 -- A certificate of a file's game has one machine: the automata of a file differ only where no play comes.
-use Rattle.std.proofs.Common.{◌≡◌, ℕ, ◌+◌, ◌^◌, ◌<◌, ◌≤◌, Bool, true, false, List, length, refl, ap₂, subst, ◌∙◌, arith}
+use Rattle.std.proofs.Common.{rules}
+use Rattle.std.proofs.Common.{◌≡◌, ℕ, ◌+◌, ◌^◌, ◌<◌, ◌≤◌, Bool, true, false, List, length, ap₂, subst, ◌∙◌, arith}
 use Rattle.ps_automaton.specs.Autos.{Auto, IsAutoOf}
 use Rattle.ps_automaton.specs.Chains.{Chain}
 use Rattle.ps_certificate.specs.Certificates.{CertificateData}
@@ -9,7 +10,6 @@ use Rattle.ps_machine.specs.Behaviours.{Behaviour, IsMachine}
 use Rattle.ps_machine.specs.Behaving.{BehavesAs}
 use Rattle.ps_machine.specs.Boards.{Board, IsFirstLetter, IsSecondLetter, IsGameOf}
 use Rattle.ps_machine.specs.Extracting.{GoesTo, HasPropositions, IsMachineOf, IsOther, IsPlayed, IsStep, StandsFor}
-use Rattle.ps_machine.specs.Extracting.{is_others}
 use Rattle.ps_machine.specs.FileGames.{IsGameOfFile, board_of_file}
 use Rattle.ps_machine.specs.Keys.{mover_of}
 use Rattle.ps_machine.specs.Numbering.{StandsAt}
@@ -38,8 +38,7 @@ module _ (order : Order) {file : FileData} {chain : Chain} {a b : Auto} (is : Is
       record { stands = subst (StandsAt keys w) (ap₂ (λ (s p : ℕ). First s p) steps.next steps.priority) goes.stands }
 
   other_too : (first : Bool) (x : ℕ) → IsOther first other x → IsOther first one x
-  other_too true x letter = second_too order file chain b a letter
-  other_too false x letter = first_too order file chain b a letter
+  other_too first x h1 = search (rules, second_too, first_too)
 
 module _ (order : Order) {file : FileData} {chain : Chain} {a b : Auto} (is : IsAutoOf file chain a)
     (too : IsAutoOf file chain b) {mover : ℕ} {keys : List Key} {game : ParityGame}
@@ -131,30 +130,10 @@ module _ (order : Order) {file : FileData} {chain : Chain} {a b : Auto} (is : Is
 
   machine_too : (m : Behaviour) → IsMachineOf before mover keys game certificate m →
       IsMachineOf behind mover keys game certificate m
-  machine_too m of = record {
-    player = of.player;
-    is_first = of.is_first;
-    kept = of.kept;
-    rising = of.rising;
-    each = of.each;
-    complete = of.complete;
-    memories = of.memories;
-    steps = λ memory x within is_other.
-        (let back = other_too order is too g m.is_first x is_other in
-        step_too back (of.steps memory x within back));
-  }
+  machine_too m of = search (rules, other_too, step_too)
 
   propositions_too : (m : Behaviour) → HasPropositions file.names before m → HasPropositions file.names behind m
-  propositions_too m has =
-      record {
-        names_are = has.names_are;
-        as_many = has.as_many;
-        reads = λ p less. has.reads p less ∙ same m.is_first p;
-      }
-    where
-      same : (first : Bool) (p : ℕ) → is_others first before p ≡ is_others first behind p
-      same true p = refl
-      same false p = refl
+  propositions_too m has = search rules
 
 pub one_machine_of_file : (order : Order) (file : FileData) (game : NamedGameData)
     (first second : IsGameOfFile order file game) (certificate : CertificateData) (m o : Behaviour) →

@@ -6,7 +6,6 @@ use Rattle.std.proofs.lemmas.Bool.{cases_eq, cases_lt}
 use Rattle.std.proofs.lemmas.List.{append-nil, append_assoc, length-map, get_or-map, get_or_default, same_lists}
 use Rattle.std.proofs.lemmas.List.Elements.{All-contains, Contains-append_cases}
 use Rattle.std.proofs.lemmas.Option.{slice_get-get_or}
-use Rattle.ps_label.specs.Truth.{is_in}
 use Rattle.ps_diagram.specs.Letters.{IsBefore}
 use Rattle.ps_diagram.proofs.Cells.{true_is_not_false}
 use Rattle.ps_game.specs.Games.{ParityGame, VertexData, no_vertex, vertex_count, owner_of, priority_of, successors_of}
@@ -26,13 +25,7 @@ use Rattle.ps_machine.proofs.Uniqueness.Counting.{none, counts_front, old_or_nex
 -- ## Letters in their order
 
 not_both : (x y : ℕ) → IsBefore x y → IsBefore y x → ⊥
-not_both x y a b = elim (cases_eq a.first b.first) [
-  | inl same ↦ true_is_not_false (sym b.is_true ∙ ap (λ p. is_in p x) (sym same) ∙ a.is_false)
-  | inr other ↦ elim (cases_lt a.first b.first) [
-    | inl less ↦ true_is_not_false (sym a.is_true ∙ b.same a.first less ∙ a.is_false)
-    | inr more ↦ true_is_not_false (sym b.is_true ∙ a.same b.first (omega (arith, more, other)) ∙ b.is_false)
-  ]
-]
+not_both x y a b = search (rules, cases_eq, true_is_not_false, cases_lt)
 
 one_list : {P : ℕ → Type 0} {xs ys : List ℕ} → AreListed P xs → AreListed P ys → xs ≡ ys
 one_list {P} {xs} {ys} a b =
@@ -79,25 +72,15 @@ module _ (one other : List Key) (one_differ : AllPairs (λ x y. x ≢ y) one)
     (other_differ : AllPairs (λ x y. x ≢ y) other) where
   same_number : {c x y : ℕ} (k : Key) → Agree one other c → StandsAt one x k → StandsAt other y k → (x < c) ⊎ (x ≡ c) →
       (y < c) ⊎ (y ≡ c) → x ≡ y
-  same_number {x} {y} k agree a b (inl less) at = one_place other other_differ x y (sym (agree x less) ∙ a) b
-  same_number {x} {y} k agree a b (inr is) (inl less) = one_place one one_differ x y a (agree y less ∙ b)
-  same_number k agree a b (inr is) (inr too) = is ∙ sym too
+  same_number k h1 h2 h3 h4 h5 = search (rules, one_place)
 
   agree_more : (c x : ℕ) (k : Key) → Agree one other c → x ≡ c → StandsAt one x k → StandsAt other x k →
       Agree one other (c + 1)
-  agree_more c x k agree is a b i lt = elim (less_or_last i c lt) [
-    | inl less ↦ agree i less
-    | inr last ↦ (let at : x ≡ i = is ∙ sym last in subst (λ n. slice_get one n ≡ slice_get other n) at (a ∙ sym b))
-  ]
+  agree_more c x k agree is a b i lt = search (rules, less_or_last)
 
   joined : (list : List ℕ) (x y : ℕ) (numbers others : List ℕ) → x ≡ y →
       Walked one other (list ++ x ∷ []) numbers others → Walked one other list (x ∷ numbers) (y ∷ others)
-  joined list x y numbers others same w = record {
-    same = ap₂ (λ (z : ℕ) (zs : List ℕ). z ∷ zs) same w.same;
-    count = w.count;
-    counts = subst (λ k. Counts k w.count) (append_assoc list (x ∷ []) numbers) w.counts;
-    agree = w.agree;
-  }
+  joined list x y numbers others same w = search (rules, Counts, append_assoc)
 
   walk : (list numbers others : List ℕ) (next : List Key) (c : ℕ) (more rest : List ℕ) (m l : ℕ) → Counts list c →
       Agree one other c → AllZip (StandsAt one) numbers next → AllZip (StandsAt other) others next →
@@ -114,9 +97,7 @@ module _ (one other : List Key) (one_differ : AllPairs (λ x y. x ≢ y) one)
       let there : StandsAt other x k = subst (λ n. StandsAt other n k) (sym same) b.0 in
       let all_on : Counts ((list ++ x ∷ []) ++ (numbers ++ more)) m =
       subst (λ k. Counts k m) (sym (append_assoc list (x ∷ []) (numbers ++ more))) all in
-      let also_on : Counts ((list ++ x ∷ []) ++ (others ++ rest)) l =
-      subst (λ k. Counts k l) (sym (append_assoc list (x ∷ []) (others ++ rest)))
-      (subst (λ z. Counts (list ++ z ∷ (others ++ rest)) l) (sym same) also) in
+      let also_on : Counts ((list ++ x ∷ []) ++ (others ++ rest)) l = search (rules, Counts, append_assoc) in
       joined list x y numbers others same (elim old [
         | inl less ↦ walk (list ++ x ∷ []) numbers others next c more rest m l (counts_old list c x e less) agree a.1
             b.1 all_on also_on
@@ -128,8 +109,7 @@ module _ (one other : List Key) (one_differ : AllPairs (λ x y. x ≢ y) one)
 -- ## The numbers that come run ahead of the vertices
 
 listed_front : (game : ParityGame) (v k : ℕ) → (more : List ℕ) × (listed game (v + k) ≡ listed game v ++ more)
-listed_front game v zero =
-    (let none : v + 0 ≡ v = omega arith in ([], ap (listed game) none ∙ sym (append-nil (listed game v))))
+listed_front game v zero = search (rules, none, append-nil)
 listed_front game v (suc k) =
     let before = listed_front game v k in
     let next : v + suc k ≡ suc (v + k) = omega arith in (
@@ -155,9 +135,7 @@ module _ (board : Board) (mover : ℕ) where
   At keys game v = IsVertexOf (LeadsTo board) mover keys game v
 
   no_loop : (keys : List Key) (game : ParityGame) (v : ℕ) → At keys game v → Contains (successors_of game v) v → ⊥
-  no_loop keys game v at c =
-      not_itself board at.key at.next at.leads_to (zipped keys (successors_of game v) at.next v at.key
-      at.successors at.stands c)
+  no_loop keys game v at c = search (rules, not_itself, zipped)
 
   pub count_at : (keys : List Key) (game : ParityGame) (v : ℕ) → IsIt keys game → v ≤ vertex_count game →
       (c : ℕ) × Counts (listed game v) c
@@ -173,9 +151,7 @@ module _ (board : Board) (mover : ℕ) where
   still keys game v c d is lt counts le next = elim (cases_lt v d) [
     | inl less ↦ absurd (elim (Contains-append_cases (listed game v) (successors_of game v) v
         (has_it (listed game v ++ successors_of game v) v (came (listed game (suc v)) d v next less))) [
-          | inl old ↦ (let below = All-contains (λ w. w < c) (listed game v) v
-              (counts_below (listed game v) c counts) old
-              in omega (arith, below, le))
+          | inl old ↦ search (rules, All-contains, counts_below)
           | inr loop ↦ no_loop keys game v (is.by_keys.vertices v lt) loop
         ])
     | inr more ↦ more
@@ -186,8 +162,7 @@ module _ (board : Board) (mover : ℕ) where
   behind keys game zero v c is e counts le =
       let lt : v < vertex_count game = omega (arith, e) in
       let end : suc v ≡ vertex_count game = omega (arith, e) in
-      let whole : Counts (listed game (suc v)) (vertex_count game) = ap (λ n. distinct (listed game n)) end
-      ∙ is.numbered in
+      let whole : Counts (listed game (suc v)) (vertex_count game) = search rules in
       let few = still keys game v c (vertex_count game) is lt counts le whole in
       omega (arith, few, lt)
   behind keys game (suc k) v c is e counts le =
@@ -229,9 +204,7 @@ module _ (board : Board) (mover : ℕ) where
       lists = refl;
       count = 1;
       counts = refl;
-      agree =
-          λ i lt. (let at : 0 ≡ i = omega (arith, lt) in subst (λ n. slice_get one n ≡ slice_get other n) at
-          (is.by_keys.begins ∙ sym too.by_keys.begins));
+      agree = search rules;
       successors = λ u lt. absurd (omega (arith, lt));
     }
 
@@ -256,8 +229,7 @@ module _ (board : Board) (mover : ℕ) where
         b = too.by_keys.vertices v also
 
         key_same : a.key ≡ b.key
-        key_same =
-            same_some (sym a.stands ∙ before.agree v (ahead one game v before.count is lt before.counts) ∙ b.stands)
+        key_same = search (rules, same_some, ahead)
 
         next_same : b.next ≡ a.next
         next_same = one_next board a.key (subst (λ k. LeadsTo board k b.next) (sym key_same) b.leads_to) a.leads_to
@@ -290,10 +262,7 @@ module _ (board : Board) (mover : ℕ) where
         omega (arith, whole, more)
 
   vertex_same : {x y : VertexData} → x.owner ≡ y.owner → x.priority ≡ y.priority → x.successors ≡ y.successors → x ≡ y
-  vertex_same {x} {y} a b c =
-      ap₂ (λ (o p : ℕ). let v : VertexData = record { owner = o; priority = p; successors = x.successors } in v) a b
-      ∙ ap (λ (s : List ℕ). let v : VertexData = record { owner = y.owner; priority = y.priority; successors = s } in v)
-      c
+  vertex_same {x} {y} a b c = search rules
 
   pub one_game_of : (one other : List Key) (game same : ParityGame) → IsGameOf board mover one game →
       IsGameOf board mover other same → (one ≡ other) × (game ≡ same)

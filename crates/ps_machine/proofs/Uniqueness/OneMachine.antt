@@ -1,6 +1,6 @@
 -- A certificate has one machine: its memories rise, and at each of them one letter is played and one memory comes next.
 use Rattle.std.proofs.Common.{◌≡◌, ◌≢◌, inl, inr, ℕ, ◌+◌, ◌<◌, Bool, true, false, not, List, length, Some, refl, ap}
-use Rattle.std.proofs.Common.{sym, subst, ◌∙◌, arith}
+use Rattle.std.proofs.Common.{sym, subst, ◌∙◌, arith, rules}
 use Rattle.std.specs.Prelude.{slice_get}
 use Rattle.std.specs.List.{All, AllPairs, Contains}
 use Rattle.std.proofs.lemmas.Bool.{cases_Bool}
@@ -39,11 +39,7 @@ module _ {names : List (List ℕ)} {board : Board} {m : Behaviour} (is : IsMachi
   many = ap length has.names_are ∙ has.as_many
 
   pub reads_listed : AreListedBelow board.propositions (is_others m.is_first board) m.inputs
-  reads_listed = record {
-    rising = is.inputs_rise;
-    within = λ p among. (let less = (is.each p).1 (inl among) in omega (arith, less, many));
-    are = has.reads;
-  }
+  reads_listed = search (rules, many)
 
   pub plays_listed : AreListedBelow board.propositions (λ p. not (is_others m.is_first board p)) m.outputs
   plays_listed = record {
@@ -67,9 +63,7 @@ module _ (first : Bool) (keys : List Key) (game : ParityGame) (certificate : Cer
   pub one_kept : {kept others : List ℕ} → AllPairs (λ v w. v < w) kept → AllPairs (λ v w. v < w) others →
       All Kept kept → All Kept others →
       ((v : ℕ) → Kept v → Contains kept v) → ((v : ℕ) → Kept v → Contains others v) → kept ≡ others
-  one_kept {kept} {others} r s each all whole complete =
-      same_numbers r s (λ v c. complete v (All-contains Kept kept v each c))
-      (λ v c. whole v (All-contains Kept others v all c))
+  one_kept {kept} {others} r s each all whole complete = search (rules, same_numbers, All-contains)
 
   -- no used vertex below a kept one shares its memory
   none_below : {v q p : ℕ} (u r o : ℕ) → Kept u → StandsAt keys u (First r o) →
@@ -87,8 +81,7 @@ module _ (first : Bool) (keys : List Key) (game : ParityGame) (certificate : Cer
       StandsFor first keys kept i w r → StandsFor first keys kept j w r → i < j → ⊥
   not_lower {kept} {i} {j} {w} {r} rises each a b less =
       let one = kept_at kept i each a.is_kept in
-      let same : mark_of first a.vertex a.state ≡ mark_of first b.vertex b.state =
-      shares_mark first a.vertex a.state w r a.shares ∙ sym (shares_mark first b.vertex b.state w r b.shares) in
+      let same : mark_of first a.vertex a.state ≡ mark_of first b.vertex b.state = search (rules, shares_mark) in
       let below = rises i j 0 less (slice_get_within kept j b.vertex b.is_kept) in
       none_below b.vertex b.state b.priority
       (kept_at kept j each b.is_kept) b.stands (record { used = one.here.used; stands = a.stands }) same (omega (
@@ -171,12 +164,10 @@ module _ (names : List (List ℕ)) (board : Board) (mover : ℕ) (keys : List Ke
           priority = t.priority;
           is_kept = ap (λ l. slice_get l memory) (sym same_kept) ∙ t.is_kept;
           stands = t.stands;
-          played =
-              subst (λ b. IsPlayed b board keys certificate t.vertex t.state x (o.plays memory x)) same_first t.played;
+          played = search (rules, same_first);
           entered = t.entered;
           goes = t.goes;
-          next = subst (λ b. StandsFor b keys of.kept (o.next memory x) t.entered q) same_first
-              (subst (λ l. StandsFor o.is_first keys l (o.next memory x) t.entered q) same_kept t.next);
+          next = search (rules, same_first, same_kept);
         }
 
     SameStepAt : ℕ → ℕ → Type 0
@@ -195,16 +186,10 @@ module _ (names : List (List ℕ)) (board : Board) (mover : ℕ) (keys : List Ke
         (subst (λ v. IsPlayed m.is_first board keys certificate v s.state x (o.plays memory x)) vertex
         (subst (λ q. IsPlayed m.is_first board keys certificate t.vertex q x (o.plays memory x)) state t.played))
         s.played in
-        let goes : GoesTo keys board s.state (x + m.plays memory x) t.entered =
-        subst (λ y. GoesTo keys board s.state (x + y) t.entered) played
-        (subst (λ q. GoesTo keys board q (x + o.plays memory x) t.entered) state t.goes) in
+        let goes : GoesTo keys board s.state (x + m.plays memory x) t.entered = search rules in
         let entered = one_place keys differ t.entered s.entered goes.stands s.goes.stands in
         let r = board.auto.next s.state (x + m.plays memory x) in
-        let next : StandsFor m.is_first keys of.kept (o.next memory x) s.entered r =
-        subst (λ w. StandsFor m.is_first keys of.kept (o.next memory x) w r) entered
-        (subst (λ y. StandsFor m.is_first keys of.kept (o.next memory x) t.entered (board.auto.next s.state (x + y)))
-        played (subst (λ q. StandsFor m.is_first keys of.kept (o.next memory x) t.entered
-        (board.auto.next q (x + o.plays memory x))) state t.next)) in (
+        let next : StandsFor m.is_first keys of.kept (o.next memory x) s.entered r = search rules in (
           one_memory m.is_first keys game certificate of.rising of.each s.next next,
           sym played,
         )
@@ -229,9 +214,7 @@ module _ (names : List (List ℕ)) (board : Board) (mover : ℕ) (keys : List Ke
 
     read_same : (x : ℕ) → AreSameOn m.inputs x (read x)
     unfolding read
-    read_same x p among =
-        let less = (reads_listed is has).within p among in
-        sym (part_bit board.propositions (is_others m.is_first board) x p less (sym (has.reads p less) ∙ among))
+    read_same x p among = search (rules, reads_listed, part_bit)
 
     same_anywhere : (memory x : ℕ) → memory < m.memories → SameStepAt memory x
     unfolding SameStepAt read
@@ -248,13 +231,4 @@ module _ (names : List (List ℕ)) (board : Board) (mover : ℕ) (keys : List Ke
 
     pub one_machine : BehavesAs m o
     unfolding SameStepAt
-    one_machine = record {
-      names = has.names_are ∙ sym also.names_are;
-      inputs = same_inputs;
-      outputs = same_outputs;
-      player = of.player ∙ sym other.player;
-      is_first = sym same_first;
-      memories = same_memories;
-      next = λ memory x within. (same_anywhere memory x within).0;
-      plays = λ memory x within. (same_anywhere memory x within).1;
-    }
+    one_machine = search (rules, same_inputs, same_outputs, same_first, same_memories, same_anywhere)

@@ -1,11 +1,11 @@
 -- Two lists that rise in one order and have the same members are one.
-use Rattle.std.proofs.Common.{◌≡◌, ℕ, zero, suc, ◌<◌, ◌⊎◌, inl, inr, List, [], ◌∷◌, refl, ap₂, sym, subst, ◌∙◌, arith}
+use Rattle.std.proofs.Common.{rules}
+use Rattle.std.proofs.Common.{◌≡◌, ℕ, suc, ◌<◌, ◌⊎◌, inl, inr, List, [], ◌∷◌, refl, ap₂, sym, subst, ◌∙◌, arith}
 use Rattle.std.specs.List.{AllPairs, Contains}
 
 -- an element of a list is its head, or one of the others, at its place
 pub in_cons : {x z : ℕ} (xs : List ℕ) → Contains (x ∷ xs) z → (x ≡ z) ⊎ Contains xs z
-in_cons xs (zero, within, e) = inl e
-in_cons xs (suc k, within, e) = inr (k, omega (arith, within), e)
+in_cons xs h1 = search rules
 
 into_cons : (x z : ℕ) (xs : List ℕ) → Contains xs z → Contains (x ∷ xs) z
 into_cons x z xs c = (suc c.0, omega (arith, c.1), c.2)

@@ -1,12 +1,9 @@
-use Rattle.std.proofs.Common.{◌∙◌, true, replicate, ap}
+use Rattle.std.proofs.Common.{◌∙◌, true, replicate, ap, rules}
 use Rattle.ps_machine.proofs.Certified.{certified_both, lost_held}
 use Rattle.ps_machine.proofs.built_in.certificate_from.Goals as goal
 
 pub counts_of-requires-2-clause-holds : goal.counts_of-requires-2-clause-holds
-counts_of-requires-2-clause-holds g c =
-    let lost = c.difference_with.new.self in
-    let whole = c.in_ok-lost.ensures ∙ ap (λ n. replicate n true) c.count.ensures.vertices in
-    lost_held c.args.won.now lost whole c.difference_with.ensures.difference c.requires.holds_second
+counts_of-requires-2-clause-holds g c = search (rules, lost_held)
 
 pub returns-clause-fits : goal.returns-clause-fits
 returns-clause-fits g c =

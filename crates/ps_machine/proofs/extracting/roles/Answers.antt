@@ -1,6 +1,5 @@
-use Rattle.std.proofs.Common.{◌≡◌, ℕ, not, List, Vec, ap, ◌∙◌}
+use Rattle.std.proofs.Common.{◌≡◌, ℕ, not, List, Vec, ap, ◌∙◌, rules}
 use Rattle.std.specs.Global.{Global}
-use Rattle.ps_machine.specs.Boards.{is_first_of}
 use Rattle.ps_machine.specs.BuiltBoards.{board_of}
 use Rattle.ps_machine.proofs.Machines.Assembling.{same_names, plays_own, reads_others}
 use Rattle.ps_machine.proofs.Machines.Listing.{listed_with, listed_without}
@@ -18,8 +17,7 @@ loop-proposition-preserved c =
     let m = c.args.moves_first in
     let p = c.loop-proposition.proposition in
     let before = c.loop-proposition.invariant in
-    let first : c.is_first.result ≡ board.is_first p = c.is_first.ensures
-    ∙ ap (λ xs. is_first_of c.args.order xs p) c.controllable.ensures.controllable in
+    let first : c.is_first.result ≡ board.is_first p = search rules in
     elim c.if-is_first-moves_first.branch [
       | then-is_first-moves_first+in_ok-push w ↦
           (let own = plays_own m board p c.is_first.result first w.if-is_first-moves_first.true in
@@ -36,5 +34,4 @@ loop-proposition-preserved c =
     ]
 
 pub returns-clause-names : goal.returns-clause-names
-returns-clause-names c =
-    same_names c.names.result.now c.in_ok-to_vec.field-0.items c.in_ok-to_vec.ensures.ok ∙ c.names.ensures.names
+returns-clause-names c = search (rules, same_names)

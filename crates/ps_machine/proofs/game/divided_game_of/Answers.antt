@@ -7,14 +7,9 @@ use Rattle.ps_machine.specs.Knowing.{HasAnswered}
 use Rattle.ps_machine.specs.declared.divided.Divided.{Divided}
 use Rattle.ps_machine.specs.declared.key.Key.TheVariants.{First}
 use Rattle.ps_machine.specs.declared.key.Order.{Order}
-use Rattle.ps_machine.proofs.Diagrams.ClassTables.{all_divided, no_classes}
-use Rattle.ps_machine.proofs.GameKeys.Starting.{known_start, game_is}
+use Rattle.ps_machine.proofs.Diagrams.ClassTables.{all_divided}
+use Rattle.ps_machine.proofs.GameKeys.Starting.{game_is}
 use Rattle.ps_machine.proofs.game.divided_game_of.Goals as goal
-
-pub game_by_keys-requires : goal.game_by_keys-requires
-game_by_keys-requires c =
-    let e = c.new-moves.ensures in
-    no_classes e.none (known_start e.automaton e.fit c.start.ensures.state)
 
 pub returns-clause-game : goal.returns-clause-game
 returns-clause-game c =

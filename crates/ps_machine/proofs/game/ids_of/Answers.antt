@@ -1,5 +1,6 @@
+use Rattle.std.proofs.Common.{rules}
 use Rattle.ps_machine.proofs.GameKeys.NamingLemmas.{range_more}
 use Rattle.ps_machine.proofs.game.ids_of.Goals as goal
 
 pub loop-id-preserved : goal.loop-id-preserved
-loop-id-preserved c = range_more c.loop-id.id c.loop-id.invariant c.in_ok-push.ensures.items
+loop-id-preserved c = search (rules, range_more)

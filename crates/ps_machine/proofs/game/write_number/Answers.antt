@@ -1,5 +1,6 @@
+use Rattle.std.proofs.Common.{rules}
 use Rattle.ps_machine.proofs.GameKeys.NamingLemmas.{plain_decimal}
 use Rattle.ps_machine.proofs.game.write_number.Goals as goal
 
 pub returns-clause-plain : goal.returns-clause-plain
-returns-clause-plain c = plain_decimal c.args.number c.ranges.number.fits
+returns-clause-plain c = search (rules, plain_decimal)

@@ -1,26 +1,17 @@
-use Rattle.std.proofs.Common.{◌+◌, sym, ◌∙◌, subst, ap, Some}
+use Rattle.std.proofs.Common.{◌+◌, sym, ◌∙◌, subst, ap, Some, rules}
 use Rattle.std.proofs.lemmas.Option.{slice_get-get_or, get_or_from_slice_get}
 use Rattle.ps_machine.specs.Drawing.{KeepsAt}
 use Rattle.ps_machine.specs.Numbering.{StandsAt}
 use Rattle.ps_machine.specs.declared.key.Key.TheVariants.{First}
 use Rattle.ps_machine.specs.declared.memories.Memories.{Memories}
-use Rattle.ps_machine.proofs.Machines.MemorySteps.{AreMemoriesBelow, none_below, below_skip, below_more, all_below}
+use Rattle.ps_machine.proofs.Machines.MemorySteps.{AreMemoriesBelow, below_skip, below_more, all_below}
 use Rattle.ps_machine.proofs.Machines.MemorySteps.{is_there, is_absent}
 use Rattle.ps_machine.proofs.memories.remembered.Goals as goal
 use Rattle.ps_machine.proofs.memories.remembered.Goals.{then-contains+in_ok-keep, else-contains}
 
-pub loop-vertex-init : goal.loop-vertex-init
-loop-vertex-init c =
-    none_below c.args.moves_first c.args.keys.now c.args.used.now.keys c.new.ensures.items c.new-2.ensures.empty
-
 -- the second player moves there
 pub loop-vertex-preserved-in_default : goal.loop-vertex-preserved-in_default
-loop-vertex-preserved-in_default c =
-    let keys = c.args.keys.now in
-    let n = c.loop-vertex.vertex-counter in
-    below_skip c.args.moves_first keys c.args.used.now.keys
-    (λ q p is_used stands. c.in_default.not-First q p (get_or_from_slice_get keys n (First q p) (First 0 0) stands))
-    c.loop-vertex.invariant
+loop-vertex-preserved-in_default c = search (rules, below_skip, get_or_from_slice_get)
 
 pub loop-vertex-preserved : goal.loop-vertex-preserved
 loop-vertex-preserved c =

@@ -94,4 +94,5 @@ returns-in_ok-insert-in-Test-clause-known t c =
     knows_more (IsDivided last c.args.split) s last (get nat_eq c.divided-in-Test.new.known)
     (get nat_eq c.insert.new.self) c.in_ok-insert-in-Test.ensures.updates.0
     (known_divided_kept s c.args.split (get nat_eq c.divided-in-Test.new.known) c.divided_test.ensures.keeps
-    c.divided-in-Test.ensures.known) c.requires.held c.in_ok-made-in-Test.ensures.held (returns-in_ok-insert-in-Test-clause-leaf t c)
+    c.divided-in-Test.ensures.known) c.requires.held c.in_ok-made-in-Test.ensures.held
+    (returns-in_ok-insert-in-Test-clause-leaf t c)

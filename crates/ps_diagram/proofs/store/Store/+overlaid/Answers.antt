@@ -45,7 +45,8 @@ returns-in_err-insert-clause-keeps t c =
 
 pub returns-in_err-insert-clause-known : goal.returns-in_err-insert-clause-known
 returns-in_err-insert-clause-known t c =
-    rw c.in_err-insert.ensures.err (pairs_kept IsOverlay (get pair_eq c.overlaid-2.new.known) c.test.ensures.keeps c.overlaid-2.ensures.known)
+    rw c.in_err-insert.ensures.err
+    (pairs_kept IsOverlay (get pair_eq c.overlaid-2.new.known) c.test.ensures.keeps c.overlaid-2.ensures.known)
 
 pub returns-clause-keeps : goal.returns-clause-keeps
 returns-clause-keeps t c =

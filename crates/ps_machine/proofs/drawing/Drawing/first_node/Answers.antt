@@ -3,14 +3,10 @@ use Rattle.ps_diagram.specs.Reached.{AreLeaves}
 use Rattle.ps_machine.specs.BuiltBoards.{board_of}
 use Rattle.ps_machine.specs.Drawing.{IsOwn}
 use Rattle.ps_machine.specs.Planning.{IsDrawnBy}
-use Rattle.ps_machine.proofs.Diagrams.ClassTables.{lent}
 use Rattle.ps_machine.proofs.GameKeys.Exploring.{both_ok}
 use Rattle.ps_machine.proofs.Diagrams.FirstDrawing.{entered, all_noted, drawn_first}
 use Rattle.ps_machine.proofs.Diagrams.ClassRests.{class_listed, left_behind, renamed, renamed_within}
 use Rattle.ps_machine.proofs.drawing.Drawing.first_node.Goals as goal
-
-pub of-requires : goal.of-requires
-of-requires c = lent c.args.vertex c.requires.divided c.requires.stands.1
 
 pub rest_of-rest-requires : goal.rest_of-rest-requires
 rest_of-rest-requires c =

@@ -1,25 +1,11 @@
-use Rattle.std.proofs.Common.{ℕ, List, refl, subst, sym, take}
-use Rattle.std.specs.List.{AllZip}
+use Rattle.std.proofs.Common.{rules}
 use Rattle.std.proofs.lemmas.List.{take_all}
-use Rattle.ps_diagram.specs.declared.classes.Class.{Class}
 use Rattle.ps_machine.specs.BuiltBoards.{board_of}
 use Rattle.ps_machine.specs.Drawing.{IsRow}
 use Rattle.ps_machine.specs.contracts.machine.RowPartialEq.TheImpl as row_eq
-use Rattle.ps_machine.proofs.Diagrams.DrawingLemmas.{all_rows, keeps_rows, keeps_rows_same, keeps_rows_trans}
+use Rattle.ps_machine.proofs.Diagrams.DrawingLemmas.{all_rows, keeps_rows, keeps_rows_trans}
 use Rattle.ps_machine.proofs.Diagrams.SecondDrawing.{Names, answer_row, named_next}
 use Rattle.ps_machine.proofs.drawing.Drawing.rows_of_classes.Goals as goal
-
-pub loop-class-init : goal.loop-class-init
-loop-class-init c =
-    let plan = c.args.plan.now in
-    let N = Names (board_of plan.order plan.automaton.now) plan.keys.now.keys plan.memories.now.kept.items
-    plan.certificate.now c.args.state c.args.self.now.rows.keys in
-    record {
-      store = refl;
-      same_rows = keeps_rows_same;
-      rows = c.requires.rows;
-      values = subst (λ (l : List ℕ). AllZip N (take 0 c.args.classes.now) l) (sym c.new-values.ensures.items) tt;
-    }
 
 pub returns-in_err-push-clause-same_rows : goal.returns-in_err-push-clause-same_rows
 returns-in_err-push-clause-same_rows c =
@@ -59,12 +45,7 @@ loop-class-preserved c =
     }
 
 pub returns-clause-values : goal.returns-clause-values
-returns-clause-values c =
-    let plan = c.args.plan.now in
-    let N = Names (board_of plan.order plan.automaton.now) plan.keys.now.keys plan.memories.now.kept.items
-    plan.certificate.now c.args.state c.loop-class.self.rows.keys in
-    subst (λ (l : List Class). AllZip N l c.loop-class.values.items)
-    (take_all c.loop-class.class-index c.args.classes.now c.loop-class-test.false) c.loop-class.invariant.values
+returns-clause-values c = search (rules, Names, take_all)
 
 pub row_of_class-requires-clause-rest : goal.row_of_class-requires-clause-rest
 row_of_class-requires-clause-rest c =

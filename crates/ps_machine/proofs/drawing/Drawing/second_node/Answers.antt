@@ -4,14 +4,11 @@ use Rattle.ps_diagram.specs.declared.classes.Class.{Class}
 use Rattle.ps_machine.specs.Drawing.{IsDrawn}
 use Rattle.ps_machine.specs.Planning.{IsDrawnBy, IsRestBy, NamesAnswerBy, board_by}
 use Rattle.ps_machine.proofs.BoardSteps.{class_rests}
-use Rattle.ps_machine.proofs.Diagrams.ClassTables.{classes_there, lent}
+use Rattle.ps_machine.proofs.Diagrams.ClassTables.{classes_there}
 use Rattle.ps_machine.proofs.Diagrams.DrawingLemmas.{kept_used}
 use Rattle.ps_machine.proofs.GameKeys.Exploring.{both_ok}
 use Rattle.ps_machine.proofs.Diagrams.SecondDrawing.{class_each, drawn_second, named_as, places_within}
 use Rattle.ps_machine.proofs.drawing.Drawing.second_node.Goals as goal
-
-pub of-classes-requires : goal.of-classes-requires
-of-classes-requires c = lent c.args.vertex c.requires.divided c.requires.stands.1
 
 pub rows_of_classes-requires-clause-entered : goal.rows_of_classes-requires-clause-entered
 rows_of_classes-requires-clause-entered c = (

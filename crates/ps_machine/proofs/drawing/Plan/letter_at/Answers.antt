@@ -1,4 +1,4 @@
-use Rattle.std.proofs.Common.{List, length, get_or, ap, sym, ◌∙◌, arith, is_some}
+use Rattle.std.proofs.Common.{List, length, get_or, ap, sym, ◌∙◌, arith, is_some, rules}
 use Rattle.ps_machine.specs.declared.key.Key.{Key}
 use Rattle.ps_machine.specs.declared.key.Key.TheVariants.{First}
 use Rattle.ps_machine.proofs.Diagrams.DrawingLemmas.{kept_entry}
@@ -6,7 +6,7 @@ use Rattle.ps_machine.proofs.Diagrams.FirstDrawing.{has_choice, chosen_within, c
 use Rattle.ps_machine.proofs.drawing.Plan.letter_at.Goals as goal
 
 pub choice-requires : goal.choice-requires
-choice-requires c = kept_entry c.requires.plan c.args.vertex c.requires.kept
+choice-requires c = search (rules, kept_entry)
 
 pub unwrap-chosen-requires : goal.unwrap-chosen-requires
 unwrap-chosen-requires c =
