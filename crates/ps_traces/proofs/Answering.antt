@@ -36,7 +36,7 @@ is_answer order file m c one is is_for encodes won =
       accepted = all_accepted file m c is is_for.names encodes won;
       rejected = none;
       goes_on = each_goes_on c one;
-      letters = λ moments. has_letters (role_of m.player) file.names file.controllable c names shape.symbols moments;
+      letters = has_letters names shape.symbols;
       meetings = λ player k controller.
           let environment : HasShape order Environment file c =
           subst (λ (role : Role). HasShape order role file c) (other_role m.player player) shape in

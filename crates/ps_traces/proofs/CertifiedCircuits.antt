@@ -14,25 +14,13 @@ use Rattle.ps_traces.specs.Answers.{role_of}
 use Rattle.ps_traces.specs.Roles.{IsMachineFor, is_read_by}
 use Rattle.ps_traces.specs.Shapes.{moves_first}
 
-not_not : (b : Bool) → not (not b) ≡ b
-not_not true = refl
-not_not false = refl
-
 -- who moves first, and what that player reads
 turn_is : (order : Order) (player : ℕ) → player < 2 → (mover_of order == player) ≡ moves_first order (role_of player)
-turn_is Mealy zero lt = refl
-turn_is Mealy (suc zero) lt = refl
-turn_is Moore zero lt = refl
-turn_is Moore (suc zero) lt = refl
-turn_is order (suc (suc player)) lt = absurd (omega (arith, lt))
+turn_is order player lt = grind arith
 
 reads_as : (order : Order) (a : AutomatonData) (player p : ℕ) → player < 2 →
     is_others (mover_of order == player) (board_of order a) p ≡ is_read_by (role_of player) a.controllable p
-reads_as Mealy a zero p lt = refl
-reads_as Mealy a (suc zero) p lt = not_not (is_among p a.controllable)
-reads_as Moore a zero p lt = refl
-reads_as Moore a (suc zero) p lt = refl
-reads_as order a (suc (suc player)) p lt = absurd (omega (arith, lt))
+reads_as order a player p lt = grind arith
 
 pub is_for : (order : Order) (file : FileData) (chain : Chain) (a : AutomatonData) (m : Behaviour) →
     IsBuiltFrom file chain a → HasPropositions a.names (board_of order a) m

@@ -15,7 +15,7 @@ use Rattle.ps_simulate.proofs.NamingLemmas.{names_differ, role_apart, some_same,
 use Rattle.ps_simulate.proofs.Uniqueness.OneLetter.{one_letters, side}
 use Rattle.ps_traces.specs.Inputs.{HasLetters}
 
-module _ (role : Role) (names : List (List ℕ)) (controllable : List ℕ) (c : CircuitData) (are_names : AreNames names)
+module _ {role : Role} {names : List (List ℕ)} {controllable : List ℕ} {c : CircuitData} (are_names : AreNames names)
     (has : HasSymbols role names controllable c) where
   -- a symbol's proposition is on its side
   of_side : (wanted : Bool) (symbols : List (Option (List ℕ))) (k p : ℕ) →
@@ -27,56 +27,39 @@ module _ (role : Role) (names : List (List ℕ)) (controllable : List ℕ) (c : 
       let same : found.0 ≡ p = names_differ names are_names found.0 p found.1.within s.within named in
       ap (λ q. is_among q controllable) (sym same) ∙ found.2
 
-  abbrev Side : ℕ → Type 0
-  Side p = (is_among p controllable ≡ reads_controllable role) ⊎ (is_among p controllable ≡ sets_controllable role)
-
-  bit_on : (m : Moment) (p : ℕ) → p < length names → Side p → Bool
-  bit_on m p lt (inl input) = get_or m.inputs (has.inputs.each p lt input).0 false
-  bit_on m p lt (inr output) = get_or m.outputs (has.outputs.each p lt output).0 false
-
-  bit_by : (m : Moment) (p : ℕ) → (p < length names) ⊎ (length names ≤ p) → Bool
-  bit_by m p (inl lt) = bit_on m p lt (side role (is_among p controllable))
-  bit_by m p (inr le) = false
+  -- a bit for each proposition, that of its input or output
+  bit_of : (m : Moment) (p : ℕ) → (bit : Bool) ×
+      ((k : ℕ) → IsSymbol names c.input_names k p → bit ≡ get_or m.inputs k false) ×
+      ((k : ℕ) → IsSymbol names c.output_names k p → bit ≡ get_or m.outputs k false)
+  bit_of m p = elim (cases_lt p (length names)) [
+    | inl lt ↦ elim (side role (is_among p controllable)) [
+      | inl input ↦ (let at = has.inputs.each p lt input in (
+        get_or m.inputs at.0 false,
+        λ k s. ap (λ j. get_or m.inputs j false) (has.inputs.once at.0 k p at.1 s),
+        λ k s. absurd (role_apart role (sym input
+            ∙ of_side (sets_controllable role) c.output_names k p has.outputs s)),
+      ))
+      | inr output ↦ (let at = has.outputs.each p lt output in (
+        get_or m.outputs at.0 false,
+        λ k s. absurd (role_apart role (sym (of_side (reads_controllable role) c.input_names k p has.inputs s)
+            ∙ output)),
+        λ k s. ap (λ j. get_or m.outputs j false) (has.outputs.once at.0 k p at.1 s),
+      ))
+    ]
+    | inr le ↦ (false, λ k s. absurd (omega (arith, le, s.within)), λ k s. absurd (omega (arith, le, s.within)))
+  ]
 
   letter : Moment → ℕ
-  letter m = letter_of (length names) (λ p. bit_by m p (cases_lt p (length names)))
-
-  input_on : (m : Moment) (k p : ℕ) (lt : p < length names) (s : Side p) → IsSymbol names c.input_names k p →
-      bit_on m p lt s ≡ get_or m.inputs k false
-  unfolding bit_on
-  input_on m k p lt (inl input) s =
-      let at = has.inputs.each p lt input in ap (λ j. get_or m.inputs j false) (has.inputs.once at.0 k p at.1 s)
-  input_on m k p lt (inr output) s =
-      absurd (role_apart role (sym (of_side (reads_controllable role) c.input_names k p has.inputs s) ∙ output))
-
-  output_on : (m : Moment) (k p : ℕ) (lt : p < length names) (s : Side p) → IsSymbol names c.output_names k p →
-      bit_on m p lt s ≡ get_or m.outputs k false
-  unfolding bit_on
-  output_on m k p lt (inl input) s =
-      absurd (role_apart role (sym input ∙ of_side (sets_controllable role) c.output_names k p has.outputs s))
-  output_on m k p lt (inr output) s =
-      let at = has.outputs.each p lt output in ap (λ j. get_or m.outputs j false) (has.outputs.once at.0 k p at.1 s)
-
-  input_by : (m : Moment) (k p : ℕ) (d : (p < length names) ⊎ (length names ≤ p)) → IsSymbol names c.input_names k p →
-      bit_by m p d ≡ get_or m.inputs k false
-  unfolding bit_by
-  input_by m k p (inl lt) s = input_on m k p lt (side role (is_among p controllable)) s
-  input_by m k p (inr le) s = absurd (omega (arith, le, s.within))
-
-  output_by : (m : Moment) (k p : ℕ) (d : (p < length names) ⊎ (length names ≤ p)) → IsSymbol names c.output_names k p →
-      bit_by m p d ≡ get_or m.outputs k false
-  unfolding bit_by
-  output_by m k p (inl lt) s = output_on m k p lt (side role (is_among p controllable)) s
-  output_by m k p (inr le) s = absurd (omega (arith, le, s.within))
+  letter m = letter_of (length names) (λ p. (bit_of m p).0)
 
   letter_of_moment : (m : Moment) → IsLetterOf names c m (letter m)
   unfolding letter
   letter_of_moment m =
-      let bit : ℕ → Bool = λ p. bit_by m p (cases_lt p (length names)) in
+      let bit : ℕ → Bool = λ p. (bit_of m p).0 in
       record {
         few = letter_lt (length names) bit;
-        inputs = λ k p s. letter_is (length names) bit p s.within ∙ input_by m k p (cases_lt p (length names)) s;
-        outputs = λ k p s. letter_is (length names) bit p s.within ∙ output_by m k p (cases_lt p (length names)) s;
+        inputs = λ k p s. letter_is (length names) bit p s.within ∙ (bit_of m p).1 k s;
+        outputs = λ k p s. letter_is (length names) bit p s.within ∙ (bit_of m p).2 k s;
       }
 
   letters : (ms : List Moment) → (ls : List ℕ) × AreLetters names c ms ls
@@ -88,6 +71,5 @@ module _ (role : Role) (names : List (List ℕ)) (controllable : List ℕ) (c : 
       record {
         letters = found.0;
         are_letters = found.1;
-        no_others =
-            λ others a. one_letters role names controllable c has ms found.0 others found.1 a;
+        no_others = λ others a. one_letters has ms found.0 others found.1 a;
       }

@@ -14,67 +14,23 @@ use Rattle.ps_simulate.specs.declared.role.Role.TheVariants.{Environment}
 use Rattle.ps_traces.specs.Shapes.{IsInTime}
 use Rattle.ps_traces.specs.Meetings.{FiniteController, IsController, AnswersMoments, IsOneMeeting}
 use Rattle.ps_traces.proofs.Meetings.{meeting_of}
-
-All-front : {X : Type 0} (P : X → Type 0) (xs ys : List X) → All P (xs ++ ys) → All P xs
-All-front P [] ys h = λ k d lt. absurd (omega (arith, lt))
-All-front P (x ∷ xs) ys h = All-cons P x xs (All-head P x (xs ++ ys) h) (All-front P xs ys (All-tail P x (xs ++ ys) h))
-
-All-behind : {X : Type 0} (P : X → Type 0) (xs ys : List X) → All P (xs ++ ys) → All P ys
-All-behind P [] ys h = h
-All-behind P (x ∷ xs) ys h = All-behind P xs ys (All-tail P x (xs ++ ys) h)
-
-next_bits : (values : List Bool) (latches : List Latch) → map (λ l. bit_of values l.next) latches ≡ map (bit_of values)
-    (map (λ l. l.next) latches)
-next_bits values [] = refl
-next_bits values (l ∷ ls) = ap (λ (bs : List Bool). bit_of values l.next ∷ bs) (next_bits values ls)
+use Rattle.ps_simulate.proofs.Uniqueness.OneTrace.{firsts_agree}
 
 module _ (c : CircuitData) (is_circuit : IsCircuit c) (one : HasOneValues c) where
-  bits_agree : (values others : List Bool) → ((literal : ℕ) → IsKnown (definitions c) literal →
-      bit_of values literal ≡ bit_of others literal)
-      → (literals : List ℕ) → All (IsKnown (definitions c)) literals →
-      map (bit_of values) literals ≡ map (bit_of others) literals
-  bits_agree values others agree [] known = refl
-  bits_agree values others agree (l ∷ ls) known =
-      ap₂ (λ b bs. b ∷ bs) (agree l (All-head (IsKnown (definitions c)) l ls known))
-      (bits_agree values others agree ls (All-tail (IsKnown (definitions c)) l ls known))
-
-  known_front : All (IsKnown (definitions c)) (map (λ l. l.next) c.latches ++ c.outputs)
-  known_front =
-      All-front (IsKnown (definitions c)) (map (λ l. l.next) c.latches ++ c.outputs)
-      (flat_map (λ (g : Gate). g.first ∷ g.second ∷ []) c.gates) is_circuit.draft.known
-
-  -- what a step answers, and the latches behind it
-  steps_agree : (latches inputs outputs next outputs' next' : List Bool) → Steps c latches inputs outputs next →
-      Steps c latches inputs outputs' next'
-      → (outputs ≡ outputs') × (next ≡ next')
-  steps_agree latches inputs outputs next outputs' next' a b =
-      let agree = one.one inputs latches a.values b.values a.are_values b.are_values in
-      let nexts = map (λ (l : Latch). l.next) c.latches in
-      let same_next =
-      bits_agree a.values b.values agree nexts (All-front (IsKnown (definitions c)) nexts c.outputs known_front) in (
-        a.outputs_are ∙ bits_agree a.values b.values agree c.outputs
-            (All-behind (IsKnown (definitions c)) nexts c.outputs known_front) ∙ sym b.outputs_are,
-        a.next_are ∙ next_bits a.values c.latches ∙ same_next ∙ sym (next_bits b.values c.latches) ∙ sym b.next_are,
-      )
-
-  outputs_wide : (latches inputs outputs next : List Bool) → Steps c latches inputs outputs next →
+  outputs_wide : {latches inputs outputs next : List Bool} → Steps c latches inputs outputs next →
       length outputs ≡ length c.outputs
-  outputs_wide latches inputs outputs next s = ap length s.outputs_are ∙ length-map c.outputs (bit_of s.values)
+  outputs_wide s = ap length s.outputs_are ∙ length-map c.outputs (bit_of s.values)
 
   -- two answers at the same latches and memory
   same_inputs : (order : Order) (k : FiniteController) → IsInTime order Environment c → IsController order c k →
-      (memory : ℕ) (latches inputs outputs next inputs' outputs' next' : List Bool)
-      → memory < k.size → Steps c latches inputs outputs next → Steps c latches inputs' outputs' next' →
+      (memory : ℕ) {latches inputs outputs next inputs' outputs' next' : List Bool} → memory < k.size →
+      Steps c latches inputs outputs next → Steps c latches inputs' outputs' next' →
       inputs ≡ k.plays memory outputs → inputs' ≡ k.plays memory outputs' → inputs ≡ inputs'
-  same_inputs Mealy k in_time is memory latches inputs outputs next inputs' outputs' next' within a b f g =
-      let same : outputs ≡ outputs' = in_time refl latches inputs inputs' outputs outputs' next next' a b in
-      f ∙ ap (k.plays memory) same ∙ sym g
-  same_inputs Moore k in_time is memory latches inputs outputs next inputs' outputs' next' within a b f g =
-      f ∙ is.timely memory outputs outputs' within (outputs_wide latches inputs outputs next a)
-      (outputs_wide latches inputs' outputs' next' b) ∙ sym g
-
-  abbrev moment : List Bool → List Bool → List Bool → Moment
-  moment latches inputs outputs = record { latches = latches; inputs = inputs; outputs = outputs }
+  same_inputs Mealy k in_time is memory {latches} {inputs} {outputs} {next} {inputs'} {outputs'} {next'} within a b
+      f g =
+      f ∙ ap (k.plays memory) (in_time refl latches inputs inputs' outputs outputs' next next' a b) ∙ sym g
+  same_inputs Moore k in_time is memory {latches} {inputs} {outputs} {next} {inputs'} {outputs'} within a b f g =
+      f ∙ is.timely memory outputs outputs' within (outputs_wide a) (outputs_wide b) ∙ sym g
 
   module _ (order : Order) (k : FiniteController) (in_time : IsInTime order Environment c) (is : IsController order c k)
     where
@@ -87,21 +43,12 @@ module _ (c : CircuitData) (is_circuit : IsCircuit c) (one : HasOneValues c) whe
       one_way latches to to' memory last last' (m ∷ ms) [] within size a f b g = absurd (omega (arith, size))
       one_way latches to to' memory last last' (m ∷ ms) (n ∷ ns) within size (next, at, steps, rest) f
           (next', at', steps', rest') g =
-          let inputs : m.inputs ≡ n.inputs =
-          same_inputs order k in_time is memory latches m.inputs m.outputs next n.inputs n.outputs next' within steps
-          steps' f.0 g.0 in
-          let there : Steps c latches m.inputs n.outputs next' =
-          subst (λ (read : List Bool). Steps c latches read n.outputs next') (sym inputs) steps' in
-          let agree = steps_agree latches m.inputs m.outputs next n.outputs next' steps there in
-          let first : m ≡ n = ap₂ (λ ls is. moment ls is m.outputs) (at ∙ sym at') inputs
-          ∙ ap (moment n.latches n.inputs) agree.0 in
-          let others : ms ≡ ns =
-          one_way next to to' (k.next memory m.outputs) last last' ms ns
-          (is.next_within memory m.outputs within (outputs_wide latches m.inputs m.outputs next steps))
-          (omega (arith, size)) rest f.1
-          (subst (λ (from : List Bool). GoesOn c from ns to') (sym agree.1) rest')
-          (subst (λ (read : List Bool). AnswersMoments k (k.next memory read) ns last') (sym agree.0) g.1) in
-          ap₂ (λ x xs. x ∷ xs) first others
+          let inputs = same_inputs order k in_time is memory within steps steps' f.0 g.0 in
+          let first = firsts_agree c is_circuit one latches next next' m n at at' steps steps' inputs in
+          let others = one_way next to to' (k.next memory m.outputs) last last' ms ns
+          (is.next_within memory m.outputs within (outputs_wide steps))
+          (omega (arith, size)) rest f.1 (rw first.1 rest') (rw (first.0) g.1) in
+          cc (first.0, others)
 
       pub one_meeting : (count : ℕ) → IsOneMeeting c k count
       one_meeting count =

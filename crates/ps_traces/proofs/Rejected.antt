@@ -16,8 +16,8 @@ pub meeting_is_rejected : (order : Order) (file : FileData) (c : CircuitData) (k
     → NoneAccepted file c → IsRejected file c k
 meeting_is_rejected order file c k are_names one shape is none =
     let meeting = in_lasso order c k one shape.in_time is in
-    let stem = has_letters Environment file.names file.controllable c are_names shape.symbols meeting.stem in
-    let lap = has_letters Environment file.names file.controllable c are_names shape.symbols meeting.lap in
+    let stem = has_letters are_names shape.symbols meeting.stem in
+    let lap = has_letters are_names shape.symbols meeting.lap in
     record {
       meeting = meeting;
       stem_letters = stem.letters;

@@ -1,26 +1,14 @@
--- Values below a bound come again; lists of bits as numbers.
-use Rattle.std.proofs.Common.{◌≡◌, ℕ, zero, suc, ◌+◌, ◌*◌, ◌^◌, ◌<◌, Bool, true, false, cond, List, [], ◌∷◌, length}
-use Rattle.std.proofs.Common.{get_or, refl, ap, sym, ◌∙◌, subst, arith}
-use Rattle.std.specs.List.{All}
-use Rattle.std.proofs.Math.Nat.{pow-suc}
-use Rattle.std.proofs.lemmas.List.{get_or_default}
-use Rattle.ps_aiger.specs.Encoded.{number_of}
+-- Values below a bound come again, and so do the places of moments that lead from place to place.
+--     comes_again      of numbers below a bound
+--     legs, legs_go      the moments of some steps from a place on, and where they lead
+--     come_back      where numbers below a bound tell the places apart, moments lead to a place and back to it
+use Rattle.std.proofs.Common.{◌≡◌, ℕ, zero, suc, ◌+◌, ◌-◌, ◌<◌, List, [], ◌++◌, length, map, get_or, ap, sym, ◌∙◌}
+use Rattle.std.proofs.Common.{subst, arith, add-zero}
+use Rattle.std.specs.List.{range_with_len}
+use Rattle.std.proofs.Math.Nat.{add-suc}
+use Rattle.std.proofs.lemmas.List.FromFn.{get_or-map-range_with_len, length-map-range_with_len}
+use Rattle.ps_circuit.specs.Values.{Moment}
 use Rattle.ps_game.proofs.Repeats.{repeats}
-
--- ## Values below a bound
-
-abbrev values_from : (ℕ → ℕ) → ℕ → ℕ → List ℕ
-values_from f from zero = []
-values_from f from (suc count) = f from ∷ values_from f (suc from) count
-
-how_many : (f : ℕ → ℕ) (from count : ℕ) → length (values_from f from count) ≡ count
-how_many f from zero = refl
-how_many f from (suc count) = ap suc (how_many f (suc from) count)
-
-value_at : (f : ℕ → ℕ) (from count k : ℕ) → k < count → get_or (values_from f from count) k 0 ≡ f (from + k)
-value_at f from zero k lt = absurd (omega (arith, lt))
-value_at f from (suc count) zero lt = ap f (omega arith)
-value_at f from (suc count) (suc k) lt = value_at f (suc from) count k (omega (arith, lt)) ∙ ap f (omega arith)
 
 pub record ComesAgain (f : ℕ → ℕ) : Type 0 where
   pub one : ℕ
@@ -30,51 +18,58 @@ pub record ComesAgain (f : ℕ → ℕ) : Type 0 where
 
 pub comes_again : (f : ℕ → ℕ) (bound : ℕ) → ((t : ℕ) → f t < bound) → ComesAgain f
 comes_again f bound below =
-    let values = values_from f 0 (suc bound) in
-    let many : length values ≡ suc bound = how_many f 0 (suc bound) in
-    let at : (k : ℕ) → k < suc bound → get_or values k 0 ≡ f k = λ k lt. value_at f 0 (suc bound) k lt
-    ∙ ap f (omega arith) in
-    let each : All (λ x. x < bound) values =
-    λ k d lt. subst (λ x. x < bound) (sym (get_or_default values k d 0 lt ∙ at k (omega (arith, lt, many))))
-    (below k) in
-    let found = repeats bound values each (omega (arith, many)) in
+    let values = map f (range_with_len 0 (suc bound)) in
+    let many : length values ≡ suc bound = length-map-range_with_len f 0 (suc bound) in
+    let at : (k d : ℕ) → k < suc bound → get_or values k d ≡ f k =
+    λ k d lt. get_or-map-range_with_len f 0 (suc bound) k k d lt (omega arith) in
+    let found =
+    repeats bound values (λ k d lt. rw (at k d (omega (arith, lt, many))) (below k)) (omega (arith, many)) in
     record {
       one = found.0;
       other = found.1;
       rises = found.2.rises;
-      same = sym (at found.0 (omega (arith, found.2.rises, found.2.within, many))) ∙ found.2.same
-          ∙ at found.1 (omega (arith, found.2.within, many));
+      same = sym (at found.0 0 (omega (arith, found.2.rises, found.2.within, many))) ∙ found.2.same
+          ∙ at found.1 0 (omega (arith, found.2.within, many));
     }
 
--- ## Lists of bits
+-- moments lead from each place to the next
+module _ {S : Type 0} (Goes : S → List Moment → S → Type 0) (stay : (s : S) → Goes s [] s)
+    (join : (r s t : S) (xs ys : List Moment) → Goes r xs s → Goes s ys t → Goes r (xs ++ ys) t) (place : ℕ → S)
+    (leg : ℕ → List Moment) (goes : (t : ℕ) → Goes (place t) (leg t) (place (suc t))) where
+  abbrev pub legs : ℕ → ℕ → List Moment
+  legs from zero = []
+  legs from (suc count) = legs from count ++ leg (from + count)
 
-abbrev bit : Bool → ℕ
-bit b = cond b 1 0
+  pub legs_go : (from count : ℕ) → Goes (place from) (legs from count) (place (from + count))
+  legs_go from zero = rw (add-zero from) (stay (place from))
+  legs_go from (suc count) = rw (add-suc from count) (join (place from) (place (from + count))
+      (place (suc (from + count))) (legs from count) (leg (from + count)) (legs_go from count) (goes (from + count)))
 
-bit_lt : (b : Bool) → bit b < 2
-bit_lt true = omega arith
-bit_lt false = omega arith
+  pub record ComesBack : Type 0 where
+    pub from : ℕ
+    pub count : ℕ
+    pub to : ℕ
+    pub some : 0 < count
+    pub some_before : 0 < to
+    pub goes_there : Goes (place 0) (legs 0 to) (place to)
+    pub comes_back : Goes (place to) (legs from count) (place to)
 
-bit_same : (a b : Bool) → bit a ≡ bit b → a ≡ b
-bit_same true true e = refl
-bit_same false false e = refl
-bit_same true false e = absurd (omega (arith, e))
-bit_same false true e = absurd (omega (arith, e))
-
-pub number_lt : (bits : List Bool) → number_of bits < 2 ^ length bits
-number_lt [] = omega arith
-number_lt (b ∷ bs) = let rest = number_lt bs in let one = bit_lt b in omega (arith, pow-suc 2 (length bs), rest, one)
-
-pub number_same : (xs ys : List Bool) → length xs ≡ length ys → number_of xs ≡ number_of ys → xs ≡ ys
-number_same [] [] l e = refl
-number_same [] (y ∷ ys) l e = absurd (omega (arith, l))
-number_same (x ∷ xs) [] l e = absurd (omega (arith, l))
-number_same (x ∷ xs) (y ∷ ys) l e =
-    let a = bit_lt x in
-    let b = bit_lt y in
-    let f : bit x + 2 * number_of xs ≡ bit y + 2 * number_of ys = e in
-    let heads : bit x ≡ bit y = omega (arith, a, b, f) in
-    let tails : number_of xs ≡ number_of ys = omega (arith, heads, f) in
-    let same : x ≡ y = bit_same x y heads in
-    let rest : xs ≡ ys = number_same xs ys (omega (arith, l)) tails in
-    ap (λ (z : Bool). z ∷ xs) same ∙ ap (λ (zs : List Bool). y ∷ zs) rest
+  pub come_back : (number : ℕ → ℕ) (bound : ℕ) → ((t : ℕ) → number t < bound) →
+      ((i j : ℕ) → number i ≡ number j → place i ≡ place j) → ComesBack
+  come_back number bound below apart =
+      let found = comes_again number bound below in
+      let there : place (0 + found.other) ≡ place found.other = ap place (omega arith) in
+      let back : place (found.one + (found.other - found.one)) ≡ place found.other =
+      ap place (omega (arith, found.rises)) in
+      record {
+        from = found.one;
+        count = found.other - found.one;
+        to = found.other;
+        some = omega (arith, found.rises);
+        some_before = omega (arith, found.rises);
+        goes_there = subst (Goes (place 0) (legs 0 found.other)) there (legs_go 0 found.other);
+        comes_back = subst (λ s. Goes s (legs found.one (found.other - found.one)) (place found.other))
+            (apart found.one found.other found.same)
+            (subst (Goes (place found.one) (legs found.one (found.other - found.one))) back
+            (legs_go found.one (found.other - found.one)));
+      }

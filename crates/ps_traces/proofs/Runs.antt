@@ -3,14 +3,28 @@ use Rattle.std.proofs.Common.{◌≡◌, Bool, List, [], ◌∷◌, ◌++◌, Al
 use Rattle.std.proofs.lemmas.List.{length-map}
 use Rattle.std.proofs.lemmas.List.Elements.{All-head, All-tail}
 use Rattle.ps_circuit.specs.Circuits.{CircuitData}
-use Rattle.ps_circuit.specs.Values.{Moment, GoesOn, HasOneValues, bit_of}
+use Rattle.ps_circuit.specs.Values.{Moment, GoesOn, HasOneValues, Steps, bit_of}
 use Rattle.ps_traces.specs.Inputs.{inputs_of}
 
-pub GoesOn-append : (c : CircuitData) (from between to : List Bool) (xs ys : List Moment) → GoesOn c from xs between →
-    GoesOn c between ys to → GoesOn c from (xs ++ ys) to
-GoesOn-append c from between to [] ys on rest = subst (λ (latches : List Bool). GoesOn c latches ys to) (sym on) rest
-GoesOn-append c from between to (m ∷ ms) ys (next, at, step, on) rest =
-    (next, at, step, GoesOn-append c next between to ms ys on rest)
+-- a step of the circuit at these latches and this input
+pub record Step (c : CircuitData) (latches inputs : List Bool) : Type 0 where
+  pub outputs : List Bool
+  pub next : List Bool
+  pub steps : Steps c latches inputs outputs next
+  pub outputs_wide : length outputs ≡ length c.outputs
+  pub next_wide : length next ≡ length c.latches
+
+pub step : (c : CircuitData) → HasOneValues c → (latches inputs : List Bool) → length latches ≡ length c.latches →
+    length inputs ≡ length c.inputs → Step c latches inputs
+step c one latches inputs held wide =
+    let values = one.some inputs latches wide held in
+    record {
+      outputs = map (bit_of values.0) c.outputs;
+      next = map (λ l. bit_of values.0 l.next) c.latches;
+      steps = record { values = values.0; are_values = values.1; outputs_are = refl; next_are = refl };
+      outputs_wide = length-map c.outputs (bit_of values.0);
+      next_wide = length-map c.latches (λ l. bit_of values.0 l.next);
+    }
 
 abbrev pub IsWide : CircuitData → List Bool → Type 0
 IsWide c letter = length letter ≡ length c.inputs
@@ -27,18 +41,12 @@ pub run : (c : CircuitData) → HasOneValues c → (from : List Bool) (word : Li
     length from ≡ length c.latches → All (IsWide c) word → Run c from word
 run c one from [] held wide = record { moments = []; last = from; goes_on = refl; reads = refl; wide = held }
 run c one from (x ∷ xs) held wide =
-    let values = one.some x from (All-head (IsWide c) x xs wide) held in
-    let next = map (λ l. bit_of values.0 l.next) c.latches in
-    let rest = run c one next xs (length-map c.latches (λ l. bit_of values.0 l.next)) (All-tail (IsWide c) x xs wide) in
+    let s = step c one from x held (All-head (IsWide c) x xs wide) in
+    let rest = run c one s.next xs s.next_wide (All-tail (IsWide c) x xs wide) in
     record {
-      moments = record { latches = from; inputs = x; outputs = map (bit_of values.0) c.outputs } ∷ rest.moments;
+      moments = record { latches = from; inputs = x; outputs = s.outputs } ∷ rest.moments;
       last = rest.last;
-      goes_on = (
-        next,
-        refl,
-        record { values = values.0; are_values = values.1; outputs_are = refl; next_are = refl },
-        rest.goes_on,
-      );
+      goes_on = (s.next, refl, s.steps, rest.goes_on);
       reads = ap (λ (ls : List (List Bool)). x ∷ ls) rest.reads;
       wide = rest.wide;
     }

@@ -22,12 +22,6 @@ use Rattle.ps_traces.proofs.Bits.{is_there, stands_in}
 use Rattle.ps_simulate.proofs.Uniqueness.OneLetter.{side}
 use Rattle.ps_traces.proofs.Words.{memory_below}
 
-some_same : {X : Type 0} (x y : X) → Some x ≡ Some y → x ≡ y
-some_same x y e = cc
-
-none_some : {X : Type 0} (x : X) → None ≡ Some x → ⊥
-none_some x e = cc
-
 -- numbers that rise stand once
 stands_once : (ps : List ℕ) (j k : ℕ) → AllPairs (λ p q. p < q) ps → j < length ps → k < length ps →
     get_or ps j 0 ≡ get_or ps k 0 → j ≡ k
@@ -59,10 +53,9 @@ module _ (names : List (List ℕ)) (controllable : List ℕ) (wanted : Bool) (ps
   back k p s =
       let lt : k < length ps = elim (cases_lt k (length symbols)) [
         | inl lt ↦ omega (arith, lt, size)
-        | inr le ↦ absurd (none_some (get_or names p []) (sym (get_or_past symbols k None le) ∙ s.is))
+        | inr le ↦ cc (get_or_past symbols k None le, s.is)
       ] in
-      let named : get_or names (get_or ps k 0) [] ≡ get_or names p [] =
-      some_same (get_or names (get_or ps k 0) []) (get_or names p []) (sym (symbol_at k lt) ∙ s.is) in
+      let named : get_or names (get_or ps k 0) [] ≡ get_or names p [] = cc (symbol_at k lt, s.is) in
       (lt, names_differ names are_names (get_or ps k 0) p (within (get_or ps k 0) (is_there ps k lt)) s.within named)
 
   pub names_once : AreNamesOnce names controllable wanted symbols
@@ -79,26 +72,6 @@ module _ (names : List (List ℕ)) (controllable : List ℕ) (wanted : Bool) (ps
         stands_once ps j k rising one.0 other.0 (one.1 ∙ sym other.1);
   }
 
--- what a role reads
-abbrev read_of : Role → Bool → Bool
-read_of Controller b = not b
-read_of Environment b = b
-
-read_by : (role : Role) (controllable : List ℕ) (p : ℕ) → is_read_by role controllable p ≡ read_of role
-    (is_among p controllable)
-read_by Controller controllable p = refl
-read_by Environment controllable p = refl
-
-read_side : (role : Role) (b : Bool) → read_of role b ≡ true → b ≡ reads_controllable role
-read_side Controller true e = absurd (cc)
-read_side Controller false e = refl
-read_side Environment b e = e
-
-side_read : (role : Role) (b : Bool) → b ≡ reads_controllable role → read_of role b ≡ true
-side_read Controller true e = absurd (cc)
-side_read Controller false e = refl
-side_read Environment b e = e
-
 module _ (order : Order) (role : Role) (file : FileData) (m : Behaviour) (c : CircuitData) (is : IsMachine m)
     (is_for : IsMachineFor order role file m) (encodes : Encodes m c) where
   inside : (p : ℕ) → (is_among p m.inputs ≡ true) ⊎ (is_among p m.outputs ≡ true) → p < length file.names
@@ -114,14 +87,11 @@ module _ (order : Order) (role : Role) (file : FileData) (m : Behaviour) (c : Ci
   file_names = subst AreNames is_for.names is.are_names
 
   reads_own : (p : ℕ) → is_among p m.inputs ≡ true → is_among p file.controllable ≡ reads_controllable role
-  reads_own p among =
-      read_side role (is_among p file.controllable) (sym (read_by role file.controllable p)
-      ∙ sym (is_for.reads p (inside p (inl among))) ∙ among)
+  reads_own p among = grind (arith, is_for.reads p (inside p (inl among)))
 
   reads_all : (p : ℕ) → p < length file.names → is_among p file.controllable ≡ reads_controllable role →
       is_among p m.inputs ≡ true
-  reads_all p lt reads =
-      is_for.reads p lt ∙ read_by role file.controllable p ∙ side_read role (is_among p file.controllable) reads
+  reads_all p lt reads = grind (arith, is_for.reads p lt)
 
   -- what is not read is on the other side
   sets_own : (p : ℕ) → is_among p m.outputs ≡ true → is_among p file.controllable ≡ sets_controllable role
@@ -140,19 +110,13 @@ module _ (order : Order) (role : Role) (file : FileData) (m : Behaviour) (c : Ci
 
   has_symbols : HasSymbols role file.names file.controllable c
   has_symbols =
-      let symbols_of_file : (ps : List ℕ) → symbols_of m.names ps ≡ map (λ p. Some (get_or file.names p [])) ps =
-      λ ps. ap (λ (ns : List (List ℕ)). map (λ p. Some (get_or ns p [])) ps) is_for.names in
       record {
-        inputs =
-            subst (λ (ss : List (Option (List ℕ))). AreNamesOnce file.names file.controllable (reads_controllable role)
-            ss) (sym (encodes.input_names ∙ symbols_of_file m.inputs))
-            (names_once file.names file.controllable (reads_controllable role) m.inputs file_names is.inputs_rise
-            (λ p among. inside p (inl among)) reads_own reads_all);
-        outputs =
-            subst (λ (ss : List (Option (List ℕ))). AreNamesOnce file.names file.controllable (sets_controllable role)
-            ss) (sym (encodes.output_names ∙ symbols_of_file m.outputs))
-            (names_once file.names file.controllable (sets_controllable role) m.outputs file_names is.outputs_rise
-            (λ p among. inside p (inr among)) sets_own sets_all);
+        inputs = rw (encodes.input_names, is_for.names) (names_once file.names file.controllable
+            (reads_controllable role) m.inputs file_names is.inputs_rise (λ p among. inside p (inl among)) reads_own
+            reads_all);
+        outputs = rw (encodes.output_names, is_for.names) (names_once file.names file.controllable
+            (sets_controllable role) m.outputs file_names is.outputs_rise (λ p among. inside p (inr among)) sets_own
+            sets_all);
       }
 
   sees_no_input : IsTrue m.is_first → SeesNoInput c

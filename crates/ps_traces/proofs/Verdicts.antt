@@ -24,6 +24,9 @@ use Rattle.ps_simulate.proofs.LassoLemmas.{HasRead-start, HasRead-lap, few_lette
 use Rattle.ps_traces.proofs.Letters.{has_letters}
 use Rattle.ps_traces.proofs.Returns.{comes_again}
 use Rattle.ps_traces.proofs.Runs.{run}
+use Rattle.std.proofs.lemmas.Bool.{cases_lt}
+use Rattle.ps_automaton.proofs.Deciding.{some_or_none}
+use Rattle.std.proofs.Common.{◌≢◌}
 
 -- ## What an automaton makes of a lasso
 
@@ -49,14 +52,11 @@ module _ (file : FileData) (chain : Chain) (a : Auto) (is_chain : chain_of file.
       (accepted : Bool) × (IsTrue accepted ↔ IsAccepted file stem lap)
   accepted_or_not stem lap some in_stem in_lap =
       let start = state_behind a a.start stem in
-      let at : ℕ → ℕ = λ t. state_after a start lap t in
       let below : start ≤ file.states = behind_within a.start stem is_auto.start_within in_stem in
-      let found =
-      comes_again (λ t. state_after a start lap t) (suc file.states)
+      let found = comes_again (λ t. state_after a start lap t) (suc file.states)
       (λ t. (let le = after_within start lap t below in_lap in omega arith)) in
-      let place : found.other ≡ found.one + (found.other - found.one) = omega (arith, found.rises) in
       let returns : state_after a start lap (found.one + (found.other - found.one)) ≡ state_after a start lap found.one
-      = ap (λ t. state_after a start lap t) (sym place) ∙ sym found.same in (
+      = ap (λ t. state_after a start lap t) (omega (arith, found.rises)) ∙ sym found.same in (
         is_even (greatest_of_laps a (state_after a start lap found.one) lap (found.other - found.one)),
         laps_decide file chain a stem lap found.one (found.other - found.one) (state_after a start lap found.one)
             is_chain is_auto some in_stem in_lap (omega (arith, found.rises)) refl returns,
@@ -64,41 +64,21 @@ module _ (file : FileData) (chain : Chain) (a : Auto) (is_chain : chain_of file.
 
 -- ## The first repetition
 
-bools_or_not : (a b : Bool) → (a ≡ b) ⊎ (a ≡ b → ⊥)
-bools_or_not true true = inl refl
-bools_or_not false false = inl refl
-bools_or_not true false = inr (λ e. cc)
-bools_or_not false true = inr (λ e. cc)
-
 bits_or_not : (xs ys : List Bool) → (xs ≡ ys) ⊎ (xs ≡ ys → ⊥)
 bits_or_not [] [] = inl refl
 bits_or_not [] (y ∷ ys) = inr (λ e. cc)
 bits_or_not (x ∷ xs) [] = inr (λ e. cc)
-bits_or_not (x ∷ xs) (y ∷ ys) = elim (bools_or_not x y) [
-  | inr never ↦ inr (λ e. never cc)
-  | inl same ↦ elim (bits_or_not xs ys) [
-    | inl rest ↦ inl (ap₂ (λ z zs. z ∷ zs) same rest)
-    | inr never ↦ inr (λ e. never cc)
-  ]
-]
+bits_or_not (x ∷ xs) (y ∷ ys) = grind (arith, bits_or_not xs ys)
 
-none_behind : (s latches : List Bool) (ss : List (List Bool)) → (s ≡ latches → ⊥) →
-    ((k : ℕ) → k < length ss → get_or ss k [] ≡ latches → ⊥) → (k : ℕ) → k < length (s ∷ ss) →
-    get_or (s ∷ ss) k [] ≡ latches → ⊥
-none_behind s latches ss here later zero lt e = here e
-none_behind s latches ss here later (suc k) lt e = later k (omega arith) e
+abbrev IsAt : List (List Bool) → List Bool → ℕ → Type 0
+IsAt seen latches i = (i < length seen) × (get_or seen i [] ≡ latches)
 
 seen_or_not : (seen : List (List Bool)) (latches : List Bool) →
-    ((i : ℕ) × (i < length seen) × (get_or seen i [] ≡ latches)) ⊎
-    ((k : ℕ) → k < length seen → get_or seen k [] ≡ latches → ⊥)
-seen_or_not [] latches = inr (λ k lt e. omega arith)
-seen_or_not (s ∷ ss) latches = elim (bits_or_not s latches) [
-  | inl e ↦ inl (0, omega arith, e)
-  | inr never ↦ elim (seen_or_not ss latches) [
-    | inl f ↦ (let lt = f.1 in inl (suc f.0, omega arith, f.2))
-    | inr none ↦ inr (none_behind s latches ss never none)
-  ]
-]
+    ((i : ℕ) × IsAt seen latches i) ⊎ ((i : ℕ) × IsAt seen latches i → ⊥)
+seen_or_not seen latches = some_or_none (IsAt seen latches) (λ i. elim (cases_lt i (length seen)) [
+  | inr le ↦ inr (λ h. omega (arith, le, h.0))
+  | inl lt ↦ elim (bits_or_not (get_or seen i []) latches) [ inl e ↦ inl (lt, e) | inr n ↦ inr (λ h. n h.1) ]
+]) (length seen) (λ i h. h.0)
 
 module _ (role : Role) (file : FileData) (c : CircuitData) (stem lap : List (List Bool))
     (are_names : AreNames file.names) (has : HasSymbols role file.names file.controllable c) (one : HasOneValues c)
@@ -113,7 +93,7 @@ module _ (role : Role) (file : FileData) (c : CircuitData) (stem lap : List (Lis
       All (λ letter. length letter ≡ length c.inputs) word → HasWord from word old
   word_of from word old held each =
       let r = run c one from word held each in
-      let l = has_letters role file.names file.controllable c are_names has r.moments in
+      let l = has_letters are_names has r.moments in
       record {
         new = old ++ l.letters;
         last = r.last;
@@ -134,53 +114,30 @@ module _ (role : Role) (file : FileData) (c : CircuitData) (stem lap : List (Lis
     letters : List ℕ
     repeats_by : RepeatsBy file.names c stem lap i letters
 
-  -- what is left of the lists of bits, as fuel
-  search : (fuel : ℕ) (seen : List (List Bool)) (letters : List ℕ) (last : List Bool) →
+  -- more than what is left of the lists of bits, as fuel
+  search_on : (fuel : ℕ) (seen : List (List Bool)) (letters : List ℕ) (last : List Bool) →
       HasRead file.names c stem lap seen letters last → length last ≡ length c.latches
-      → 2 ^ length c.latches - length seen ≤ fuel → HasRepetition
-  search zero seen letters last h held le =
-      elim (seen_or_not seen last) [
-        | inl f ↦ record {
-          i = f.0;
-          letters = letters;
-          repeats_by = repeats file.names c stem lap seen letters last f.0
-              some h f.1 f.2;
-        }
-        | inr none ↦
-            let w = word_of last lap letters held wide.lap_is in
-            let more = HasRead-lap file.names c stem lap seen letters w.new last w.last h w.reads held none in
-            absurd (omega (
-              arith,
-              le,
-              fewer file.names c stem lap seen (seen ++ last ∷ []) w.new last w.last
-                  more (none, refl),
-            ))
-      ]
-  search (suc fuel) seen letters last h held le =
-      elim (seen_or_not seen last) [
-        | inl f ↦ record {
-          i = f.0;
-          letters = letters;
-          repeats_by = repeats file.names c stem lap seen letters last f.0
-              some h f.1 f.2;
-        }
-        | inr none ↦
-            let w = word_of last lap letters held wide.lap_is in
-            let more = HasRead-lap file.names c stem lap seen letters w.new last w.last h w.reads held none in
-            search fuel (seen ++ last ∷ []) w.new w.last more w.held
-            (omega (
-              arith,
-              le,
-              fewer file.names c stem lap seen (seen ++ last ∷ []) w.new last w.last
-                  more (none, refl),
-            ))
-      ]
+      → 2 ^ length c.latches - length seen < fuel → HasRepetition
+  search_on zero seen letters last h held le = absurd (omega arith)
+  search_on (suc fuel) seen letters last h held le = elim (seen_or_not seen last) [
+    | inl f ↦ record {
+      i = f.0;
+      letters = letters;
+      repeats_by = repeats f.0 some h f.1.0 f.1.1;
+    }
+    | inr none ↦
+        let w = word_of last lap letters held wide.lap_is in
+        let fresh : (k : ℕ) → k < length seen → get_or seen k [] ≢ last = λ k lt e. none (k, (lt, e)) in
+        let more = HasRead-lap h w.reads held fresh in
+        search_on fuel (seen ++ last ∷ []) w.new w.last more w.held
+        (omega (arith, le, fewer seen last more (fresh, refl)))
+  ]
 
   repetition : HasRepetition
   repetition =
       let w = word_of (resets c) stem [] (length-map c.latches (λ l. l.reset)) wide.stem_is in
-      search (2 ^ length c.latches) [] w.new w.last (HasRead-start file.names c stem lap [] w.new (resets c) w.last refl
-      refl w.reads) w.held (omega arith)
+      search_on (suc (2 ^ length c.latches)) [] w.new w.last
+      (HasRead-start lap refl refl w.reads) w.held (omega arith)
 
   -- ## The verdict
 
@@ -193,7 +150,7 @@ module _ (role : Role) (file : FileData) (c : CircuitData) (stem lap : List (Lis
       let each : All (λ letter. letter < 2 ^ length file.names) r.letters =
       few_letters file.names c h.trace r.letters h.are_letters in
       let long : 0 < length (drop n r.letters) =
-      omega (arith, length-drop n r.letters, lap_within file.names c stem lap r.i r.letters h, some) in
+      omega (arith, length-drop n r.letters, lap_within h, some) in
       let told =
       accepted_or_not file chain a is_chain is_auto (take n r.letters) (drop n r.letters) long
       (All-take (λ letter. letter < 2 ^ length file.names) n r.letters each)

@@ -10,29 +10,17 @@ use Rattle.ps_diagram.proofs.Letters.{no_bit}
 use Rattle.ps_hoa.specs.Files.{FileData, is_among}
 use Rattle.ps_circuit.specs.Circuits.{CircuitData}
 use Rattle.ps_circuit.specs.Values.{Moment, GoesOn, Steps, resets}
-use Rattle.ps_aiger.specs.Encoded.{Encodes, StepsAs, number_of, memory_of, letter_over}
+use Rattle.ps_aiger.specs.Encoded.{Encodes, StepsAs, number_of, memory_of, letter_over, symbols_of}
 use Rattle.ps_machine.specs.Behaviours.{Behaviour, IsMachine, IsOutput, IsLasso, LassosWon, Makes}
 use Rattle.ps_simulate.specs.Symbols.{IsSymbol}
 use Rattle.ps_simulate.specs.Lassos.{IsLetterOf, AreLetters, latches_along}
-use Rattle.ps_simulate.proofs.LassoLemmas.{along_more, at_end}
+use Rattle.ps_simulate.proofs.LassoLemmas.{AreLetters-append, GoesOn-append, along_more, at_end, length_letters}
 use Rattle.ps_traces.specs.Traces.{IsLassoWord, AllAccepted, NoneAccepted}
 use Rattle.ps_traces.proofs.Bits.{AreApart, are_apart, few_bits, bit_with, bit_with_at, bit_with_none, in_letter_over}
 use Rattle.ps_traces.proofs.Bits.{in_sum_left, in_sum_right, same_letter, stands_in}
-use Rattle.ps_traces.proofs.Runs.{GoesOn-append}
+use Rattle.std.proofs.lemmas.Bool.{cases_Bool}
 
 -- ## Traces
-
-AreLetters-append : (names : List (List ℕ)) (c : CircuitData) (xs ys : List Moment) (us vs : List ℕ) →
-    AreLetters names c xs us → AreLetters names c ys vs → AreLetters names c (xs ++ ys) (us ++ vs)
-AreLetters-append names c [] ys us vs a b = subst (λ (ls : List ℕ). AreLetters names c ys (ls ++ vs)) (sym a) b
-AreLetters-append names c (m ∷ ms) ys [] vs a b = absurd a
-AreLetters-append names c (m ∷ ms) ys (u ∷ us) vs a b = (a.0, AreLetters-append names c ms ys us vs a.1 b)
-
-length_letters : (names : List (List ℕ)) (c : CircuitData) (ms : List Moment) (ls : List ℕ) → AreLetters names c ms ls →
-    length ls ≡ length ms
-length_letters names c [] ls a = ap length a
-length_letters names c (m ∷ ms) [] a = absurd a
-length_letters names c (m ∷ ms) (u ∷ us) a = ap suc (length_letters names c ms us a.1)
 
 first_along : (c : CircuitData) (from to : List Bool) (ms : List Moment) → GoesOn c from ms to →
     get_or (latches_along ms to) 0 [] ≡ from
@@ -46,47 +34,33 @@ at_each : (names : List (List ℕ)) (c : CircuitData) (P : List Bool → ℕ →
     → (from to : List Bool) (ms : List Moment) (ls : List ℕ) → GoesOn c from ms to → AreLetters names c ms ls
     → (t : ℕ) → t < length ls → P (get_or (latches_along ms to) t []) (get_or ls t 0)
     (get_or (latches_along ms to) (suc t) [])
-at_each names c P each from to [] ls on a t lt = absurd (let e : length ls ≡ 0 = ap length a in omega (arith, e, lt))
+at_each names c P each from to [] ls on a t lt = absurd (omega (arith, ap length a))
 at_each names c P each from to (m ∷ ms) [] on a t lt = absurd a
 at_each names c P each from to (m ∷ ms) (l ∷ ls) (next, at, step, on) a zero lt =
-    subst (λ (behind : List Bool). P m.latches l behind) (sym (first_along c next to ms on))
-    (each m l next (subst (λ (latches : List Bool). Steps c latches m.inputs m.outputs next) (sym at) step) a.0)
+    rw (first_along c next to ms on) (each m l next (rw at step) a.0)
 at_each names c P each from to (m ∷ ms) (l ∷ ls) (next, at, step, on) a (suc t) lt =
     at_each names c P each next to ms ls on a.1 t (omega (arith, lt))
 
 -- ## Steps of a machine
 
-abbrev bit : Bool → ℕ
-bit b = cond b 1 0
-
 none_number : (bits : List Bool) → All (λ bit. bit ≡ false) bits → number_of bits ≡ 0
 none_number [] h = refl
-none_number (b ∷ bs) h =
-    let rest : number_of bs ≡ 0 = none_number bs (All-tail (λ bit. bit ≡ false) b bs h) in
-    let first : bit b ≡ 0 = ap bit (All-head (λ bit. bit ≡ false) b bs h) in
-    omega (arith, rest, first)
+none_number (b ∷ bs) h = grind (
+  arith,
+  All-head (λ bit. bit ≡ false) b bs h,
+  none_number bs (All-tail (λ bit. bit ≡ false) b bs h),
+)
 
 module _ (m : Behaviour) (is : IsMachine m) where
   pub memory_below : (latches : List Bool) → memory_of m latches < m.memories
-  memory_below latches = elim (cases_lt (number_of latches) (m.memories)) [
-    | inl lt ↦ subst (λ n. n < m.memories) (sym (ap (λ (b : Bool). cond b (number_of latches) 0)
-        (lt-ltb (number_of latches) (m.memories) lt))) lt
-    | inr le ↦ subst (λ n. n < m.memories) (sym (ap (λ (b : Bool). cond b (number_of latches) 0)
-        (le-ltb (number_of latches) (m.memories) le))) is.some
-  ]
+  memory_below latches = grind (arith, is.some)
 
   code_is : (latches : List Bool) (memory : ℕ) → number_of latches ≡ memory → memory < m.memories →
       memory_of m latches ≡ memory
-  code_is latches memory e lt =
-      ap (λ (b : Bool). cond b (number_of latches) 0) (lt-ltb (number_of latches) (m.memories) (omega (arith, e, lt)))
-      ∙ e
+  code_is latches memory e lt = grind arith
 
   not_both : (p : ℕ) → is_among p m.outputs ≡ true → is_among p m.inputs ≡ false
-  not_both p out = go (is_among p m.inputs) refl
-    where
-      go : (b : Bool) → is_among p m.inputs ≡ b → b ≡ false
-      go true e = sym out ∙ is.apart p e
-      go false e = refl
+  not_both p out = grind (arith, is.apart p)
 
   some_side : (p : ℕ) → p < length m.names → (is_among p m.inputs ≡ true) ⊎ (is_among p m.outputs ≡ true)
   some_side p lt = (is.each p).0 lt
@@ -94,21 +68,10 @@ module _ (m : Behaviour) (is : IsMachine m) where
   -- ## The letter of a step
 
   module _ (c : CircuitData) (encodes : Encodes m c) where
-    input_symbol : (k : ℕ) → k < length m.inputs → get_or m.inputs k 0 < length m.names →
-        IsSymbol m.names c.input_names k (get_or m.inputs k 0)
-    input_symbol k lt within = record {
-      within = within;
-      is = ap (λ (ns : List (Option (List ℕ))). get_or ns k None) encodes.input_names
-          ∙ get_or-map (λ p. Some (get_or m.names p [])) m.inputs k 0 None lt;
-    }
-
-    output_symbol : (k : ℕ) → k < length m.outputs → get_or m.outputs k 0 < length m.names →
-        IsSymbol m.names c.output_names k (get_or m.outputs k 0)
-    output_symbol k lt within = record {
-      within = within;
-      is = ap (λ (ns : List (Option (List ℕ))). get_or ns k None) encodes.output_names
-          ∙ get_or-map (λ p. Some (get_or m.names p [])) m.outputs k 0 None lt;
-    }
+    symbol_at : {symbols : List (Option (List ℕ))} (ps : List ℕ) → symbols ≡ symbols_of m.names ps → (k : ℕ) →
+        k < length ps → get_or ps k 0 < length m.names → IsSymbol m.names symbols k (get_or ps k 0)
+    symbol_at ps e k lt within =
+        record { within = within; is = rw e (get_or-map (λ p. Some (get_or m.names p [])) ps k 0 None lt) }
 
     module _ (s : Moment) (letter : ℕ) (next : List Bool) (steps : Steps c s.latches s.inputs s.outputs next)
         (is_letter : IsLetterOf m.names c s letter) where
@@ -131,11 +94,10 @@ module _ (m : Behaviour) (is : IsMachine m) where
       input_off p none = in_input p ∙ bit_with_none p m.inputs s.inputs none
 
       input_high : (p : ℕ) → length m.names ≤ p → is_in p input ≡ false
-      input_high p le = go (is_among p m.inputs) refl
-        where
-          go : (b : Bool) → is_among p m.inputs ≡ b → is_in p input ≡ false
-          go true e = absurd (let lt : p < length m.names = (is.each p).1 (inl e) in omega (arith, lt, le))
-          go false e = input_off p e
+      input_high p le = elim (cases_Bool (is_among p m.inputs)) [
+        | inl e ↦ absurd (omega (arith, (is.each p).1 (inl e), le))
+        | inr e ↦ input_off p e
+      ]
 
       is_output : IsOutput m output
       is_output = is.plays_own memory input (memory_below s.latches)
@@ -144,7 +106,7 @@ module _ (m : Behaviour) (is : IsMachine m) where
       read_bit : (p : ℕ) → p < length m.names → is_among p m.inputs ≡ true → is_in p letter ≡ is_in p input
       read_bit p lt among =
           let at = stands_in p m.inputs among in
-          let symbol = input_symbol at.place at.within (subst (λ q. q < length m.names) (sym at.is) lt) in
+          let symbol = symbol_at m.inputs encodes.input_names at.place at.within (rw at.is lt) in
           ap (λ q. is_in q letter) (sym at.is) ∙ is_letter.inputs at.place (get_or m.inputs at.place 0) symbol
           ∙ sym (bit_with_at m.inputs s.inputs at.place is.inputs_rise at.within)
           ∙ ap (λ q. bit_with q m.inputs s.inputs) at.is ∙ sym (in_input p)
@@ -153,18 +115,17 @@ module _ (m : Behaviour) (is : IsMachine m) where
       played_bit : (p : ℕ) → p < length m.names → is_among p m.outputs ≡ true → is_in p letter ≡ is_in p output
       played_bit p lt among =
           let at = stands_in p m.outputs among in
-          let symbol = output_symbol at.place at.within (subst (λ q. q < length m.names) (sym at.is) lt) in
+          let symbol = symbol_at m.outputs encodes.output_names at.place at.within (rw at.is lt) in
           ap (λ q. is_in q letter) (sym at.is) ∙ is_letter.outputs at.place (get_or m.outputs at.place 0) symbol
           ∙ ap (λ (bits : List Bool). get_or bits at.place false) as_machine.outputs_are
           ∙ get_or-map (λ q. is_in q output) m.outputs at.place 0 false at.within
           ∙ ap (λ q. is_in q output) at.is
 
       apart : AreApart input output
-      apart = are_apart input output (λ p. go p (is_among p m.inputs) refl)
-        where
-          go : (p : ℕ) (b : Bool) → is_among p m.inputs ≡ b → (is_in p input ≡ false) ⊎ (is_in p output ≡ false)
-          go p true e = inr (is_output.own p (is.apart p e))
-          go p false e = inl (input_off p e)
+      apart = are_apart input output (λ p. elim (cases_Bool (is_among p m.inputs)) [
+        | inl e ↦ inr (is_output.own p (is.apart p e))
+        | inr e ↦ inl (input_off p e)
+      ])
 
       joined : letter ≡ input + output
       joined = same_letter letter (input + output) (λ p. elim (cases_lt p (length m.names)) [
@@ -250,10 +211,10 @@ pub all_accepted : (file : FileData) (m : Behaviour) (c : CircuitData) → IsMac
     Encodes m c → LassosWon file m → m.player ≡ 0 → AllAccepted file c
 all_accepted file m c is names encodes won player stem lap word =
     won.accepted player stem lap (machine_words m c stem lap is encodes
-    (subst (λ (ns : List (List ℕ)). IsLassoWord ns c stem lap) (sym names) word))
+    (rw names word))
 
 pub none_accepted : (file : FileData) (m : Behaviour) (c : CircuitData) → IsMachine m → m.names ≡ file.names →
     Encodes m c → LassosWon file m → m.player ≢ 0 → NoneAccepted file c
 none_accepted file m c is names encodes won player stem lap word =
     won.rejected player stem lap (machine_words m c stem lap is encodes
-    (subst (λ (ns : List (List ℕ)). IsLassoWord ns c stem lap) (sym names) word))
+    (rw names word))
