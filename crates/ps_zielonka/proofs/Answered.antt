@@ -1,14 +1,14 @@
 -- The last call that waits has its answer, or gets moves for it: nothing more is lost.
 use Rattle.std.proofs.Common.{◌≡◌, ◌≢◌, ℕ, ◌+◌, ◌-◌, ◌*◌, ◌<◌, ◌≤◌, ◌⊎◌, inl, inr, List, [], ◌∷◌, ◌++◌, true, length}
-use Rattle.std.proofs.Common.{get_or, Some, refl, subst, sym, ap, ◌∙◌, arith}
+use Rattle.std.proofs.Common.{get_or, Some, refl, sym, ap, ◌∙◌, arith}
 use Rattle.std.specs.Prelude.{IsTrue}
 use Rattle.std.proofs.lemmas.Bool.{cases_eq, cases_lt, false≢true}
 use Rattle.ps_game.specs.Games.{ParityGame}
 use Rattle.ps_attractor.specs.Tables.{TablesData, FitsGame, level_of, moves_of}
 use Rattle.ps_zielonka.specs.declared.level.TheConstants.{UNPLACED}
 use Rattle.ps_zielonka.specs.declared.frame.Frame.{Frame}
-use Rattle.ps_zielonka.specs.Turns.{nothing, Solved}
-use Rattle.ps_zielonka.specs.Nests.{from, winner_of, frame_at, StandsBetween, Waits, IsNest, IsMoved, IsKeptAt}
+use Rattle.ps_zielonka.specs.Turns.{Solved}
+use Rattle.ps_zielonka.specs.Nests.{from, winner_of, StandsBetween, Waits, IsNest, IsMoved, IsKeptAt}
 use Rattle.ps_zielonka.proofs.Turning.{in_part_or_rest, Progress-same}
 use Rattle.ps_zielonka.proofs.Sets.{from_at, to_from}
 use Rattle.ps_zielonka.proofs.Below.{Agrees, IsTurned-on, sound_on}

@@ -1,10 +1,9 @@
 -- A turn begins: the tops are placed, and what is attracted to them; the last call then waits for the next one, which
 -- looks for its own turn.
-use Rattle.std.proofs.Common.{◌≡◌, ◌≢◌, ℕ, ◌+◌, ◌*◌, ◌<◌, ◌≤◌, inl, inr, List, [], ◌∷◌, ◌++◌, length, get_or, Bool}
-use Rattle.std.proofs.Common.{false, not, refl, subst, sym, ap, ◌∙◌, arith}
+use Rattle.std.proofs.Common.{◌≡◌, ℕ, ◌+◌, ◌*◌, ◌<◌, ◌≤◌, inl, inr, List, [], ◌∷◌, ◌++◌, length, get_or, Bool}
+use Rattle.std.proofs.Common.{false, refl, sym, ap, ◌∙◌, arith}
 use Rattle.std.specs.Prelude.{IsTrue}
 use Rattle.std.proofs.lemmas.Bool.{cases_lt, cases_eq, false≢true}
-use Rattle.std.proofs.lemmas.List.{get_or_append_left, get_or_push, length_push}
 use Rattle.ps_game.specs.Games.{vertex_count, priority_of}
 use Rattle.ps_attractor.specs.Tables.{level_of, moves_of}
 use Rattle.ps_attractor.specs.Aims.{IsPosed, IsTaken, IsAttracted, IsPlaced, rank_of}

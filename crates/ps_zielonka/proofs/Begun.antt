@@ -1,6 +1,6 @@
 -- A turn that begins: what is given of it, and which vertices are undecided and which of them its tops.
 use Rattle.std.proofs.Common.{◌≡◌, ◌≢◌, ℕ, ◌+◌, ◌*◌, ◌%◌, ◌<◌, ◌≤◌, ◌⊎◌, inl, inr, List, length, get_or, Bool, true}
-use Rattle.std.proofs.Common.{not, ◌&&◌, ◌==◌, refl, subst, sym, ap, ◌∙◌, arith}
+use Rattle.std.proofs.Common.{not, ◌&&◌, ◌==◌, refl, sym, ap, ◌∙◌, arith}
 use Rattle.std.specs.Prelude.{IsTrue}
 use Rattle.std.proofs.lemmas.Bool.{cases_lt, false≢true, eq-eqb, ne_eqb, and_parts, and_from, not-true, not_from_false}
 use Rattle.ps_game.specs.Games.{ParityGame, vertex_count, priority_of}

@@ -1,6 +1,6 @@
 -- What changes only above a level leaves the calls that wait below it.
 use Rattle.std.proofs.Common.{◌≡◌, ℕ, ◌+◌, ◌*◌, ◌<◌, ◌≤◌, ◌⊎◌, inl, inr, List, length, get_or, Bool, Option, Some}
-use Rattle.std.proofs.Common.{IsSomeAnd, subst, sym, ap, ◌∙◌, arith}
+use Rattle.std.proofs.Common.{sym, ap, ◌∙◌, arith}
 use Rattle.std.specs.Prelude.{IsTrue}
 use Rattle.std.proofs.lemmas.Bool.{cases_lt}
 use Rattle.ps_game.specs.Games.{ParityGame, vertex_count}

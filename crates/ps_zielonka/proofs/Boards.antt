@@ -1,12 +1,12 @@
 -- The parts of a step: what is kept at the vertices of the greatest priority, and what is taken off the trail and put
 -- back.
-use Rattle.std.proofs.Common.{◌≡◌, ◌≢◌, ℕ, ◌+◌, ◌-◌, ◌<◌, ◌≤◌, ◌⊎◌, inl, inr, List, [], ◌∷◌, ◌++◌, length, get_or, take}
-use Rattle.std.proofs.Common.{refl, subst, sym, ap, ◌∙◌, arith}
+use Rattle.std.proofs.Common.{◌≡◌, ◌≢◌, ℕ, ◌+◌, ◌-◌, ◌<◌, ◌≤◌, ◌⊎◌, inl, inr, List, [], ◌∷◌, length, get_or, take}
+use Rattle.std.proofs.Common.{refl, sym, ap, ◌∙◌, arith}
 use Rattle.std.specs.Prelude.{slice_set}
 use Rattle.std.proofs.lemmas.Bool.{cases_eq, cases_lt}
 use Rattle.std.proofs.lemmas.List.{get_or_append_left, get_or_push, length_push, get_or-set_same, get_or-set_other}
 use Rattle.std.proofs.lemmas.List.{length-set, get_or-take}
-use Rattle.ps_game.specs.Games.{ParityGame, HasEdge}
+use Rattle.ps_game.specs.Games.{ParityGame}
 use Rattle.ps_attractor.specs.Tables.{TablesData, level_of}
 use Rattle.ps_attractor.specs.Aims.{StandsFrom}
 use Rattle.ps_attractor.specs.Steps.{with_placed}

@@ -1,14 +1,14 @@
 -- How many calls wait: as many priorities are there, since the rest of each turn lacks one.
-use Rattle.std.proofs.Common.{◌≡◌, ℕ, zero, suc, ◌+◌, ◌*◌, ◌<◌, ◌≤◌, inl, inr, List, length, get_or, Bool, true, false}
-use Rattle.std.proofs.Common.{max, refl, subst, sym, ◌∙◌, arith}
+use Rattle.std.proofs.Common.{◌≡◌, ℕ, zero, suc, ◌+◌, ◌*◌, ◌<◌, inl, inr, List, length, get_or, Bool, true, false}
+use Rattle.std.proofs.Common.{max, refl, sym, ◌∙◌, arith}
 use Rattle.std.proofs.lemmas.Bool.{cases_lt, lt-ltb, false≢true}
 use Rattle.std.proofs.lemmas.List.{get_or_past}
 use Rattle.ps_game.specs.Games.{ParityGame, vertex_count}
-use Rattle.ps_attractor.specs.Tables.{TablesData, level_of, moves_of}
+use Rattle.ps_attractor.specs.Tables.{TablesData, level_of}
 use Rattle.ps_zielonka.specs.declared.level.TheConstants.{UNPLACED}
 use Rattle.ps_zielonka.specs.declared.frame.Frame.{Frame}
 use Rattle.ps_zielonka.specs.Depths.{is_vertex, HasPriorities, IsDepth, IsFresh, IsSecondCall, IsDepthSoFar}
-use Rattle.ps_zielonka.specs.Nests.{from, winner_of, frame_at, Waits, IsNest}
+use Rattle.ps_zielonka.specs.Nests.{from, frame_at, Waits, IsNest}
 use Rattle.ps_zielonka.proofs.Depths.{one_priority, HasPriorities-larger, HasPriorities-turned}
 use Rattle.ps_zielonka.proofs.Sets.{from_at}
 use Rattle.ps_zielonka.proofs.Begun.{Begun}

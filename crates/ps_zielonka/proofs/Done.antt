@@ -1,12 +1,12 @@
 -- The present call has its answer; and at the end the whole game has.
-use Rattle.std.proofs.Common.{◌≡◌, ◌≢◌, ℕ, ◌+◌, ◌*◌, ◌<◌, ◌≤◌, inl, inr, List, length, get_or, Bool, true, false, subst}
+use Rattle.std.proofs.Common.{◌≡◌, ◌≢◌, ℕ, ◌+◌, ◌*◌, ◌<◌, ◌≤◌, inl, inr, List, length, get_or, Bool, true, false}
 use Rattle.std.proofs.Common.{sym, ap, ◌∙◌, arith}
 use Rattle.std.proofs.lemmas.Bool.{cases_lt, false≢true}
-use Rattle.ps_game.specs.Games.{ParityGame, vertex_count}
-use Rattle.ps_attractor.specs.Tables.{TablesData, level_of, moves_of}
+use Rattle.ps_game.specs.Games.{ParityGame}
+use Rattle.ps_attractor.specs.Tables.{TablesData, level_of}
 use Rattle.ps_zielonka.specs.declared.level.TheConstants.{UNPLACED}
 use Rattle.ps_zielonka.specs.declared.frame.Frame.{Frame}
-use Rattle.ps_zielonka.specs.Nests.{from, size_from, winner_of, Searches, HasAnswer, IsSoundBoard, IsNest}
+use Rattle.ps_zielonka.specs.Nests.{Searches, IsSoundBoard, IsNest}
 use Rattle.ps_zielonka.specs.Stacks.{IsSolvedBy}
 use Rattle.ps_zielonka.proofs.Turning.{Solved-done}
 use Rattle.ps_zielonka.proofs.Sets.{from_at, to_from}

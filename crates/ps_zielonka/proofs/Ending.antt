@@ -1,5 +1,5 @@
 -- The end: from a game that is solved to the region and the strategies by which both players hold.
-use Rattle.std.proofs.Common.{◌≡◌, ◌≢◌, ℕ, ◌<◌, ◌≤◌, inl, inr, List, length, get_or, Option, Some, None, Bool, subst}
+use Rattle.std.proofs.Common.{◌≡◌, ◌≢◌, ℕ, ◌<◌, inl, inr, List, length, get_or, Option, Some, None, Bool}
 use Rattle.std.proofs.Common.{arith}
 use Rattle.std.specs.Prelude.{IsTrue, IsSome}
 use Rattle.std.proofs.lemmas.Bool.{cases_eq, cases_lt, false≢true, not-true, not_from_false, false_from_ne_true}

@@ -1,8 +1,7 @@
 -- The stack of the calls that wait: its last one, those below it, and the stack on which no call waits yet.
-use Rattle.std.proofs.Common.{◌≡◌, ◌≢◌, ℕ, ◌+◌, ◌-◌, ◌*◌, ◌<◌, ◌≤◌, ◌⊎◌, inl, inr, List, [], ◌∷◌, ◌++◌, Bool, true}
-use Rattle.std.proofs.Common.{false, length, get_or, replicate, cond, refl, subst, sym, ap, ◌∙◌, arith, rules}
+use Rattle.std.proofs.Common.{◌≡◌, ℕ, ◌+◌, ◌*◌, ◌<◌, ◌≤◌, ◌⊎◌, inl, inr, List, [], ◌∷◌, ◌++◌, Bool, true}
+use Rattle.std.proofs.Common.{false, length, get_or, replicate, cond, refl, subst, ap, ◌∙◌, arith, rules}
 use Rattle.std.specs.Prelude.{nat_le, IsTrue}
-use Rattle.std.specs.List.{All}
 use Rattle.std.proofs.lemmas.Bool.{cases_lt, false≢true}
 use Rattle.std.proofs.lemmas.List.{get_or_append_left, get_or_push, length_push, get_or-replicate, get_or_past}
 use Rattle.std.proofs.lemmas.List.{length-replicate}

@@ -1,6 +1,6 @@
 -- What a player holds within a subgame: by other moves, within a larger subgame, two sets together, and an attractor.
 use Rattle.std.proofs.Common.{◌≡◌, ◌≢◌, ℕ, ◌+◌, ◌%◌, ◌<◌, ◌≤◌, ◌⊎◌, inl, inr, Bool, false, Option, Some, None}
-use Rattle.std.proofs.Common.{IsSomeAnd, subst, sym, ap, ◌∙◌, arith}
+use Rattle.std.proofs.Common.{IsSomeAnd, sym, ap, ◌∙◌, arith}
 use Rattle.std.specs.Prelude.{IsTrue}
 use Rattle.std.proofs.lemmas.Bool.{cases_eq, cases_Bool, false≢true}
 use Rattle.ps_game.specs.Games.{ParityGame, owner_of, priority_of, HasEdge}

@@ -1,6 +1,4 @@
-use Rattle.std.proofs.Common.{◌≡◌, ◌-◌, ℕ, List, get_or, subst, sym, ap, ◌∙◌, arith, rules}
-use Rattle.ps_zielonka.specs.Levels.{mark_of}
-use Rattle.ps_zielonka.specs.Nests.{IsKeptAt}
+use Rattle.std.proofs.Common.{◌≡◌, get_or, sym, ap, ◌∙◌, arith, rules}
 use Rattle.ps_zielonka.proofs.Boards.{moved_more, kept_more}
 use Rattle.ps_zielonka.proofs.board.Board.is_kept.Goals as goal
 

@@ -1,11 +1,9 @@
-use Rattle.std.proofs.Common.{◌≡◌, ℕ, ◌+◌, ◌<◌, List, length, get_or, subst, sym, ap, ◌∙◌, arith, rules}
+use Rattle.std.proofs.Common.{◌≡◌, ◌+◌, ◌<◌, length, get_or, sym, ap, ◌∙◌, arith, rules}
 use Rattle.std.proofs.lemmas.Bool.{eqb-true, eq-eqb, false≢true}
 use Rattle.std.proofs.lemmas.List.{get_or_read}
 use Rattle.std.specs.Prelude.{slice_set}
 use Rattle.ps_attractor.specs.Steps.{with_placed}
 use Rattle.ps_zielonka.specs.declared.board.Board.{Board}
-use Rattle.ps_zielonka.specs.Levels.{mark_of}
-use Rattle.ps_zielonka.specs.Nests.{StandsBefore, IsReopened}
 use Rattle.ps_zielonka.proofs.Boards.{reopened_free, reopened_lost, reopened_end}
 use Rattle.ps_zielonka.proofs.board.Board.reopen.Goals as goal
 use Rattle.ps_zielonka.proofs.board.Board.reopen.Goals.{then-eq, else-eq+in_ok-place}

@@ -1,11 +1,11 @@
-use Rattle.std.proofs.Common.{◌≡◌, ◌+◌, ◌%◌, ◌<◌, ℕ, List, [], ◌∷◌, ◌++◌, Bool, length, get_or, refl, subst, sym, ap}
+use Rattle.std.proofs.Common.{◌≡◌, ◌+◌, ◌%◌, ℕ, List, [], ◌∷◌, ◌++◌, length, get_or, refl, ap}
 use Rattle.std.proofs.Common.{◌∙◌, arith}
 use Rattle.std.proofs.lemmas.Grind.{common_steps}
 use Rattle.std.proofs.lemmas.List.{length_push}
 use Rattle.ps_game.specs.Games.{priority_of}
 use Rattle.ps_attractor.specs.declared.aim.Aim.{Aim}
 use Rattle.ps_zielonka.specs.declared.frame.Frame.{Frame}
-use Rattle.ps_zielonka.specs.Nests.{IsNest, steps_left}
+use Rattle.ps_zielonka.specs.Nests.{IsNest}
 use Rattle.ps_zielonka.specs.Levels.{aim_of}
 use Rattle.ps_zielonka.specs.declared.level.Level.TheVariants.{Attracted}
 use Rattle.ps_zielonka.proofs.Begun.{Begun}

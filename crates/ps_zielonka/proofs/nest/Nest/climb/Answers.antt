@@ -1,9 +1,7 @@
-use Rattle.std.proofs.Common.{◌≡◌, ℕ, ◌+◌, ◌-◌, ◌*◌, ◌<◌, List, ◌++◌, ◌∷◌, [], Bool, true, length, refl, subst, sym, ap}
+use Rattle.std.proofs.Common.{◌≡◌, ◌+◌, ◌*◌, length, refl, ap}
 use Rattle.std.proofs.Common.{◌∙◌, arith}
 use Rattle.std.proofs.lemmas.Result.{on_ok_weaker}
-use Rattle.ps_zielonka.specs.declared.frame.Frame.{Frame}
 use Rattle.std.proofs.lemmas.List.{length_push}
-use Rattle.ps_zielonka.specs.Nests.{IsNest, StandsBetween, IsKeptAt, steps_left}
 use Rattle.ps_zielonka.proofs.Measure.{falls_kept}
 use Rattle.ps_zielonka.proofs.Answered.{kept_nest, moved_nest}
 use Rattle.ps_zielonka.proofs.Deep.{depth_climbs, depth_kept}

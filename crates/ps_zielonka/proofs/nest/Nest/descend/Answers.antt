@@ -1,5 +1,4 @@
-use Rattle.std.proofs.Common.{◌<◌, ℕ, List, Bool, true, length, subst, sym, arith}
-use Rattle.ps_zielonka.specs.Nests.{steps_left}
+use Rattle.std.proofs.Common.{length, arith}
 use Rattle.ps_zielonka.proofs.Done.{done_nest}
 use Rattle.ps_zielonka.proofs.Measure.{falls_done}
 use Rattle.ps_zielonka.proofs.Deep.{depth_done}

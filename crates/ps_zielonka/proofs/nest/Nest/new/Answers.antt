@@ -1,9 +1,8 @@
-use Rattle.std.proofs.Common.{◌≡◌, ◌≤◌, ◌+◌, ◌*◌, false, length, replicate, subst, sym, arith}
+use Rattle.std.proofs.Common.{◌≡◌, false, length, replicate, subst, sym, arith}
 use Rattle.std.proofs.lemmas.List.{get_or-replicate}
 use Rattle.ps_game.specs.Games.{vertex_count}
 use Rattle.ps_attractor.specs.Tables.{TablesData}
 use Rattle.ps_zielonka.specs.declared.level.TheConstants.{UNPLACED}
-use Rattle.ps_zielonka.specs.declared.frame.Frame.{Frame}
 use Rattle.ps_zielonka.specs.Nests.{IsNest}
 use Rattle.ps_zielonka.specs.Depths.{IsDepthSoFar}
 use Rattle.ps_zielonka.proofs.Deep.{depth_start}
