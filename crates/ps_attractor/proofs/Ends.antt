@@ -31,99 +31,6 @@ was_there w posed inside = elim (posed.split w inside) [
   | inr there ↦ inr (posed.target_stands w there)
 ]
 
--- a vertex that is free now was free
-was_free : {game : ParityGame} {aim : Aim} {old new : TablesData} {subgame target set : ℕ → Bool} (v : ℕ) →
-    Ended game aim old new subgame target set → level_of new v ≡ aim.free → level_of old v ≡ aim.free
-was_free v ended is_free = elim (ended.reached.grown.each v) [
-  | inl same ↦ sym same.level ∙ is_free
-  | inr placed ↦ absurd (ended.marks (sym placed.level ∙ is_free))
-]
-
-target_in : {game : ParityGame} {aim : Aim} {old new : TablesData} {subgame target set : ℕ → Bool} →
-    Ended game aim old new subgame target set → IsWithin target set
-target_in {game} {aim} {old} {new} {subgame} {target} {set} ended v there =
-    ended.taken.all v (ended.posed.target_within v there) (λ is_free.
-    ended.posed.target_placed v there (was_free v ended is_free))
-
--- what stands in the trail is in the set
-trail_in : {game : ParityGame} {aim : Aim} {old new : TablesData} {subgame target set : ℕ → Bool} {w : ℕ} →
-    Ended game aim old new subgame target set → w < vertex_count game → StandsFrom new aim.begin w → IsTrue (set w)
-trail_in {game} {aim} {old} {new} {subgame} {target} {set} {w} ended is_vertex stands =
-    elim (cases_lt stands.place (length old.trail)) [
-      | inl less ↦ (
-          let Target : ℕ → Type 0 = λ v. IsTrue (target v) in
-          target_in ended w (subst Target (sym (ended.reached.grown.front stands.place less) ∙ stands.is)
-          (ended.posed.only_target stands.place stands.after less)))
-      | inr more ↦ (
-          let Placed : ℕ → Type 0 = IsPlaced aim old new in
-          let placed : IsPlaced aim old new w =
-          subst Placed stands.is (ended.reached.grown.behind stands.place more stands.within) in
-          ended.taken.all w (ended.posed.frees w is_vertex placed.was_free)
-          (λ is_free. ended.marks (sym placed.level ∙ is_free)))
-    ]
-
--- a vertex of the player with an edge into the set is not free
-own_in : {game : ParityGame} {aim : Aim} {old new : TablesData} {subgame target set : ℕ → Bool} (v w : ℕ) →
-    Ended game aim old new subgame target set → owner_of game v ≡ aim.player → HasEdge game v w → IsTrue (set w) →
-    level_of new v ≢ aim.free
-own_in {game} {aim} {old} {new} {subgame} {target} v w ended owns edge inside is_free =
-    let stands = stands_now w ended.begins ended.reached.grown (ended.taken.placed w inside)
-    (was_there w ended.posed (ended.taken.within w inside)) in
-    let Edge : ℕ → Type 0 = HasEdge game v in
-    omega (
-      arith,
-      ended.reached.own v stands.place is_free owns stands.after stands.within
-          (subst Edge (sym stands.is) edge),
-    )
-
--- a vertex of the other player that is free has a free successor
-other_out : {game : ParityGame} {aim : Aim} {old new : TablesData} {subgame target set : ℕ → Bool} (v : ℕ) →
-    Ended game aim old new subgame target set → owner_of game v ≢ aim.player → IsTrue (subgame v) →
-    level_of new v ≡ aim.free → StaysOut game subgame set v
-other_out {game} {aim} {old} {new} {subgame} {target} {set} v ended others inside is_free =
-    let (w, leads) = ended.posed.is_subgame.goes_on v inside in
-    let can = ended.reached.other v is_free others (record {
-      to = w;
-      edge = leads.edge;
-      there = was_there w ended.posed leads.inside;
-    }) in
-    elim can.there [
-      | inl free ↦ record {
-        to = can.to;
-        leads = record {
-          edge = can.edge;
-          inside = ended.posed.frees can.to (ended.is_game.within v can.to can.edge) (was_free can.to ended free);
-        };
-        outside = λ in_set. ended.taken.placed can.to in_set free;
-      }
-      | inr there ↦ (
-          absurd (omega arith))
-    ]
-
-closed_set : {game : ParityGame} {aim : Aim} {old new : TablesData} {subgame target set : ℕ → Bool} →
-    Ended game aim old new subgame target set → IsClosed game subgame aim.player target set
-closed_set {game} {aim} {old} {new} {subgame} {target} {set} ended = record {
-  holds = target_in ended;
-  own = λ v w inside owns leads in_set. ended.taken.all v inside (own_in v w ended owns leads.edge in_set);
-  other = λ v inside others all. ended.taken.all v inside (λ is_free. (
-      let out = other_out v ended others inside is_free in
-      out.outside (all out.to out.leads)));
-}
-
-out_on : {game : ParityGame} {aim : Aim} {old new : TablesData} {subgame target set : ℕ → Bool} →
-    Ended game aim old new subgame target set → (v : ℕ) → IsTrue (subgame v) → ¬ IsTrue (set v) →
-    StaysOut game subgame set v
-out_on {game} {aim} {old} {new} {subgame} {target} {set} ended v inside outside =
-    elim (cases_eq (level_of new v) aim.free) [
-      | inr not_free ↦ absurd (outside (ended.taken.all v inside not_free))
-      | inl is_free ↦ elim (cases_eq (owner_of game v) aim.player) [
-        | inr others ↦ other_out v ended others inside is_free
-        | inl owns ↦ (
-            let (w, leads) = ended.posed.is_subgame.goes_on v inside in
-            record { to = w; leads = leads; outside = λ in_set. own_in v w ended owns leads.edge in_set is_free })
-      ]
-    ]
-
 -- the rank of what stands before a place of the trail is less than the place
 rank_before : (aim : Aim) (new : TablesData) (end w : ℕ) → end ≤ length new.trail → StandsBefore aim new end w →
     aim.begin + rank_of aim new w < end
@@ -150,60 +57,127 @@ rank_at aim {new} {v} stands =
           ∙ place_in-at (drop aim.begin new.trail) v (stands.place - aim.begin) inside at,
     )
 
--- a vertex of the set outside the target leads back from the place of its rank
-leads_from : {game : ParityGame} {aim : Aim} {old new : TablesData} {subgame target set : ℕ → Bool} (v : ℕ) →
-    Ended game aim old new subgame target set → IsTrue (set v) → ¬ IsTrue (target v) →
-    (aim.begin + rank_of aim new v < length new.trail) × LeadsBack game aim old new (aim.begin + rank_of aim new v) v
-leads_from {game} {aim} {old} {new} {subgame} {target} v ended inside outside =
-    let there = rank_at aim (stands_now v ended.begins ended.reached.grown (ended.taken.placed v inside)
-    (was_there v ended.posed (ended.taken.within v inside))) in
-    let place : ℕ = aim.begin + rank_of aim new v in
-    let Back : ℕ → Type 0 = LeadsBack game aim old new place in
-    let Target : ℕ → Type 0 = λ x. IsTrue (target x) in
-    let after : aim.begin ≤ place = omega arith in (
-      there.0,
-      elim (cases_lt place (length old.trail)) [
-        | inl less ↦ absurd (outside (subst Target (sym (ended.reached.grown.front place less) ∙ there.1)
-            (ended.posed.only_target place after less)))
-        | inr more ↦ subst Back there.1 (ended.reached.back place more there.0)
-      ],
-    )
+module _ {game : ParityGame} {aim : Aim} {old new : TablesData} {subgame target set : ℕ → Bool}
+    (ended : Ended game aim old new subgame target set) where
+  -- a vertex that is free now was free
+  was_free : (v : ℕ) → level_of new v ≡ aim.free → level_of old v ≡ aim.free
+  was_free v is_free = elim (ended.reached.grown.each v) [
+    | inl same ↦ sym same.level ∙ is_free
+    | inr placed ↦ absurd (ended.marks (sym placed.level ∙ is_free))
+  ]
 
--- an edge to what stands before the place of a vertex leads down
-leads_down : {game : ParityGame} {aim : Aim} {old new : TablesData} {subgame target set : ℕ → Bool} (v w : ℕ) →
-    Ended game aim old new subgame target set → aim.begin + rank_of aim new v < length new.trail → HasEdge game v w →
-    StandsBefore aim new (aim.begin + rank_of aim new v) w → LeadsDown game subgame set (rank_of aim new) v w
-leads_down {game} {aim} {old} {new} {subgame} {target} {set} v w ended within edge stands =
-    let before : stands.place < aim.begin + rank_of aim new v = stands.before in
-    let in_set = trail_in ended (ended.is_game.within v w edge)
-    (record { place = stands.place; after = stands.after; within = omega arith; is = stands.is }) in
-    record {
-      leads = record { edge = edge; inside = ended.taken.within w in_set };
-      inside = in_set;
-      falls = omega (arith, rank_before aim new (aim.begin + rank_of aim new v) w (omega arith) stands);
-    }
+  target_in : IsWithin target set
+  target_in v there =
+      ended.taken.all v (ended.posed.target_within v there)
+      (λ is_free. ended.posed.target_placed v there (was_free v is_free))
 
-falls_in : {game : ParityGame} {aim : Aim} {old new : TablesData} {subgame target set : ℕ → Bool} →
-    Ended game aim old new subgame target set → Falls game subgame aim.player target set (moves_of new)
-    (rank_of aim new)
-falls_in {game} {aim} {old} {new} {subgame} {target} {set} ended = record {
-  own = λ v inside outside owns. (
-      let back = leads_from v ended inside outside in
-      let move = back.1.own owns in
-      leads_down v (get_or new.moves v 0) ended back.0 move.0 move.1);
-  other = λ v w inside outside others leads. (
-      let back = leads_from v ended inside outside in
-      leads_down v w ended back.0 leads.edge (back.1.other others w leads.edge (was_there w ended.posed leads.inside)));
-}
+  -- what is in the set stands in the trail
+  in_trail : (v : ℕ) → IsTrue (set v) → StandsFrom new aim.begin v
+  in_trail v inside =
+      stands_now v ended.begins ended.reached.grown (ended.taken.placed v inside)
+      (was_there v ended.posed (ended.taken.within v inside))
 
-pub attracted : {game : ParityGame} {aim : Aim} {old new : TablesData} {subgame target set : ℕ → Bool} →
-    Ended game aim old new subgame target set → IsAttracted game subgame aim.player target set (moves_of new)
-    (rank_of aim new)
-attracted {game} {aim} {old} {new} {subgame} {target} {set} ended =
-    let falls = falls_in ended in
-    record {
-      closed = closed_set ended;
-      falls = falls;
-      least = falls_least ended.taken.within falls;
-      goes_on = out_on ended;
-    }
+  -- what stands in the trail is in the set
+  trail_in : {w : ℕ} → w < vertex_count game → StandsFrom new aim.begin w → IsTrue (set w)
+  trail_in {w = w} is_vertex stands = elim (cases_lt stands.place (length old.trail)) [
+    | inl less ↦ target_in w (rw (sym (ended.reached.grown.front stands.place less) ∙ stands.is) at
+        (ended.posed.only_target stands.place stands.after less))
+    | inr more ↦
+        let placed = rw stands.is at (ended.reached.grown.behind stands.place more stands.within) in
+        ended.taken.all w (ended.posed.frees w is_vertex placed.was_free)
+        (λ is_free. ended.marks (sym placed.level ∙ is_free))
+  ]
+
+  -- a vertex of the player with an edge into the set is not free
+  own_in : (v w : ℕ) → owner_of game v ≡ aim.player → HasEdge game v w → IsTrue (set w) → level_of new v ≢ aim.free
+  own_in v w owns edge inside is_free =
+      let stands = in_trail w inside in
+      omega (
+        arith,
+        ended.reached.own v stands.place is_free owns stands.after stands.within (rw stands.is edge),
+      )
+
+  -- a vertex of the other player that is free has a free successor
+  other_out : (v : ℕ) → owner_of game v ≢ aim.player → IsTrue (subgame v) → level_of new v ≡ aim.free →
+      StaysOut game subgame set v
+  other_out v others inside is_free =
+      let (w, leads) = ended.posed.is_subgame.goes_on v inside in
+      let can = ended.reached.other v is_free others
+      (record { to = w; edge = leads.edge; there = was_there w ended.posed leads.inside }) in
+      elim can.there [
+        | inl free ↦ record {
+          to = can.to;
+          leads = record {
+            edge = can.edge;
+            inside = ended.posed.frees can.to (ended.is_game.within v can.to can.edge) (was_free can.to free);
+          };
+          outside = λ in_set. ended.taken.placed can.to in_set free;
+        }
+        | inr there ↦ absurd (omega arith)
+      ]
+
+  closed_set : IsClosed game subgame aim.player target set
+  closed_set = record {
+    holds = target_in;
+    own = λ v w inside owns leads in_set. ended.taken.all v inside (own_in v w owns leads.edge in_set);
+    other = λ v inside others all. ended.taken.all v inside (λ is_free.
+        let out = other_out v others inside is_free in out.outside (all out.to out.leads));
+  }
+
+  out_on : (v : ℕ) → IsTrue (subgame v) → ¬ IsTrue (set v) → StaysOut game subgame set v
+  out_on v inside outside = elim (cases_eq (level_of new v) aim.free) [
+    | inr not_free ↦ absurd (outside (ended.taken.all v inside not_free))
+    | inl is_free ↦ elim (cases_eq (owner_of game v) aim.player) [
+      | inr others ↦ other_out v others inside is_free
+      | inl owns ↦
+          let (w, leads) = ended.posed.is_subgame.goes_on v inside in
+          record { to = w; leads = leads; outside = λ in_set. own_in v w owns leads.edge in_set is_free }
+    ]
+  ]
+
+  -- a vertex of the set outside the target leads back from the place of its rank
+  leads_from : (v : ℕ) → IsTrue (set v) → ¬ IsTrue (target v) →
+      (aim.begin + rank_of aim new v < length new.trail) × LeadsBack game aim old new (aim.begin + rank_of aim new v) v
+  leads_from v inside outside =
+      let (within, is) = rank_at aim (in_trail v inside) in
+      let place : ℕ = aim.begin + rank_of aim new v in
+      let after : aim.begin ≤ place = omega arith in (
+        within,
+        elim (cases_lt place (length old.trail)) [
+          | inl less ↦ absurd (outside (rw (sym (ended.reached.grown.front place less) ∙ is) at
+              (ended.posed.only_target place after less)))
+          | inr more ↦ rw is at (ended.reached.back place more within)
+        ],
+      )
+
+  -- an edge to what stands before the place of a vertex leads down
+  leads_down : (v w : ℕ) → aim.begin + rank_of aim new v < length new.trail → HasEdge game v w →
+      StandsBefore aim new (aim.begin + rank_of aim new v) w → LeadsDown game subgame set (rank_of aim new) v w
+  leads_down v w within edge stands =
+      let before = stands.before in
+      let in_set = trail_in (ended.is_game.within v w edge)
+      (record { place = stands.place; after = stands.after; within = omega arith; is = stands.is }) in
+      record {
+        leads = record { edge = edge; inside = ended.taken.within w in_set };
+        inside = in_set;
+        falls = omega (arith, rank_before aim new (aim.begin + rank_of aim new v) w (omega arith) stands);
+      }
+
+  falls_in : Falls game subgame aim.player target set (moves_of new) (rank_of aim new)
+  falls_in = record {
+    own = λ v inside outside owns.
+        let (within, back) = leads_from v inside outside in
+        let move = back.own owns in
+        leads_down v (get_or new.moves v 0) within move.0 move.1;
+    other = λ v w inside outside others leads.
+        let (within, back) = leads_from v inside outside in
+        leads_down v w within leads.edge (back.other others w leads.edge (was_there w ended.posed leads.inside));
+  }
+
+  pub attracted : IsAttracted game subgame aim.player target set (moves_of new) (rank_of aim new)
+  attracted = record {
+    closed = closed_set;
+    falls = falls_in;
+    least = falls_least ended.taken.within falls_in;
+    goes_on = out_on;
+  }

@@ -3,7 +3,7 @@ use Rattle.std.proofs.Common.{◌≡◌, ◌≢◌, ℕ, ◌+◌, ◌<◌, ◌�
 use Rattle.std.proofs.Common.{get_or, refl, subst, sym, ap, arith}
 use Rattle.std.specs.Prelude.{slice_set}
 use Rattle.std.specs.List.{sum_by}
-use Rattle.std.proofs.lemmas.Bool.{eq-eqb, eqb-true}
+use Rattle.std.proofs.lemmas.Bool.{eq-eqb, ne_eqb}
 use Rattle.std.proofs.lemmas.List.{length_push, get_or_append_left}
 use Rattle.std.proofs.lemmas.List.Sums.{sum_by-set}
 use Rattle.ps_game.specs.Games.{ParityGame}
@@ -17,19 +17,9 @@ pub record Keeps (aim : Aim) (old new : TablesData) : Type 0 where
   pub longer : length old.trail ≤ length new.trail
   pub front : (j : ℕ) → j < length old.trail → get_or new.trail j 0 ≡ get_or old.trail j 0
 
-keeps_same : (aim : Aim) (old : TablesData) → Keeps aim old old
-keeps_same aim old = record { frees = refl; longer = omega arith; front = λ j within. refl }
-
 -- one if a level is the free one
 abbrev weight : ℕ → ℕ → ℕ
 weight free level = cond (eqb level free) 1 0
-
-weight_other : (free level : ℕ) → level ≢ free → weight free level ≡ 0
-weight_other free level differ = by_test (eqb level free) refl
-  where
-    by_test : (b : Bool) → eqb level free ≡ b → cond {A = ℕ} b 1 0 ≡ 0
-    by_test true same = absurd (differ (eqb-true level free same))
-    by_test false other = refl
 
 keeps_placed : (aim : Aim) (old : TablesData) (moves : List ℕ) (u : ℕ) → aim.mark ≢ aim.free → u < length old.level →
     level_of old u ≡ aim.free → Keeps aim old (record {
@@ -38,31 +28,23 @@ keeps_placed : (aim : Aim) (old : TablesData) (moves : List ℕ) (u : ℕ) → a
       trail = old.trail ++ u ∷ [];
     })
 keeps_placed aim old moves u marks within is_free =
-    let one : weight aim.free (get_or old.level u 0) ≡ 1 =
-    ap (λ b. cond b 1 0) (eq-eqb (get_or old.level u 0) aim.free is_free) in
-    let none : weight aim.free aim.mark ≡ 0 = weight_other aim.free aim.mark marks in
-    let sums : sum_by (weight aim.free) (slice_set old.level u aim.mark) + weight aim.free (get_or old.level u 0) ≡
-    sum_by (weight aim.free) old.level + weight aim.free aim.mark =
-    sum_by-set (weight aim.free) old.level u aim.mark 0 within in
-    let fewer : sum_by (weight aim.free) (slice_set old.level u aim.mark) + 1 ≡ sum_by (weight aim.free) old.level =
-    omega arith in
-    let size : length (old.trail ++ u ∷ []) ≡ length old.trail + 1 = length_push old.trail u in
+    let one : weight aim.free (get_or old.level u 0) ≡ 1 = rw (eq-eqb (get_or old.level u 0) aim.free is_free) in
+    let none : weight aim.free aim.mark ≡ 0 = rw (ne_eqb aim.mark aim.free marks) in
+    let sums = sum_by-set (weight aim.free) old.level u aim.mark 0 within in
+    let size = length_push old.trail u in
     record {
-      frees = omega (arith, fewer, size);
+      frees = omega arith;
       longer = omega arith;
       front = λ j below. get_or_append_left old.trail (u ∷ []) 0 j below;
     }
 
-pub keeps_look : (game : ParityGame) (aim : Aim) (old new : TablesData) (u w : ℕ) → aim.mark ≢ aim.free →
+pub keeps_look : {game : ParityGame} {aim : Aim} {old new : TablesData} {u w : ℕ} → aim.mark ≢ aim.free →
     u < length old.level → Look game aim old new u w → Keeps aim old new
-keeps_look game aim old new u w marks within look = by_look look
-  where
-    by_look : Look game aim old new u w → Keeps aim old new
-    by_look (NotFree not_free same) =
-        let Kept : TablesData → Type 0 = λ t. Keeps aim old t in subst Kept (sym same) (keeps_same aim old)
-    by_look (Escapes others has_free same) =
-        let Kept : TablesData → Type 0 = λ t. Keeps aim old t in subst Kept (sym same) (keeps_same aim old)
-    by_look (Own is_free owns same) = let Kept : TablesData → Type 0 = λ t. Keeps aim old t in
-        subst Kept (sym same) (keeps_placed aim old (slice_set old.moves u w) u marks within is_free)
-    by_look (Others is_free others none same) = let Kept : TablesData → Type 0 = λ t. Keeps aim old t in
-        subst Kept (sym same) (keeps_placed aim old old.moves u marks within is_free)
+keeps_look marks within (NotFree not_free same) =
+    rw same (record { frees = refl; longer = omega arith; front = λ j within. refl })
+keeps_look marks within (Escapes others has_free same) =
+    rw same (record { frees = refl; longer = omega arith; front = λ j within. refl })
+keeps_look {aim = aim} {old = old} {u = u} {w = w} marks within (Own is_free owns same) =
+    rw same (keeps_placed aim old (slice_set old.moves u w) u marks within is_free)
+keeps_look {aim = aim} {old = old} {u = u} marks within (Others is_free others none same) =
+    rw same (keeps_placed aim old old.moves u marks within is_free)

@@ -1,12 +1,12 @@
 -- One more vertex is placed: the trail grows by it, and what was placed or led back does so still.
-use Rattle.std.proofs.Common.{◌≡◌, ◌≢◌, ℕ, ◌+◌, ◌<◌, ◌≤◌, inl, inr, [], ◌∷◌, ◌++◌, length, get_or, refl, subst, sym, ap}
+use Rattle.std.proofs.Common.{◌≡◌, ◌≢◌, ℕ, ◌+◌, ◌<◌, ◌≤◌, inl, inr, [], ◌∷◌, ◌++◌, length, get_or, refl, sym, ap}
 use Rattle.std.proofs.Common.{◌∙◌, arith}
 use Rattle.std.proofs.lemmas.Bool.{cases_eq, cases_lt}
 use Rattle.std.proofs.lemmas.List.{get_or_append_left, get_or_push, length_push}
-use Rattle.ps_game.specs.Games.{ParityGame, HasEdge}
+use Rattle.ps_game.specs.Games.{ParityGame}
 use Rattle.ps_attractor.specs.declared.aim.Aim.{Aim}
 use Rattle.ps_attractor.specs.Tables.{TablesData, level_of}
-use Rattle.ps_attractor.specs.Aims.{IsPlaced, IsGrown}
+use Rattle.ps_attractor.specs.Aims.{StandsFrom, IsPlaced, IsGrown}
 use Rattle.ps_attractor.specs.Steps.{StandsBefore, LeadsBack}
 
 -- one more vertex is placed
@@ -17,111 +17,100 @@ pub record Places (aim : Aim) (mid new : TablesData) (u : ℕ) : Type 0 where
   pub moves : (v : ℕ) → v ≢ u → get_or new.moves v 0 ≡ get_or mid.moves v 0
   pub trail : new.trail ≡ mid.trail ++ u ∷ []
 
-pub trail_before : {aim : Aim} {mid new : TablesData} {u : ℕ} (j : ℕ) → Places aim mid new u → j < length mid.trail →
-    get_or new.trail j 0 ≡ get_or mid.trail j 0
-trail_before {mid} {u} j places within =
-    ap (λ xs. get_or xs j 0) places.trail ∙ get_or_append_left mid.trail (u ∷ []) 0 j within
+-- what stands from a place on stands from an earlier one on
+pub stands_after : {tables : TablesData} {m n v : ℕ} → StandsFrom tables m v → n ≤ m → StandsFrom tables n v
+stands_after stands earlier =
+    record { place = stands.place; after = omega arith; within = stands.within; is = stands.is }
 
-pub trail_last : {aim : Aim} {mid new : TablesData} {u : ℕ} → Places aim mid new u →
-    get_or new.trail (length mid.trail) 0 ≡ u
-trail_last {mid} {u} places =
-    ap (λ xs. get_or xs (length mid.trail) 0) places.trail ∙ get_or_push mid.trail u 0 (length mid.trail) refl
-
-pub trail_length : {aim : Aim} {mid new : TablesData} {u : ℕ} → Places aim mid new u →
-    length new.trail ≡ length mid.trail + 1
-trail_length {mid} {u} places = ap length places.trail ∙ length_push mid.trail u
-
--- a vertex that is not free is another one than that which is placed
-pub not_it : {aim : Aim} {mid new : TablesData} {u : ℕ} (v : ℕ) → Places aim mid new u →
-    level_of mid v ≢ aim.free → v ≢ u
-not_it {mid} v places not_free same = not_free (ap (λ x. level_of mid x) same ∙ places.was_free)
-
--- nor is one that is free afterwards
-pub still_free : {aim : Aim} {mid new : TablesData} {u : ℕ} (v : ℕ) → aim.mark ≢ aim.free → Places aim mid new u →
-    level_of new v ≡ aim.free → v ≢ u
-still_free {new} v marks places is_free same = marks (sym places.level ∙ ap (λ x. level_of new x) (sym same) ∙ is_free)
-
-placed_on : {aim : Aim} {old mid new : TablesData} {u v : ℕ} → aim.mark ≢ aim.free → Places aim mid new u →
-    IsPlaced aim old mid v → IsPlaced aim old new v
-placed_on {aim} {mid} {new} {u} {v} marks places placed =
-    let within : placed.stands.place < length mid.trail = placed.stands.within in
-    record {
-      was_free = placed.was_free;
-      level = places.levels v (not_it v places (λ is_free. marks (sym placed.level ∙ is_free))) ∙ placed.level;
-      stands = record {
-        place = placed.stands.place;
-        after = placed.stands.after;
-        within = omega (arith, trail_length places);
-        is = trail_before placed.stands.place places within ∙ placed.stands.is;
-      };
-    }
-
-placed_new : {aim : Aim} {old mid new : TablesData} {u : ℕ} → aim.mark ≢ aim.free → Places aim mid new u →
-    IsGrown aim old mid → IsPlaced aim old new u
-placed_new {aim} {mid} {new} {u} marks places grown = record {
-  was_free = elim (grown.each u) [
-    | inl same ↦ sym same.level ∙ places.was_free
-    | inr placed ↦ absurd (marks (sym placed.level ∙ places.was_free))
-  ];
-  level = places.level;
-  stands = record {
-    place = length mid.trail;
-    after = grown.longer;
-    within = omega (arith, trail_length places);
-    is = trail_last places;
-  };
+-- what stands in the trail stands there where the trail goes on
+pub stands_longer : {old new : TablesData} {m v : ℕ} → length old.trail ≤ length new.trail →
+    ((j : ℕ) → j < length old.trail → get_or new.trail j 0 ≡ get_or old.trail j 0) → StandsFrom old m v →
+    StandsFrom new m v
+stands_longer longer front stands = record {
+  place = stands.place;
+  after = stands.after;
+  within = omega arith;
+  is = front stands.place stands.within ∙ stands.is;
 }
 
-pub grown_on : {aim : Aim} {old mid new : TablesData} {u : ℕ} → aim.mark ≢ aim.free → Places aim mid new u →
-    IsGrown aim old mid → IsGrown aim old new
-grown_on {aim} {old} {mid} {new} {u} marks places grown =
-    let longer : length old.trail ≤ length mid.trail = grown.longer in
-    let size : length new.trail ≡ length mid.trail + 1 = trail_length places in
-    let Placed : ℕ → Type 0 = IsPlaced aim old new in
-    record {
-      longer = omega arith;
-      front = λ j within. trail_before j places (omega arith) ∙ grown.front j within;
-      each = λ v. elim (cases_eq v u) [
-        | inl same ↦ inr (subst Placed (sym same) (placed_new marks places grown))
-        | inr differ ↦ elim (grown.each v) [
-          | inl kept ↦ inl (record {
-            level = places.levels v differ ∙ kept.level;
-            move = places.moves v differ ∙ kept.move;
-          })
-          | inr placed ↦ inr (placed_on marks places placed)
-        ]
-      ];
-      behind = λ j after within. elim (cases_lt j (length mid.trail)) [
-        | inl less ↦ subst Placed (sym (trail_before j places less))
-            (placed_on marks places (grown.behind j after less))
-        | inr more ↦ (
-            let last : length mid.trail ≡ j = omega arith in
-            subst Placed (sym (trail_last places) ∙ ap (λ i. get_or new.trail i 0) last)
-            (placed_new marks places grown))
-      ];
-    }
+module _ {aim : Aim} {mid new : TablesData} {u : ℕ} (places : Places aim mid new u) where
+  pub trail_before : (j : ℕ) → j < length mid.trail → get_or new.trail j 0 ≡ get_or mid.trail j 0
+  trail_before j within = rw places.trail (get_or_append_left mid.trail (u ∷ []) 0 j within)
 
-stands_before_on : {aim : Aim} {mid new : TablesData} {u : ℕ} (j w : ℕ) → Places aim mid new u → j ≤ length mid.trail →
-    StandsBefore aim mid j w → StandsBefore aim new j w
-stands_before_on {aim} {mid} {new} {u} j w places within stands =
-    let before : stands.place < j = stands.before in
-    record {
-      place = stands.place;
-      after = stands.after;
-      before = stands.before;
-      is = trail_before stands.place places (omega arith) ∙ stands.is;
-    }
+  pub trail_last : get_or new.trail (length mid.trail) 0 ≡ u
+  trail_last = rw places.trail (get_or_push mid.trail u 0 (length mid.trail) refl)
 
-pub leads_back_on : {game : ParityGame} {aim : Aim} {old mid new : TablesData} {u j v : ℕ} →
-    Places aim mid new u → v ≢ u →
-    j ≤ length mid.trail → LeadsBack game aim old mid j v → LeadsBack game aim old new j v
-leads_back_on {game} {aim} {mid} {new} {u} {j} {v} places differ within leads =
-    let Back : ℕ → Type 0 = λ w. HasEdge game v w × StandsBefore aim new j w in
-    record {
-      own = λ owns. let there = leads.own owns in
-          subst Back (sym (places.moves v differ)) (
-            there.0,
-            stands_before_on j (get_or mid.moves v 0) places within there.1,
-          );
-      other = λ others w edge there. stands_before_on j w places within (leads.other others w edge there);
-    }
+  pub trail_length : length new.trail ≡ length mid.trail + 1
+  trail_length = ap length places.trail ∙ length_push mid.trail u
+
+  -- a vertex that is not free is another one than that which is placed
+  pub not_it : (v : ℕ) → level_of mid v ≢ aim.free → v ≢ u
+  not_it v not_free same = not_free (ap (λ x. level_of mid x) same ∙ places.was_free)
+
+  -- nor is one that is free afterwards
+  pub still_free : (v : ℕ) → aim.mark ≢ aim.free → level_of new v ≡ aim.free → v ≢ u
+  still_free v marks is_free same = marks (sym places.level ∙ ap (λ x. level_of new x) (sym same) ∙ is_free)
+
+  pub grown_on : {old : TablesData} → aim.mark ≢ aim.free → IsGrown aim old mid → IsGrown aim old new
+  grown_on {old = old} marks grown =
+      let longer : length old.trail ≤ length mid.trail = grown.longer in
+      let size : length new.trail ≡ length mid.trail + 1 = trail_length in
+      record {
+        longer = omega arith;
+        front = λ j within. trail_before j (omega arith) ∙ grown.front j within;
+        each = λ v. elim (cases_eq v u) [
+          | inl same ↦ inr (rw same placed_new)
+          | inr differ ↦ elim (grown.each v) [
+            | inl kept ↦ inl (record {
+              level = places.levels v differ ∙ kept.level;
+              move = places.moves v differ ∙ kept.move;
+            })
+            | inr placed ↦ inr (placed_on placed)
+          ]
+        ];
+        behind = λ j after within. elim (cases_lt j (length mid.trail)) [
+          | inl less ↦ rw (trail_before j less) (placed_on (grown.behind j after less))
+          | inr more ↦ let last : j ≡ length mid.trail = omega arith in rw (last, trail_last) placed_new
+        ];
+      }
+    where
+      placed_on : {v : ℕ} → IsPlaced aim old mid v → IsPlaced aim old new v
+      placed_on {v = v} placed = record {
+        was_free = placed.was_free;
+        level = places.levels v (not_it v (λ is_free. marks (sym placed.level ∙ is_free))) ∙ placed.level;
+        stands = stands_longer (omega (arith, trail_length)) trail_before placed.stands;
+      }
+
+      placed_new : IsPlaced aim old new u
+      placed_new = record {
+        was_free = elim (grown.each u) [
+          | inl same ↦ sym same.level ∙ places.was_free
+          | inr placed ↦ absurd (marks (sym placed.level ∙ places.was_free))
+        ];
+        level = places.level;
+        stands = record {
+          place = length mid.trail;
+          after = grown.longer;
+          within = omega (arith, trail_length);
+          is = trail_last;
+        };
+      }
+
+  stands_before_on : (j w : ℕ) → j ≤ length mid.trail → StandsBefore aim mid j w → StandsBefore aim new j w
+  stands_before_on j w within stands =
+      let before : stands.place < j = stands.before in
+      record {
+        place = stands.place;
+        after = stands.after;
+        before = stands.before;
+        is = trail_before stands.place (omega arith) ∙ stands.is;
+      }
+
+  pub leads_back_on : {game : ParityGame} {old : TablesData} {j v : ℕ} → v ≢ u → j ≤ length mid.trail →
+      LeadsBack game aim old mid j v → LeadsBack game aim old new j v
+  leads_back_on {j = j} {v = v} differ within leads = record {
+    own = λ owns.
+        let (edge, stands) = leads.own owns in
+        rw (places.moves v differ) (edge, stands_before_on j (get_or mid.moves v 0) within stands);
+    other = λ others w edge there. stands_before_on j w within (leads.other others w edge there);
+  }

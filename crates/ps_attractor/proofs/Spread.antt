@@ -1,5 +1,5 @@
 -- The sources of one vertex, one after another.
-use Rattle.std.proofs.Common.{◌≡◌, ◌≢◌, ℕ, ◌+◌, ◌<◌, ◌≤◌, List, length, get_or, subst, sym, ap, ◌∙◌, arith}
+use Rattle.std.proofs.Common.{◌≡◌, ◌≢◌, ℕ, ◌+◌, ◌<◌, ◌≤◌, List, length, get_or, sym, ap, ◌∙◌, arith}
 use Rattle.std.proofs.lemmas.List.Elements.{Contains-get_or}
 use Rattle.ps_game.specs.Games.{ParityGame, vertex_count, HasEdge}
 use Rattle.ps_attractor.specs.Sources.{sources_of, IsSourcesOf}
@@ -12,18 +12,15 @@ use Rattle.ps_attractor.proofs.Reaching.{reaching_enter, reaching_look}
 pub source_edge : {game : ParityGame} {sources : List (List ℕ)} (list : List ℕ) (w n source : ℕ) →
     IsSourcesOf game sources → list ≡ sources_of sources w → n < length list → get_or list n 0 ≡ source →
     HasEdge game source w
-source_edge {game} {sources} list w n source is_sources same within is =
-    let Edge : ℕ → Type 0 = λ v. HasEdge game v w in
-    let inside : n < length (sources_of sources w) = omega (arith, ap length same) in
-    subst Edge (sym (ap (λ xs. get_or xs n 0) same) ∙ is) (is_sources.sound (get_or (sources_of sources w) n 0) w
-    (Contains-get_or (sources_of sources w) n 0 inside))
+source_edge {sources = sources} list w n source is_sources same within is =
+    let inside = rw same at within in
+    rw (sym is ∙ ap (λ xs. get_or xs n 0) same)
+    (is_sources.sound (get_or (sources_of sources w) n 0) w (Contains-get_or (sources_of sources w) n 0 inside))
 
 pub enter : {game : ParityGame} {aim : Aim} {start tables : TablesData} {sources : List (List ℕ)} (place reached : ℕ) →
     IsSourcesOf game sources → get_or tables.trail place 0 ≡ reached → Reaching game aim start tables (From place) →
     Reaching game aim start tables (FromSource place (sources_of sources reached) 0)
-enter {game} {aim} {start} {tables} {sources} place reached is_sources at so_far =
-    let Reached : ℕ → Type 0 = λ w. Reaching game aim start tables (FromSource place (sources_of sources w) 0) in
-    subst Reached at (reaching_enter place is_sources so_far)
+enter place reached is_sources is so_far = rw is at (reaching_enter place is_sources so_far)
 
 pub look_on : {game : ParityGame} {aim : Aim} {start mid : TablesData} (new : TablesData) {sources : List (List ℕ)}
     (list : List ℕ) (place reached n source : ℕ) → IsSourcesOf game sources → list ≡ sources_of sources reached →
@@ -32,11 +29,7 @@ pub look_on : {game : ParityGame} {aim : Aim} {start mid : TablesData} (new : Ta
     Look game aim mid new source reached → Reaching game aim start mid (FromSource place (sources_of sources reached) n)
     → Reaching game aim start new (FromSource place (sources_of sources reached) (n + 1))
 look_on {game} {aim} {mid} new {sources} list place reached n source is_sources same within is marks begins after here
-    fits at look so_far =
+    fits reached_is look so_far =
     let edge = source_edge list reached n source is_sources same within is in
-    let Edge : ℕ → Type 0 = HasEdge game source in
-    let Looked : ℕ → Type 0 = Look game aim mid new source in
-    reaching_look new (sources_of sources reached) place n source marks
-    (sym (ap (λ xs. get_or xs n 0) same) ∙ is) begins after here
-    (omega (arith, fits.levels)) (omega (arith, fits.choices)) (subst Edge (sym at) edge)
-    (subst Looked (sym at) look) so_far
+    reaching_look new (sources_of sources reached) place n source marks (rw (← same) is) begins after here
+    (omega (arith, fits.levels)) (omega (arith, fits.choices)) (rw reached_is edge) (rw reached_is look) so_far

@@ -1,18 +1,18 @@
 -- The last call that waits has its answer, or gets moves for it: nothing more is lost.
 use Rattle.std.proofs.Common.{◌≡◌, ◌≢◌, ℕ, ◌+◌, ◌-◌, ◌*◌, ◌<◌, ◌≤◌, ◌⊎◌, inl, inr, List, [], ◌∷◌, ◌++◌, true, length}
-use Rattle.std.proofs.Common.{get_or, Some, refl, subst, sym, ap, ◌∙◌, arith}
+use Rattle.std.proofs.Common.{get_or, Some, refl, sym, ap, ◌∙◌, arith}
 use Rattle.std.specs.Prelude.{IsTrue}
 use Rattle.std.proofs.lemmas.Bool.{cases_eq, cases_lt, false≢true}
 use Rattle.ps_game.specs.Games.{ParityGame}
 use Rattle.ps_attractor.specs.Tables.{TablesData, FitsGame, level_of, moves_of}
 use Rattle.ps_zielonka.specs.declared.level.TheConstants.{UNPLACED}
 use Rattle.ps_zielonka.specs.declared.frame.Frame.{Frame}
-use Rattle.ps_zielonka.specs.Turns.{nothing, Solved}
-use Rattle.ps_zielonka.specs.Nests.{from, winner_of, frame_at, StandsBetween, Waits, IsNest, IsMoved, IsKeptAt}
-use Rattle.ps_zielonka.proofs.Turning.{in_part_or_rest}
+use Rattle.ps_zielonka.specs.Turns.{Solved}
+use Rattle.ps_zielonka.specs.Nests.{from, winner_of, StandsBetween, Waits, IsNest, IsMoved, IsKeptAt}
+use Rattle.ps_zielonka.proofs.Turning.{in_part_or_rest, Progress-same}
 use Rattle.ps_zielonka.proofs.Sets.{from_at, to_from}
-use Rattle.ps_zielonka.proofs.Below.{Agrees, IsTurned-on}
-use Rattle.ps_zielonka.proofs.Forms.{progress_same, frame_kept}
+use Rattle.ps_zielonka.proofs.Below.{Agrees, IsTurned-on, sound_on}
+use Rattle.ps_zielonka.proofs.Forms.{frame_kept}
 use Rattle.ps_zielonka.proofs.Frames.{frame_last, frame_before, frames_size, last_waits, last_solved, segment_moved}
 use Rattle.ps_zielonka.proofs.Frames.{below_wait, below_rise}
 
@@ -42,9 +42,9 @@ kept_nest {game} {old} {new} {winner} {order} frames frame {cursor} nest moved f
     let turned_now = IsTurned-on (from old.level (a + 2))
     (from old.level (a + 3)) (winner_of winner) (moves_of new) turned
     refl refl (λ v pulled. refl) (λ v pulled not_top. still v not_top) in
-    let solved_now = progress_same (winner_of winner) (moves_of new) (λ v inside decided. refl) (λ v inside decided.
+    let solved_now = Progress-same (winner_of winner) (moves_of new) (λ v inside decided. refl) (λ v inside decided.
     still v (λ top. turned.left.outside v inside (turned.closed.holds v top))) solved in
-    let progress_now = progress_same (winner_of winner) (moves_of new) (λ v inside decided. refl)
+    let progress_now = Progress-same (winner_of winner) (moves_of new) (λ v inside decided. refl)
     (λ v inside decided. still v (λ top. decided (tops_open v top))) waits.progress in
     let wins = λ (w : ℕ) (inside : IsTrue (from old.level (a + 2) w)). (
     let below : get_or winner w 0 < 2 = elim (in_part_or_rest turned.left w inside) [
@@ -78,25 +78,15 @@ kept_nest {game} {old} {new} {winner} {order} frames frame {cursor} nest moved f
             inr (omega arith, omega (arith, at_level v)))
       ];
     } in
-    let Set : List ℕ → Type 0 = λ levels. Solved game (from levels (a + 1)) (winner_of winner) (moves_of new) in
     record {
-      sound = record {
-        is_game = nest.sound.is_game;
-        fits = fits;
-        winners = nest.sound.winners;
-        is_order = nest.sound.is_order;
-        high = nest.sound.high;
-        levels =
-            λ v is_vertex. omega (arith, nest.sound.levels v is_vertex, at_level v);
-        most = λ v. (let most : level_of old v ≤ UNPLACED = nest.sound.most v in omega (arith, at_level v));
-      };
+      sound = sound_on new nest.sound fits nest.sound.winners (λ v. inl (at_level v));
       waits = below_wait frames frame nest agrees
           (omega (arith, ap length moved.trail)) (λ j before. ap (λ xs. get_or xs j 0) moved.trail)
           (λ b t less before segment. segment_moved new moved.level moved.trail segment);
       rises = below_rise frames frame nest;
       searches = λ open_now. absurd (false≢true (sym open_now));
       done = λ solved_now. record {
-        solved = subst Set (sym moved.level) answer;
+        solved = rw moved.level answer;
         placed = λ v. (let below : level_of old v < UNPLACED = done.placed v in omega (arith, at_level v));
       };
     }
@@ -131,7 +121,7 @@ moved_waits {game} {old} moves {winner} {order} {a} {frame} moved waits =
     let still = still_moves moves waits moved in
     record {
       alive = waits.alive;
-      progress = progress_same (winner_of winner) (moves_of new) (λ v inside decided. refl)
+      progress = Progress-same (winner_of winner) (moves_of new) (λ v inside decided. refl)
           (λ v inside decided. still v (λ top. decided (turned.within v (turned.closed.holds v top)))) waits.progress;
       prepared = IsTurned-on (from old.level (a + 2)) (from old.level (a + 3)) (winner_of winner) (moves_of new)
           turned refl refl (λ v pulled. refl) (λ v pulled not_top. still v not_top);
@@ -167,10 +157,9 @@ moved_nest {game} {old} {new} {winner} {order} frames frame {cursor} nest moved 
     let still = still_moves new.moves waits moved.moves in
     let solved = last_solved frames frame nest in
     let solved_now : Solved game (from old.level (a + 3)) (winner_of winner) (moves_of t) =
-    progress_same (winner_of winner)
+    Progress-same (winner_of winner)
     (moves_of t) (λ v inside decided. refl) (λ v inside decided.
     still v (λ top. turned.left.outside v inside (turned.closed.holds v top))) solved in
-    let Solves : ℕ → Type 0 = λ c. Solved game (from old.level c) (winner_of winner) (moves_of t) in
     let depth : 2 * length (frames ++ frame ∷ []) + 1 ≡ a + 3 = omega (arith, frames_size frames frame) in
     let agrees : Agrees (a + 1) old t winner winner = record {
       sizes = refl;
@@ -182,31 +171,18 @@ moved_nest {game} {old} {new} {winner} {order} frames frame {cursor} nest moved 
             inr (omega arith, omega arith))
       ];
     } in
-    let Nest : TablesData → Type 0 = λ now. IsNest game now winner order (frames ++ frame ∷ []) cursor true in
-    let Fits : TablesData → Type 0 = FitsGame game in
     let done = nest.done refl in
     let below = below_wait frames frame nest agrees waits.segment.within
     (λ j before. refl) (λ b m less before segment. segment_moved t refl refl segment) in
-    subst Nest same (record {
-      sound = record {
-        is_game = nest.sound.is_game;
-        fits = subst Fits (sym same) fits;
-        winners = nest.sound.winners;
-        is_order = nest.sound.is_order;
-        high = nest.sound.high;
-        levels = nest.sound.levels;
-        most = nest.sound.most;
-      };
+    rw (← same) (record {
+      sound = sound_on t nest.sound (rw same fits) nest.sound.winners (λ v. inl refl);
       waits = λ i there. elim (cases_lt i (length frames)) [
-        | inl less ↦ (let Waiting : Frame → Type 0 = Waits game t winner order (2 * i) in
-            subst Waiting (sym (frame_before frames frame i less)) (below i less))
-        | inr more ↦ (
-            let last : length frames ≡ i = omega (arith, frames_size frames frame) in
-            let Waiting : Frame → Type 0 = Waits game t winner order a in
-            let Here : ℕ → Type 0 = λ n. Waits game t winner order (2 * n) (frame_at (frames ++ frame ∷ []) n) in
-            subst Here last (subst Waiting (sym (frame_last frames frame)) (moved_waits new.moves moved.moves waits)))
+        | inl less ↦ rw (frame_before frames frame i less) (below i less)
+        | inr more ↦
+            let last : i ≡ length frames = omega (arith, frames_size frames frame) in
+            rw (last, frame_last frames frame) (moved_waits new.moves moved.moves waits)
       ];
       rises = nest.rises;
       searches = λ open_now. absurd (false≢true (sym open_now));
-      done = λ solved_true. record { solved = subst Solves (sym depth) solved_now; placed = done.placed };
+      done = λ solved_true. record { solved = rw depth solved_now; placed = done.placed };
     })

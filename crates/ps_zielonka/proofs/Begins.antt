@@ -1,13 +1,13 @@
 -- A turn begins: the tops are placed, and what is attracted to them; the last call then waits for the next one, which
 -- looks for its own turn.
-use Rattle.std.proofs.Common.{◌≡◌, ◌≢◌, ℕ, ◌+◌, ◌*◌, ◌<◌, ◌≤◌, inl, inr, List, [], ◌∷◌, ◌++◌, length, get_or, Bool}
-use Rattle.std.proofs.Common.{false, not, refl, subst, sym, ap, ◌∙◌, arith}
+use Rattle.std.proofs.Common.{◌≡◌, ℕ, ◌+◌, ◌*◌, ◌<◌, ◌≤◌, inl, inr, List, [], ◌∷◌, ◌++◌, length, get_or, Bool}
+use Rattle.std.proofs.Common.{false, refl, sym, ap, ◌∙◌, arith}
 use Rattle.std.specs.Prelude.{IsTrue}
 use Rattle.std.proofs.lemmas.Bool.{cases_lt, cases_eq, false≢true}
-use Rattle.std.proofs.lemmas.List.{get_or_append_left, get_or_push, length_push}
 use Rattle.ps_game.specs.Games.{vertex_count, priority_of}
 use Rattle.ps_attractor.specs.Tables.{level_of, moves_of}
 use Rattle.ps_attractor.specs.Aims.{IsPosed, IsTaken, IsAttracted, IsPlaced, rank_of}
+use Rattle.ps_attractor.proofs.Placing.{stands_after, stands_longer}
 use Rattle.ps_zielonka.specs.declared.level.TheConstants.{UNPLACED}
 use Rattle.ps_zielonka.specs.declared.frame.Frame.{Frame}
 use Rattle.ps_zielonka.specs.Turns.{IsWithout, IsTurned}
@@ -15,358 +15,305 @@ use Rattle.ps_zielonka.specs.Nests.{from, size_from, winner_of, frame_at, steps_
 use Rattle.ps_zielonka.specs.Nests.{IsSoundBoard, IsNest}
 use Rattle.ps_zielonka.specs.Depths.{IsClosedToTops}
 use Rattle.ps_zielonka.proofs.Depths.{left_out}
-use Rattle.ps_zielonka.proofs.Forms.{progress_start, subgame_left}
+use Rattle.ps_zielonka.proofs.Forms.{progress_start}
+use Rattle.ps_zielonka.proofs.Turning.{IsSubgame-left}
 use Rattle.ps_zielonka.proofs.Sets.{AgreesAt, from_at, to_from, size_from-same, size_from-lt}
-use Rattle.ps_zielonka.proofs.Below.{agrees_at, progress_below, subgame_below, waits_below}
+use Rattle.ps_zielonka.proofs.Below.{agrees_at, progress_below, subgame_below, sound_on, waits_below}
 use Rattle.ps_zielonka.proofs.Measure.{falls_begun}
+use Rattle.ps_zielonka.proofs.Frames.{frame_last, frame_before, frames_size}
 use Rattle.ps_zielonka.proofs.Grown.{later_placed}
 use Rattle.ps_zielonka.proofs.Begun.{Begun, undecided, greatest, tops, pulled, low, differ, grown_all, agrees, was_open}
 use Rattle.ps_zielonka.proofs.Begun.{is_open, still_or_placed, placed_from, to_placed, tops_placed, placed_tops, most}
 use Rattle.ps_zielonka.proofs.Begun.{greatest_top, first_top, tops_parity, tops_above}
 
--- ## The attractor
-
-posed : (b : Begun) → IsPosed b.game b.aim b.mid (undecided b) (tops b)
-posed b =
-    record {
-      is_subgame = subgame_below (2 * b.depth + 2) (agrees b) (omega arith) b.searches.alive;
-      split = λ v inside. elim (b.placed.grown.each v) [
-        | inl same ↦ inl (same.level ∙ was_open b v inside ∙ sym b.free)
-        | inr placed ↦ inr (placed_tops b placed)
-      ];
-      frees = λ v is_vertex is_free. elim (b.placed.grown.each v) [
-        | inl same ↦ is_open b v (sym same.level ∙ is_free ∙ b.free)
-        | inr placed ↦ absurd (differ b (sym placed.level ∙ is_free))
-      ];
-      target_within = λ v top. (placed_from b b.mid v top).0;
-      target_placed = λ v top is_free. (let placed = tops_placed b v top in differ b (sym placed.level ∙ is_free));
-      target_stands = λ v top. (
-          let placed = tops_placed b v top in
-          let after : length b.old.trail ≤ placed.stands.place = placed.stands.after in
-          record {
-            place = placed.stands.place;
-            after = omega arith;
-            within = placed.stands.within;
-            is = placed.stands.is;
-          });
-      only_target = λ j after within. placed_tops b (b.placed.grown.behind j (omega arith) within);
-    }
-
-taken : (b : Begun) → IsTaken b.aim b.new (undecided b) (pulled b)
-taken b = record {
-  within = λ v there. (placed_from b b.new v there).0;
-  placed = λ v there is_free. (placed_from b b.new v there).1 (is_free ∙ b.free);
-  all = λ v inside not_free. to_placed b b.new v inside (λ same. not_free (same ∙ sym b.free));
-}
-
-turn : (b : Begun) → IsAttracted b.game (undecided b) b.aim.player (tops b) (pulled b) (moves_of b.new)
-    (rank_of b.aim b.new)
-turn b = b.attracted (undecided b) (tops b) (pulled b) (posed b) (taken b)
-
--- what is attracted was placed
-pulled_placed : (b : Begun) (v : ℕ) → IsTrue (pulled b v) → IsPlaced b.aim b.old b.new v
-pulled_placed b v there =
-    let (inside, not_still) = placed_from b b.new v there in
-    elim (still_or_placed b v inside) [ inl still ↦ absurd (not_still still) | inr placed ↦ placed ]
-
--- the rest: what is not placed, of any level above that of the attractor
-rest_of_turn : (b : Begun) (c : ℕ) → 2 * b.depth + 3 ≤ c → c ≤ UNPLACED →
-    IsWithout (undecided b) (pulled b) (from b.new.level c)
-rest_of_turn b c above within =
-    let into = λ (v : ℕ) (inside : IsTrue (from b.new.level c v)). (
-    let high : c ≤ level_of b.new v = from_at b.new.level c v inside in
-    let there : IsTrue (undecided b v) = to_from b.new.level (2 * b.depth + 2) v (omega arith) in there) in
-    record {
-      within = into;
-      outside = λ v inside there. (
-          let high : c ≤ level_of b.new v = from_at b.new.level c v inside in
-          let placed = pulled_placed b v there in
-          let level : level_of b.new v ≡ b.aim.mark = placed.level in
-          let h : ⊥ = omega arith in h);
-      all = λ v inside outside. elim (cases_eq (level_of b.new v) UNPLACED) [
-        | inl still ↦ to_from b.new.level c v (omega arith)
-        | inr placed ↦ absurd (outside (to_placed b b.new v inside placed))
-      ];
-    }
-
--- ## The calls after it
-
 abbrev pub frame_of : Begun → Frame
 frame_of b = record { cursor = b.cursor; player = b.aim.player; turn = length b.old.trail; top = length b.mid.trail }
 
--- the last call waits
-waits_here : (b : Begun) → Waits b.game b.new b.winner_now b.order (2 * b.depth) (frame_of b)
-waits_here b =
-    let attracted = turn b in
-    let grown = grown_all b in
-    let longer : length b.old.trail ≤ length b.mid.trail = b.placed.grown.longer in
-    let longer_still : length b.mid.trail ≤ length b.new.trail = b.grown.longer in
-    let sizes : length b.new.level ≡ length b.old.level = b.fits.levels ∙ sym b.sound.fits.levels in
-    let size : size_from (2 * b.depth + 1) b.new.level ≡ size_from (2 * b.depth + 1) b.old.level =
-    size_from-same (2 * b.depth + 1) b.old.level b.new.level sizes
-    (agrees_at (2 * b.depth + 1) (agrees b) (omega arith)) in
-    let room : 2 * b.depth + 2 * size_from (2 * b.depth + 1) b.old.level ≤ 2 * length b.old.level = b.searches.room in
-    let prepared : IsTurned b.game (undecided b) (from b.new.level (2 * b.depth + 3)) b.aim.player
-    (winner_of b.winner_now) (moves_of b.new) = record {
-      greatest = greatest b;
-      tops = tops b;
-      attracted = pulled b;
-      rank = rank_of b.aim b.new;
-      parity = sym b.player;
-      most = most b;
-      top = λ v top. tops_parity b (tops_placed b v top);
-      above = tops_above b;
-      all_top = greatest_top b;
-      some_top = (get_or b.order b.cursor 0, first_top b, refl);
-      within = λ v there. (placed_from b b.new v there).0;
-      left = rest_of_turn b (2 * b.depth + 3) (omega arith) (omega arith);
-      closed = attracted.closed;
-      falls = attracted.falls;
-      given = λ v there. (
-          let placed = pulled_placed b v there in
-          let after : length b.old.trail ≤ placed.stands.place = placed.stands.after in
-          b.given.given v (record {
-            place = placed.stands.place;
-            after = omega arith;
-            within = placed.stands.within;
-            is = placed.stands.is;
-          }));
-    } in
-    record {
-      alive = subgame_below (2 * b.depth + 2) (agrees b) (omega arith) b.searches.alive;
-      progress = progress_below (2 * b.depth + 1) (2 * b.depth + 2)
-          (agrees b) (omega arith) (omega arith) b.searches.progress;
-      prepared = prepared;
-      room = omega arith;
-      segment = record {
-        within = omega arith;
-        above = λ j after within. (let placed = grown.behind j after within in
-            omega arith);
-        stands = λ v high below. elim (still_or_placed b v (to_from b.new.level (2 * b.depth + 2) v high)) [
-          | inl still ↦ absurd (omega arith)
-          | inr placed ↦ placed.stands
+module _ (b : Begun) where
+  -- ## The attractor
+
+  posed : IsPosed b.game b.aim b.mid (undecided b) (tops b)
+  posed =
+      record {
+        is_subgame = subgame_below (2 * b.depth + 2) (agrees b) (omega arith) b.searches.alive;
+        split = λ v inside. elim (b.placed.grown.each v) [
+          | inl same ↦ inl (same.level ∙ was_open b v inside ∙ sym b.free)
+          | inr placed ↦ inr (placed_tops b placed)
         ];
-      };
-      some = longer;
-      end = longer_still;
-      tops = λ v top. (
-          let placed = tops_placed b v top in
-          let within : placed.stands.place < length b.mid.trail = placed.stands.within in
-          record {
-            place = placed.stands.place;
-            after = placed.stands.after;
-            before = within;
-            is = b.grown.front placed.stands.place within ∙ placed.stands.is;
-          });
-      only_tops = λ v stands. (
-          let Top : ℕ → Type 0 = λ v. IsTrue (tops b v) in
-          subst Top (sym (b.grown.front stands.place stands.before) ∙ stands.is)
-          (placed_tops b (b.placed.grown.behind stands.place stands.after
-          stands.before)));
-      front = record {
-        within = (let within : b.cursor < length b.order = b.within in omega arith);
-        below = λ j before. elim (cases_lt (get_or b.new.level (get_or b.order j 0) 0) (2 * b.depth + 2)) [
-          | inl less ↦ less
-          | inr high ↦ absurd (b.first j before (was_open b (get_or b.order j 0)
-              (to_from b.new.level (2 * b.depth + 2) (get_or b.order j 0) high)))
+        frees = λ v is_vertex is_free. elim (b.placed.grown.each v) [
+          | inl same ↦ is_open b v (sym same.level ∙ is_free ∙ b.free)
+          | inr placed ↦ absurd (differ b (sym placed.level ∙ is_free))
         ];
-      };
-    }
+        target_within = λ v top. (placed_from b b.mid v top).0;
+        target_placed = λ v top is_free. (let placed = tops_placed b v top in differ b (sym placed.level ∙ is_free));
+        target_stands = λ v top. stands_after (tops_placed b v top).stands (omega (arith, b.begin));
+        only_target = λ j after within. placed_tops b (b.placed.grown.behind j (omega arith) within);
+      }
 
--- a vertex that is of a higher level than the attractor's is not placed
-still_high : (b : Begun) (v : ℕ) → 2 * b.depth + 3 ≤ level_of b.new v → level_of b.new v ≡ UNPLACED
-still_high b v high = elim (still_or_placed b v (to_from b.new.level (2 * b.depth + 2) v (omega arith))) [
-  | inl still ↦ still
-  | inr placed ↦ (
-      let level : level_of b.new v ≡ b.aim.mark = placed.level in
-      absurd (omega arith))
-]
+  taken : IsTaken b.aim b.new (undecided b) (pulled b)
+  taken = record {
+    within = λ v there. (placed_from b b.new v there).0;
+    placed = λ v there is_free. (placed_from b b.new v there).1 (is_free ∙ b.free);
+    all = λ v inside not_free. to_placed b b.new v inside (λ same. not_free (same ∙ sym b.free));
+  }
 
-first_vertex : (b : Begun) → get_or b.order b.cursor 0 < length b.old.level
-first_vertex b =
-    omega (arith, b.sound.is_order.vertices b.cursor b.within)
+  turn : IsAttracted b.game (undecided b) b.aim.player (tops b) (pulled b) (moves_of b.new)
+      (rank_of b.aim b.new)
+  turn = b.attracted (undecided b) (tops b) (pulled b) posed taken
 
--- fewer vertices are left to the next call
-fewer : (b : Begun) (c d : ℕ) → c ≤ 2 * b.depth + 2 → 2 * b.depth + 3 ≤ d →
-    size_from d b.new.level < size_from c b.old.level
-fewer b c d less more =
-    let u : ℕ = get_or b.order b.cursor 0 in
-    let placed = later_placed (differ b) b.grown (tops_placed b u (first_top b)) in
-    size_from-lt c d b.old.level b.new.level u (b.fits.levels ∙ sym b.sound.fits.levels)
-    (λ v within high. (
-    let at : AgreesAt b.old.level b.new.level c v = agrees_at c (agrees b) less v in
-    at.back (omega arith)))
-    (first_vertex b) (omega arith) (omega arith)
+  -- what is attracted was placed
+  pulled_placed : (v : ℕ) → IsTrue (pulled b v) → IsPlaced b.aim b.old b.new v
+  pulled_placed v there =
+      let (inside, not_still) = placed_from b b.new v there in
+      elim (still_or_placed b v inside) [ inl still ↦ absurd (not_still still) | inr placed ↦ placed ]
 
--- the next call looks for its turn
-searches_next : (b : Begun) (a : ℕ) → a ≡ 2 * b.depth + 2 → Searches b.game b.new b.winner_now b.order a b.behind
-searches_next b a next =
-    let room : 2 * b.depth + 2 * size_from (2 * b.depth + 1) b.old.level ≤ 2 * length b.old.level = b.searches.room in
-    let sizes : length b.new.level ≡ length b.old.level = b.fits.levels ∙ sym b.sound.fits.levels in
-    let less : size_from (a + 1) b.new.level < size_from (2 * b.depth + 1) b.old.level =
-    fewer b (2 * b.depth + 1) (a + 1) (omega arith) (omega arith) in
-    record {
-      alive = subgame_left (subgame_below (2 * b.depth + 2) (agrees b) (omega arith) b.searches.alive) (turn b)
-          (rest_of_turn b (a + 2) (omega arith) (omega arith));
-      progress = progress_start b.game (from b.new.level (a + 1)) (from b.new.level (a + 2)) (winner_of b.winner_now)
-          (moves_of b.new) (λ v inside. (let high : a + 2 ≤ level_of b.new v = from_at b.new.level (a + 2) v inside in
-          to_from b.new.level (a + 1) v (omega arith))) (λ v inside. (
-          let high : a + 1 ≤ level_of b.new v = from_at b.new.level (a + 1) v inside in
-          let still : level_of b.new v ≡ UNPLACED = still_high b v (omega arith) in
-          to_from b.new.level (a + 2) v (omega arith)));
-      room = omega arith;
-      unplaced = λ v high. still_high b v (omega arith);
-      front = record {
-        within = b.placed.within;
-        below = λ j before. elim (cases_lt (get_or b.new.level (get_or b.order j 0) 0) (a + 2)) [
-          | inl less ↦ less
-          | inr high ↦ (
-              let still : level_of b.new (get_or b.order j 0) ≡ UNPLACED =
-              still_high b (get_or b.order j 0) (omega arith) in
-              let was : level_of b.old (get_or b.order j 0) ≡ UNPLACED =
-              was_open b (get_or b.order j 0) (to_from b.new.level (2 * b.depth + 2) (get_or b.order j 0)
-              (omega arith)) in
-              elim (cases_lt j b.cursor) [
-                | inl early ↦ absurd (b.first j early was)
-                | inr late ↦ elim (b.grown.each (get_or b.order j 0)) [
-                  | inl same ↦ absurd (b.placed.all j late before (sym same.level ∙ still ∙ sym b.free))
-                  | inr placed ↦ absurd (differ b (sym placed.level ∙ still ∙ sym b.free))
-                ]
-              ])
+  -- the rest: what is not placed, of any level above that of the attractor
+  rest_of_turn : (c : ℕ) → 2 * b.depth + 3 ≤ c → c ≤ UNPLACED →
+      IsWithout (undecided b) (pulled b) (from b.new.level c)
+  rest_of_turn c above within =
+      let into = λ (v : ℕ) (inside : IsTrue (from b.new.level c v)). (
+      let high : c ≤ level_of b.new v = from_at b.new.level c v inside in
+      let there : IsTrue (undecided b v) = to_from b.new.level (2 * b.depth + 2) v (omega arith) in there) in
+      record {
+        within = into;
+        outside = λ v inside there. (
+            let high : c ≤ level_of b.new v = from_at b.new.level c v inside in
+            let placed = pulled_placed v there in
+            let h : ⊥ = omega arith in h);
+        all = λ v inside outside. elim (cases_eq (level_of b.new v) UNPLACED) [
+          | inl still ↦ to_from b.new.level c v (omega arith)
+          | inr placed ↦ absurd (outside (to_placed b b.new v inside placed))
         ];
-      };
-    }
+      }
 
--- what a call that waits has in the trail
-segment_later : (b : Begun) {a : ℕ} {frame : Frame} → a + 3 ≤ 2 * b.depth + 2 →
-    Waits b.game b.old b.winner b.order a frame → IsSegment b.new frame.turn (a + 2)
-segment_later b {a} {frame} below waits =
-    let grown = grown_all b in
-    record {
-      within = omega arith;
-      above = λ j after within. elim (cases_lt j (length b.old.trail)) [
-        | inl less ↦ (
-            let at : AgreesAt b.old.level b.new.level (a + 2) (get_or b.old.trail j 0) =
-            agrees_at (a + 2) (agrees b) (omega arith) (get_or b.old.trail j 0) in
-            let High : ℕ → Type 0 = λ v. a + 2 ≤ level_of b.new v in
-            subst High (sym (grown.front j less)) (at.up (waits.segment.above j after less)))
-        | inr more ↦ (let placed = grown.behind j more within in
-            let level : level_of b.new (get_or b.new.trail j 0) ≡ b.aim.mark = placed.level in omega arith)
-      ];
-      stands = λ v high low. elim (grown.each v) [
-        | inl same ↦ (
-            let level : level_of b.new v ≡ level_of b.old v = same.level in
-            let stands = waits.segment.stands v (omega arith) (omega arith) in
-            let within : stands.place < length b.old.trail = stands.within in
-            record {
-              place = stands.place;
-              after = stands.after;
-              within = omega arith;
-              is = grown.front stands.place within ∙ stands.is;
-            })
-        | inr placed ↦ (
-            let after : length b.old.trail ≤ placed.stands.place = placed.stands.after in
+  -- ## The calls after it
+
+  -- the last call waits
+  waits_here : Waits b.game b.new b.winner_now b.order (2 * b.depth) (frame_of b)
+  waits_here =
+      let attracted = turn in
+      let grown = grown_all b in
+      let sizes : length b.new.level ≡ length b.old.level = b.fits.levels ∙ sym b.sound.fits.levels in
+      let size : size_from (2 * b.depth + 1) b.new.level ≡ size_from (2 * b.depth + 1) b.old.level =
+      size_from-same (2 * b.depth + 1) b.old.level b.new.level sizes
+      (agrees_at (2 * b.depth + 1) (agrees b) (omega arith)) in
+      let room : 2 * b.depth + 2 * size_from (2 * b.depth + 1) b.old.level ≤ 2 * length b.old.level = b.searches.room in
+      let prepared : IsTurned b.game (undecided b) (from b.new.level (2 * b.depth + 3)) b.aim.player
+      (winner_of b.winner_now) (moves_of b.new) = record {
+        greatest = greatest b;
+        tops = tops b;
+        attracted = pulled b;
+        rank = rank_of b.aim b.new;
+        parity = sym b.player;
+        most = most b;
+        top = λ v top. tops_parity b (tops_placed b v top);
+        above = tops_above b;
+        all_top = greatest_top b;
+        some_top = (get_or b.order b.cursor 0, first_top b, refl);
+        within = λ v there. (placed_from b b.new v there).0;
+        left = rest_of_turn (2 * b.depth + 3) (omega arith) (omega arith);
+        closed = attracted.closed;
+        falls = attracted.falls;
+        given = λ v there.
+            b.given.given v (stands_after (pulled_placed v there).stands (omega (arith, b.begin)));
+      } in
+      record {
+        alive = subgame_below (2 * b.depth + 2) (agrees b) (omega arith) b.searches.alive;
+        progress = progress_below (2 * b.depth + 1) (2 * b.depth + 2)
+            (agrees b) (omega arith) (omega arith) b.searches.progress;
+        prepared = prepared;
+        room = omega arith;
+        segment = record {
+          within = omega arith;
+          above = λ j after within. (let placed = grown.behind j after within in
+              omega arith);
+          stands = λ v high below. elim (still_or_placed b v (to_from b.new.level (2 * b.depth + 2) v high)) [
+            | inl still ↦ absurd (omega arith)
+            | inr placed ↦ placed.stands
+          ];
+        };
+        some = b.placed.grown.longer;
+        end = b.grown.longer;
+        tops = λ v top. (
+            let placed = tops_placed b v top in
+            let within : placed.stands.place < length b.mid.trail = placed.stands.within in
             record {
               place = placed.stands.place;
-              after = omega arith;
-              within = placed.stands.within;
-              is = placed.stands.is;
-            })
-      ];
-    }
+              after = placed.stands.after;
+              before = within;
+              is = b.grown.front placed.stands.place within ∙ placed.stands.is;
+            });
+        only_tops = λ v stands.
+            rw (sym (b.grown.front stands.place stands.before) ∙ stands.is) at
+            (placed_tops b (b.placed.grown.behind stands.place stands.after stands.before));
+        front = record {
+          within = (let within : b.cursor < length b.order = b.within in omega arith);
+          below = λ j before. elim (cases_lt (get_or b.new.level (get_or b.order j 0) 0) (2 * b.depth + 2)) [
+            | inl less ↦ less
+            | inr high ↦ absurd (b.first j before (was_open b (get_or b.order j 0)
+                (to_from b.new.level (2 * b.depth + 2) (get_or b.order j 0) high)))
+          ];
+        };
+      }
 
-waits_later : (b : Begun) {a : ℕ} {frame : Frame} → a + 3 ≤ 2 * b.depth + 2 →
-    Waits b.game b.old b.winner b.order a frame → Waits b.game b.new b.winner_now b.order a frame
-waits_later b {a} {frame} below waits =
-    let grown = grown_all b in
-    waits_below (length b.old.trail)
-    (agrees b) below grown.front grown.longer waits.end (segment_later b below waits) waits
+  -- a vertex that is of a higher level than the attractor's is not placed
+  still_high : (v : ℕ) → 2 * b.depth + 3 ≤ level_of b.new v → level_of b.new v ≡ UNPLACED
+  still_high v high = elim (still_or_placed b v (to_from b.new.level (2 * b.depth + 2) v (omega arith))) [
+    | inl still ↦ still
+    | inr placed ↦ (
+        absurd (omega arith))
+  ]
 
-sound_now : (b : Begun) → IsSoundBoard b.game b.new b.winner_now b.order
-sound_now b =
-    let grown = grown_all b in
-    record {
-      is_game = b.sound.is_game;
-      fits = b.fits;
-      winners = b.winners;
-      is_order = b.sound.is_order;
-      high = b.sound.high;
-      levels = λ v is_vertex. elim (grown.each v) [
-        | inl same ↦ (let level : level_of b.new v ≡ level_of b.old v = same.level in
-            let was : 1 ≤ level_of b.old v = b.sound.levels v is_vertex in omega arith)
-        | inr placed ↦ (let level : level_of b.new v ≡ b.aim.mark = placed.level in omega arith)
-      ];
-      most = λ v. elim (grown.each v) [
-        | inl same ↦ (let level : level_of b.new v ≡ level_of b.old v = same.level in
-            let was : level_of b.old v ≤ UNPLACED = b.sound.most v in omega arith)
-        | inr placed ↦ (let level : level_of b.new v ≡ b.aim.mark = placed.level in omega arith)
-      ];
-    }
+  first_vertex : get_or b.order b.cursor 0 < length b.old.level
+  first_vertex =
+      omega (arith, b.sound.is_order.vertices b.cursor b.within)
 
-pub begun_nest : (b : Begun) (frames : List Frame) (solved : Bool) → length frames ≡ b.depth → solved ≡ false
-    → ((i : ℕ) → i < length frames → Waits b.game b.old b.winner b.order (2 * i) (frame_at frames i))
-    → ((i j : ℕ) → i < j → j < length frames → (frame_at frames i).top ≤ (frame_at frames j).turn)
-    → IsNest b.game b.new b.winner_now b.order (frames ++ frame_of b ∷ []) b.behind solved
-begun_nest b frames solved is_depth unsolved waits rises =
-    let no_frame : Frame = record { cursor = 0; player = 0; turn = 0; top = 0 } in
-    let more : List Frame = frames ++ frame_of b ∷ [] in
-    let size : length more ≡ length frames + 1 = length_push frames (frame_of b) in
-    let at_front = λ (i : ℕ) (less : i < length frames). get_or_append_left frames (frame_of b ∷ []) no_frame i less in
-    let at_end = λ (i : ℕ) (last : i ≡ length frames). get_or_push frames (frame_of b) no_frame i (sym last) in
-    record {
-      sound = sound_now b;
-      waits = λ i within. elim (cases_lt i (length frames)) [
-        | inl less ↦ (
-            let At : Frame → Type 0 = Waits b.game b.new b.winner_now b.order (2 * i) in
-            subst At (sym (at_front i less)) (waits_later b (omega arith) (waits i less)))
-        | inr not_less ↦ (
-            let last : i ≡ length frames = omega arith in
-            let same : 2 * b.depth ≡ 2 * i = omega arith in
-            let At : Frame → Type 0 = Waits b.game b.new b.winner_now b.order (2 * i) in
-            let Level : ℕ → Type 0 = λ a. Waits b.game b.new b.winner_now b.order a (frame_of b) in
-            subst At (sym (at_end i last)) (subst Level same (waits_here b)))
-      ];
-      rises = λ i j before within. (
-          let left : i < length frames = omega arith in
-          let top : (frame_at more i).top ≡ (frame_at frames i).top =
-          ap (λ (frame : Frame). frame.top) (at_front i left) in
-          elim (cases_lt j (length frames)) [
-            | inl less ↦ (
-                let turn : (frame_at more j).turn ≡ (frame_at frames j).turn =
-                ap (λ (frame : Frame). frame.turn) (at_front j less) in
-                omega (arith, rises i j before less))
-            | inr not_less ↦ (
-                let turn : (frame_at more j).turn ≡ length b.old.trail =
-                ap (λ (frame : Frame). frame.turn) (at_end j (omega arith)) in
-                omega (arith, (waits i left).end))
-          ]);
-      searches = λ is. searches_next b (2 * length more) (omega arith);
-      done = λ is. absurd (false≢true (sym unsolved ∙ is));
-    }
+  -- fewer vertices are left to the next call
+  fewer : (c d : ℕ) → c ≤ 2 * b.depth + 2 → 2 * b.depth + 3 ≤ d →
+      size_from d b.new.level < size_from c b.old.level
+  fewer c d less more =
+      let u : ℕ = get_or b.order b.cursor 0 in
+      let placed = later_placed (differ b) b.grown (tops_placed b u (first_top b)) in
+      size_from-lt c d b.old.level b.new.level u (b.fits.levels ∙ sym b.sound.fits.levels)
+      (λ v within high. (
+      let at : AgreesAt b.old.level b.new.level c v = agrees_at c (agrees b) less v in
+      at.back (omega arith)))
+      first_vertex (omega arith) (omega arith)
 
-pub begun_falls : (b : Begun) (frames more : List Frame) → length frames ≡ b.depth → length more ≡ length frames + 1 →
-    steps_left b.new.level (length more) false < steps_left b.old.level (length frames) false
-begun_falls b frames more is_depth size =
-    let sizes : length b.new.level ≡ length b.old.level = b.fits.levels ∙ sym b.sound.fits.levels in
-    falls_begun b.old.level b.new.level (length frames) (length more) size
-    (λ i less. size_from-same (2 * i + 2) b.old.level b.new.level sizes
-    (agrees_at (2 * i + 2) (agrees b) (omega arith)))
-    (fewer b (2 * length frames + 2) (2 * length more + 2) (omega arith) (omega arith))
+  -- the next call looks for its turn
+  searches_next : (a : ℕ) → a ≡ 2 * b.depth + 2 → Searches b.game b.new b.winner_now b.order a b.behind
+  searches_next a next =
+      let room : 2 * b.depth + 2 * size_from (2 * b.depth + 1) b.old.level ≤ 2 * length b.old.level = b.searches.room in
+      let sizes : length b.new.level ≡ length b.old.level = b.fits.levels ∙ sym b.sound.fits.levels in
+      let less : size_from (a + 1) b.new.level < size_from (2 * b.depth + 1) b.old.level =
+      fewer (2 * b.depth + 1) (a + 1) (omega arith) (omega arith) in
+      record {
+        alive = IsSubgame-left (subgame_below (2 * b.depth + 2) (agrees b) (omega arith) b.searches.alive) turn
+            (rest_of_turn (a + 2) (omega arith) (omega arith));
+        progress = progress_start b.game (from b.new.level (a + 1)) (from b.new.level (a + 2)) (winner_of b.winner_now)
+            (moves_of b.new) (λ v inside. (let high : a + 2 ≤ level_of b.new v = from_at b.new.level (a + 2) v inside in
+            to_from b.new.level (a + 1) v (omega arith))) (λ v inside. (
+            let high : a + 1 ≤ level_of b.new v = from_at b.new.level (a + 1) v inside in
+            let still : level_of b.new v ≡ UNPLACED = still_high v (omega arith) in
+            to_from b.new.level (a + 2) v (omega arith)));
+        room = omega arith;
+        unplaced = λ v high. still_high v (omega arith);
+        front = record {
+          within = b.placed.within;
+          below = λ j before. elim (cases_lt (get_or b.new.level (get_or b.order j 0) 0) (a + 2)) [
+            | inl less ↦ less
+            | inr high ↦ (
+                let still : level_of b.new (get_or b.order j 0) ≡ UNPLACED =
+                still_high (get_or b.order j 0) (omega arith) in
+                let was : level_of b.old (get_or b.order j 0) ≡ UNPLACED =
+                was_open b (get_or b.order j 0) (to_from b.new.level (2 * b.depth + 2) (get_or b.order j 0)
+                (omega arith)) in
+                elim (cases_lt j b.cursor) [
+                  | inl early ↦ absurd (b.first j early was)
+                  | inr late ↦ elim (b.grown.each (get_or b.order j 0)) [
+                    | inl same ↦ absurd (b.placed.all j late before (sym same.level ∙ still ∙ sym b.free))
+                    | inr placed ↦ absurd (differ b (sym placed.level ∙ still ∙ sym b.free))
+                  ]
+                ])
+          ];
+        };
+      }
 
--- what a set that is closed to the greatest priority leaves out, the first turn leaves to the next call
-pub begun_left : (b : Begun) {set : ℕ → Bool} (v : ℕ) → b.depth ≡ 0 →
-    ((u : ℕ) → u < vertex_count b.game → level_of b.old u ≡ UNPLACED) → IsClosedToTops b.game set →
-    v < vertex_count b.game → ¬ IsTrue (set v) → level_of b.new v ≡ UNPLACED
-begun_left b {set} v first unplaced closed is_vertex outside =
-    let waits = waits_here b in
-    let is_subgame = posed b in
-    let is_greatest = λ (u : ℕ) (top : IsTrue (waits.prepared.tops u)). (let stands = waits.tops u top in
-    let placed = b.placed.grown.behind stands.place stands.after stands.before in
-    let there = b.placed.tops (get_or b.mid.trail stands.place 0) placed in
-    let same : get_or b.mid.trail stands.place 0 ≡ u = sym (b.grown.front stands.place stands.before) ∙ stands.is in
-    let is : priority_of b.game u ≡ greatest b =
-    sym (ap (priority_of b.game) same) ∙ there.just (b.just first) in is) in
-    let (some, is_top, is) = waits.prepared.some_top in
-    still_high b v (from_at b.new.level (2 * b.depth + 3) v (left_out v
-    (λ u below. is_open b u (unplaced u below)) (λ u inside. is_subgame.is_subgame.vertices u inside) waits.prepared
-    (λ u top. is_greatest u top ∙ sym (is_greatest some is_top) ∙ is) closed is_vertex outside))
+  -- what a call that waits has in the trail
+  segment_later : {a : ℕ} {frame : Frame} → a + 3 ≤ 2 * b.depth + 2 →
+      Waits b.game b.old b.winner b.order a frame → IsSegment b.new frame.turn (a + 2)
+  segment_later {a} {frame} below waits =
+      let grown = grown_all b in
+      record {
+        within = omega arith;
+        above = λ j after within. elim (cases_lt j (length b.old.trail)) [
+          | inl less ↦ (
+              let at : AgreesAt b.old.level b.new.level (a + 2) (get_or b.old.trail j 0) =
+              agrees_at (a + 2) (agrees b) (omega arith) (get_or b.old.trail j 0) in
+              (rw (grown.front j less) (at.up (waits.segment.above j after less))))
+          | inr more ↦ (let placed = grown.behind j more within in
+              let level : level_of b.new (get_or b.new.trail j 0) ≡ b.aim.mark = placed.level in omega arith)
+        ];
+        stands = λ v high low. elim (grown.each v) [
+          | inl same ↦ stands_longer grown.longer grown.front
+              (waits.segment.stands v (omega (arith, same.level)) (omega (arith, same.level)))
+          | inr placed ↦ stands_after placed.stands waits.segment.within
+        ];
+      }
+
+  waits_later : {a : ℕ} {frame : Frame} → a + 3 ≤ 2 * b.depth + 2 →
+      Waits b.game b.old b.winner b.order a frame → Waits b.game b.new b.winner_now b.order a frame
+  waits_later {a} {frame} below waits =
+      let grown = grown_all b in
+      waits_below (length b.old.trail)
+      (agrees b) below grown.front grown.longer waits.end (segment_later below waits) waits
+
+  sound_now : IsSoundBoard b.game b.new b.winner_now b.order
+  sound_now =
+      sound_on b.new b.sound b.fits b.winners (λ v. elim ((grown_all b).each v) [
+        | inl same ↦ inl same.level
+        | inr placed ↦ inr (omega arith, omega (arith, low b))
+      ])
+
+  pub begun_nest : (frames : List Frame) (solved : Bool) → length frames ≡ b.depth → solved ≡ false
+      → ((i : ℕ) → i < length frames → Waits b.game b.old b.winner b.order (2 * i) (frame_at frames i))
+      → ((i j : ℕ) → i < j → j < length frames → (frame_at frames i).top ≤ (frame_at frames j).turn)
+      → IsNest b.game b.new b.winner_now b.order (frames ++ frame_of b ∷ []) b.behind solved
+  begun_nest frames solved is_depth unsolved waits rises =
+      let size = frames_size frames (frame_of b) in
+      record {
+        sound = sound_now;
+        waits = λ i within. elim (cases_lt i (length frames)) [
+          | inl less ↦ rw (frame_before frames (frame_of b) i less) (waits_later (omega arith) (waits i less))
+          | inr more ↦
+              let last : i ≡ length frames = omega arith in
+              rw (last, frame_last frames (frame_of b), is_depth) waits_here
+        ];
+        rises = λ i j before within.
+            let left : i < length frames = omega arith in
+            let top = ap (λ (f : Frame). f.top) (frame_before frames (frame_of b) i left) in
+            elim (cases_lt j (length frames)) [
+              | inl less ↦ omega (
+                arith,
+                rises i j before less,
+                ap (λ (f : Frame). f.turn) (frame_before frames (frame_of b) j less),
+              )
+              | inr more ↦
+                  let last : j ≡ length frames = omega arith in
+                  omega (
+                    arith,
+                    (waits i left).end,
+                    ap (λ (n : ℕ). (frame_at (frames ++ frame_of b ∷ []) n).turn) last,
+                    ap (λ (f : Frame). f.turn) (frame_last frames (frame_of b)),
+                  )
+            ];
+        searches = λ is. searches_next (2 * length (frames ++ frame_of b ∷ [])) (omega arith);
+        done = λ is. absurd (false≢true (sym unsolved ∙ is));
+      }
+
+  pub begun_falls : (frames more : List Frame) → length frames ≡ b.depth → length more ≡ length frames + 1 →
+      steps_left b.new.level (length more) false < steps_left b.old.level (length frames) false
+  begun_falls frames more is_depth size =
+      let sizes : length b.new.level ≡ length b.old.level = b.fits.levels ∙ sym b.sound.fits.levels in
+      falls_begun b.old.level b.new.level (length frames) (length more) size
+      (λ i less. size_from-same (2 * i + 2) b.old.level b.new.level sizes
+      (agrees_at (2 * i + 2) (agrees b) (omega arith)))
+      (fewer (2 * length frames + 2) (2 * length more + 2) (omega arith) (omega arith))
+
+  -- what a set that is closed to the greatest priority leaves out, the first turn leaves to the next call
+  pub begun_left : {set : ℕ → Bool} (v : ℕ) → b.depth ≡ 0 →
+      ((u : ℕ) → u < vertex_count b.game → level_of b.old u ≡ UNPLACED) → IsClosedToTops b.game set →
+      v < vertex_count b.game → ¬ IsTrue (set v) → level_of b.new v ≡ UNPLACED
+  begun_left {set} v first unplaced closed is_vertex outside =
+      let waits = waits_here in
+      let is_subgame = posed in
+      let is_greatest = λ (u : ℕ) (top : IsTrue (waits.prepared.tops u)). (let stands = waits.tops u top in
+      let placed = b.placed.grown.behind stands.place stands.after stands.before in
+      let there = b.placed.tops (get_or b.mid.trail stands.place 0) placed in
+      let same : get_or b.mid.trail stands.place 0 ≡ u = sym (b.grown.front stands.place stands.before) ∙ stands.is in
+      let is : priority_of b.game u ≡ greatest b =
+      sym (ap (priority_of b.game) same) ∙ there.just (b.just first) in is) in
+      let (some, is_top, is) = waits.prepared.some_top in
+      still_high v (from_at b.new.level (2 * b.depth + 3) v (left_out v
+      (λ u below. is_open b u (unplaced u below)) (λ u inside. is_subgame.is_subgame.vertices u inside) waits.prepared
+      (λ u top. is_greatest u top ∙ sym (is_greatest some is_top) ∙ is) closed is_vertex outside))

@@ -1,6 +1,6 @@
 -- A turn that begins: what is given of it, and which vertices are undecided and which of them its tops.
 use Rattle.std.proofs.Common.{◌≡◌, ◌≢◌, ℕ, ◌+◌, ◌*◌, ◌%◌, ◌<◌, ◌≤◌, ◌⊎◌, inl, inr, List, length, get_or, Bool, true}
-use Rattle.std.proofs.Common.{not, ◌&&◌, ◌==◌, refl, subst, sym, ap, ◌∙◌, arith}
+use Rattle.std.proofs.Common.{not, ◌&&◌, ◌==◌, refl, sym, ap, ◌∙◌, arith}
 use Rattle.std.specs.Prelude.{IsTrue}
 use Rattle.std.proofs.lemmas.Bool.{cases_lt, false≢true, eq-eqb, ne_eqb, and_parts, and_from, not-true, not_from_false}
 use Rattle.ps_game.specs.Games.{ParityGame, vertex_count, priority_of}
@@ -60,90 +60,6 @@ tops b v = undecided b v && not (level_of b.mid v == UNPLACED)
 abbrev pub pulled : Begun → ℕ → Bool
 pulled b v = undecided b v && not (level_of b.new v == UNPLACED)
 
-pub low : (b : Begun) → 2 * b.depth + 4 ≤ UNPLACED
-low b =
-    omega arith
-
-pub differ : (b : Begun) → b.aim.mark ≢ b.aim.free
-differ b same =
-    omega arith
-
-pub grown_all : (b : Begun) → IsGrown b.aim b.old b.new
-grown_all b = IsGrown-both (differ b) b.placed.grown b.grown
-
--- what stands behind the old trail was placed
-placed_there : (b : Begun) {v : ℕ} → StandsFrom b.new b.aim.begin v → IsPlaced b.aim b.old b.new v
-placed_there b stands =
-    let grown = grown_all b in
-    let Placed : ℕ → Type 0 = IsPlaced b.aim b.old b.new in
-    subst Placed stands.is (grown.behind stands.place (omega arith) stands.within)
-
-pub agrees : (b : Begun) → Agrees (2 * b.depth + 2) b.old b.new b.winner b.winner_now
-agrees b =
-    let grown = grown_all b in
-    let changed = λ (v : ℕ) (placed : IsPlaced b.aim b.old b.new v). (
-    let both : (2 * b.depth + 2 ≤ level_of b.old v) × (2 * b.depth + 2 ≤ level_of b.new v) =
-    (omega arith, omega arith) in both) in
-    record {
-      sizes = b.fits.levels ∙ sym b.sound.fits.levels;
-      each = λ v. elim (grown.each v) [
-        | inr placed ↦ inr (changed v placed)
-        | inl same ↦ elim (b.given.kept v) [
-          | inl wins ↦ inl (record { level = same.level; move = same.move; wins = wins })
-          | inr stands ↦ inr (changed v (placed_there b stands))
-        ]
-      ];
-    }
-
-pub was_open : (b : Begun) (v : ℕ) → IsTrue (undecided b v) → level_of b.old v ≡ UNPLACED
-was_open b v inside =
-    let at : AgreesAt b.old.level b.new.level (2 * b.depth + 2) v =
-    agrees_at (2 * b.depth + 2) (agrees b) (omega arith) v in
-    b.searches.unplaced v (at.back (from_at b.new.level (2 * b.depth + 2) v inside))
-
-pub is_open : (b : Begun) (v : ℕ) → level_of b.old v ≡ UNPLACED → IsTrue (undecided b v)
-is_open b v was =
-    let at : AgreesAt b.old.level b.new.level (2 * b.depth + 2) v =
-    agrees_at (2 * b.depth + 2) (agrees b) (omega arith) v in
-    to_from b.new.level (2 * b.depth + 2) v (at.up (omega arith))
-
--- an undecided vertex is not placed still, or is attracted now
-pub still_or_placed : (b : Begun) (v : ℕ) → IsTrue (undecided b v) →
-    (level_of b.new v ≡ UNPLACED) ⊎ IsPlaced b.aim b.old b.new v
-still_or_placed b v inside =
-    let grown = grown_all b in
-    elim (grown.each v) [ inl same ↦ inl (same.level ∙ was_open b v inside) | inr placed ↦ inr placed ]
-
--- ## The tops
-
--- what is undecided and has a level but the greatest
-pub placed_from : (b : Begun) (tables : TablesData) (v : ℕ) →
-    IsTrue (undecided b v && not (level_of tables v == UNPLACED)) →
-    IsTrue (undecided b v) × (level_of tables v ≢ UNPLACED)
-placed_from b tables v there =
-    let parts = and_parts (undecided b v) (not (level_of tables v == UNPLACED)) there in (
-      parts.0,
-      λ same. false≢true (sym (not-true (level_of tables v == UNPLACED) parts.1)
-          ∙ eq-eqb (level_of tables v) UNPLACED same),
-    )
-
-pub to_placed : (b : Begun) (tables : TablesData) (v : ℕ) → IsTrue (undecided b v) → level_of tables v ≢ UNPLACED →
-    IsTrue (undecided b v && not (level_of tables v == UNPLACED))
-to_placed b tables v inside placed = and_from (undecided b v) (not (level_of tables v == UNPLACED)) inside
-    (not_from_false (level_of tables v == UNPLACED) (ne_eqb (level_of tables v) UNPLACED placed))
-
-pub tops_placed : (b : Begun) (v : ℕ) → IsTrue (tops b v) → IsPlaced b.aim b.old b.mid v
-tops_placed b v top =
-    let (inside, taken) = placed_from b b.mid v top in
-    elim (b.placed.grown.each v) [
-      | inl still ↦ absurd (taken (still.level ∙ was_open b v inside))
-      | inr placed ↦ placed
-    ]
-
-pub placed_tops : (b : Begun) {v : ℕ} → IsPlaced b.aim b.old b.mid v → IsTrue (tops b v)
-placed_tops b {v} placed =
-    to_placed b b.mid v (is_open b v (placed.was_free ∙ b.free)) (λ same. omega arith)
-
 -- an undecided vertex stands in the order behind the cursor
 pub record InOrder (b : Begun) (v : ℕ) : Type 0 where
   pub place : ℕ
@@ -151,74 +67,154 @@ pub record InOrder (b : Begun) (v : ℕ) : Type 0 where
   pub before : place < length b.order
   pub is : get_or b.order place 0 ≡ v
 
-in_order : (b : Begun) (v : ℕ) → IsTrue (undecided b v) → InOrder b v
-in_order b v inside =
-    let was : level_of b.old v ≡ UNPLACED = was_open b v inside in
-    let is_vertex : v < vertex_count b.game =
-    b.searches.alive.vertices v (to_from b.old.level (2 * b.depth + 2) v (omega arith)) in
-    let (j, before, is) = b.sound.is_order.all v is_vertex in
-    elim (cases_lt j b.cursor) [
-      | inl less ↦ absurd (b.first j less (ap (λ x. level_of b.old x) is ∙ was))
-      | inr more ↦ record { place = j; after = more; before = before; is = is }
-    ]
+module _ (b : Begun) where
+  pub low : 2 * b.depth + 4 ≤ UNPLACED
+  low = omega arith
 
-pub most : (b : Begun) (v : ℕ) → IsTrue (undecided b v) → priority_of b.game v ≤ greatest b
-most b v inside =
-    let there = in_order b v inside in
-    omega (
-      arith,
-      ap (priority_of b.game) there.is,
-      b.sound.is_order.falls b.cursor there.place
-          there.after there.before,
-    )
+  pub differ : b.aim.mark ≢ b.aim.free
+  differ same = omega arith
 
--- a free vertex that stands in the order before the place where the tops end was placed
-placed_before : {b : Begun} {v : ℕ} (inside : IsTrue (undecided b v)) (there : InOrder b v) → there.place < b.behind →
-    IsPlaced b.aim b.old b.mid v
-placed_before {b} {v} inside there before =
-    let taken : level_of b.mid (get_or b.order there.place 0) ≢ UNPLACED =
-    λ is. b.placed.all there.place there.after before (is ∙ sym b.free) in
-    elim (b.placed.grown.each v) [
-      | inl still ↦ absurd (taken (ap (λ x. level_of b.mid x) there.is ∙ still.level ∙ was_open b v inside))
-      | inr placed ↦ placed
-    ]
+  pub grown_all : IsGrown b.aim b.old b.new
+  grown_all = IsGrown-both differ b.placed.grown b.grown
 
-pub greatest_top : (b : Begun) (v : ℕ) → IsTrue (undecided b v) → priority_of b.game v ≡ greatest b → IsTrue (tops b v)
-greatest_top b v inside is =
-    let there = in_order b v inside in
-    let same : priority_of b.game (get_or b.order there.place 0) ≡ priority_of b.game v =
-    ap (priority_of b.game) there.is in
-    placed_tops b (placed_before inside there (elim (cases_lt there.place b.behind) [
-      | inl less ↦ less
-      | inr more ↦ (
-          let falls : priority_of b.game (get_or b.order there.place 0) ≤ priority_of b.game (get_or b.order b.behind 0)
-          = b.sound.is_order.falls b.behind there.place more there.before in
-          let first : priority_of b.game (get_or b.order b.behind 0) ≤ greatest b =
-          b.sound.is_order.falls b.cursor b.behind b.placed.after (omega arith) in
-          absurd (b.ends (omega arith) (omega arith)))
-    ]))
+  -- what stands behind the old trail was placed
+  placed_there : {v : ℕ} → StandsFrom b.new b.aim.begin v → IsPlaced b.aim b.old b.new v
+  placed_there stands =
+      let grown = grown_all in
+      rw stands.is at (grown.behind stands.place (omega arith) stands.within)
 
-pub first_top : (b : Begun) → IsTrue (tops b (get_or b.order b.cursor 0))
-first_top b = greatest_top b (get_or b.order b.cursor 0) (is_open b (get_or b.order b.cursor 0) b.unplaced) refl
+  pub agrees : Agrees (2 * b.depth + 2) b.old b.new b.winner b.winner_now
+  agrees =
+      let grown = grown_all in
+      let changed = λ (v : ℕ) (placed : IsPlaced b.aim b.old b.new v). (
+      let both : (2 * b.depth + 2 ≤ level_of b.old v) × (2 * b.depth + 2 ≤ level_of b.new v) =
+      (omega arith, omega arith) in both) in
+      record {
+        sizes = b.fits.levels ∙ sym b.sound.fits.levels;
+        each = λ v. elim (grown.each v) [
+          | inr placed ↦ inr (changed v placed)
+          | inl same ↦ elim (b.given.kept v) [
+            | inl wins ↦ inl (record { level = same.level; move = same.move; wins = wins })
+            | inr stands ↦ inr (changed v (placed_there stands))
+          ]
+        ];
+      }
 
-pub tops_parity : (b : Begun) {v : ℕ} → IsPlaced b.aim b.old b.mid v → priority_of b.game v % 2 ≡ b.aim.player
-tops_parity b {v} placed = let top = b.placed.tops v placed in top.parity ∙ sym b.player
+  pub was_open : (v : ℕ) → IsTrue (undecided b v) → level_of b.old v ≡ UNPLACED
+  was_open v inside =
+      let at : AgreesAt b.old.level b.new.level (2 * b.depth + 2) v =
+      agrees_at (2 * b.depth + 2) agrees (omega arith) v in
+      b.searches.unplaced v (at.back (from_at b.new.level (2 * b.depth + 2) v inside))
 
--- a top has a greater priority than an undecided vertex of the other parity, which stands behind it in the order
-pub tops_above : (b : Begun) (v w : ℕ) → IsTrue (tops b v) → IsTrue (undecided b w) →
-    priority_of b.game w % 2 ≢ b.aim.player → priority_of b.game w < priority_of b.game v
-tops_above b v w top inside other =
-    let placed = tops_placed b v top in
-    let is_top = b.placed.tops v placed in
-    let there = in_order b w inside in
-    let first : priority_of b.game (get_or b.order is_top.stands.place 0) ≡ priority_of b.game v =
-    ap (priority_of b.game) is_top.stands.is in
-    let second : priority_of b.game (get_or b.order there.place 0) ≡ priority_of b.game w =
-    ap (priority_of b.game) there.is in
-    elim (cases_lt there.place b.behind) [
-      | inl less ↦ absurd (other (tops_parity b (placed_before inside there less)))
-      | inr more ↦ (
-          let differ : priority_of b.game w ≢ priority_of b.game v =
-          λ same. other (ap (λ n. n % 2) same ∙ tops_parity b placed) in
-          omega (arith, b.sound.is_order.falls is_top.stands.place there.place (omega arith) there.before))
-    ]
+  pub is_open : (v : ℕ) → level_of b.old v ≡ UNPLACED → IsTrue (undecided b v)
+  is_open v was =
+      let at : AgreesAt b.old.level b.new.level (2 * b.depth + 2) v =
+      agrees_at (2 * b.depth + 2) agrees (omega arith) v in
+      to_from b.new.level (2 * b.depth + 2) v (at.up (omega arith))
+
+  -- an undecided vertex is not placed still, or is attracted now
+  pub still_or_placed : (v : ℕ) → IsTrue (undecided b v) →
+      (level_of b.new v ≡ UNPLACED) ⊎ IsPlaced b.aim b.old b.new v
+  still_or_placed v inside =
+      let grown = grown_all in
+      elim (grown.each v) [ inl same ↦ inl (same.level ∙ was_open v inside) | inr placed ↦ inr placed ]
+
+  -- ## The tops
+
+  -- what is undecided and has a level but the greatest
+  pub placed_from : (tables : TablesData) (v : ℕ) →
+      IsTrue (undecided b v && not (level_of tables v == UNPLACED)) →
+      IsTrue (undecided b v) × (level_of tables v ≢ UNPLACED)
+  placed_from tables v there =
+      let parts = and_parts (undecided b v) (not (level_of tables v == UNPLACED)) there in (
+        parts.0,
+        λ same. false≢true (sym (not-true (level_of tables v == UNPLACED) parts.1)
+            ∙ eq-eqb (level_of tables v) UNPLACED same),
+      )
+
+  pub to_placed : (tables : TablesData) (v : ℕ) → IsTrue (undecided b v) → level_of tables v ≢ UNPLACED →
+      IsTrue (undecided b v && not (level_of tables v == UNPLACED))
+  to_placed tables v inside placed = and_from (undecided b v) (not (level_of tables v == UNPLACED)) inside
+      (not_from_false (level_of tables v == UNPLACED) (ne_eqb (level_of tables v) UNPLACED placed))
+
+  pub tops_placed : (v : ℕ) → IsTrue (tops b v) → IsPlaced b.aim b.old b.mid v
+  tops_placed v top =
+      let (inside, taken) = placed_from b.mid v top in
+      elim (b.placed.grown.each v) [
+        | inl still ↦ absurd (taken (still.level ∙ was_open v inside))
+        | inr placed ↦ placed
+      ]
+
+  pub placed_tops : {v : ℕ} → IsPlaced b.aim b.old b.mid v → IsTrue (tops b v)
+  placed_tops {v} placed =
+      to_placed b.mid v (is_open v (placed.was_free ∙ b.free)) (λ same. omega arith)
+
+  in_order : (v : ℕ) → IsTrue (undecided b v) → InOrder b v
+  in_order v inside =
+      let was : level_of b.old v ≡ UNPLACED = was_open v inside in
+      let is_vertex : v < vertex_count b.game =
+      b.searches.alive.vertices v (to_from b.old.level (2 * b.depth + 2) v (omega arith)) in
+      let (j, before, is) = b.sound.is_order.all v is_vertex in
+      elim (cases_lt j b.cursor) [
+        | inl less ↦ absurd (b.first j less (ap (λ x. level_of b.old x) is ∙ was))
+        | inr more ↦ record { place = j; after = more; before = before; is = is }
+      ]
+
+  pub most : (v : ℕ) → IsTrue (undecided b v) → priority_of b.game v ≤ greatest b
+  most v inside =
+      let there = in_order v inside in
+      omega (
+        arith,
+        ap (priority_of b.game) there.is,
+        b.sound.is_order.falls b.cursor there.place
+            there.after there.before,
+      )
+
+  -- a free vertex that stands in the order before the place where the tops end was placed
+  placed_before : {v : ℕ} (inside : IsTrue (undecided b v)) (there : InOrder b v) → there.place < b.behind →
+      IsPlaced b.aim b.old b.mid v
+  placed_before {v} inside there before =
+      let taken : level_of b.mid (get_or b.order there.place 0) ≢ UNPLACED =
+      λ is. b.placed.all there.place there.after before (is ∙ sym b.free) in
+      elim (b.placed.grown.each v) [
+        | inl still ↦ absurd (taken (ap (λ x. level_of b.mid x) there.is ∙ still.level ∙ was_open v inside))
+        | inr placed ↦ placed
+      ]
+
+  pub greatest_top : (v : ℕ) → IsTrue (undecided b v) → priority_of b.game v ≡ greatest b → IsTrue (tops b v)
+  greatest_top v inside is =
+      let there = in_order v inside in
+      let same : priority_of b.game (get_or b.order there.place 0) ≡ priority_of b.game v =
+      ap (priority_of b.game) there.is in
+      placed_tops (placed_before inside there (elim (cases_lt there.place b.behind) [
+        | inl less ↦ less
+        | inr more ↦ (
+            let falls = b.sound.is_order.falls b.behind there.place more there.before in
+            let first = b.sound.is_order.falls b.cursor b.behind b.placed.after (omega arith) in
+            absurd (b.ends (omega arith) (omega arith)))
+      ]))
+
+  pub first_top : IsTrue (tops b (get_or b.order b.cursor 0))
+  first_top = greatest_top (get_or b.order b.cursor 0) (is_open (get_or b.order b.cursor 0) b.unplaced) refl
+
+  pub tops_parity : {v : ℕ} → IsPlaced b.aim b.old b.mid v → priority_of b.game v % 2 ≡ b.aim.player
+  tops_parity {v} placed = let top = b.placed.tops v placed in top.parity ∙ sym b.player
+
+  -- a top has a greater priority than an undecided vertex of the other parity, which stands behind it in the order
+  pub tops_above : (v w : ℕ) → IsTrue (tops b v) → IsTrue (undecided b w) →
+      priority_of b.game w % 2 ≢ b.aim.player → priority_of b.game w < priority_of b.game v
+  tops_above v w top inside other =
+      let placed = tops_placed v top in
+      let is_top = b.placed.tops v placed in
+      let there = in_order w inside in
+      let first : priority_of b.game (get_or b.order is_top.stands.place 0) ≡ priority_of b.game v =
+      ap (priority_of b.game) is_top.stands.is in
+      let second : priority_of b.game (get_or b.order there.place 0) ≡ priority_of b.game w =
+      ap (priority_of b.game) there.is in
+      elim (cases_lt there.place b.behind) [
+        | inl less ↦ absurd (other (tops_parity (placed_before inside there less)))
+        | inr more ↦ (
+            let differ : priority_of b.game w ≢ priority_of b.game v =
+            λ same. other (ap (λ n. n % 2) same ∙ tops_parity placed) in
+            omega (arith, b.sound.is_order.falls is_top.stands.place there.place (omega arith) there.before))
+      ]

@@ -1,15 +1,17 @@
 -- What changes only above a level leaves the calls that wait below it.
 use Rattle.std.proofs.Common.{◌≡◌, ℕ, ◌+◌, ◌*◌, ◌<◌, ◌≤◌, ◌⊎◌, inl, inr, List, length, get_or, Bool, Option, Some}
-use Rattle.std.proofs.Common.{IsSomeAnd, subst, sym, ap, ◌∙◌, arith}
+use Rattle.std.proofs.Common.{sym, ap, ◌∙◌, arith}
 use Rattle.std.specs.Prelude.{IsTrue}
 use Rattle.std.proofs.lemmas.Bool.{cases_lt}
-use Rattle.ps_game.specs.Games.{ParityGame}
-use Rattle.ps_game.specs.Subgames.{LeadsInto, IsSubgame}
+use Rattle.ps_game.specs.Games.{ParityGame, vertex_count}
+use Rattle.ps_game.specs.Subgames.{IsWithin, LeadsInto, IsSubgame}
 use Rattle.ps_game.specs.Attractors.{LeadsDown}
-use Rattle.ps_attractor.specs.Tables.{TablesData, level_of, moves_of}
+use Rattle.ps_attractor.specs.Tables.{TablesData, FitsGame, level_of, moves_of}
 use Rattle.ps_zielonka.specs.declared.frame.Frame.{Frame}
 use Rattle.ps_zielonka.specs.Turns.{Progress, IsTurned}
 use Rattle.ps_zielonka.specs.Nests.{from, size_from, winner_of, IsCursor, IsSegment, StandsBetween, Waits}
+use Rattle.ps_zielonka.specs.Nests.{IsSoundBoard}
+use Rattle.ps_zielonka.specs.declared.level.TheConstants.{UNPLACED}
 use Rattle.ps_zielonka.proofs.Holding.{some_more}
 use Rattle.ps_zielonka.proofs.Turning.{Progress-same}
 use Rattle.ps_zielonka.proofs.Sets.{AgreesAt, from_at, to_from, from-same, size_from-same}
@@ -51,24 +53,35 @@ pub progress_below : {game : ParityGame} {c : ℕ} (a b : ℕ) {old new : Tables
     (winner_of winner) (moves_of old) → Progress game (from new.level a) (from new.level b)
     (winner_of winner_now) (moves_of new)
 progress_below {game} {c} a b {old} {new} {winner} {winner_now} agrees low high progress =
-    let Outer : (ℕ → Bool) → Type 0 =
-    λ set. Progress game set (from old.level b) (winner_of winner_now) (moves_of new) in
-    let Inner : (ℕ → Bool) → Type 0 =
-    λ set. Progress game (from new.level a) set (winner_of winner_now) (moves_of new) in
     let below = λ (v : ℕ) (decided : ¬ IsTrue (from old.level b v)). (
     let still : IsStill old new winner winner_now v = still_below agrees v (λ inside.
     decided (to_from old.level b v (omega (arith, from_at old.level c v inside)))) in
     still) in
-    subst Inner (sym (agrees_from b agrees high))
-    (subst Outer (sym (agrees_from a agrees low))
-    (Progress-same (winner_of winner_now) (moves_of new)
+    rw (agrees_from b agrees high) (rw (agrees_from a agrees low) (Progress-same (winner_of winner_now) (moves_of new)
     (λ v inside decided. (below v decided).wins) (λ v inside decided. ap Some (below v decided).move) progress))
 
 pub subgame_below : {game : ParityGame} {c : ℕ} (b : ℕ) {old new : TablesData} {winner winner_now : List ℕ} →
     Agrees c old new winner winner_now → b ≤ c → IsSubgame game (from old.level b) → IsSubgame game (from new.level b)
 subgame_below {game} {c} b {old} {new} {winner} {winner_now} agrees less alive =
-    let Alive : (ℕ → Bool) → Type 0 = IsSubgame game in
-    subst Alive (sym (agrees_from b agrees less)) alive
+    rw (agrees_from b agrees less) alive
+
+-- the board is sound still where each level stays, or has its bounds
+pub sound_on : {game : ParityGame} {old : TablesData} {winner winner_now order : List ℕ} (new : TablesData) →
+    IsSoundBoard game old winner order → FitsGame game new → length winner_now ≡ vertex_count game →
+    ((v : ℕ) → (level_of new v ≡ level_of old v) ⊎ ((1 ≤ level_of new v) × (level_of new v ≤ UNPLACED))) →
+    IsSoundBoard game new winner_now order
+sound_on new sound fits winners each = record {
+  is_game = sound.is_game;
+  fits = fits;
+  winners = winners;
+  is_order = sound.is_order;
+  high = sound.high;
+  levels = λ v is_vertex. elim (each v) [
+    | inl same ↦ omega (arith, sound.levels v is_vertex)
+    | inr bounds ↦ bounds.0
+  ];
+  most = λ v. elim (each v) [ inl same ↦ omega (arith, sound.most v) | inr bounds ↦ bounds.1 ];
+}
 
 -- a turn, with the same sets, and the same winners and moves in the attractor
 unfoldable pub IsTurned-on : {game : ParityGame} {open_part rest : ℕ → Bool} (open_now rest_now : ℕ → Bool) {player : ℕ}
@@ -79,24 +92,19 @@ unfoldable pub IsTurned-on : {game : ParityGame} {open_part rest : ℕ → Bool}
     IsTurned game open_now rest_now player win_now table_now
 IsTurned-on {game} {open_part} {rest} open_now rest_now win_now {table} table_now turned same_open same_rest
     same_win same_move =
-    let was_open =
-    λ (v : ℕ) (inside : IsTrue (open_now v)). (let was : IsTrue (open_part v) = sym (ap (λ set. set v) same_open)
-    ∙ inside in was) in
-    let is_open = λ (v : ℕ) (inside : IsTrue (open_part v)). (let is : IsTrue (open_now v) = ap (λ set. set v) same_open
-    ∙ inside in is) in
-    let was_rest =
-    λ (v : ℕ) (inside : IsTrue (rest_now v)). (let was : IsTrue (rest v) = sym (ap (λ set. set v) same_rest)
-    ∙ inside in was) in
-    let is_rest = λ (v : ℕ) (inside : IsTrue (rest v)). (let is : IsTrue (rest_now v) = ap (λ set. set v) same_rest
-    ∙ inside in is) in
-    let leads_back = λ (v w : ℕ) (leads : LeadsInto game open_now v w). (let was : LeadsInto game open_part v w = record
-    { edge = leads.edge; inside = was_open w leads.inside } in was) in
-    let down_now = λ (v w : ℕ) (down : LeadsDown game open_part turned.attracted turned.rank v w). (
-    let now : LeadsDown game open_now turned.attracted turned.rank v w = record {
+    let was_open : IsWithin open_now open_part = λ v inside. rw same_open at inside in
+    let is_open : IsWithin open_part open_now = λ v inside. rw same_open inside in
+    let was_rest : IsWithin rest_now rest = λ v inside. rw same_rest at inside in
+    let is_rest : IsWithin rest rest_now = λ v inside. rw same_rest inside in
+    let leads_back : (v w : ℕ) → LeadsInto game open_now v w → LeadsInto game open_part v w =
+    λ v w leads. record { edge = leads.edge; inside = was_open w leads.inside } in
+    let down_now : (v w : ℕ) → LeadsDown game open_part turned.attracted turned.rank v w →
+    LeadsDown game open_now turned.attracted turned.rank v w =
+    λ v w down. record {
       leads = record { edge = down.leads.edge; inside = is_open w down.leads.inside };
       inside = down.inside;
       falls = down.falls;
-    } in now) in
+    } in
     record {
       greatest = turned.greatest;
       tops = turned.tops;
@@ -123,12 +131,9 @@ IsTurned-on {game} {open_part} {rest} open_now rest_now win_now {table} table_no
       };
       falls = record {
         own = λ v inside outside owns. (
-            let Leads : Option ℕ → Type 0 =
-            λ move. IsSomeAnd move (LeadsDown game open_now turned.attracted turned.rank v) in
-            subst Leads (sym (same_move v inside outside))
-            (some_more (LeadsDown game open_part turned.attracted turned.rank v)
+            (rw (same_move v inside outside) (some_more (LeadsDown game open_part turned.attracted turned.rank v)
             (LeadsDown game open_now turned.attracted turned.rank v) (table v) (down_now v)
-            (turned.falls.own v inside outside owns)));
+            (turned.falls.own v inside outside owns))));
         other = λ v w inside outside others leads. down_now v w (turned.falls.other v w inside outside others
             (leads_back v w leads));
       };

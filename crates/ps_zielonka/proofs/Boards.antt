@@ -1,15 +1,16 @@
 -- The parts of a step: what is kept at the vertices of the greatest priority, and what is taken off the trail and put
 -- back.
-use Rattle.std.proofs.Common.{◌≡◌, ◌≢◌, ℕ, ◌+◌, ◌-◌, ◌<◌, ◌≤◌, ◌⊎◌, inl, inr, List, [], ◌∷◌, ◌++◌, length, get_or, take}
-use Rattle.std.proofs.Common.{refl, subst, sym, ap, ◌∙◌, arith}
+use Rattle.std.proofs.Common.{◌≡◌, ◌≢◌, ℕ, ◌+◌, ◌-◌, ◌<◌, ◌≤◌, ◌⊎◌, inl, inr, List, [], ◌∷◌, length, get_or, take}
+use Rattle.std.proofs.Common.{refl, sym, ap, ◌∙◌, arith}
 use Rattle.std.specs.Prelude.{slice_set}
 use Rattle.std.proofs.lemmas.Bool.{cases_eq, cases_lt}
 use Rattle.std.proofs.lemmas.List.{get_or_append_left, get_or_push, length_push, get_or-set_same, get_or-set_other}
 use Rattle.std.proofs.lemmas.List.{length-set, get_or-take}
-use Rattle.ps_game.specs.Games.{ParityGame, HasEdge}
+use Rattle.ps_game.specs.Games.{ParityGame}
 use Rattle.ps_attractor.specs.Tables.{TablesData, level_of}
 use Rattle.ps_attractor.specs.Aims.{StandsFrom}
 use Rattle.ps_attractor.specs.Steps.{with_placed}
+use Rattle.ps_attractor.proofs.Placing.{stands_longer}
 use Rattle.ps_zielonka.specs.declared.level.TheConstants.{UNPLACED}
 use Rattle.ps_zielonka.specs.Nests.{StandsBetween, StandsBefore, IsKeptAt, IsMoved, IsTakenOff, IsReopened}
 
@@ -43,14 +44,11 @@ kept_on {game} {mid} {new} {winner} {level} {player} u {v} moved differ kept =
     record {
       own = λ owns. (
           let step = kept.own owns in
-          let Edge : ℕ → Type 0 = HasEdge game v in
-          let Above : ℕ → Type 0 = λ w. level < level_of new w in
-          let Won : ℕ → Type 0 = λ w. get_or winner w 0 ≡ player in
           let high : level < level_of new (get_or mid.moves v 0) = omega (arith, levels (get_or mid.moves v 0)) in
           record {
-            edge = subst Edge (sym move) step.edge;
-            above = subst Above (sym move) high;
-            won = subst Won (sym move) step.won;
+            edge = rw move step.edge;
+            above = rw move high;
+            won = rw move step.won;
           });
       foreign = λ others w edge above. kept.foreign others w edge (omega (arith, levels w));
     }
@@ -62,8 +60,7 @@ pub kept_more : {game : ParityGame} {old mid new : TablesData} {winner : List �
     IsKeptAt game new winner level player other v
 kept_more {game} {old} {mid} {new} {winner} {level} {player} {other} place {u} at moved here so_far v stands =
     elim (cases_eq v u) [
-      | inl same ↦ (let Kept : ℕ → Type 0 = λ x. IsKeptAt game new winner level player other x in
-          subst Kept (sym same) here)
+      | inl same ↦ rw same here
       | inr differ ↦ (
           let not_last : stands.place ≢ place =
           λ same. differ (sym stands.is ∙ ap (λ j. get_or old.trail j 0) same ∙ at) in
@@ -73,20 +70,6 @@ kept_more {game} {old} {mid} {new} {winner} {level} {player} {other} place {u} a
     ]
 
 -- ## What is put back
-
--- nothing is put back yet
-pub reopened_start : (winner : List ℕ) (player level turn : ℕ) (spare : List ℕ) (tables : TablesData) →
-    turn ≡ length tables.trail → IsReopened winner player level turn (StandsBefore spare 0) tables tables
-reopened_start winner player level turn spare tables at_end = record {
-  longer = omega arith;
-  front = λ j before. refl;
-  behind = λ j after before. absurd (omega arith);
-  lost = λ v off. (let before : off.place < 0 = off.before in absurd (omega arith));
-  freed = λ v off. (let before : off.place < 0 = off.before in absurd (omega arith));
-  same = λ v. inl refl;
-  moves = refl;
-  sizes = refl;
-}
 
 -- one more of the list
 one_more : {spare : List ℕ} (k u : ℕ) {v : ℕ} → get_or spare k 0 ≡ u → StandsBefore spare (k + 1) v →
@@ -101,130 +84,82 @@ one_longer : {spare : List ℕ} {k v : ℕ} → StandsBefore spare k v → Stand
 one_longer {k} stands = let before : stands.place < k = stands.before in
     record { place = stands.place; before = omega arith; is = stands.is }
 
+-- one more vertex is free again, or is put back
+reopened_more : {winner : List ℕ} {player level turn : ℕ} {spare : List ℕ} {k u : ℕ} {old mid new : TablesData} →
+    get_or spare k 0 ≡ u → ((v : ℕ) → v ≢ u → level_of new v ≡ level_of mid v) →
+    length mid.trail ≤ length new.trail →
+    ((j : ℕ) → j < length mid.trail → get_or new.trail j 0 ≡ get_or mid.trail j 0) →
+    ((j : ℕ) → length mid.trail ≤ j → j < length new.trail →
+    (get_or new.trail j 0 ≡ u) × (get_or winner u 0 ≢ player)) →
+    (get_or winner u 0 ≢ player → (level_of new u ≡ level) × StandsFrom new turn u) →
+    (get_or winner u 0 ≡ player → level_of new u ≡ UNPLACED) → new.moves ≡ mid.moves →
+    length new.level ≡ length mid.level → IsReopened winner player level turn (StandsBefore spare k) old mid →
+    IsReopened winner player level turn (StandsBefore spare (k + 1)) old new
+reopened_more {winner = winner} {player = player} {turn = turn} {spare = spare} {k = k} {u = u} {mid = mid} {new = new}
+    at_k kept longer front last lost free moves sizes so_far =
+    let off_here : StandsBefore spare (k + 1) u = record { place = k; before = omega arith; is = at_k } in
+    let earlier : (v : ℕ) → v ≢ u → StandsBefore spare (k + 1) v → StandsBefore spare k v =
+    λ v differ off. elim (one_more k u at_k off) [ inl earlier ↦ earlier | inr same ↦ absurd (differ same) ] in
+    record {
+      longer = omega arith;
+      front = λ j before. front j (omega arith) ∙ so_far.front j before;
+      behind = λ j after before. elim (cases_lt j (length mid.trail)) [
+        | inl less ↦
+            let behind = so_far.behind j after less in rw (front j less) (one_longer behind.0, behind.1)
+        | inr more ↦ let (is, not_won) = last j more before in rw is (off_here, not_won)
+      ];
+      lost = λ v off not_won. elim (cases_eq v u) [
+        | inl same ↦ rw same (lost (rw same at not_won))
+        | inr differ ↦
+            let (level, stands) = so_far.lost v (earlier v differ off) not_won in (
+              kept v differ ∙ level,
+              stands_longer longer front stands,
+            )
+      ];
+      freed = λ v off won. elim (cases_eq v u) [
+        | inl same ↦ rw same (free (rw same at won))
+        | inr differ ↦ kept v differ ∙ so_far.freed v (earlier v differ off) won
+      ];
+      same = λ v. elim (cases_eq v u) [
+        | inl same ↦ inr (rw same off_here)
+        | inr differ ↦ elim (so_far.same v) [
+          | inl still ↦ inl (kept v differ ∙ still)
+          | inr off ↦ inr (one_longer off)
+        ]
+      ];
+      moves = moves ∙ so_far.moves;
+      sizes = sizes ∙ so_far.sizes;
+    }
+
 -- the next vertex was won by the player
 pub reopened_free : {winner : List ℕ} {player level turn : ℕ} (spare : List ℕ) (k u : ℕ) {old mid : TablesData}
     (new : TablesData) → get_or spare k 0 ≡ u → u < length mid.level → get_or winner u 0 ≡ player →
     new.level ≡ slice_set mid.level u UNPLACED → new.moves ≡ mid.moves → new.trail ≡ mid.trail →
     IsReopened winner player level turn (StandsBefore spare k) old mid →
     IsReopened winner player level turn (StandsBefore spare (k + 1)) old new
-reopened_free {winner} {player} {turn} spare k u {mid} new at_k within won levels moves trail so_far =
-    let here : level_of new u ≡ UNPLACED = ap (λ xs. get_or xs u 0) levels
-    ∙ get_or-set_same mid.level u UNPLACED 0 within in
-    let there = λ (v : ℕ) (differ : v ≢ u). ap (λ xs. get_or xs v 0) levels
-    ∙ get_or-set_other mid.level u v UNPLACED 0 differ in
-    let size : length new.trail ≡ length mid.trail = ap length trail in
-    let at = λ (j : ℕ). ap (λ xs. get_or xs j 0) trail in
-    let longer : turn ≤ length mid.trail = so_far.longer in
-    let Off : ℕ → Type 0 = StandsBefore spare (k + 1) in
-    let NotWon : ℕ → Type 0 = λ v. get_or winner v 0 ≢ player in
-    record {
-      longer = omega arith;
-      front = λ j before. at j ∙ so_far.front j before;
-      behind = λ j after before. (
-          let behind = so_far.behind j after (omega arith) in (
-            subst Off (sym (at j)) (one_longer behind.0),
-            subst NotWon (sym (at j)) behind.1,
-          ));
-      lost = λ v off not_won. elim (one_more k u at_k off) [
-        | inr same ↦ absurd (not_won (ap (λ x. get_or winner x 0) same ∙ won))
-        | inl earlier ↦ (
-            let lost = so_far.lost v earlier not_won in (
-              there v (λ same. not_won (ap (λ x. get_or winner x 0) same ∙ won)) ∙ lost.0,
-              record {
-                place = lost.1.place;
-                after = lost.1.after;
-                within = omega arith;
-                is = at lost.1.place ∙ lost.1.is;
-              },
-            ))
-      ];
-      freed = λ v off is_won. elim (cases_eq v u) [
-        | inl same ↦ ap (λ x. level_of new x) same ∙ here
-        | inr differ ↦ elim (one_more k u at_k off) [
-          | inr same ↦ absurd (differ same)
-          | inl earlier ↦ there v differ ∙ so_far.freed v earlier is_won
-        ]
-      ];
-      same = λ v. elim (cases_eq v u) [
-        | inl same ↦ inr (record { place = k; before = omega arith; is = at_k ∙ sym same })
-        | inr differ ↦ elim (so_far.same v) [
-          | inl kept ↦ inl (there v differ ∙ kept)
-          | inr off ↦ inr (one_longer off)
-        ]
-      ];
-      moves = moves ∙ so_far.moves;
-      sizes = ap length levels ∙ length-set mid.level u UNPLACED ∙ so_far.sizes;
-    }
+reopened_free spare k u {mid = mid} new at_k within won levels moves trail so_far =
+    let size = ap length trail in
+    reopened_more at_k (λ v differ. rw levels (get_or-set_other mid.level u v UNPLACED 0 differ)) (omega arith)
+    (λ j less. ap (λ xs. get_or xs j 0) trail) (λ j more before. absurd (omega arith))
+    (λ not_won. absurd (not_won won)) (λ _. rw levels (get_or-set_same mid.level u UNPLACED 0 within)) moves
+    (ap length levels ∙ length-set mid.level u UNPLACED) so_far
 
 -- the next vertex was not won by the player
 pub reopened_lost : {winner : List ℕ} {player level turn : ℕ} (spare : List ℕ) (k u : ℕ) {old mid : TablesData}
     (new : TablesData) → get_or spare k 0 ≡ u → u < length mid.level → get_or winner u 0 ≢ player →
     new ≡ with_placed mid u level → IsReopened winner player level turn (StandsBefore spare k) old mid →
     IsReopened winner player level turn (StandsBefore spare (k + 1)) old new
-reopened_lost {winner} {player} {level} {turn} spare k u {mid} new at_k within not_won now so_far =
-    let levels : new.level ≡ slice_set mid.level u level = ap (λ (t : TablesData). t.level) now in
-    let trail : new.trail ≡ mid.trail ++ u ∷ [] = ap (λ (t : TablesData). t.trail) now in
-    let here : level_of new u ≡ level = ap (λ xs. get_or xs u 0) levels ∙ get_or-set_same mid.level u level 0 within in
-    let there = λ (v : ℕ) (differ : v ≢ u). ap (λ xs. get_or xs v 0) levels
-    ∙ get_or-set_other mid.level u v level 0 differ in
-    let size : length new.trail ≡ length mid.trail + 1 = ap length trail ∙ length_push mid.trail u in
-    let at = λ (j : ℕ) (less : j < length mid.trail). ap (λ xs. get_or xs j 0) trail
-    ∙ get_or_append_left mid.trail (u ∷ []) 0 j less in
-    let last : get_or new.trail (length mid.trail) 0 ≡ u = ap (λ xs. get_or xs (length mid.trail) 0) trail
-    ∙ get_or_push mid.trail u 0 (length mid.trail) refl in
-    let longer : turn ≤ length mid.trail = so_far.longer in
-    let Off : ℕ → Type 0 = StandsBefore spare (k + 1) in
-    let NotWon : ℕ → Type 0 = λ v. get_or winner v 0 ≢ player in
-    let off_here : Off u = record { place = k; before = omega arith; is = at_k } in
-    record {
-      longer = omega arith;
-      front = λ j before. at j (omega arith) ∙ so_far.front j before;
-      behind = λ j after before. elim (cases_lt j (length mid.trail)) [
-        | inl less ↦ (
-            let behind = so_far.behind j after less in (
-              subst Off (sym (at j less)) (one_longer behind.0),
-              subst NotWon (sym (at j less)) behind.1,
-            ))
-        | inr more ↦ (
-            let is_last : j ≡ length mid.trail = omega arith in
-            let is_u : get_or new.trail j 0 ≡ u = ap (λ i. get_or new.trail i 0) is_last ∙ last in
-            (subst Off (sym is_u) off_here, subst NotWon (sym is_u) not_won))
-      ];
-      lost = λ v off lost_here. elim (cases_eq v u) [
-        | inl same ↦ (
-          ap (λ x. level_of new x) same ∙ here,
-          record { place = length mid.trail; after = longer; within = omega arith; is = last ∙ sym same },
-        )
-        | inr differ ↦ elim (one_more k u at_k off) [
-          | inr same ↦ absurd (differ same)
-          | inl earlier ↦ (
-              let lost = so_far.lost v earlier lost_here in
-              let low : lost.1.place < length mid.trail = lost.1.within in (
-                there v differ ∙ lost.0,
-                record {
-                  place = lost.1.place;
-                  after = lost.1.after;
-                  within = omega arith;
-                  is = at lost.1.place low ∙ lost.1.is;
-                },
-              ))
-        ]
-      ];
-      freed = λ v off is_won. elim (one_more k u at_k off) [
-        | inr same ↦ absurd (not_won (sym (ap (λ x. get_or winner x 0) same) ∙ is_won))
-        | inl earlier ↦ there v (λ same. not_won (sym (ap (λ x. get_or winner x 0) same) ∙ is_won))
-            ∙ so_far.freed v earlier is_won
-      ];
-      same = λ v. elim (cases_eq v u) [
-        | inl same ↦ inr (record { place = k; before = omega arith; is = at_k ∙ sym same })
-        | inr differ ↦ elim (so_far.same v) [
-          | inl kept ↦ inl (there v differ ∙ kept)
-          | inr off ↦ inr (one_longer off)
-        ]
-      ];
-      moves = ap (λ (t : TablesData). t.moves) now ∙ so_far.moves;
-      sizes = ap length levels ∙ length-set mid.level u level ∙ so_far.sizes;
-    }
+reopened_lost {level = level} spare k u {mid = mid} new at_k within not_won now so_far =
+    let size = length_push mid.trail u in
+    let last = get_or_push mid.trail u 0 (length mid.trail) refl in
+    rw now (reopened_more at_k (λ v differ. get_or-set_other mid.level u v level 0 differ) (omega arith)
+    (λ j less. get_or_append_left mid.trail (u ∷ []) 0 j less)
+    (λ j more before. (get_or_push mid.trail u 0 j (omega arith), not_won))
+    (λ _. (
+      get_or-set_same mid.level u level 0 within,
+      record { place = length mid.trail; after = so_far.longer; within = omega arith; is = last },
+    ))
+    (λ won. absurd (not_won won)) refl (length-set mid.level u level) so_far)
 
 -- all of the list is put back
 pub reopened_end : {winner : List ℕ} {player level turn : ℕ} (k : ℕ) {spare : List ℕ} (old : TablesData)

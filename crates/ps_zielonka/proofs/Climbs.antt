@@ -1,7 +1,7 @@
 -- The last call that waited goes on: what the other player won in the next one, and all from where it can lead there,
 -- is decided.
-use Rattle.std.proofs.Common.{◌≡◌, ◌≢◌, ℕ, ◌+◌, ◌-◌, ◌*◌, ◌%◌, ◌<◌, ◌≤◌, ◌⊎◌, inl, inr, List, Bool, length, get_or}
-use Rattle.std.proofs.Common.{Some, subst, sym, ap, ◌∙◌, arith}
+use Rattle.std.proofs.Common.{◌≡◌, ◌≢◌, ℕ, ◌+◌, ◌-◌, ◌*◌, ◌<◌, ◌≤◌, ◌⊎◌, inl, inr, List, Bool, length, get_or}
+use Rattle.std.proofs.Common.{Some, sym, ap, ◌∙◌, arith}
 use Rattle.std.specs.Prelude.{IsTrue}
 use Rattle.std.proofs.lemmas.Bool.{cases_eq, cases_lt, false≢true}
 use Rattle.ps_game.specs.Games.{ParityGame, IsGame, vertex_count, owner_of}
@@ -9,15 +9,16 @@ use Rattle.ps_game.specs.Subgames.{IsWithin}
 use Rattle.ps_attractor.specs.declared.aim.Aim.{Aim}
 use Rattle.ps_attractor.specs.Tables.{TablesData, level_of, moves_of}
 use Rattle.ps_attractor.specs.Aims.{StandsFrom, IsPosed, IsTaken, IsAttracted, IsGrown, rank_of}
+use Rattle.ps_attractor.proofs.Placing.{stands_after, stands_longer}
 use Rattle.ps_zielonka.specs.declared.level.TheConstants.{UNPLACED}
 use Rattle.ps_zielonka.specs.declared.frame.Frame.{Frame}
 use Rattle.ps_zielonka.specs.Turns.{nothing, IsWithout, IsWon, Progress, Solved}
 use Rattle.ps_zielonka.specs.Nests.{from, size_from, winner_of, StandsBetween, Waits, Searches, IsGiven, IsLostAt}
 use Rattle.ps_zielonka.specs.Nests.{IsReopened}
-use Rattle.ps_zielonka.proofs.Turning.{won_by, IsWon-won_by, without, IsWithout-without}
+use Rattle.ps_zielonka.proofs.Turning.{won_by, IsWon-won_by, without, IsWithout-without, IsSubgame-left}
 use Rattle.ps_zielonka.proofs.Sets.{from_at, to_from, size_from-lt, size_from-same}
 use Rattle.ps_zielonka.proofs.Below.{IsStill, Agrees, agrees_at, agrees_from}
-use Rattle.ps_zielonka.proofs.Forms.{frame_goes_on, subgame_left}
+use Rattle.ps_zielonka.proofs.Forms.{frame_goes_on}
 
 -- the other player attracts to what it won, for a call of depth a / 2
 abbrev pub on_aim : ℕ → Frame → Aim
@@ -110,14 +111,7 @@ module _ {game : ParityGame} {a : ℕ} {frame : Frame} {old mid new : TablesData
       ]
 
   stands_on : {v : ℕ} → StandsFrom mid frame.turn v → StandsFrom new frame.turn v
-  stands_on stands =
-      let low : stands.place < length mid.trail = stands.within in
-      record {
-        place = stands.place;
-        after = stands.after;
-        within = omega arith;
-        is = going.grown.front stands.place low ∙ stands.is;
-      }
+  stands_on stands = stands_longer going.grown.longer going.grown.front stands
 
   -- a vertex that was open is decided, or free again
   pub going_open : (v : ℕ) → a + 2 ≤ level_of old v → ((level_of new v ≡ a + 1) × StandsFrom new frame.turn v) ⊎
@@ -133,17 +127,7 @@ module _ {game : ParityGame} {a : ℕ} {frame : Frame} {old mid new : TablesData
         let free : level_of mid v ≡ UNPLACED = going.reopened.freed v (stood v high) won in
         elim (going.grown.each v) [
           | inl same ↦ inr (same.level ∙ free)
-          | inr placed ↦ (
-              let after : length mid.trail ≤ placed.stands.place = placed.stands.after in
-              inl (
-                placed.level,
-                record {
-                  place = placed.stands.place;
-                  after = omega arith;
-                  within = placed.stands.within;
-                  is = placed.stands.is;
-                },
-              ))
+          | inr placed ↦ inl (placed.level, stands_after placed.stands going.reopened.longer)
         ])
   ]
 
@@ -209,7 +193,7 @@ module _ {game : ParityGame} {a : ℕ} {frame : Frame} {old mid new : TablesData
     outside = λ v inside gone. goes.outside v gone inside;
     all = λ v inside stays. elim (cases_lt (level_of new v) (a + 2)) [
       | inl low ↦ absurd (stays (goes.all v inside (λ there.
-          let high : a + 2 ≤ level_of new v = from_at new.level (a + 2) v there in absurd (omega arith))))
+          absurd (omega (arith, from_at new.level (a + 2) v there)))))
       | inr high ↦ to_from new.level (a + 2) v high
     ];
   }
@@ -256,7 +240,7 @@ module _ {game : ParityGame} {a : ℕ} {frame : Frame} {old mid new : TablesData
   going_taken =
       record {
         within = goes.within;
-        placed = λ v gone free. (let level : level_of new v ≡ a + 1 = (gone_is v gone).1.0 in absurd (omega arith));
+        placed = λ v gone free. (absurd (omega (arith, (gone_is v gone).1.0)));
         all = λ v inside placed. elim (going_open v (from_at old.level (a + 2) v inside)) [
           | inl decided ↦ goes.all v inside (λ there. let level : level_of new v ≡ a + 1 = decided.0 in
               absurd (omega (arith, from_at new.level (a + 2) v there)))
@@ -279,7 +263,6 @@ module _ {game : ParityGame} {a : ℕ} {frame : Frame} {old mid new : TablesData
         | inr high ↦ absurd (decided (to_from old.level (a + 2) v high))
       ] in
       is) in
-      let Outer : (ℕ → Bool) → Type 0 = λ set. Progress game set open_now (winner_of winner_now) (moves_of new) in
       let progress : Progress game (from old.level (a + 1)) open_now (winner_of winner_now) (moves_of new) =
       frame_goes_on (winner_of winner_now)
       going.is_game waits.alive waits.progress waits.prepared going.solved
@@ -294,11 +277,11 @@ module _ {game : ParityGame} {a : ℕ} {frame : Frame} {old mid new : TablesData
       agrees (omega arith)) in
       let room : a + 2 * size_from (a + 1) old.level ≤ 2 * length old.level = waits.room in
       record {
-        alive = subgame_left waits.alive attracted parted;
-        progress = subst Outer (sym (agrees_from (a + 1) agrees (omega arith))) progress;
+        alive = IsSubgame-left waits.alive attracted parted;
+        progress = rw (agrees_from (a + 1) agrees (omega arith)) progress;
         room = omega (arith, agrees.sizes);
         unplaced = λ v high. elim (cases_lt (level_of old v) (a + 2)) [
-          | inl low ↦ (let same : level_of new v ≡ level_of old v = (going_still v low).level in absurd (omega arith))
+          | inl low ↦ (absurd (omega (arith, (going_still v low).level)))
           | inr more ↦ elim (going_open v more) [
             | inl decided ↦ absurd (omega arith)
             | inr free ↦ free
@@ -330,7 +313,6 @@ module _ {game : ParityGame} {a : ℕ} {frame : Frame} {old mid new : TablesData
             (next.0, waits.alive.vertices next.0 next.1.inside, high, lost.own owns next.0 next.1.edge (omega arith)))
         | inr others ↦ (
             let step = lost.foreign others in
-            let won : get_or winner step.0 0 ≡ 1 - frame.player = step.1.won in
             (step.0, going.is_game.within v step.0 step.1.edge, omega arith, λ same. omega arith))
       ]
 

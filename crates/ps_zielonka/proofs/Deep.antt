@@ -1,14 +1,14 @@
 -- How many calls wait: as many priorities are there, since the rest of each turn lacks one.
-use Rattle.std.proofs.Common.{◌≡◌, ℕ, zero, suc, ◌+◌, ◌*◌, ◌<◌, ◌≤◌, inl, inr, List, length, get_or, Bool, true, false}
-use Rattle.std.proofs.Common.{max, refl, subst, sym, ◌∙◌, arith}
+use Rattle.std.proofs.Common.{◌≡◌, ℕ, zero, suc, ◌+◌, ◌*◌, ◌<◌, inl, inr, List, length, get_or, Bool, true, false}
+use Rattle.std.proofs.Common.{max, refl, sym, ◌∙◌, arith}
 use Rattle.std.proofs.lemmas.Bool.{cases_lt, lt-ltb, false≢true}
 use Rattle.std.proofs.lemmas.List.{get_or_past}
 use Rattle.ps_game.specs.Games.{ParityGame, vertex_count}
-use Rattle.ps_attractor.specs.Tables.{TablesData, level_of, moves_of}
+use Rattle.ps_attractor.specs.Tables.{TablesData, level_of}
 use Rattle.ps_zielonka.specs.declared.level.TheConstants.{UNPLACED}
 use Rattle.ps_zielonka.specs.declared.frame.Frame.{Frame}
-use Rattle.ps_zielonka.specs.Depths.{is_vertex, HasPriorities, IsDepth, IsFresh, IsDepthSoFar}
-use Rattle.ps_zielonka.specs.Nests.{from, winner_of, frame_at, Waits, IsNest}
+use Rattle.ps_zielonka.specs.Depths.{is_vertex, HasPriorities, IsDepth, IsFresh, IsSecondCall, IsDepthSoFar}
+use Rattle.ps_zielonka.specs.Nests.{from, frame_at, Waits, IsNest}
 use Rattle.ps_zielonka.proofs.Depths.{one_priority, HasPriorities-larger, HasPriorities-turned}
 use Rattle.ps_zielonka.proofs.Sets.{from_at}
 use Rattle.ps_zielonka.proofs.Begun.{Begun}
@@ -19,18 +19,15 @@ chain : {game : ParityGame} (tables : TablesData) (winner order : List ℕ) (fra
     ((i : ℕ) → i < j → Waits game tables winner order (2 * i) (frame_at frames i)) →
     HasPriorities game (from tables.level (2 * j + 1)) m → HasPriorities game (from tables.level 1) (m + j)
 chain {game} tables winner order frames zero {m} waits has_m =
-    let Count : ℕ → Type 0 = HasPriorities game (from tables.level 1) in
     let same : m ≡ m + 0 = omega arith in
-    subst Count same has_m
+    rw same at has_m
 chain {game} tables winner order frames (suc j) {m} waits has_m =
     let wait = waits j (omega arith) in
-    let Level : ℕ → Type 0 = λ c. HasPriorities game (from tables.level c) m in
-    let Count : ℕ → Type 0 = HasPriorities game (from tables.level 1) in
     let level : 2 * suc j + 1 ≡ 2 * j + 3 = omega arith in
     let same : m + 1 + j ≡ m + suc j = omega arith in
     let more : HasPriorities game (from tables.level (2 * j + 2)) (m + 1) =
-    HasPriorities-turned wait.prepared (subst Level level has_m) in
-    subst Count same (chain tables winner order frames j (λ i less. waits i (omega arith))
+    HasPriorities-turned wait.prepared (rw level at has_m) in
+    rw same at (chain tables winner order frames j (λ i less. waits i (omega arith))
     (HasPriorities-larger (from tables.level (2 * j + 1))
     wait.progress.within more))
 
@@ -43,9 +40,8 @@ nest_priorities {game} {tables} {winner} {order} {frames} k calls nest =
     let (top, is_top, greatest) = wait.prepared.some_top in
     let one = one_priority game (from tables.level (2 * k + 1)) top (wait.progress.within top
     (wait.prepared.within top (wait.prepared.closed.holds top is_top))) in
-    let Count : ℕ → Type 0 = HasPriorities game (is_vertex game) in
     let same : 1 + k ≡ k + 1 = omega arith in
-    subst Count same (HasPriorities-larger (is_vertex game)
+    rw same at (HasPriorities-larger (is_vertex game)
     (λ v inside. lt-ltb v (vertex_count game) (elim (cases_lt v (length tables.level)) [
       | inl less ↦ omega arith
       | inr past ↦ (
@@ -75,25 +71,32 @@ depth_stays levels calls solved is_depth = record {
   two = λ set closed v is_vertex outside. inl (is_depth.two set closed v is_vertex outside);
 }
 
+-- the depth is known where it is not too early to know it
+depth_known : {game : ParityGame} {levels : List ℕ} {calls : ℕ} {solved : Bool} {depth : ℕ} →
+    ((v : ℕ) → v < vertex_count game → IsFresh game levels calls solved → ⊥) →
+    ((v : ℕ) → IsSecondCall levels calls solved v → ⊥) → IsDepthSoFar game levels calls solved depth →
+    IsDepth game depth
+depth_known not_fresh not_second so_far = record {
+  most = so_far.most;
+  some = λ v is_vertex. elim (so_far.some v is_vertex) [
+    | inl one ↦ one
+    | inr fresh ↦ absurd (not_fresh v is_vertex fresh)
+  ];
+  two = λ set closed v is_vertex outside. elim (so_far.two set closed v is_vertex outside) [
+    | inl two ↦ two
+    | inr early ↦ elim early [
+      | inl fresh ↦ absurd (not_fresh v is_vertex fresh)
+      | inr second ↦ absurd (not_second v second)
+    ]
+  ];
+}
+
 -- a call has its answer
 pub depth_solved : {game : ParityGame} {levels : List ℕ} {calls : ℕ} {solved : Bool} {depth : ℕ} → solved ≡ true →
     IsDepthSoFar game levels calls solved depth → IsDepth game depth
-depth_solved {solved} is_solved so_far =
-    let not_yet = λ (unsolved : solved ≡ false). (let h : ⊥ = false≢true (sym unsolved ∙ is_solved) in h) in
-    record {
-      most = so_far.most;
-      some = λ v is_vertex. elim (so_far.some v is_vertex) [
-        | inl one ↦ one
-        | inr fresh ↦ absurd (not_yet fresh.unsolved)
-      ];
-      two = λ set closed v is_vertex outside. elim (so_far.two set closed v is_vertex outside) [
-        | inl two ↦ two
-        | inr early ↦ elim early [
-          | inl fresh ↦ absurd (not_yet fresh.unsolved)
-          | inr second ↦ absurd (not_yet second.unsolved)
-        ]
-      ];
-    }
+depth_solved is_solved so_far =
+    depth_known (λ v is_vertex fresh. false≢true (sym fresh.unsolved ∙ is_solved))
+    (λ v second. false≢true (sym second.unsolved ∙ is_solved)) so_far
 
 -- the last call that waited has its answer, or goes on
 pub depth_climbs : {game : ParityGame} {levels : List ℕ} (now : List ℕ) {calls : ℕ} (left : ℕ) {solved : Bool}
@@ -106,32 +109,17 @@ pub depth_kept : {game : ParityGame} {levels : List ℕ} (now : List ℕ) {calls
     {depth : ℕ} (deep : ℕ) → deep ≡ depth → solved ≡ true → IsDepthSoFar game levels calls solved depth →
     IsDepthSoFar game now left is deep
 depth_kept {game} {levels} now {calls} left {solved} is {depth} deep same is_solved so_far =
-    let Deep : ℕ → Type 0 = IsDepthSoFar game now left is in
-    subst Deep (sym same) (depth_climbs now left is is_solved so_far)
+    rw same (depth_climbs now left is is_solved so_far)
 
 -- nothing is left to the present call
 pub depth_done : {game : ParityGame} {tables : TablesData} {winner order : List ℕ} {frames : List Frame} {cursor : ℕ}
     {solved : Bool} {depth : ℕ} → IsNest game tables winner order frames cursor true →
     IsDepthSoFar game tables.level (length frames) solved depth →
     IsDepthSoFar game tables.level (length frames) true depth
-depth_done {game} {tables} {frames} {depth} nest so_far =
-    let answer = nest.done refl in
-    let placed =
-    λ (v : ℕ) (unplaced : level_of tables v ≡ UNPLACED). (let h : ⊥ = omega (arith, answer.placed v) in h) in
-    depth_stays tables.level (length frames) true (record {
-      most = so_far.most;
-      some = λ v is_vertex. elim (so_far.some v is_vertex) [
-        | inl one ↦ one
-        | inr fresh ↦ absurd (placed v (fresh.unplaced v is_vertex))
-      ];
-      two = λ set closed v is_vertex outside. elim (so_far.two set closed v is_vertex outside) [
-        | inl two ↦ two
-        | inr early ↦ elim early [
-          | inl fresh ↦ absurd (placed v (fresh.unplaced v is_vertex))
-          | inr second ↦ absurd (placed v second.unplaced)
-        ]
-      ];
-    })
+depth_done {tables = tables} {frames = frames} nest so_far =
+    let placed : (v : ℕ) → level_of tables v ≡ UNPLACED → ⊥ = λ v unplaced. omega (arith, (nest.done refl).placed v) in
+    depth_stays tables.level (length frames) true (depth_known
+    (λ v is_vertex fresh. placed v (fresh.unplaced v is_vertex)) (λ v second. placed v second.unplaced) so_far)
 
 -- a turn begins
 pub depth_begun : (b : Begun) {frames : List Frame} {cursor : ℕ} {solved : Bool} {depth : ℕ} (deeper : ℕ) →
@@ -139,13 +127,12 @@ pub depth_begun : (b : Begun) {frames : List Frame} {cursor : ℕ} {solved : Boo
     IsNest b.game b.new b.winner_now b.order frames cursor solved →
     IsDepthSoFar b.game b.old.level b.depth solved depth → IsDepthSoFar b.game b.new.level (length frames) solved deeper
 depth_begun b {frames} {cursor} {solved} {depth} deeper calls unsolved greater nest so_far =
-    let Count : ℕ → Type 0 = HasPriorities b.game (is_vertex b.game) in
     record {
       most = elim (cases_lt depth (length frames)) [
         | inl less ↦ (let same : b.depth + 1 ≡ deeper = omega arith in
-            subst Count same (nest_priorities
+            rw same at (nest_priorities
             b.depth calls nest))
-        | inr more ↦ (let same : depth ≡ deeper = omega arith in subst Count same so_far.most)
+        | inr more ↦ (let same : depth ≡ deeper = omega arith in rw same at so_far.most)
       ];
       some = λ v is_vertex. inl (omega arith);
       two = λ set closed v is_vertex outside. elim (cases_lt (length frames) 2) [

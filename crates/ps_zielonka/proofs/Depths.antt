@@ -57,13 +57,12 @@ HasPriorities-more {game} larger {n} top within inside differ has_n = record {
   many = λ list all. (
       let found = all top inside in
       let d : ℕ = priority_of game top in
-      let is_there : found.0 < length list = found.1 in
       let fewer : n ≤ length (drop_at list found.0) = has_n.many (drop_at list found.0) (λ v in_smaller.
       let here = all v (within v in_smaller) in
       Contains-drop_at list found.0 (priority_of game v) here.0 here.1 here.2
-      (λ same. differ v in_smaller (sym same ∙ get_or_default list found.0 (priority_of game v) d is_there ∙ found.2)))
+      (λ same. differ v in_smaller (sym same ∙ get_or_default list found.0 (priority_of game v) d found.1 ∙ found.2)))
       in
-      omega (arith, length-drop_at list found.0 is_there));
+      omega (arith, length-drop_at list found.0 found.1));
 }
 
 -- the rest of a turn has fewer priorities

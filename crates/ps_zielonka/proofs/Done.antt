@@ -1,14 +1,14 @@
 -- The present call has its answer; and at the end the whole game has.
-use Rattle.std.proofs.Common.{◌≡◌, ◌≢◌, ℕ, ◌+◌, ◌*◌, ◌<◌, ◌≤◌, inl, inr, List, length, get_or, Bool, true, false, subst}
+use Rattle.std.proofs.Common.{◌≡◌, ◌≢◌, ℕ, ◌+◌, ◌*◌, ◌<◌, ◌≤◌, inl, inr, List, length, get_or, Bool, true, false}
 use Rattle.std.proofs.Common.{sym, ap, ◌∙◌, arith}
 use Rattle.std.proofs.lemmas.Bool.{cases_lt, false≢true}
-use Rattle.ps_game.specs.Games.{ParityGame, vertex_count}
-use Rattle.ps_attractor.specs.Tables.{TablesData, level_of, moves_of}
+use Rattle.ps_game.specs.Games.{ParityGame}
+use Rattle.ps_attractor.specs.Tables.{TablesData, level_of}
 use Rattle.ps_zielonka.specs.declared.level.TheConstants.{UNPLACED}
 use Rattle.ps_zielonka.specs.declared.frame.Frame.{Frame}
-use Rattle.ps_zielonka.specs.Nests.{from, size_from, winner_of, Searches, HasAnswer, IsSoundBoard, IsNest}
+use Rattle.ps_zielonka.specs.Nests.{Searches, IsSoundBoard, IsNest}
 use Rattle.ps_zielonka.specs.Stacks.{IsSolvedBy}
-use Rattle.ps_zielonka.proofs.Forms.{progress_end}
+use Rattle.ps_zielonka.proofs.Turning.{Solved-done}
 use Rattle.ps_zielonka.proofs.Sets.{from_at, to_from}
 
 -- where the order has no unplaced vertex behind the cursor, none is left
@@ -38,7 +38,7 @@ done_nest {game} {tables} {winner} {order} {frames} {cursor} {solved} unsolved n
       rises = nest.rises;
       searches = λ is. absurd (false≢true (sym is));
       done = λ is. record {
-        solved = progress_end (λ v inside. none v (from_at tables.level (a + 2) v inside)) searches.progress;
+        solved = Solved-done searches.progress (λ v inside. none v (from_at tables.level (a + 2) v inside));
         placed = λ v. elim (cases_lt (level_of tables v) UNPLACED) [
           | inl less ↦ less
           | inr more ↦ absurd (none v (omega arith))
@@ -51,8 +51,7 @@ pub solved_by : {game : ParityGame} {tables : TablesData} {winner order : List �
     {solved : Bool} → solved ≡ true → length frames ≡ 0 → IsNest game tables winner order frames cursor solved →
     IsSolvedBy game tables winner
 solved_by {game} {tables} {winner} {solved} is_done empty nest =
-    let Answer : ℕ → Type 0 = λ k. HasAnswer game tables winner (2 * k) in
-    let answer = subst Answer empty (nest.done is_done) in
+    let answer = rw empty at (nest.done is_done) in
     record {
       winners = nest.sound.winners;
       levels = nest.sound.fits.levels;

@@ -1,5 +1,5 @@
 -- The end: from a game that is solved to the region and the strategies by which both players hold.
-use Rattle.std.proofs.Common.{◌≡◌, ◌≢◌, ℕ, ◌<◌, ◌≤◌, inl, inr, List, length, get_or, Option, Some, None, Bool, subst}
+use Rattle.std.proofs.Common.{◌≡◌, ◌≢◌, ℕ, ◌<◌, inl, inr, List, length, get_or, Option, Some, None, Bool}
 use Rattle.std.proofs.Common.{arith}
 use Rattle.std.specs.Prelude.{IsTrue, IsSome}
 use Rattle.std.proofs.lemmas.Bool.{cases_eq, cases_lt, false≢true, not-true, not_from_false, false_from_ne_true}
@@ -51,36 +51,6 @@ holds_won {game} {winner} {whole} {player} {strategy} is_solved is_player given 
     (record { wins = won.won v inside; owns = owns }))
     (is_solved.solved.held player (won_by whole win player) is_player won))
 
--- player 0 holds the region
-holds_first : {game : ParityGame} {winner moves : List ℕ} {whole : ℕ → Bool} {region : List Bool}
-    {strategy : List (Option ℕ)} → IsSolved game winner moves whole → IsRegionTo winner (vertex_count game) region →
-    AreMovesTo game moves winner 0 (vertex_count game) strategy → Holds game 0 (has region) (move_at strategy)
-holds_first {game} {winner} {moves} {whole} {region} {strategy} is_solved is_region given =
-    let win : ℕ → ℕ = λ v. get_or winner v 0 in
-    let won = IsWon-won_by whole win 0 in
-    Holds-same (has region)
-    (λ v is_vertex inside. is_region.all v is_vertex (won.won v inside))
-    (λ v is_vertex inside. won.all v (is_solved.all v is_vertex) (λ h. false≢true h) (is_region.won v is_vertex inside))
-    (holds_won is_solved (omega arith) given)
-
--- player 1 holds all other vertices
-holds_second : {game : ParityGame} {winner moves : List ℕ} {whole : ℕ → Bool} {region : List Bool}
-    {strategy : List (Option ℕ)} → IsSolved game winner moves whole → IsRegionTo winner (vertex_count game) region →
-    AreMovesTo game moves winner 1 (vertex_count game) strategy → Holds game 1 (others region) (move_at strategy)
-holds_second {game} {winner} {moves} {whole} {region} {strategy} is_solved is_region given =
-    let win : ℕ → ℕ = λ v. get_or winner v 0 in
-    let won = IsWon-won_by whole win 1 in
-    Holds-same (others region)
-    (λ v is_vertex inside.
-    not_from_false (has region v) (false_from_ne_true (has region v)
-    (λ in_region. omega (arith, is_region.won v is_vertex in_region, won.won v inside))))
-    (λ v is_vertex inside.
-    let winner_below : win v < 2 = is_solved.solved.winners v (is_solved.all v is_vertex) (λ h. false≢true h) in
-    let not_first : win v ≢ 0 =
-    λ same. not_in (has region) v (not-true (has region v) inside) (is_region.all v is_vertex same) in
-    won.all v (is_solved.all v is_vertex) (λ h. false≢true h) (omega arith))
-    (holds_won is_solved (omega arith) given)
-
 -- the tables that solve the whole game
 IsSolved-tables : {game : ParityGame} {tables : TablesData} {winner : List ℕ} → IsSolvedBy game tables winner →
     IsSolved game winner tables.moves (from tables.level 1)
@@ -93,42 +63,6 @@ IsSolved-tables {game} {tables} solved_by = record {
   ];
   solved = solved_by.solved;
 }
-
--- what the calls at the end were given is the list of winners
-whole_region : (game : ParityGame) (winner : List ℕ) {read : List ℕ} {region : List Bool} → read ≡ winner →
-    length winner ≡ vertex_count game → IsRegionTo read (length read) region →
-    IsRegionTo winner (vertex_count game) region
-whole_region game winner {region} same size is_region =
-    let At : List ℕ → Type 0 = λ xs. IsRegionTo xs (length xs) region in
-    let To : ℕ → Type 0 = λ n. IsRegionTo winner n region in
-    subst To size (subst At same is_region)
-
-same_moves : {game : ParityGame} {moves : List ℕ} (winner : List ℕ) {read : List ℕ} {player : ℕ}
-    {strategy : List (Option ℕ)} → read ≡ winner → AreMovesTo game moves read player (vertex_count game) strategy →
-    AreMovesTo game moves winner player (vertex_count game) strategy
-same_moves {game} {moves} winner {player} {strategy} same given =
-    let At : List ℕ → Type 0 = λ xs. AreMovesTo game moves xs player (vertex_count game) strategy in
-    subst At same given
-
-pub answer_first : {game : ParityGame} {tables : TablesData} {winner read again : List ℕ} {region : List Bool}
-    {strategy : List (Option ℕ)} → read ≡ winner → again ≡ winner → IsSolvedBy game tables winner →
-    IsRegionTo read (length read) region → AreMovesTo game tables.moves again 0 (vertex_count game) strategy →
-    Holds game 0 (has region) (move_at strategy)
-answer_first {game} {tables} {winner} {read} {again} {region} {strategy} same same_again solved_by is_region given =
-    holds_first
-    (IsSolved-tables solved_by)
-    (whole_region game winner same solved_by.winners is_region)
-    (same_moves winner same_again given)
-
-pub answer_second : {game : ParityGame} {tables : TablesData} {winner read again : List ℕ} {region : List Bool}
-    {strategy : List (Option ℕ)} → read ≡ winner → again ≡ winner → IsSolvedBy game tables winner →
-    IsRegionTo read (length read) region → AreMovesTo game tables.moves again 1 (vertex_count game) strategy →
-    Holds game 1 (others region) (move_at strategy)
-answer_second {game} {tables} {winner} {read} {again} {region} {strategy} same same_again solved_by is_region given =
-    holds_second
-    (IsSolved-tables solved_by)
-    (whole_region game winner same solved_by.winners is_region)
-    (same_moves winner same_again given)
 
 -- where a player has a move it wins and owns the vertex
 move_is_given : {game : ParityGame} {moves winner : List ℕ} {player n : ℕ} (v : ℕ) {strategy : List (Option ℕ)} →
@@ -146,33 +80,57 @@ move_is_given {game} {winner} {player} {n} v {strategy} given some = elim (cases
 ]
   where
     none_some : move_at strategy v ≡ None → ⊥
-    none_some none = (let There : Option ℕ → Type 0 = λ o. IsSome o in false≢true (subst There none some))
+    none_some none = false≢true (rw none at some)
 
-pub moves_first : {game : ParityGame} {tables : TablesData} {winner read again : List ℕ} {region : List Bool}
-    {strategy : List (Option ℕ)} → read ≡ winner → again ≡ winner → IsSolvedBy game tables winner →
-    IsRegionTo read (length read) region → AreMovesTo game tables.moves again 0 (vertex_count game) strategy →
-    MovesWithin game 0 (has region) strategy
-moves_first {game} {tables} {winner} {read} {again} {region} {strategy} same same_again solved_by is_region given =
-    let whole = whole_region game winner same solved_by.winners is_region in
-    let moves = same_moves winner same_again given in
-    let at = λ (v : ℕ) (some : IsSome (move_at strategy v)). move_is_given v moves some in
-    record {
-      within = λ v some. (let (below, is) = at v some in whole.all v below is.wins);
-      owns = λ v some. (let (below, is) = at v some in is.owns);
-    }
+-- a player holds a set by a strategy that moves at its own vertices of the set alone
+pub record IsPlayed (game : ParityGame) (player : ℕ) (set : ℕ → Bool) (strategy : List (Option ℕ)) : Type 0 where
+  pub holds : Holds game player set (move_at strategy)
+  pub moves : MovesWithin game player set strategy
 
-pub moves_second : {game : ParityGame} {tables : TablesData} {winner read again : List ℕ} {region : List Bool}
-    {strategy : List (Option ℕ)} → read ≡ winner → again ≡ winner → IsSolvedBy game tables winner →
-    IsRegionTo read (length read) region → AreMovesTo game tables.moves again 1 (vertex_count game) strategy →
-    MovesWithin game 1 (others region) strategy
-moves_second {game} {tables} {winner} {read} {again} {region} {strategy} same same_again solved_by is_region given =
-    let whole = whole_region game winner same solved_by.winners is_region in
-    let moves = same_moves winner same_again given in
-    let at = λ (v : ℕ) (some : IsSome (move_at strategy v)). move_is_given v moves some in
-    record {
-      within = λ v some. (
-          let (below, is) = at v some in
-          not_from_false (has region v) (false_from_ne_true (has region v)
-          (λ in_region. omega (arith, whole.won v below in_region))));
-      owns = λ v some. (let (below, is) = at v some in is.owns);
-    }
+-- winners and the region as they are read at the end
+module _ {game : ParityGame} {tables : TablesData} {winner read again : List ℕ} {region : List Bool}
+    (same : read ≡ winner) (same_again : again ≡ winner) (solved_by : IsSolvedBy game tables winner)
+    (is_region : IsRegionTo read (length read) region) where
+  whole : IsRegionTo winner (vertex_count game) region
+  whole = rw (same, solved_by.winners) at is_region
+
+  -- the set has just the vertices that the player wins
+  played : {player : ℕ} (set : ℕ → Bool) {strategy : List (Option ℕ)} → player < 2 →
+      ((v : ℕ) → v < vertex_count game → IsTrue (set v) → get_or winner v 0 ≡ player) →
+      ((v : ℕ) → v < vertex_count game → get_or winner v 0 ≡ player → IsTrue (set v)) →
+      AreMovesTo game tables.moves again player (vertex_count game) strategy → IsPlayed game player set strategy
+  played {player = player} set {strategy = strategy} is_player wins all given =
+      let is_solved = IsSolved-tables solved_by in
+      let won = IsWon-won_by (from tables.level 1) (λ v. get_or winner v 0) player in
+      let moves = rw same_again at given in
+      record {
+        holds =
+            Holds-same set (λ v is_vertex inside. all v is_vertex (won.won v inside))
+            (λ v is_vertex inside. won.all v (is_solved.all v is_vertex) (λ h. false≢true h) (wins v is_vertex inside))
+            (holds_won is_solved is_player moves);
+        moves = record {
+          within = λ v some. (let (below, is) = move_is_given v moves some in all v below is.wins);
+          owns = λ v some. (let (below, is) = move_is_given v moves some in is.owns);
+        };
+      }
+
+  -- player 0 plays in the region
+  pub played_first : {strategy : List (Option ℕ)} →
+      AreMovesTo game tables.moves again 0 (vertex_count game) strategy → IsPlayed game 0 (has region) strategy
+  played_first given = played (has region) (omega arith) whole.won whole.all given
+
+  -- player 1 plays in all other vertices
+  pub played_second : {strategy : List (Option ℕ)} →
+      AreMovesTo game tables.moves again 1 (vertex_count game) strategy → IsPlayed game 1 (others region) strategy
+  played_second given =
+      played (others region) (omega arith)
+      (λ v is_vertex inside.
+      let below : get_or winner v 0 < 2 =
+      solved_by.solved.winners v ((IsSolved-tables solved_by).all v is_vertex) (λ h. false≢true h) in
+      let not_first : get_or winner v 0 ≢ 0 =
+      λ first. not_in (has region) v (not-true (has region v) inside) (whole.all v is_vertex first) in
+      omega arith)
+      (λ v is_vertex wins.
+      not_from_false (has region v) (false_from_ne_true (has region v)
+      (λ in_region. omega (arith, whole.won v is_vertex in_region, wins))))
+      given

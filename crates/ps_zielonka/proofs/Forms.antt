@@ -1,13 +1,13 @@
 -- The mathematics of a turn, in the forms that the steps of the stack cite.
-use Rattle.std.proofs.Common.{◌≡◌, ◌≢◌, ℕ, ◌-◌, ◌%◌, ◌<◌, inl, inr, Option, IsSomeAnd, Bool, IsTrue, sym, ◌∙◌, arith}
+use Rattle.std.proofs.Common.{◌≡◌, ◌≢◌, ℕ, ◌-◌, ◌<◌, inl, inr, Option, IsSomeAnd, Bool, IsTrue, sym, ◌∙◌, arith}
 use Rattle.std.proofs.lemmas.Bool.{false≢true}
 use Rattle.ps_game.specs.Games.{ParityGame, IsGame, owner_of, HasEdge}
 use Rattle.ps_game.specs.Subgames.{IsWithin, IsSubgame, LeadsInto}
 use Rattle.ps_attractor.specs.Aims.{IsAttracted}
 use Rattle.ps_zielonka.specs.Turns.{nothing, IsWithout, IsWon, Progress, Solved, IsTurned}
 use Rattle.ps_zielonka.proofs.Holding.{some_more, HoldsWithin-none, HoldsWithin-same}
-use Rattle.ps_zielonka.proofs.Turning.{won_by, IsWon-won_by, without, IsWithout-without, in_part_or_rest, Solved-done}
-use Rattle.ps_zielonka.proofs.Turning.{Progress-same, Progress-attracted, IsSubgame-left, lost_held}
+use Rattle.ps_zielonka.proofs.Turning.{won_by, IsWon-won_by, without, IsWithout-without, in_part_or_rest}
+use Rattle.ps_zielonka.proofs.Turning.{Progress-same, Progress-attracted, lost_held}
 use Rattle.ps_zielonka.proofs.Kept.{Solved-kept}
 
 -- nothing is decided yet
@@ -20,18 +20,6 @@ progress_start game subgame open_part win table smaller larger = record {
   held = λ player set is_player is_won. HoldsWithin-none game subgame player set table
       (λ v inside. is_won.decided v inside (larger v (is_won.within v inside)));
 }
-
--- nothing is open any more
-pub progress_end : {game : ParityGame} {subgame open_part : ℕ → Bool} {win : ℕ → ℕ} {table : ℕ → Option ℕ} →
-    ((v : ℕ) → ¬ IsTrue (open_part v)) → Progress game subgame open_part win table → Solved game subgame win table
-progress_end none progress = Solved-done progress none
-
--- only what is decided matters
-pub progress_same : {game : ParityGame} {subgame open_part : ℕ → Bool} {win : ℕ → ℕ} (win_now : ℕ → ℕ)
-    {table : ℕ → Option ℕ} (table_now : ℕ → Option ℕ) → ((v : ℕ) → IsTrue (subgame v) → ¬ IsTrue (open_part v) →
-    win_now v ≡ win v) → ((v : ℕ) → IsTrue (subgame v) → ¬ IsTrue (open_part v) → table_now v ≡ table v) →
-    Progress game subgame open_part win table → Progress game subgame open_part win_now table_now
-progress_same = Progress-same
 
 -- a turn after which nothing more is lost: at each vertex of the greatest priority the player stays in what it wins
 pub frame_kept : {game : ParityGame} {subgame open_part rest : ℕ → Bool} {player : ℕ} {win : ℕ → ℕ}
@@ -94,9 +82,3 @@ frame_goes_on {rest} {lost} {left} {player} {win} win_now {table_now} is_game al
     (lost_held is_game is_player is_other differ turned
     is_won solved))
     (Progress-same win_now table_now same_win same_table progress)
-
--- what an attractor leaves is a subgame
-pub subgame_left : {game : ParityGame} {open_part target gone left : ℕ → Bool} {player : ℕ} {table : ℕ → Option ℕ}
-    {rank : ℕ → ℕ} → IsSubgame game open_part → IsAttracted game open_part player target gone table rank →
-    IsWithout open_part gone left → IsSubgame game left
-subgame_left alive attracted parted = IsSubgame-left alive attracted parted

@@ -1,8 +1,7 @@
 -- The stack of the calls that wait: its last one, those below it, and the stack on which no call waits yet.
-use Rattle.std.proofs.Common.{◌≡◌, ◌≢◌, ℕ, ◌+◌, ◌-◌, ◌*◌, ◌<◌, ◌≤◌, ◌⊎◌, inl, inr, List, [], ◌∷◌, ◌++◌, Bool, true}
-use Rattle.std.proofs.Common.{false, length, get_or, replicate, cond, refl, subst, sym, ap, ◌∙◌, arith, rules}
-use Rattle.std.specs.Prelude.{nat_le}
-use Rattle.std.specs.List.{All}
+use Rattle.std.proofs.Common.{◌≡◌, ℕ, ◌+◌, ◌*◌, ◌<◌, ◌≤◌, ◌⊎◌, inl, inr, List, [], ◌∷◌, ◌++◌, Bool, true}
+use Rattle.std.proofs.Common.{false, length, get_or, replicate, cond, refl, subst, ap, ◌∙◌, arith, rules}
+use Rattle.std.specs.Prelude.{nat_le, IsTrue}
 use Rattle.std.proofs.lemmas.Bool.{cases_lt, false≢true}
 use Rattle.std.proofs.lemmas.List.{get_or_append_left, get_or_push, length_push, get_or-replicate, get_or_past}
 use Rattle.std.proofs.lemmas.List.{length-replicate}
@@ -10,6 +9,7 @@ use Rattle.ps_game.specs.Games.{ParityGame, IsGame, vertex_count, successors_of}
 use Rattle.ps_game.proofs.SubgameFacts.{first_edge}
 use Rattle.ps_attractor.specs.Tables.{TablesData, level_of, moves_of}
 use Rattle.ps_attractor.specs.Aims.{StandsFrom}
+use Rattle.ps_attractor.proofs.Placing.{stands_after, stands_longer}
 use Rattle.ps_zielonka.specs.declared.level.TheConstants.{UNPLACED}
 use Rattle.ps_zielonka.specs.declared.frame.Frame.{Frame}
 use Rattle.ps_zielonka.specs.Turns.{Solved}
@@ -41,43 +41,55 @@ size_from-length c (x ∷ xs) =
 
 -- ## The last call
 
-unfoldable pub last_waits : {game : ParityGame} {tables : TablesData} {winner order : List ℕ} (frames : List Frame)
-    (frame : Frame)
-    {cursor : ℕ} {solved : Bool} → IsNest game tables winner order (frames ++ frame ∷ []) cursor solved →
-    Waits game tables winner order (2 * length frames) frame
-last_waits {game} {tables} {winner} {order} frames frame nest =
-    let Waiting : Frame → Type 0 = Waits game tables winner order (2 * length frames) in
-    subst Waiting (frame_last frames frame) (nest.waits (length frames) (omega (arith, frames_size frames frame)))
+module _ {game : ParityGame} {tables : TablesData} {winner order : List ℕ} (frames : List Frame) (frame : Frame)
+    {cursor : ℕ} {solved : Bool} (nest : IsNest game tables winner order (frames ++ frame ∷ []) cursor solved) where
+  unfoldable pub last_waits : Waits game tables winner order (2 * length frames) frame
+  last_waits =
+      let Waiting : Frame → Type 0 = Waits game tables winner order (2 * length frames) in
+      subst Waiting (frame_last frames frame) (nest.waits (length frames) (omega (arith, frames_size frames frame)))
+
+  pub last_low : 2 * length frames + 2 < UNPLACED
+  last_low = let waits = last_waits in omega (arith, nest.sound.fits.levels)
+
+  last_rises : (i : ℕ) → i < length frames → (frame_at frames i).top ≤ frame.turn
+  last_rises i below =
+      let rises = nest.rises i (length frames) below (omega (arith, frames_size frames frame)) in
+      omega (
+        arith,
+        ap (λ (f : Frame). f.top) (frame_before frames frame i below),
+        ap (λ (f : Frame). f.turn) (frame_last frames frame),
+      )
+
+  -- the calls below the last one wait still
+  pub below_wait : {new : TablesData} {winner_now : List ℕ} →
+      Agrees (2 * length frames + 1) tables new winner winner_now → frame.turn ≤ length new.trail →
+      ((j : ℕ) → j < frame.turn → get_or new.trail j 0 ≡ get_or tables.trail j 0) →
+      ((b t : ℕ) → b ≤ 2 * length frames + 1 → t ≤ frame.turn → IsSegment tables t b → IsSegment new t b) → (i : ℕ) →
+      i < length frames → Waits game new winner_now order (2 * i) (frame_at frames i)
+  below_wait agrees within front segments i below =
+      let waits = rw (frame_before frames frame i below) at (nest.waits i (omega (arith, frames_size frames frame))) in
+      waits_below frame.turn agrees (omega arith) front within (last_rises i below)
+      (segments (2 * i + 2) (frame_at frames i).turn (omega arith) (omega (arith, waits.some, last_rises i below))
+      waits.segment) waits
+
+  pub below_rise : (i j : ℕ) → i < j → j < length frames → (frame_at frames i).top ≤ (frame_at frames j).turn
+  below_rise i j less below =
+      let rises = nest.rises i j less (omega (arith, frames_size frames frame)) in
+      omega (
+        arith,
+        ap (λ (f : Frame). f.top) (frame_before frames frame i (omega arith)),
+        ap (λ (f : Frame). f.turn) (frame_before frames frame j below),
+      )
 
 pub last_solved : {game : ParityGame} {tables : TablesData} {winner order : List ℕ} (frames : List Frame)
     (frame : Frame) {cursor : ℕ} → IsNest game tables winner order (frames ++ frame ∷ []) cursor true →
     Solved game (from tables.level (2 * length frames + 3)) (winner_of winner) (moves_of tables)
-last_solved {game} {tables} {winner} frames frame nest =
-    let Solves : ℕ → Type 0 = λ c. Solved game (from tables.level c) (winner_of winner) (moves_of tables) in
+last_solved frames frame nest =
     let depth : 2 * length (frames ++ frame ∷ []) + 1 ≡ 2 * length frames + 3 =
     omega (arith, frames_size frames frame) in
-    subst Solves depth (nest.done refl).solved
+    rw depth at (nest.done refl).solved
 
-pub last_low : {game : ParityGame} {tables : TablesData} {winner order : List ℕ} (frames : List Frame) (frame : Frame)
-    {cursor : ℕ} {solved : Bool} → IsNest game tables winner order (frames ++ frame ∷ []) cursor solved →
-    2 * length frames + 2 < UNPLACED
-last_low {game} {tables} {winner} {order} frames frame {cursor} {solved} nest =
-    let waits = last_waits frames frame nest in
-    omega (arith, nest.sound.fits.levels)
-
-pub last_rises : {game : ParityGame} {tables : TablesData} {winner order : List ℕ} (frames : List Frame) (frame : Frame)
-    {cursor : ℕ} {solved : Bool} (i : ℕ) → IsNest game tables winner order (frames ++ frame ∷ []) cursor solved →
-    i < length frames → (frame_at frames i).top ≤ frame.turn
-last_rises frames frame i nest below =
-    let rises : (frame_at (frames ++ frame ∷ []) i).top ≤ (frame_at (frames ++ frame ∷ []) (length frames)).turn =
-    nest.rises i (length frames) below (omega (arith, frames_size frames frame)) in
-    omega (
-      arith,
-      ap (λ (f : Frame). f.top) (frame_before frames frame i below),
-      ap (λ (f : Frame). f.turn) (frame_last frames frame),
-    )
-
--- ## Those below it
+-- ## Segments of the trail
 
 -- what changes above a level and behind a place of the trail leaves the segments below
 pub segment_below : {b : ℕ} (c m : ℕ) {t : ℕ} {old : TablesData} (new : TablesData) → b ≤ c → t ≤ m →
@@ -102,10 +114,7 @@ segment_below {b} c m {old} new less before inside within front behind each segm
         ])
   ];
   stands = λ v high low. elim (each v) [
-    | inr changed ↦ (
-        let stands = changed.1 low in
-        let after : m ≤ stands.place = stands.after in
-        record { place = stands.place; after = omega arith; within = stands.within; is = stands.is })
+    | inr changed ↦ stands_after (changed.1 low) before
     | inl still ↦ (
         let same : level_of new v ≡ level_of old v = still.0 in
         let stands = segment.stands v (omega arith) (omega arith) in
@@ -143,43 +152,10 @@ segment_moved {b} {t} {old} new level trail segment =
             levels (get_or new.trail j 0),
             ap (λ x. level_of old x) (at j),
           ));
-      stands = λ v high low. (
-          let stands = segment.stands v (omega (arith, levels v)) (omega (arith, levels v)) in
-          record {
-            place = stands.place;
-            after = stands.after;
-            within = omega arith;
-            is = at stands.place ∙ stands.is;
-          });
+      stands = λ v high low.
+          stands_longer (omega arith) (λ j less. at j)
+          (segment.stands v (omega (arith, levels v)) (omega (arith, levels v)));
     }
-
--- the calls below the last one wait still
-pub below_wait : {game : ParityGame} {old new : TablesData} {winner winner_now order : List ℕ} (frames : List Frame)
-    (frame : Frame) {cursor : ℕ} {solved : Bool} → IsNest game old winner order (frames ++ frame ∷ []) cursor solved →
-    Agrees (2 * length frames + 1) old new winner winner_now → frame.turn ≤ length new.trail →
-    ((j : ℕ) → j < frame.turn → get_or new.trail j 0 ≡ get_or old.trail j 0) →
-    ((b t : ℕ) → b ≤ 2 * length frames + 1 → t ≤ frame.turn → IsSegment old t b → IsSegment new t b) → (i : ℕ) →
-    i < length frames → Waits game new winner_now order (2 * i) (frame_at frames i)
-below_wait {game} {old} {winner} {order} frames frame {cursor} {solved} nest agrees within front segments i below =
-    let Waiting : Frame → Type 0 = Waits game old winner order (2 * i) in
-    let waits =
-    subst Waiting (frame_before frames frame i below) (nest.waits i (omega (arith, frames_size frames frame))) in
-    let rises : (frame_at frames i).top ≤ frame.turn = last_rises frames frame i nest below in
-    waits_below frame.turn
-    agrees (omega arith) front within rises (segments (2 * i + 2) (frame_at frames i).turn (omega arith)
-    (omega arith) waits.segment) waits
-
-pub below_rise : {game : ParityGame} {tables : TablesData} {winner order : List ℕ} (frames : List Frame) (frame : Frame)
-    {cursor : ℕ} {solved : Bool} → IsNest game tables winner order (frames ++ frame ∷ []) cursor solved → (i j : ℕ) →
-    i < j → j < length frames → (frame_at frames i).top ≤ (frame_at frames j).turn
-below_rise frames frame nest i j less below =
-    let rises : (frame_at (frames ++ frame ∷ []) i).top ≤ (frame_at (frames ++ frame ∷ []) j).turn =
-    nest.rises i j less (omega (arith, frames_size frames frame)) in
-    omega (
-      arith,
-      ap (λ (f : Frame). f.top) (frame_before frames frame i (omega arith)),
-      ap (λ (f : Frame). f.turn) (frame_before frames frame j below),
-    )
 
 -- ## No call waits yet
 
@@ -191,30 +167,27 @@ nest_start {game} tables winner is_game levels moves trail winners is_order high
     let n : ℕ = vertex_count game in
     let at = λ (v : ℕ) (below : v < n). ap (λ xs. get_or xs v 0) levels ∙ get_or-replicate n v UNPLACED 0 below in
     let size : length tables.level ≡ n = ap length levels ∙ length-replicate n UNPLACED in
-    let below = λ (v c : ℕ) (up : 0 < c) (there : c ≤ level_of tables v). (
-    let is : v < n = elim (cases_lt v n) [
+    let below : (v c : ℕ) → 0 < c → c ≤ level_of tables v → v < n = λ v c up there. elim (cases_lt v n) [
       | inl less ↦ less
-      | inr past ↦ (let none : level_of tables v ≡ 0 = get_or_past tables.level
-          v 0 (omega arith) in absurd (omega arith))
+      | inr past ↦ absurd (omega (arith, get_or_past tables.level v 0 (omega arith)))
     ] in
-    is) in
-    let inside = λ (v : ℕ) (c : ℕ) (low : c ≤ UNPLACED) (is_vertex : v < n).
-    (let there : level_of tables v ≡ UNPLACED = at v is_vertex in to_from tables.level c v (omega arith)) in
+    let inside : (v c : ℕ) → c ≤ UNPLACED → v < n → IsTrue (from tables.level c v) =
+    λ v c low is_vertex. to_from tables.level c v (omega (arith, at v is_vertex)) in
     record {
       sound = record {
         is_game = is_game;
         fits = record {
           levels = size;
           choices = ap length moves ∙ length-replicate n 0;
-          vertices = (let Below : List ℕ → Type 0 = All (λ v. v < n) in subst Below (sym trail) (search rules));
+          vertices = rw trail (search rules);
         };
         winners = winners;
         is_order = is_order;
         high = high;
-        levels = λ v is_vertex. (let there : level_of tables v ≡ UNPLACED = at v is_vertex in omega arith);
+        levels = λ v is_vertex. omega (arith, at v is_vertex);
         most = λ v. elim (cases_lt v n) [
-          | inl is_vertex ↦ (let there : level_of tables v ≡ UNPLACED = at v is_vertex in omega arith)
-          | inr past ↦ (let none : level_of tables v ≡ 0 = get_or_past tables.level v 0 (omega arith) in omega arith)
+          | inl is_vertex ↦ omega (arith, at v is_vertex)
+          | inr past ↦ omega (arith, get_or_past tables.level v 0 (omega arith))
         ];
       };
       waits = λ i there. absurd (omega arith);

@@ -1,18 +1,17 @@
 -- The last call that waits goes on: the stack without it, and the steps that are left fall.
-use Rattle.std.proofs.Common.{◌≡◌, ◌≢◌, ℕ, ◌+◌, ◌-◌, ◌*◌, ◌<◌, ◌≤◌, ◌⊎◌, inl, inr, List, [], ◌∷◌, ◌++◌, Bool, true}
-use Rattle.std.proofs.Common.{false, length, get_or, refl, subst, sym, ap, ◌∙◌, arith}
+use Rattle.std.proofs.Common.{◌≡◌, ℕ, ◌+◌, ◌-◌, ◌*◌, ◌<◌, ◌≤◌, inl, inr, List, [], ◌∷◌, ◌++◌, Bool, true}
+use Rattle.std.proofs.Common.{false, length, get_or, refl, sym, ap, ◌∙◌, arith}
 use Rattle.std.proofs.lemmas.Bool.{cases_lt, false≢true}
 use Rattle.std.proofs.lemmas.List.Elements.{All-get_or, All-from_get_or}
 use Rattle.ps_game.specs.Games.{ParityGame, vertex_count}
 use Rattle.ps_attractor.specs.declared.aim.Aim.{Aim}
 use Rattle.ps_attractor.specs.Tables.{TablesData, FitsGame, level_of, moves_of}
 use Rattle.ps_attractor.specs.Aims.{StandsFrom, IsPosed, IsTaken, IsAttracted, IsGrown, rank_of}
-use Rattle.ps_zielonka.specs.declared.level.TheConstants.{UNPLACED}
 use Rattle.ps_zielonka.specs.declared.frame.Frame.{Frame}
 use Rattle.ps_zielonka.specs.Nests.{StandsBetween, IsNest, IsLostAt, IsReopened, IsGiven, steps_left}
 use Rattle.ps_zielonka.proofs.Measure.{falls_on}
 use Rattle.ps_zielonka.proofs.Sets.{size_from-same}
-use Rattle.ps_zielonka.proofs.Below.{agrees_at}
+use Rattle.ps_zielonka.proofs.Below.{agrees_at, sound_on}
 use Rattle.ps_zielonka.proofs.Climbs.{on_aim, Going, was_open, stands_open, going_still, going_open, going_agrees}
 use Rattle.ps_zielonka.proofs.Climbs.{going_searches, going_fewer}
 use Rattle.ps_zielonka.proofs.Frames.{last_waits, last_solved, last_low, segment_below, below_wait, below_rise}
@@ -28,33 +27,14 @@ on_nest {game} {old} {mid} {new} {winner} {winner_now} {order} frames {frame} {c
     let agrees = going_agrees going in
     let front = λ (j : ℕ) (before : j < frame.turn). going.grown.front j (omega arith)
     ∙ going.reopened.front j before in
-    let level_at = λ (v : ℕ). (
-    let two : (level_of new v ≡ level_of old v) ⊎ ((level_of new v ≡ a + 1) ⊎ (level_of new v ≡ UNPLACED)) =
-    elim (cases_lt (level_of old v) (a + 2)) [
-      | inl small ↦ inl (going_still going v small).level
-      | inr high ↦ inr (elim (going_open going v high) [ inl decided ↦ inl decided.0 | inr free ↦ inr free ])
-    ] in
-    two) in
     record {
-      sound = record {
-        is_game = nest.sound.is_game;
-        fits = fits;
-        winners = winners;
-        is_order = nest.sound.is_order;
-        high = nest.sound.high;
-        levels = λ v is_vertex. (
-            let some : 1 ≤ level_of old v = nest.sound.levels v is_vertex in
-            elim (level_at v) [
-              | inl same ↦ omega arith
-              | inr other ↦ elim other [ inl decided ↦ omega arith | inr free ↦ omega arith ]
-            ]);
-        most = λ v. (
-            let most : level_of old v ≤ UNPLACED = nest.sound.most v in
-            elim (level_at v) [
-              | inl same ↦ omega arith
-              | inr other ↦ elim other [ inl decided ↦ omega arith | inr free ↦ omega arith ]
-            ]);
-      };
+      sound = sound_on new nest.sound fits winners (λ v. elim (cases_lt (level_of old v) (a + 2)) [
+        | inl small ↦ inl (going_still going v small).level
+        | inr high ↦ inr (elim (going_open going v high) [
+          | inl decided ↦ (omega (arith, decided.0), omega (arith, decided.0, nest.sound.most v))
+          | inr free ↦ (omega (arith, nest.sound.high), omega arith)
+        ])
+      ]);
       waits = below_wait frames frame nest agrees (omega arith) front (λ b t less before segment.
           segment_below (a + 1) frame.turn new less before going.waits.segment.within (omega arith) front
           (λ j after within. (
@@ -97,9 +77,7 @@ pub going_on : {game : ParityGame} {level : ℕ} {aim : Aim} {old mid new : Tabl
     Going game (2 * length frames) frame old mid new winner winner_now order
 going_on {game} {aim} {old} {mid} {new} {winner} {winner_now} {order} frames {frame} {cursor} nest same aims fits_mid
     fits_new reached =
-    let At : ℕ → Type 0 = λ l. Reached game l aim frame old mid new winner winner_now in
-    let Aimed : Aim → Type 0 = λ a. Reached game (2 * length frames + 1) a frame old mid new winner winner_now in
-    let here = subst Aimed aims (subst At same reached) in
+    let here = rw aims at (rw same at reached) in
     record {
       is_game = nest.sound.is_game;
       low = last_low frames frame nest;
@@ -142,9 +120,8 @@ pub on_falls : {game : ParityGame} {level v : ℕ} {old mid new : TablesData} {w
 on_falls {game} {v} {old} {new} {winner} frames {frame} nest same going stands lost =
     let k : ℕ = length frames in
     let agrees = going_agrees going in
-    let Lost : ℕ → Type 0 = λ l. IsLostAt game old winner l frame.player (1 - frame.player) v in
     falls_on old.level new.level k (k + 1) refl
     (λ i below. size_from-same (2 * i + 2) old.level new.level agrees.sizes
     (agrees_at (2 * i + 2) agrees (omega arith)))
     (going_fewer going v nest.sound.fits.levels stands
-    (subst Lost same lost))
+    (rw same at lost))

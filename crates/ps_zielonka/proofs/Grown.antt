@@ -1,45 +1,32 @@
 -- The tables that grow in two steps grow in one: what is placed in either is placed.
-use Rattle.std.proofs.Common.{◌≢◌, ℕ, ◌<◌, ◌≤◌, inl, inr, length, subst, sym, ◌∙◌, arith}
+use Rattle.std.proofs.Common.{◌≢◌, ℕ, ◌≤◌, inl, inr, length, sym, ◌∙◌, arith}
 use Rattle.std.proofs.lemmas.Bool.{cases_lt}
 use Rattle.ps_attractor.specs.declared.aim.Aim.{Aim}
 use Rattle.ps_attractor.specs.Tables.{TablesData}
 use Rattle.ps_attractor.specs.Aims.{IsPlaced, IsGrown}
+use Rattle.ps_attractor.proofs.Placing.{stands_after, stands_longer}
 
 -- ## What is placed in two parts
 
 pub later_placed : {aim : Aim} {old mid new : TablesData} {v : ℕ} → aim.mark ≢ aim.free → IsGrown aim mid new →
     IsPlaced aim old mid v → IsPlaced aim old new v
-later_placed {mid} {new} {v} differ grown placed = elim (grown.each v) [
-  | inl same ↦ (
-      let within : placed.stands.place < length mid.trail = placed.stands.within in
-      record {
-        was_free = placed.was_free;
-        level = same.level ∙ placed.level;
-        stands = record {
-          place = placed.stands.place;
-          after = placed.stands.after;
-          within = omega arith;
-          is = grown.front placed.stands.place within ∙ placed.stands.is;
-        };
-      })
+later_placed {v = v} differ grown placed = elim (grown.each v) [
+  | inl same ↦ record {
+    was_free = placed.was_free;
+    level = same.level ∙ placed.level;
+    stands = stands_longer grown.longer grown.front placed.stands;
+  }
   | inr again ↦ absurd (differ (sym placed.level ∙ again.was_free))
 ]
 
 sooner_placed : {aim : Aim} {old mid new : TablesData} {v : ℕ} → aim.mark ≢ aim.free → IsGrown aim old mid →
     IsPlaced aim mid new v → IsPlaced aim old new v
-sooner_placed {old} {mid} {v} differ grown placed = elim (grown.each v) [
-  | inl same ↦ (
-      let after : length mid.trail ≤ placed.stands.place = placed.stands.after in
-      record {
-        was_free = sym same.level ∙ placed.was_free;
-        level = placed.level;
-        stands = record {
-          place = placed.stands.place;
-          after = omega arith;
-          within = placed.stands.within;
-          is = placed.stands.is;
-        };
-      })
+sooner_placed {v = v} differ grown placed = elim (grown.each v) [
+  | inl same ↦ record {
+    was_free = sym same.level ∙ placed.was_free;
+    level = placed.level;
+    stands = stands_after placed.stands grown.longer;
+  }
   | inr before ↦ absurd (differ (sym before.level ∙ placed.was_free))
 ]
 
@@ -59,8 +46,7 @@ IsGrown-both {aim} {old} {mid} {new} differ first second =
       ];
       behind = λ j after within. elim (cases_lt j (length mid.trail)) [
         | inl less ↦ (
-            let Placed : ℕ → Type 0 = IsPlaced aim old new in
-            subst Placed (sym (second.front j less)) (later_placed differ second (first.behind j after less)))
+            (rw (second.front j less) (later_placed differ second (first.behind j after less))))
         | inr more ↦ sooner_placed differ first (second.behind j more within)
       ];
     }

@@ -1,16 +1,12 @@
 -- What a player holds within a subgame: by other moves, within a larger subgame, two sets together, and an attractor.
 use Rattle.std.proofs.Common.{◌≡◌, ◌≢◌, ℕ, ◌+◌, ◌%◌, ◌<◌, ◌≤◌, ◌⊎◌, inl, inr, Bool, false, Option, Some, None}
-use Rattle.std.proofs.Common.{IsSomeAnd, subst, sym, ap, ◌∙◌, arith}
+use Rattle.std.proofs.Common.{IsSomeAnd, sym, ap, ◌∙◌, arith}
 use Rattle.std.specs.Prelude.{IsTrue}
 use Rattle.std.proofs.lemmas.Bool.{cases_eq, cases_Bool, false≢true}
 use Rattle.ps_game.specs.Games.{ParityGame, owner_of, priority_of, HasEdge}
 use Rattle.ps_game.specs.Subgames.{IsWithin, LeadsInto, IsRound, HoldsWithin}
 use Rattle.ps_game.specs.Attractors.{LeadsDown, Falls}
 use Rattle.ps_zielonka.proofs.Walks.{no_descent, all_or_none, some_or_none}
-
--- what a move that is there says of where it leads
-pub moved : (P : ℕ → Type 0) (move : Option ℕ) (w : ℕ) → IsSomeAnd move P → move ≡ Some w → P w
-moved P move w there is = let There : Option ℕ → Type 0 = λ move. IsSomeAnd move P in subst There is there
 
 pub some_more : (P Q : ℕ → Type 0) (move : Option ℕ) → ((w : ℕ) → P w → Q w) → IsSomeAnd move P → IsSomeAnd move Q
 some_more P Q (Some w) more there = more w there
@@ -58,10 +54,7 @@ pub held_step : {game : ParityGame} {subgame : ℕ → Bool} {player : ℕ} {set
     HoldsWithin game subgame player set table → (v w : ℕ) → HasEdge game v w →
     (owner_of game v ≡ player → table v ≡ Some w) → IsTrue (subgame w) → IsTrue (set v) → IsTrue (set w)
 held_step {game} {player} {set} {table} holds v w edge follows to from = elim (cases_eq (owner_of game v) player) [
-  | inl owns ↦ (
-      let leads : LeadsInto game set v w =
-      moved (LeadsInto game set v) (table v) w (holds.moves v from owns) (follows owns) in
-      leads.inside)
+  | inl owns ↦ (rw (follows owns) at (holds.moves v from owns)).inside
   | inr others ↦ holds.stays v w from others (record { edge = edge; inside = to })
 ]
 
@@ -75,25 +68,29 @@ round_beside {game} {subgame} {player} {set} {held} {table} {walk} {k} holds wit
     held_step holds (walk t) (walk (t + 1)) (round.edges t less) (round.follows t less)
     (within (walk (t + 1)) (round_inside round (t + 1) (omega arith))) from)
 
+-- a step of a round within the subgame, from outside the target, leads down in an attractor
+falls_step : {game : ParityGame} {subgame : ℕ → Bool} {player : ℕ} {target set other : ℕ → Bool}
+    {table : ℕ → Option ℕ} {rank walk : ℕ → ℕ} {k : ℕ} → IsWithin other subgame →
+    Falls game subgame player target set table rank → IsRound game player other table walk k → (t : ℕ) → t < k →
+    IsTrue (set (walk t)) → target (walk t) ≡ false → LeadsDown game subgame set rank (walk t) (walk (t + 1))
+falls_step {game = game} {player = player} {target = target} {walk = walk} within falls round t less from misses =
+    let outside = not_in target (walk t) misses in
+    elim (cases_eq (owner_of game (walk t)) player) [
+      | inl owns ↦ rw (round.follows t less owns) at (falls.own (walk t) from outside owns)
+      | inr others ↦ falls.other (walk t) (walk (t + 1)) from outside others (record {
+        edge = round.edges t less;
+        inside = within (walk (t + 1)) (round_inside round (t + 1) (omega arith));
+      })
+    ]
+
 -- in an attractor no round misses the target
 pub no_round_falls : {game : ParityGame} {subgame : ℕ → Bool} {player : ℕ} {target set : ℕ → Bool}
     {table : ℕ → Option ℕ} {rank walk : ℕ → ℕ} {k : ℕ} → IsWithin set subgame →
     Falls game subgame player target set table rank → IsRound game player set table walk k →
     ((t : ℕ) → t < k → target (walk t) ≡ false) → ⊥
-no_round_falls {game} {subgame} {player} {target} {set} {table} {rank} {walk} {k} within falls round misses =
-    no_descent rank walk k round.some round.closes (λ t less.
-    let from : IsTrue (set (walk t)) = round.inside t less in
-    let outside : ¬ IsTrue (target (walk t)) = not_in target (walk t) (misses t less) in
-    let down : LeadsDown game subgame set rank (walk t) (walk (t + 1)) =
-    elim (cases_eq (owner_of game (walk t)) player) [
-      | inl owns ↦ moved (LeadsDown game subgame set rank (walk t)) (table (walk t)) (walk (t + 1))
-          (falls.own (walk t) from outside owns) (round.follows t less owns)
-      | inr others ↦ falls.other (walk t) (walk (t + 1)) from outside others (record {
-        edge = round.edges t less;
-        inside = within (walk (t + 1)) (round_inside round (t + 1) (omega arith));
-      })
-    ] in
-    down.falls)
+no_round_falls {rank = rank} {walk = walk} {k = k} within falls round misses =
+    no_descent rank walk k round.some round.closes
+    (λ t less. (falls_step within falls round t less (round.inside t less) (misses t less)).falls)
 
 -- ## What is held
 
@@ -104,10 +101,8 @@ pub HoldsWithin-same : {game : ParityGame} {subgame : ℕ → Bool} {player : �
     HoldsWithin game subgame player set table → HoldsWithin game subgame player other moves
 HoldsWithin-same {game} {set} other {table} moves there back same holds = record {
   within = λ v inside. holds.within v (back v inside);
-  moves = λ v inside owns. (
-      let Leads : Option ℕ → Type 0 = λ move. IsSomeAnd move (LeadsInto game other v) in
-      subst Leads (sym (same v (back v inside) owns)) (leads_more game set other v there (table v)
-      (holds.moves v (back v inside) owns)));
+  moves = λ v inside owns. rw (same v (back v inside) owns)
+      (leads_more game set other v there (table v) (holds.moves v (back v inside) owns));
   stays = λ v w inside others leads. there w (holds.stays v w (back v inside) others leads);
   wins = λ walk k top round is_top. holds.wins walk k top (record {
     some = round.some;
@@ -188,10 +183,7 @@ HoldsWithin-attracted {game} {subgame} {player} {target} {set} {table} {rank} ha
   ];
   stays = λ v w inside others leads. elim (cases_Bool (target v)) [
     | inl there ↦ has_target w (holds.stays v w there others leads)
-    | inr outside ↦ (
-        let down : LeadsDown game subgame set rank v w =
-        falls.other v w inside (not_in target v outside) others leads in
-        down.inside)
+    | inr outside ↦ (falls.other v w inside (not_in target v outside) others leads).inside
   ];
   wins = λ walk k top round is_top. elim (round_beside holds within round) [
     | inl all ↦ holds.wins walk k top (round_within target round all) is_top
@@ -231,17 +223,8 @@ HoldsWithin-all {game} {subgame} {player} {tops} {set} {rest} {table} {rank} abo
                   (λ same. other (ap (λ n. n % 2) (sym stands) ∙ same)) in
                   absurd (omega (arith, is_top.bounds met.0 met.1)))
             ])
-        | inr none ↦ elim (all_or_none set walk k round.closes (λ t less from.
-            let step : IsTrue (subgame (walk (t + 1))) = round_inside round (t + 1) (omega arith) in
-            let outside : ¬ IsTrue (tops (walk t)) = not_in tops (walk t) (none t less) in
-            let down : LeadsDown game subgame set rank (walk t) (walk (t + 1)) =
-            elim (cases_eq (owner_of game (walk t)) player) [
-              | inl owns ↦ moved (LeadsDown game subgame set rank (walk t)) (table (walk t)) (walk (t + 1))
-                  (falls.own (walk t) from outside owns) (round.follows t less owns)
-              | inr others ↦ falls.other (walk t) (walk (t + 1)) from outside others
-                  (record { edge = round.edges t less; inside = step })
-            ] in
-            down.inside)) [
+        | inr none ↦ elim (all_or_none set walk k round.closes
+            (λ t less from. (falls_step (λ v inside. inside) falls round t less from (none t less)).inside)) [
               | inl all ↦ absurd (no_round_falls within falls (round_within set round all) none)
               | inr out ↦ holds.wins walk k found (round_within rest round
                   (λ t less. elim (split (walk t) (round.inside t less)) [

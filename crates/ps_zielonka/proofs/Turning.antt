@@ -1,5 +1,5 @@
 -- The turns: what is decided of a subgame, and how it grows until nothing is left to decide.
-use Rattle.std.proofs.Common.{◌≡◌, ◌≢◌, ℕ, ◌<◌, ◌⊎◌, inl, inr, Bool, false, not, ◌&&◌, ◌==◌, Option, subst, sym, ◌∙◌}
+use Rattle.std.proofs.Common.{◌≡◌, ◌≢◌, ℕ, ◌<◌, ◌⊎◌, inl, inr, Bool, false, not, ◌&&◌, ◌==◌, Option, sym, ◌∙◌}
 use Rattle.std.proofs.Common.{arith}
 use Rattle.std.specs.Prelude.{IsTrue}
 use Rattle.std.proofs.lemmas.Bool.{cases_eq, cases_Bool, false≢true, eqb-true, eq-eqb, and_parts, and_from, not-true}
@@ -68,20 +68,15 @@ pub Progress-taken : {game : ParityGame} {subgame open_part part left : ℕ → 
     HasEdge game v w → ¬ IsTrue (part w)) → HoldsWithin game open_part player part table →
     Progress game subgame open_part win table → Progress game subgame left win table
 Progress-taken {game} {subgame} {open_part} {part} {left} {win} {table} {player} is_game is_player without part_within
-    given none_steps holds progress =
-    let taken = λ (v : ℕ) (was_open : IsTrue (open_part v)) (decided : ¬ IsTrue (left v)).
-    elim (in_part_or_rest without v was_open) as (λ _. IsTrue (part v))
-    [ inl there ↦ there | inr still ↦ absurd (decided still) ] in
-    record {
+    given none_steps holds progress = record {
       within = λ v inside. progress.within v (without.within v inside);
       winners = λ v inside decided. elim (cases_Bool (open_part v)) [
-        | inl was_open ↦ (let same : win v ≡ player = given v (taken v was_open decided) in omega arith)
+        | inl was_open ↦ omega (arith, given v (taken v was_open decided))
         | inr outside ↦ progress.winners v inside (not_in open_part v outside)
       ];
       away = λ v w from edge inside decided same. elim (cases_Bool (open_part w)) [
-        | inl was_open ↦ (
-            let there : IsTrue (part w) = taken w was_open decided in
-            none_steps v w from (same ∙ given w there) edge there)
+        | inl was_open ↦
+            let there = taken w was_open decided in none_steps v w from (same ∙ given w there) edge there
         | inr outside ↦ progress.away v w (without.within v from) edge inside (not_in open_part w outside) same
       ];
       held = λ holder set is_holder is_won. elim (cases_eq holder player) [
@@ -92,22 +87,18 @@ Progress-taken {game} {subgame} {open_part} {part} {left} {win} {table} {player}
           won = is_won.won;
           all = λ v inside decided wins. is_won.all v inside (λ still. decided (without.within v still)) wins;
         })
-        | inl same ↦ (
-            let IsHeld : ℕ → Type 0 = λ holder. HoldsWithin game subgame holder set table in
-            let Wins : ℕ → Type 0 = λ holder. IsWon subgame left win holder set in
-            subst IsHeld (sym same) (taken_held is_game is_player
-            without part_within given taken holds progress (subst Wins same is_won)))
+        | inl same ↦ rw same (taken_held set (rw same at is_won))
       ];
     }
   where
-    taken_held : {game : ParityGame} {subgame open_part part left : ℕ → Bool} {win : ℕ → ℕ} {table : ℕ → Option ℕ}
-        {player : ℕ} {set : ℕ → Bool} → IsGame game → player < 2 → IsWithout open_part part left →
-        IsWithin part open_part → ((v : ℕ) → IsTrue (part v) → win v ≡ player) →
-        ((v : ℕ) → IsTrue (open_part v) → ¬ IsTrue (left v) → IsTrue (part v)) →
-        HoldsWithin game open_part player part table → Progress game subgame open_part win table →
-        IsWon subgame left win player set → HoldsWithin game subgame player set table
-    taken_held {game} {subgame} {open_part} {win} {table} {player} {set} is_game is_player without part_within given
-        taken holds progress is_won =
+    taken : (v : ℕ) → IsTrue (open_part v) → ¬ IsTrue (left v) → IsTrue (part v)
+    taken v was_open decided = elim (in_part_or_rest without v was_open) [
+      | inl there ↦ there
+      | inr still ↦ absurd (decided still)
+    ]
+
+    taken_held : (set : ℕ → Bool) → IsWon subgame left win player set → HoldsWithin game subgame player set table
+    taken_held set is_won =
         let before : ℕ → Bool = λ v. set v && not (open_part v) in
         let from_before = λ (v : ℕ) (inside : IsTrue (before v)). and_parts (set v) (not (open_part v)) inside in
         let to_before = λ (v : ℕ) (inside : IsTrue (set v)) (outside : open_part v ≡ false).
@@ -127,11 +118,10 @@ Progress-taken {game} {subgame} {open_part} {part} {left} {win} {table} {player}
         ]) (λ v w inside others leads. elim (cases_Bool (open_part w)) [
           | inl near ↦ inl near
           | inr outside ↦ inr (
-              let decided : ¬ IsTrue (open_part w) = not_in open_part w outside in
-              let away : owner_of game v ≢ win w =
-              progress.away v w (part_within v inside) leads.edge leads.inside decided in
+              let decided = not_in open_part w outside in
+              let away = progress.away v w (part_within v inside) leads.edge leads.inside decided in
               let same : win w ≡ player =
-              omega (arith, progress.winners w leads.inside decided, is_game.owners v leads.edge.0) in
+              omega (arith, away, progress.winners w leads.inside decided, is_game.owners v leads.edge.0) in
               to_before w (is_won.all w leads.inside (λ still. decided (without.within w still)) same) outside)
         ])
         before_held holds

@@ -34,7 +34,7 @@ abbrev distance : Bool → ℕ
 distance b = cond b 0 1
 
 distance-le : (a b : Bool) → (a ≡ true → b ≡ true) → distance b ≤ distance a
-distance-le true b more = let same : distance b ≡ 0 = ap distance (more refl) in omega arith
+distance-le true b more = omega (arith, ap distance (more refl))
 distance-le false true more = omega arith
 distance-le false false more = omega arith
 

@@ -13,16 +13,11 @@ loop-place-preserved g c =
     let k : ℕ = c.loop-place.place - 1 in
     let next : c.loop-place.place ≡ k + 1 = omega arith in
     let within : k < length trail = omega arith in
-    let Found : ℕ → Type 0 = λ n. (v : ℕ) → StandsFrom c.args.tables.now n v →
-    get_or places v 0 ≡ n + place_in (drop n trail) v in
-    let found : Found (k + 1) = subst Found next c.loop-place.invariant.found in
-    let At : ℕ → ℕ → Type 0 = λ v u. get_or (slice_set places u k) v 0 ≡ k + place_in (drop k trail) v in
+    let found = rw next at c.loop-place.invariant.found in
     record {
       size = length-set places c.vertex_at.result k ∙ c.loop-place.invariant.size;
-      found = λ v stands. (
-          let Of : ℕ → Type 0 = At v in
-          subst Of (sym c.vertex_at.ensures) (first_place_more trail places c.args.count k within
+      found = λ v stands. rw c.vertex_at.ensures (first_place_more trail places c.args.count k within
           c.loop-place.invariant.size (c.requires k within)
           (λ v i after inside is. found v (record { place = i; after = after; within = inside; is = is }))
-          v stands.place stands.after stands.within stands.is));
+          v stands.place stands.after stands.within stands.is);
     }

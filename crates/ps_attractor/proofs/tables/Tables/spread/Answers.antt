@@ -41,7 +41,6 @@ look-requires-clause-reached g c =
 
 pub loop-source-preserved : goal.loop-source-preserved
 loop-source-preserved g c =
-    let game = g.A.Arena.game c.args.arena.now in
     let value = g.W.Width.value in
     let kept = c.at-source-items.result.now in
     let list = map value kept in
@@ -53,8 +52,7 @@ loop-source-preserved g c =
     let within : n < length list = omega (arith, length-map kept value) in
     let edge = source_edge list c.vertex_at-reached.result n source c.requires.sources
     c.at-source-items.ensures within is in
-    let keeps = keeps_look game c.args.aim c.loop-source.self c.look.new.self source c.vertex_at-reached.result
-    c.requires.differ (omega (arith, so_far.fits.levels)) c.in_ok-look.ensures.looked in
+    let keeps = keeps_look c.requires.differ (omega (arith, so_far.fits.levels)) c.in_ok-look.ensures.looked in
     record {
       fits = c.look.ensures.fits;
       longer = omega (arith, keeps.longer);

@@ -1,11 +1,9 @@
-use Rattle.std.proofs.Common.{◌≡◌, ℕ, ◌+◌, ◌<◌, List, length, get_or, subst, sym, ap, ◌∙◌, arith, rules}
+use Rattle.std.proofs.Common.{◌≡◌, ◌+◌, ◌<◌, length, get_or, sym, ap, ◌∙◌, arith, rules}
 use Rattle.std.proofs.lemmas.Bool.{eqb-true, eq-eqb, false≢true}
 use Rattle.std.proofs.lemmas.List.{get_or_read}
 use Rattle.std.specs.Prelude.{slice_set}
 use Rattle.ps_attractor.specs.Steps.{with_placed}
 use Rattle.ps_zielonka.specs.declared.board.Board.{Board}
-use Rattle.ps_zielonka.specs.Levels.{mark_of}
-use Rattle.ps_zielonka.specs.Nests.{StandsBefore, IsReopened}
 use Rattle.ps_zielonka.proofs.Boards.{reopened_free, reopened_lost, reopened_end}
 use Rattle.ps_zielonka.proofs.board.Board.reopen.Goals as goal
 use Rattle.ps_zielonka.proofs.board.Board.reopen.Goals.{then-eq, else-eq+in_ok-place}
@@ -13,7 +11,6 @@ use Rattle.ps_zielonka.proofs.board.Board.reopen.Goals.{then-eq, else-eq+in_ok-p
 pub loop-place-preserved : goal.loop-place-preserved
 loop-place-preserved g c =
     let old = c.args.self.now.tables in
-    let cut = c.take_off.new.self.tables in
     let mid = c.loop-place.self.tables in
     let winner = c.take_off.new.self.winner.items in
     let spare = c.take_off.new.self.spare in
@@ -38,13 +35,11 @@ loop-place-preserved g c =
     ) in
     let who : get_or winner u 0 ≡ c.index.result.now = ap (λ xs. get_or xs u 0) (sym so_far.winner)
     ∙ sym (get_or_read c.loop-place.self.winner.items u c.index.result.now (search rules) c.index.ensures 0) in
-    let Put : Board g.row.W.Denot → Type 0 = λ b. IsReopened winner c.args.frame.now.player (mark_of c.args.level) turn
-    (StandsBefore spare (place + 1)) cut b.tables in
     elim c.if-eq.branch [
       | then-eq w ↦ record {
         spare = ap (λ (b : Board g.row.W.Denot). b.spare) w.self-is ∙ so_far.spare;
         winner = ap (λ (b : Board g.row.W.Denot). b.winner.items) w.self-is ∙ so_far.winner;
-        reopened = subst Put (sym w.self-is) (reopened_free spare
+        reopened = rw w.self-is (reopened_free spare
             place u w.set_level.new.self at within (who ∙ eqb-true _ _ (sym c.eq.ensures ∙ w.if-eq.true))
             (w.set_level.ensures.level ∙ ap (slice_set mid.level u) w.mark.ensures) w.set_level.ensures.moves
             w.set_level.ensures.trail so_far.reopened);
@@ -52,7 +47,7 @@ loop-place-preserved g c =
       | else-eq+in_ok-place w ↦ record {
         spare = ap (λ (b : Board g.row.W.Denot). b.spare) w.self-is ∙ so_far.spare;
         winner = ap (λ (b : Board g.row.W.Denot). b.winner.items) w.self-is ∙ so_far.winner;
-        reopened = subst Put (sym w.self-is) (reopened_lost spare place u w.place.new.self at within (λ won. false≢true
+        reopened = rw w.self-is (reopened_lost spare place u w.place.new.self at within (λ won. false≢true
             (sym w.if-eq.false ∙ c.eq.ensures ∙ eq-eqb _ _ (sym who ∙ won)))
             (w.in_ok-place.ensures.ok ∙ ap (with_placed mid u) w.mark-else-eq.ensures) so_far.reopened);
       }
@@ -60,13 +55,9 @@ loop-place-preserved g c =
 
 pub returns-clause-reopened : goal.returns-clause-reopened
 returns-clause-reopened g c =
-    let spare = c.take_off.new.self.spare in
-    let at_end : c.loop-place.place ≡ length spare =
+    let at_end : c.loop-place.place ≡ length c.take_off.new.self.spare =
     omega (arith, c.loop-place-test.false, c.len-place-end.ensures, c.loop-place.auto.place-end) in
-    let Reopened : List ℕ → Type 0 = λ ws. IsReopened ws c.args.frame.now.player (mark_of c.args.level)
-    c.args.frame.now.turn
-    (StandsBefore spare c.loop-place.place) c.take_off.new.self.tables c.loop-place.self.tables in
     reopened_end
     c.loop-place.place c.args.self.now.tables
     c.requires.turn c.take_off.ensures.level c.take_off.ensures.moves c.in_ok-take_off.ensures.trail
-    c.in_ok-take_off.ensures.spare at_end (subst Reopened c.take_off.ensures.winner c.loop-place.invariant.reopened)
+    c.in_ok-take_off.ensures.spare at_end (rw c.take_off.ensures.winner at c.loop-place.invariant.reopened)

@@ -1,5 +1,5 @@
 use Rattle.std.proofs.Common.{◌≡◌, ◌<◌, length, get_or, ap, ◌∙◌, arith}
-use Rattle.ps_game.specs.Games.{vertex_count, successors_of}
+use Rattle.ps_game.specs.Games.{successors_of}
 use Rattle.ps_game.proofs.SubgameFacts.{number_of_edge, edge_at}
 use Rattle.ps_attractor.specs.Tables.{level_of}
 use Rattle.ps_zielonka.proofs.board.Board.won_successor.Goals as goal

@@ -1,11 +1,11 @@
-use Rattle.std.proofs.Common.{◌≡◌, ◌+◌, ◌%◌, ◌<◌, ℕ, List, [], ◌∷◌, ◌++◌, Bool, length, get_or, refl, subst, sym, ap}
+use Rattle.std.proofs.Common.{◌≡◌, ◌+◌, ◌%◌, ℕ, List, [], ◌∷◌, ◌++◌, length, get_or, refl, ap}
 use Rattle.std.proofs.Common.{◌∙◌, arith}
 use Rattle.std.proofs.lemmas.Grind.{common_steps}
 use Rattle.std.proofs.lemmas.List.{length_push}
 use Rattle.ps_game.specs.Games.{priority_of}
 use Rattle.ps_attractor.specs.declared.aim.Aim.{Aim}
 use Rattle.ps_zielonka.specs.declared.frame.Frame.{Frame}
-use Rattle.ps_zielonka.specs.Nests.{IsNest, steps_left}
+use Rattle.ps_zielonka.specs.Nests.{IsNest}
 use Rattle.ps_zielonka.specs.Levels.{aim_of}
 use Rattle.ps_zielonka.specs.declared.level.Level.TheVariants.{Attracted}
 use Rattle.ps_zielonka.proofs.Begun.{Begun}
@@ -59,17 +59,12 @@ returns g c =
     let pushed : c.push.new.self.items ≡ frames ++ frame_of b ∷ [] =
     cc (c.in_ok-push.ensures.items, c.placed-turn.ensures, c.placed-top.ensures) in
     let size : length c.push.new.self.items ≡ length frames + 1 = ap length pushed ∙ length_push frames (frame_of b) in
-    let Falls : Bool → Type 0 =
-    λ solved. steps_left c.attract.new.self.tables.level (length c.push.new.self.items) solved < steps_left
-    c.args.self.now.board.tables.level (length frames) solved in
-    let Nest : List Frame → Type 0 =
-    λ more. IsNest game c.attract.new.self.tables c.attract.new.self.winner.items order more c.in_ok-behind.behind
-    c.args.self.now.solved in
-    let nest = subst Nest (sym pushed) (begun_nest b frames c.args.self.now.solved refl c.requires.searches
-    c.requires.stack.waits c.requires.stack.rises) in
+    let nest : IsNest game c.attract.new.self.tables c.attract.new.self.winner.items order c.push.new.self.items
+    c.in_ok-behind.behind c.args.self.now.solved = rw pushed (begun_nest b frames c.args.self.now.solved refl
+    c.requires.searches c.requires.stack.waits c.requires.stack.rises) in
     record {
       stack = nest;
-      falls = subst Falls (sym c.requires.searches) (begun_falls b frames c.push.new.self.items refl size);
+      falls = rw c.requires.searches (begun_falls b frames c.push.new.self.items refl size);
       deep = depth_begun b c.max-self.result size c.requires.searches
           (omega (arith, c.max-self.ensures, c.len.ensures, c.push.new.self.ok.0)) nest;
     }

@@ -1,4 +1,3 @@
-use Rattle.std.proofs.Common.{length}
 use Rattle.ps_zielonka.proofs.Deep.{depth_solved}
 use Rattle.ps_zielonka.proofs.nest.Nest.solve.Goals as goal
 
