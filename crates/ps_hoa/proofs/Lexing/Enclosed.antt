@@ -2,8 +2,8 @@
 --     comment_sound      a comment's length ends the comment
 --     quoted_sound      a string's length ends what stands between quotes
 use Rattle.std.proofs.Common.{◌≡◌, ◌≢◌, ℕ, suc, zero, ◌<◌, ◌≤◌, ◌&&◌, Bool, true, false, List, [], ◌∷◌, ◌++◌, length}
-use Rattle.std.proofs.Common.{take, refl, ap, sym, ◌∙◌, arith, inl, inr, ◌⊎◌}
-use Rattle.std.specs.Prelude.{Option, None, Some, nat_eq}
+use Rattle.std.proofs.Common.{take, refl, ap, sym, ◌∙◌, arith, inl, inr, ◌⊎◌, rules}
+use Rattle.std.specs.Prelude.{Some, nat_eq}
 use Rattle.std.proofs.lemmas.Bool.Decides.{eqb_tells}
 use Rattle.std.proofs.lemmas.Bool.{eq-eqb}
 use Rattle.ps_hoa.specs.Tokens.{Ends, closes_last, closes, opens, goes_on, IsQuoted, nothing, plain, escaped}
@@ -13,26 +13,13 @@ use Rattle.ps_hoa.proofs.Lexing.TokenSteps.{some_more, differ}
 -- ## What a step says of the bytes
 
 bool_cases : (t : Bool) → (t ≡ true) ⊎ (t ≡ false)
-bool_cases true = inl refl
-bool_cases false = inr refl
+bool_cases t = search rules
 
 both_are : (b a c d : ℕ) → (nat_eq b a && nat_eq c d) ≡ true → (b ≡ a) × (c ≡ d)
-both_are b a c d h = (elim (eqb_tells b a) [
-  | inl p ↦ (elim (eqb_tells c d) [ inl q ↦ (p.1, q.1) | inr q ↦ absurd (no_truth (rw (p.0, q.0) at h)) ])
-  | inr p ↦ absurd (no_truth (rw p.0 at h))
-])
-  where
-    no_truth : false ≡ true → ⊥
-    no_truth e = cc
+both_are b a c d h = search (rules, eqb_tells)
 
 not_both : (b a c d : ℕ) → (nat_eq b a && nat_eq c d) ≡ false → (b ≡ a) × (c ≡ d) → ⊥
-not_both b a c d h e = wrong (rw (e.0, e.1, same a, same d) at h)
-  where
-    wrong : true ≡ false → ⊥
-    wrong e = cc
-
-    same : (n : ℕ) → nat_eq n n ≡ true
-    same n = eq-eqb n n refl
+not_both b a c d h e = search (rules, eq-eqb)
 
 comment_last : (b c : ℕ) (bs : List ℕ) → (nat_eq b 42 && nat_eq c 47) ≡ true → comment_len (b ∷ c ∷ bs) false 0 ≡ Some 2
 unfolding comment_len
@@ -56,13 +43,7 @@ comment_plain b c bs d e f = rw (e, f) refl
 
 comment_one : (b d n : ℕ) → comment_len (b ∷ []) false d ≡ Some n → ⊥
 unfolding comment_len
-comment_one b d n is = (elim (eqb_tells b 42) [
-  | inl p ↦ (elim (eqb_tells b 47) [ inl q ↦ wrong (rw (p.0, q.0) at is) | inr q ↦ wrong (rw (p.0, q.0) at is) ])
-  | inr p ↦ (elim (eqb_tells b 47) [ inl q ↦ wrong (rw (p.0, q.0) at is) | inr q ↦ wrong (rw (p.0, q.0) at is) ])
-])
-  where
-    wrong : ◌≡◌ {A = Option ℕ} None (Some n) → ⊥
-    wrong e = cc
+comment_one b d n is = search (rules, eqb_tells)
 
 comment_none : (d n : ℕ) → comment_len [] false d ≡ Some n → ⊥
 unfolding comment_len
@@ -88,10 +69,7 @@ close_case b c bs t ih (suc depth) n is =
     rw e (closes both.0 both.1 inner.0, omega arith)
 
 ends_length : {depth : ℕ} {bs : List ℕ} → Ends depth bs → 0 < length bs
-ends_length (closes_last p q) = omega arith
-ends_length (closes p q e) = omega arith
-ends_length (opens p q e) = omega arith
-ends_length (goes_on p q e) = omega arith
+ends_length h1 = search rules
 
 pub comment_sound : (fuel : ℕ) (bs : List ℕ) (depth n : ℕ) → length bs ≤ fuel → comment_len bs false depth ≡ Some n →
     Closed depth bs n

@@ -1,8 +1,9 @@
 -- The tokens that stand in a relation to the bytes are those that going over the bytes finds, and there is such a list.
 --     only_lex, some_tokens      the list is the only one, and it is there
 --     no_blanks, more_blanks, no_blank_begins      blanks from one place to another
-use Rattle.std.proofs.Common.{◌≡◌, ℕ, suc, zero, ◌+◌, ◌<◌, ◌≤◌, false, List, [], ◌∷◌, ◌++◌, length, take, drop, subst}
-use Rattle.std.proofs.Common.{refl, ap, sym, ◌∙◌, arith, length-append, length-drop, append_assoc, append-nil, inl, inr}
+use Rattle.std.proofs.Common.{rules, ◌≡◌, ℕ, suc, zero, ◌+◌, ◌<◌, ◌≤◌, false, List, [], ◌∷◌, ◌++◌, length, take, drop}
+use Rattle.std.proofs.Common.{subst, refl, ap, sym, ◌∙◌, arith, length-append, length-drop, append_assoc, append-nil}
+use Rattle.std.proofs.Common.{inl, inr}
 use Rattle.std.specs.Prelude.{Option, None, Some}
 use Rattle.std.proofs.lemmas.List.{take-append-drop, length-take-le, drop-drop}
 use Rattle.std.proofs.Math.Seq.{take-append_seam, drop-append_seam}
@@ -10,13 +11,13 @@ use Rattle.ps_text.specs.Answers.{Piece}
 use Rattle.ps_hoa.specs.Bytes.{class_of}
 use Rattle.ps_hoa.specs.Tokens.{Sign, AreTokens, IsBlankPart, IsBlankRun, no_blank, blank, Stands, IsToken, IsNext}
 use Rattle.ps_hoa.specs.Spans.{AreBlanks}
-use Rattle.ps_hoa.specs.Scan.{IsNoBlank, comment_len, step_of, comment_by, lex, lex_behind}
+use Rattle.ps_hoa.specs.Scan.{IsNoBlank, comment_len, step_of, comment_by, lex}
 use Rattle.ps_hoa.specs.declared.tokens.Kind.{Kind}
 use Rattle.ps_hoa.specs.declared.tokens.Kind.TheVariants.{OpenComment, Odd}
 use Rattle.ps_hoa.specs.declared.tokens.Class.TheVariants.{Blank, Slash}
 use Rattle.ps_hoa.specs.declared.tokens.Step.{Step}
 use Rattle.ps_hoa.specs.declared.tokens.Step.TheVariants.{Skip, Found}
-use Rattle.ps_hoa.proofs.Lexing.Scanning.{lex_skip, lex_token}
+use Rattle.ps_hoa.proofs.Lexing.Scanning.{lex_skip, lex_token, lex_nothing, nothing_begins}
 use Rattle.ps_hoa.proofs.Lexing.TokenSteps.{class_47, by_class, comment_found, stand_step}
 use Rattle.ps_hoa.proofs.Lexing.Enclosed.{comment_sound}
 use Rattle.ps_hoa.proofs.Lexing.StepMeanings.{Sound, sound}
@@ -72,8 +73,7 @@ token_is kind text rest stands = stand_step kind text rest stands
 pub part_is : (part more : List ℕ) → IsBlankPart part → (step_of (part ++ more) ≡ Skip (length part)) ×
     (0 < length part)
 part_is part more (inl b) = rw b.1 (by_class b.0 more Blank b.2, omega arith)
-part_is part more (inr c) =
-    rw c.1 (
+part_is part more (inr c) = rw c.1 (
       by_class 47 (42 ∷ c.0 ++ more) Slash class_47 ∙ ap comment_by (comment_found more c.2)
           ∙ (let e : 2 + length c.0 ≡ suc (suc (length c.0)) = omega arith in ap (λ (n : ℕ). Skip n) e),
       omega arith,
@@ -93,26 +93,13 @@ blank_lex (blank {part} {rest} is run all split) at more =
 
 next_lex : (at : ℕ) (bytes : List ℕ) (p : Piece Sign) (rest : List ℕ) → IsNext at bytes p rest →
     lex at bytes ≡ p ∷ lex (p.start + length p.sign.text) rest
-next_lex at bytes p rest next =
-    let text = p.sign.text in
-    let s = token_is p.sign.kind text rest next.is_token in
-    let some = s.1 in
-    let long : 0 < length (text ++ rest) = rw length-append (omega arith) in
-    ap (λ (xs : List ℕ). lex at xs) next.split ∙ blank_lex next.are_blanks at (text ++ rest)
-    ∙ ap (λ (k : ℕ). lex k (text ++ rest)) (sym next.start)
-    ∙ lex_token (text ++ rest) p.sign.kind (length text) p.start long s.0 s.1
-    ∙ (λ i. record { sign = record { kind = p.sign.kind; text = take-append_seam text rest i }; start = p.start } ∷ lex
-    (p.start + length text) (drop-append_seam text rest i))
-
-nothing_more : (at : ℕ) → lex at [] ≡ []
-unfolding lex_behind
-nothing_more at = refl
+next_lex at bytes p rest next = search (rules, token_is, blank_lex, lex_token, take-append_seam, drop-append_seam)
 
 pub only_lex : (at : ℕ) (bytes : List ℕ) (pieces : List (Piece Sign)) → AreTokens at bytes pieces →
     pieces ≡ lex at bytes
 only_lex at bytes [] run =
     sym (ap (λ (xs : List ℕ). lex at xs) (sym (append-nil bytes)) ∙ blank_lex run at (let none : List ℕ = [] in none)
-    ∙ nothing_more (at + length bytes))
+    ∙ lex_nothing (at + length bytes))
 only_lex at bytes (p ∷ ps) (rest, next, more) =
     sym (next_lex at bytes p rest next ∙ ap (λ (qs : List (Piece Sign)). p ∷ qs)
     (sym (only_lex (p.start + length p.sign.text) rest ps more)))
@@ -173,10 +160,6 @@ some_tokens (suc fuel) at (b ∷ bs) short =
         )
 
 -- ## Blanks from one place to another
-
-nothing_begins : (n : ℕ) → step_of [] ≡ Skip n → ⊥
-unfolding step_of
-nothing_begins n is = cc
 
 pub skip_sound : (bytes : List ℕ) (n : ℕ) → step_of bytes ≡ Skip n → Sound bytes (Skip n)
 skip_sound [] n is = absurd (nothing_begins n is)

@@ -9,6 +9,7 @@ use Rattle.ps_hoa.specs.Tokens.{Sign}
 use Rattle.ps_hoa.specs.declared.tokens.Kind.{Kind}
 use Rattle.ps_hoa.specs.declared.tokens.Step.{Step}
 use Rattle.ps_hoa.specs.declared.tokens.Step.TheVariants.{Skip, Found}
+use Rattle.ps_hoa.proofs.Lexing.TokenSteps.{differ}
 use Rattle.ps_hoa.specs.Scan.{plus, one_more, quoted_len, comment_len, head_or_zero, lex, lex_behind, step_of}
 
 pub plus-one_more : (k : ℕ) (o : Option ℕ) → plus k (one_more o) ≡ plus (k + 1) o
@@ -16,10 +17,6 @@ plus-one_more k o = search rules
 
 pub plus_zero : (o : Option ℕ) → plus 0 o ≡ o
 plus_zero o = search rules
-
--- a test on numbers that fails
-differ : (a b : ℕ) → a ≢ b → nat_eq a b ≡ false
-differ a b h = grind arith
 
 pub quoted_skip : (bs : List ℕ) (at : ℕ) → at < length bs → plus at (quoted_len (drop at bs) true) ≡ plus (at + 1)
     (quoted_len (drop (at + 1) bs) false)
@@ -86,8 +83,7 @@ pub comment_on : (bs : List ℕ) (at depth : ℕ) → at < length bs → is_pair
     is_pair bs at 47 42 ≡ false →
     plus at (comment_len (drop at bs) false depth) ≡ plus (at + 1) (comment_len (drop (at + 1) bs) false depth)
 unfolding comment_len
-comment_on bs at depth h close begin =
-    rw (drop-cons bs at 0 h, next-is bs at, close, begin, add-one at)
+comment_on bs at depth h close begin = rw (drop-cons bs at 0 h, next-is bs at, close, begin, add-one at)
     (rw add-one at (plus-one_more at (comment_len (drop (suc at) bs) false depth)))
 
 pub comment_past : (bs : List ℕ) (skip : Bool) (at depth : ℕ) → length bs ≤ at →
@@ -117,9 +113,13 @@ lex_is : (b : ℕ) (bs : List ℕ) (at : ℕ) → lex at (b ∷ bs) ≡ lex_by b
 unfolding lex_behind
 lex_is b bs at = refl
 
-nothing_begins : (n : ℕ) → step_of [] ≡ Skip n → ⊥
+pub nothing_begins : (n : ℕ) → step_of [] ≡ Skip n → ⊥
 unfolding step_of
 nothing_begins n is = cc
+
+pub lex_nothing : (at : ℕ) → lex at [] ≡ []
+unfolding lex_behind
+lex_nothing at = refl
 
 -- what is skipped changes no token
 pub lex_skip : (bytes : List ℕ) (n at : ℕ) → step_of bytes ≡ Skip n → 0 < n → lex at bytes ≡ lex (at + n) (drop n bytes)

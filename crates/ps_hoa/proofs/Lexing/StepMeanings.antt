@@ -2,13 +2,13 @@
 --     sound      of the step at any bytes
 --     begins_is      of a word with which bytes begin
 use Rattle.std.proofs.Common.{◌≡◌, ◌≢◌, ℕ, suc, zero, ◌+◌, ◌<◌, ◌≤◌, ◌&&◌, Bool, true, false, cond, List, [], ◌∷◌, ◌++◌}
-use Rattle.std.proofs.Common.{length, take, drop, subst, min, length-take, refl, ap, sym, ◌∙◌, arith, inl, inr}
+use Rattle.std.proofs.Common.{length, take, drop, subst, min, length-take, refl, ap, sym, ◌∙◌, arith, inl, inr, rules}
 use Rattle.std.specs.Prelude.{Option, None, Some, codes, nat_eq, nat_lt}
 use Rattle.std.specs.List.{prefix_len}
 use Rattle.std.proofs.lemmas.Bool.{eqb-true, eq-eqb, ltb-true}
 use Rattle.std.proofs.lemmas.Slice.Eq.{bytes_eq-Decides}
 use Rattle.std.proofs.lemmas.List.Folds.{length-prefix_len}
-use Rattle.ps_hoa.specs.Bytes.{is_between, class_of, is_digit, is_name_byte, digits}
+use Rattle.ps_hoa.specs.Bytes.{class_of, is_digit, is_name_byte, digits}
 use Rattle.ps_hoa.specs.Tokens.{IsBlankPart, lengthens, StopsBefore, Stands, IsToken}
 use Rattle.ps_hoa.specs.Scan.{comment_len, quoted_len, head_or_zero, step_of, class_step, name_step, text_by}
 use Rattle.ps_hoa.specs.Scan.{comment_by, mark_step, begins_with, comment_step, alias_step, text_step}
@@ -48,32 +48,11 @@ Tells b (SignOf kind) = is_sign kind ≡ true
 Tells b class = Unit {0}
 
 chosen : (b : ℕ) (t : Bool) (x y : Class) → (t ≡ true → Tells b x) → Tells b y → Tells b (cond t x y)
-chosen b true x y p q = p refl
-chosen b false x y p q = q
+chosen b t x y h1 h2 = search rules
 
 class_tells : (b : ℕ) → Tells b (class_of b)
 unfolding class_of
-class_tells b =
-    chosen b (is_between 9 13 b) Blank _ (λ _. tt)
-    (chosen b (nat_eq b 32) Blank _ (λ _. tt)
-    (chosen b (is_between 48 57 b) Digit _ (λ _. tt)
-    (chosen b (is_between 97 122 b) Letter _ (λ _. tt)
-    (chosen b (is_between 65 90 b) Letter _ (λ _. tt)
-    (chosen b (nat_eq b 95) Letter _ (λ _. tt)
-    (chosen b (nat_eq b 64) At _ (λ t. eqb-true b 64 t)
-    (chosen b (nat_eq b 34) Quote _ (λ t. eqb-true b 34 t)
-    (chosen b (nat_eq b 45) Dash _ (λ t. eqb-true b 45 t)
-    (chosen b (nat_eq b 47) Slash _ (λ t. eqb-true b 47 t)
-    (chosen b (nat_eq b 33) (SignOf Not) _ (λ _. refl)
-    (chosen b (nat_eq b 38) (SignOf And) _ (λ _. refl)
-    (chosen b (nat_eq b 124) (SignOf Or) _ (λ _. refl)
-    (chosen b (nat_eq b 40) (SignOf LeftParen) _ (λ _. refl)
-    (chosen b (nat_eq b 41) (SignOf RightParen) _ (λ _. refl)
-    (chosen b (nat_eq b 91) (SignOf LeftBracket) _ (λ _. refl)
-    (chosen b (nat_eq b 93) (SignOf RightBracket) _ (λ _. refl)
-    (chosen b (nat_eq b 123) (SignOf LeftBrace) _ (λ _. refl)
-    (chosen b (nat_eq b 125) (SignOf RightBrace) _ (λ _. refl)
-    (tt)))))))))))))))))))
+class_tells b = search (rules, chosen, eqb-true)
 
 abbrev pub Sound : List ℕ → Step → Type 0
 Sound bytes (Skip n) = IsBlankPart (take n bytes) × (n ≤ length bytes) × (0 < n)
@@ -86,11 +65,9 @@ odd_here b bs is = (
     byte = b;
     text_is = refl;
     no_blank = λ e. not_skip 1 (sym (by_class b bs Blank e) ∙ is);
-    no_comment =
-        λ more e. not_comment (comment_len more false 0) (sym (by_class 47 (42 ∷ more) Slash class_47)
+    no_comment = λ more e. not_comment (comment_len more false 0) (sym (by_class 47 (42 ∷ more) Slash class_47)
         ∙ ap step_of (sym e) ∙ is);
-    no_token =
-        λ kind token more e stands. not_token kind token more stands
+    no_token = λ kind token more e stands. not_token kind token more stands
         (sym (stand_step kind token more stands).0 ∙ ap step_of (sym e) ∙ is);
   },
   omega arith,
@@ -114,17 +91,13 @@ odd_here b bs is = (
 -- the test by which a step is chosen
 cond_sound : (bytes : List ℕ) (t : Bool) (x y : Step) → (t ≡ true → Sound bytes x) → (t ≡ false → Sound bytes y) →
     Sound bytes (cond t x y)
-cond_sound bytes true x y p q = p refl
-cond_sound bytes false x y p q = q refl
+cond_sound bytes t x y h1 h2 = search rules
 
 and_true : (p q : Bool) → (p && q) ≡ true → (p ≡ true) × (q ≡ true)
-and_true true true h = (refl, refl)
-and_true true false h = cc
-and_true false q h = cc
+and_true p q h1 = search rules
 
 stops_never : (kind : Kind) → ((b : ℕ) → lengthens kind b ≡ false) → (rest : List ℕ) → StopsBefore (lengthens kind) rest
-stops_never kind h [] = tt
-stops_never kind h (b ∷ rest) = h b
+stops_never kind h1 rest = search rules
 
 number_sound : (b : ℕ) (bs : List ℕ) → class_of b ≡ Digit → Sound (b ∷ bs) (class_step Digit b bs)
 number_sound b bs e =
@@ -175,8 +148,7 @@ take_head (suc k) (b ∷ bs) c some e =
 
 word_stops : (rest : List ℕ) → StopsBefore is_name_byte rest → nat_eq (head_or_zero rest) 58 ≡ false →
     StopsBefore (lengthens Word) rest
-word_stops [] s e = tt
-word_stops (c ∷ rest) s e = rw (s, e) refl
+word_stops rest h1 h2 = search rules
 
 name_sound : (b : ℕ) (bs : List ℕ) → class_of b ≡ Letter → Sound (b ∷ bs) (name_step bs)
 name_sound b bs e =
@@ -208,8 +180,7 @@ alias_sound b bs e =
     let len : length (take k bs) ≡ k = length-prefix_len is_name_byte bs in
     let one : 1 + k ≡ suc k = omega arith in
     let at : b ≡ 64 = tells_of b At e in
-    cond_sound (b ∷ bs) (nat_eq k 0) _ _
-    (λ t. odd_here b bs (by_class b bs At e ∙ rw t refl))
+    cond_sound (b ∷ bs) (nat_eq k 0) _ _ (λ t. odd_here b bs (by_class b bs At e ∙ rw t refl))
     (λ t. let some : k ≢ 0 = λ z. wrong (sym (eq-eqb k 0 z) ∙ t) in
     rw one (
       record {
@@ -307,28 +278,7 @@ slash_sound b (c ∷ cs) e = cond_sound (b ∷ c ∷ cs) (nat_eq c 42) _ _
 
 sign_sound : (kind : Kind) (b : ℕ) (bs : List ℕ) → class_of b ≡ SignOf kind → is_sign kind ≡ true →
     Sound (b ∷ bs) (Found kind 1)
-sign_sound Not b bs e h =
-    (record { form = (b, refl, e); longest = stops_never Not (λ c. refl) bs }, omega arith, omega arith)
-sign_sound And b bs e h =
-    (record { form = (b, refl, e); longest = stops_never And (λ c. refl) bs }, omega arith, omega arith)
-sign_sound Or b bs e h =
-    (record { form = (b, refl, e); longest = stops_never Or (λ c. refl) bs }, omega arith, omega arith)
-sign_sound LeftParen b bs e h =
-    (record { form = (b, refl, e); longest = stops_never LeftParen (λ c. refl) bs }, omega arith, omega arith)
-sign_sound RightParen b bs e h =
-    (record { form = (b, refl, e); longest = stops_never RightParen (λ c. refl) bs }, omega arith, omega arith)
-sign_sound LeftBracket b bs e h =
-    (record { form = (b, refl, e); longest = stops_never LeftBracket (λ c. refl) bs }, omega arith, omega arith)
-sign_sound RightBracket b bs e h =
-    (record { form = (b, refl, e); longest = stops_never RightBracket (λ c. refl) bs }, omega arith, omega arith)
-sign_sound LeftBrace b bs e h =
-    (record { form = (b, refl, e); longest = stops_never LeftBrace (λ c. refl) bs }, omega arith, omega arith)
-sign_sound RightBrace b bs e h =
-    (record { form = (b, refl, e); longest = stops_never RightBrace (λ c. refl) bs }, omega arith, omega arith)
-sign_sound kind b bs e h = absurd (no_sign h)
-  where
-    no_sign : false ≡ true → ⊥
-    no_sign f = cc
+sign_sound kind b bs h1 h2 = search (rules, stops_never)
 
 other_sound : (b : ℕ) (bs : List ℕ) → class_of b ≡ Other → Sound (b ∷ bs) (Found Odd 1)
 other_sound b bs e = odd_here b bs (by_class b bs Other e)

@@ -13,9 +13,8 @@ use Rattle.ps_hoa.specs.declared.tokens.Lexeme.{Lexeme}
 use Rattle.ps_hoa.specs.declared.tokens.Token.{Token}
 use Rattle.ps_hoa.specs.declared.tokens.Marks.{Marks}
 use Rattle.ps_hoa.specs.declared.tokens.Step.TheVariants.{Found}
-use Rattle.ps_hoa.specs.Scan.{lex, lex_behind, step_of, IsLexeme, Reading, stream_of, next_of, behind_next, is_finish}
-use Rattle.ps_hoa.specs.Scan.{fresh}
-use Rattle.ps_hoa.proofs.Lexing.Scanning.{lex_token}
+use Rattle.ps_hoa.specs.Scan.{lex, step_of, IsLexeme, Reading, stream_of, next_of, behind_next, is_finish, fresh}
+use Rattle.ps_hoa.proofs.Lexing.Scanning.{lex_token, lex_nothing}
 
 abbrev before : List ℕ → Lexeme → Marks → Reading
 before source l marks = record { source = source; at = l.start; marks = marks }
@@ -33,11 +32,7 @@ token_piece source l marks =
 abbrev pub marks_behind : List ℕ → Lexeme → Marks → Marks
 marks_behind source l marks = marks_after marks l.kind (slice_range source l.start l.stop)
 
-lex_nothing : (at : ℕ) → lex at [] ≡ []
-unfolding lex_behind
-lex_nothing at = refl
-
--- none does
+-- nothing stands behind the end
 pub pieces_none : (r : Reading) → length r.source ≤ r.at → (stream_of r).pieces ≡ []
 unfolding stream_of
 pieces_none r done = search (rules, drop_all, lex_nothing)
@@ -131,8 +126,7 @@ module _ (source : List ℕ) (l : Lexeme) (marks : Marks) (h : IsLexeme source l
   rest_is at on same = search (rules, dec_lt, shown, behind_at, found, end_is, stream_none, behind_at_end, pieces_none)
 
   -- the end of the text is at no token, and nothing else is
-  pub finish_iff : ((token_piece source l marks).sign.kind ≡ Finish) ↔ ((stream_of (before source l marks)).pieces ≡
-      [])
+  pub finish_iff : ((token_piece source l marks).sign.kind ≡ Finish) ↔ ((stream_of (before source l marks)).pieces ≡ [])
   finish_iff =
       let r = before source l marks in
       (elim (dec_lt l.start (length source)) as (λ _. ((token_piece source l marks).sign.kind ≡ Finish) ↔

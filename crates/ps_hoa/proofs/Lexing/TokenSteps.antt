@@ -11,7 +11,7 @@ use Rattle.std.proofs.Math.Seq.{drop-append_seam}
 use Rattle.ps_hoa.specs.Bytes.{class_of, is_digit, is_name_byte, goes_on as names}
 use Rattle.ps_hoa.specs.Tokens.{Ends, closes_last, closes, opens, goes_on, AllBytes, IsName, IsQuoted, nothing, plain}
 use Rattle.ps_hoa.specs.Tokens.{escaped, lengthens, StopsBefore, Stands}
-use Rattle.ps_hoa.specs.Scan.{one_more, comment_len, quoted_len, head_or_zero, step_of, class_step, text_by}
+use Rattle.ps_hoa.specs.Scan.{one_more, comment_len, quoted_len, step_of, class_step, text_by}
 use Rattle.ps_hoa.specs.declared.tokens.Kind.{Kind}
 use Rattle.ps_hoa.specs.declared.tokens.Kind.TheVariants.{Header, HeaderAgain, Word, AliasName, Int, ZeroRun, Text}
 use Rattle.ps_hoa.specs.declared.tokens.Kind.TheVariants.{Body, End, Abort, OpenComment, Odd, Behind, Finish}
@@ -20,10 +20,6 @@ use Rattle.ps_hoa.specs.declared.tokens.Class.TheVariants.{Digit, Letter, At, Qu
 use Rattle.ps_hoa.specs.declared.tokens.Step.TheVariants.{Found}
 
 -- ## What is known of single bytes
-
-class_42 : class_of 42 ≡ Other
-unfolding class_of
-class_42 = refl
 
 class_45 : class_of 45 ≡ Dash
 unfolding class_of
@@ -65,18 +61,13 @@ run_len p [] (b ∷ bs) all stops = rw stops refl
 run_len p (b ∷ bs) rest all stops =
     rw (all.0, run_len p bs rest all.1 stops) (let e : 1 + length bs ≡ suc (length bs) = omega arith in e)
 
-head_append : (run rest : List ℕ) → head_or_zero (drop (length run) (run ++ rest)) ≡ head_or_zero rest
-head_append [] rest = refl
-head_append (b ∷ bs) rest = head_append bs rest
-
 pub run_sound : (p : ℕ → Bool) (bs : List ℕ) → AllBytes p (take (prefix_len p bs) bs) ×
     StopsBefore p (drop (prefix_len p bs) bs) × (prefix_len p bs ≤ length bs)
 run_sound p [] = (tt, tt, omega arith)
 run_sound p (b ∷ bs) = go (run_sound p bs) (p b) refl
   where
     go : AllBytes p (take (prefix_len p bs) bs) × StopsBefore p (drop (prefix_len p bs) bs) ×
-        (prefix_len p bs ≤ length bs) →
-        (t : Bool) → p b ≡ t → AllBytes p (take (prefix_len p (b ∷ bs)) (b ∷ bs)) ×
+        (prefix_len p bs ≤ length bs) → (t : Bool) → p b ≡ t → AllBytes p (take (prefix_len p (b ∷ bs)) (b ∷ bs)) ×
         StopsBefore p (drop (prefix_len p (b ∷ bs)) (b ∷ bs)) × (prefix_len p (b ∷ bs) ≤ length (b ∷ bs))
     go r true e = let same : 1 + prefix_len p bs ≡ suc (prefix_len p bs) = omega arith in let short = r.2 in
         rw (e, same) ((e, r.0), r.1, omega arith)

@@ -1,27 +1,26 @@
 -- Labels and acceptance conditions have an outcome from each list of signs: they are read, or have a first fault.
---     has_mark      a sign of a kind, by itself
+--     has_signs, has_mark, has_loop      a part of one sign, a sign of a kind by itself, and a loop
 --     has_label, has_condition      the outcomes
-use Rattle.std.proofs.Common.{◌≡◌, ℕ, zero, suc, Bool, true, false, cond, List, [], None, Some, refl, ap}
-use Rattle.std.specs.Prelude.{codes}
-use Rattle.ps_label.specs.Expression.{Expression, not_of}
-use Rattle.ps_text.specs.Parts.{Part, NoBad}
+use Rattle.std.proofs.Common.{Option, ℕ, zero, suc, Bool, true, false, List}
+use Rattle.ps_label.specs.Expression.{not_of}
+use Rattle.ps_text.specs.Parts.{Part, one, many}
 use Rattle.ps_text.specs.Outcomes.{HasOutcomes}
 use Rattle.ps_text.proofs.Laws.{Laws, Nothing, Apart}
 use Rattle.ps_text.proofs.Outcomes.{has_one, has_mapped, has_then, has_either, has_many}
 use Rattle.ps_text.proofs.Simple.{laws_mapped}
 use Rattle.ps_hoa.specs.Tokens.{Sign}
 use Rattle.ps_hoa.specs.Causes.{hoa_causes}
-use Rattle.ps_hoa.specs.Operands.{is_not, is_and, is_or, is_left, is_right, mark_in, mark, before, closed, inner}
-use Rattle.ps_hoa.specs.Operands.{single, with_last, joined, further, operands, row, rows}
+use Rattle.ps_hoa.specs.Operands.{is_not, is_and, is_or, is_left, is_right, mark, before, closed, inner, single}
+use Rattle.ps_hoa.specs.Operands.{with_last, joined, further, operands, row, rows}
 use Rattle.ps_hoa.specs.Labels as labels
-use Rattle.ps_hoa.specs.Labels.{ScopeData, leaf_in, BadLeaf, leaf, negation}
+use Rattle.ps_hoa.specs.Labels.{ScopeData}
 use Rattle.ps_hoa.specs.Conditions as conditions
-use Rattle.ps_hoa.specs.Conditions.{constant_in, often_in, visits, set_in, BadSet, set, any_set, visit, BadStart, atom}
+use Rattle.ps_hoa.specs.Conditions.{visits, any_set, visit, atom}
 use Rattle.ps_hoa.specs.declared.connective.Connective.{Connective}
 use Rattle.ps_hoa.specs.declared.connective.Connective.TheVariants as connectives
 use Rattle.ps_hoa.specs.declared.fault.HoaCause.{HoaCause}
 use Rattle.ps_hoa.specs.declared.tokens.Kind.{Kind}
-use Rattle.ps_hoa.specs.declared.tokens.Kind.TheVariants.{Int, Word, Not, And, Or, LeftParen, RightParen}
+use Rattle.ps_hoa.specs.declared.tokens.Kind.TheVariants.{And, Or}
 use Rattle.ps_hoa.proofs.Grammar.OperandLaws.{Odd, Of, nothing_apart, laws_behind, joint_mark, joint_closed}
 use Rattle.ps_hoa.proofs.Grammar.OperandLaws.{joint_operands, laws_held}
 use Rattle.ps_hoa.proofs.Grammar.LabelLaws.{laws_not, laws_and, laws_or, laws_left, laws_right, not_left, single_nested}
@@ -31,69 +30,73 @@ use Rattle.ps_hoa.proofs.Grammar.ConditionLaws as conditions_laws
 use Rattle.ps_hoa.proofs.Grammar.ConditionLaws.{laws_set, not_int, laws_complement, laws_closed_set, joint_closed_set}
 use Rattle.ps_hoa.proofs.Grammar.ConditionLaws.{joint_visit, laws_visit, laws_constant, atom_often, laws_word}
 use Rattle.ps_hoa.proofs.Grammar.ConditionLaws.{word_left}
-use Rattle.ps_hoa.proofs.Outcomes.Judging.{no_bad, judge_leaf, judge_set, judge_start}
+use Rattle.ps_hoa.proofs.Grammar.HeaderSigns.{signs_mark}
+use Rattle.ps_hoa.proofs.Reading.ConditionReading.{constant_signs, set_signs, often_signs}
+use Rattle.ps_hoa.proofs.Reading.Exits.{Loop}
+use Rattle.ps_hoa.proofs.Reading.LabelReading.{leaf_signs}
+use Rattle.ps_hoa.proofs.Reading.MarkReading.{Tests, tests_not, tests_and, tests_or, tests_left, tests_right}
+use Rattle.ps_hoa.proofs.Reading.SingleSigns.{IsOfSigns}
+use Rattle.ps_hoa.proofs.Outcomes.Judging.{JudgesAll, no_bad, judge_leaf, judge_set, judge_start}
 
 abbrev pub Has : {V : Type 0} → Part Sign V HoaCause → Type 0
 Has part = HasOutcomes hoa_causes part
 
 -- ## Signs by themselves, parentheses and rows
 
-pub has_mark : (test : Kind → Bool) (kind : Kind) → test kind ≡ true → Has (mark test)
-has_mark test kind e = has_one hoa_causes (mark_in test) NoBad (record { kind = kind; text = [] }) tt
-    (ap (λ (b : Bool). cond b (Some tt) None) e) no_bad
+-- a part of one sign
+pub has_signs : {V : Type 0} {take : Sign → Option V} {Bad : Sign → HoaCause → Type 0} → IsOfSigns take Bad →
+    JudgesAll Bad → Has (one take Bad)
+has_signs {take = take} {Bad = Bad} o judge = has_one hoa_causes take Bad o.sign o.value o.taken judge
+
+pub has_mark : {test : Kind → Bool} {kind : Kind} → Tests test kind → Has (mark test)
+has_mark {test} {kind} tests = has_signs (signs_mark test kind tests.is tests.proper) no_bad
+
+pub has_loop : {C : Type 0} {item : C → Part Sign C HoaCause} {First : Sign → Type 0} → Loop item First →
+    ((c : C) → Has (item c)) → (c : C) → Has (many item c)
+has_loop {item = item} w = has_many hoa_causes item w.laws w.apart
 
 has_closed : {V : Type 0} (v : V) → Has (closed v)
-has_closed v = has_mapped hoa_causes (before v) (mark is_right) (has_mark is_right RightParen refl)
+has_closed v = has_mapped hoa_causes (before v) (mark is_right) (has_mark tests_right)
 
 module _ {V : Type 0} (sign : Kind → Bool) (operand : Part Sign V HoaCause) {First More : Sign → Type 0}
     (m : Laws Odd (mark sign) (Of sign) Nothing ⊥) (l : Laws Odd operand First More ⊥) (apart : Apart More (Of sign))
     (s : Has (mark sign)) (o : Has operand) where
-  has_further : (vs : List V) → Has (further sign operand vs)
-  has_further vs = has_then hoa_causes (joint_mark sign m (laws_mapped (with_last vs) operand l)) s
-      (λ _. has_mapped hoa_causes (with_last vs) operand o)
-
   has_row : (join : List V → V) → Has (row sign join operand)
   has_row join = has_mapped hoa_causes (joined join) (operands sign operand)
       (has_then hoa_causes (joint_operands sign operand m l apart) (has_mapped hoa_causes single operand o)
       (has_many hoa_causes (λ ws. further sign operand ws)
-      (λ ws. laws_behind sign m (laws_mapped (with_last ws) operand l)) apart has_further))
+      (λ ws. laws_behind sign m (laws_mapped (with_last ws) operand l)) apart
+      (λ ws. has_then hoa_causes (joint_mark sign m (laws_mapped (with_last ws) operand l)) s
+      (λ _. has_mapped hoa_causes (with_last ws) operand o))))
 
 module _ {V : Type 0} {F : Sign → Type 0} (P : Part Sign V HoaCause) (together : Connective → List V → V)
     (l : Laws Odd P F Nothing ⊥) (p : Has P) where
   has_rows : Has (rows together connectives.Or P)
   has_rows = has_row is_or (rows together connectives.And P) laws_or (laws_both P together l) apart_or
-      (has_mark is_or Or refl)
-      (has_row is_and P laws_and l (nothing_apart (Of is_and)) (has_mark is_and And refl) p (together connectives.And))
+      (has_mark tests_or)
+      (has_row is_and P laws_and l (nothing_apart (Of is_and)) (has_mark tests_and) p (together connectives.And))
       (together connectives.Or)
 
   has_nested : Has (inner (rows together connectives.Or P))
   has_nested = has_then hoa_causes
-      (joint_mark is_left laws_left (laws_held laws_right (laws_rows P together l) apart_right))
-      (has_mark is_left LeftParen refl)
+      (joint_mark is_left laws_left (laws_held laws_right (laws_rows P together l) apart_right)) (has_mark tests_left)
       (λ _. has_then hoa_causes (joint_closed laws_right (laws_rows P together l) apart_right) has_rows
       (λ v. has_closed v))
 
 -- ## Labels
 
-has_leaf : (scope : ScopeData) (room : ℕ) → Has (leaf scope room)
-has_leaf scope room = has_one hoa_causes (leaf_in scope.names) (BadLeaf scope room) (record { kind = Int; text = [] }) _
-    refl (judge_leaf scope room)
-
-has_negation : {F : Sign → Type 0} (P : Part Sign Expression HoaCause) → Laws Odd P F Nothing ⊥ → Has P →
-    Has (negation P)
-has_negation P l p = has_then hoa_causes (joint_mark is_not laws_not (laws_mapped not_of P l))
-    (has_mark is_not Not refl) (λ _. has_mapped hoa_causes not_of P p)
-
 has_operand : (scope : ScopeData) (room : ℕ) → Has (labels.operand scope room)
 unfolding labels.operand
-has_operand scope zero = has_leaf scope 0
+has_operand scope zero = has_signs (leaf_signs scope 0) (judge_leaf scope 0)
 has_operand scope (suc room) =
     let P = labels.operand scope room in
     let l = laws_operand scope room in
     let p = has_operand scope room in
-    has_either hoa_causes (laws_single scope room) (laws_deep P l) single_nested (has_leaf scope (suc room))
-    (has_either hoa_causes (laws_negation P l) (laws_nested P labels.together l) not_left (has_negation P l p)
-    (has_nested P labels.together l p))
+    has_either hoa_causes (laws_single scope room) (laws_deep P l) single_nested
+    (has_signs (leaf_signs scope (suc room)) (judge_leaf scope (suc room)))
+    (has_either hoa_causes (laws_negation P l) (laws_nested P labels.together l) not_left
+    (has_then hoa_causes (joint_mark is_not laws_not (laws_mapped not_of P l)) (has_mark tests_not)
+    (λ _. has_mapped hoa_causes not_of P p)) (has_nested P labels.together l p))
 
 pub has_label : (scope : ScopeData) (room : ℕ) → Has (labels.label scope room)
 has_label scope room = has_rows (labels.operand scope room) labels.together (laws_operand scope room)
@@ -101,26 +104,19 @@ has_label scope room = has_rows (labels.operand scope room) labels.together (law
 
 -- ## Acceptance conditions
 
-has_set : (complemented : Bool) → Has (set complemented)
-has_set complemented = has_one hoa_causes (set_in complemented) BadSet (record { kind = Int; text = [] }) _ refl
-    judge_set
-
 has_any_set : Has any_set
 has_any_set = has_either hoa_causes laws_complement (laws_set false) not_int
-    (has_then hoa_causes (joint_mark is_not laws_not (laws_set true)) (has_mark is_not Not refl) (λ _. has_set true))
-    (has_set false)
+    (has_then hoa_causes (joint_mark is_not laws_not (laws_set true)) (has_mark tests_not) (λ _.
+    has_signs (set_signs true) judge_set)) (has_signs (set_signs false) judge_set)
 
 has_visit : Has visit
-has_visit = has_then hoa_causes joint_visit
-    (has_one hoa_causes often_in NoBad (record { kind = Word; text = codes "Inf" }) true refl no_bad) (λ often.
-    has_then hoa_causes (joint_mark is_left laws_left (laws_closed_set often)) (has_mark is_left LeftParen refl) (λ _.
+has_visit = has_then hoa_causes joint_visit (has_signs often_signs no_bad) (λ often.
+    has_then hoa_causes (joint_mark is_left laws_left (laws_closed_set often)) (has_mark tests_left) (λ _.
     has_then hoa_causes (joint_closed_set often) has_any_set (λ s. has_closed (visits often s))))
 
 has_atom : (room : ℕ) → Has (atom room)
 has_atom room = has_either hoa_causes (laws_constant room) laws_visit (atom_often room)
-    (has_one hoa_causes constant_in (BadStart room) (record { kind = Word; text = codes "t" }) _ refl
-    (judge_start room))
-    has_visit
+    (has_signs (constant_signs room) (judge_start room)) has_visit
 
 has_condition_operand : (room : ℕ) → Has (conditions.operand room)
 unfolding conditions.operand

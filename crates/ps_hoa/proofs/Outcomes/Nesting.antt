@@ -2,7 +2,7 @@
 -- that nesting.
 --     within_room, of_room      for a grammar whose operands with more room are those with less in one more form
 use Rattle.std.proofs.Common.{◌≡◌, ◌↔◌, ◌⊎◌, ℕ, zero, suc, ◌≤◌, max, true, List, [], ◌∷◌, ◌++◌, refl, sym, ap, subst}
-use Rattle.std.proofs.Common.{inl, inr, ◌∙◌, arith}
+use Rattle.std.proofs.Common.{inl, inr, ◌∙◌, arith, rules}
 use Rattle.ps_label.specs.Expression.{Expression}
 use Rattle.ps_text.specs.Parts.{Part, times}
 use Rattle.ps_hoa.specs.Conditions.{Condition, operand as condition_operand, condition}
@@ -71,8 +71,7 @@ module _ {V : Type 0} (g : Grammar V) (part : ℕ → Part Sign V HoaCause) (is 
     to_part room c deep text v (conjunction d t w n) l = to_row room And d t w n l
 
     to_more : (room : ℕ) (c : Connective) (deep : ℕ) (text : List Sign) (vs : List V) →
-        More g c deep text vs → deep ≤ room →
-        Rest (is_sign_of c) (between g.together c (part room)) text vs
+        More g c deep text vs → deep ≤ room → Rest (is_sign_of c) (between g.together c (part room)) text vs
     to_more room c deep text vs (no_more k) l = rest_none (is_sign_of k) (between g.together k (part room))
     to_more room c deep text vs (one_more k t a b left rest v ws e n m) l =
         rest_more (is_sign_of k) (between g.together k (part room)) t left rest v ws e
@@ -200,24 +199,7 @@ label_nesting scope room text v =
 
 condition_operands : Operands condition_grammar condition_operand
 unfolding condition_operand
-condition_operands =
-    record {
-      atoms = atoms;
-      negations = λ room text v n. absurd n.5;
-      parentheses = λ room text v i. inr i;
-      none = λ text v i. i;
-      some = some;
-    }
-  where
-    atoms : (room : ℕ) (text : List Sign) (v : Condition) → condition_grammar.IsAtom text v →
-        (condition_operand room).IsText text v
-    atoms zero text v a = a
-    atoms (suc room) text v a = inl a
-
-    some : (room : ℕ) (text : List Sign) (v : Condition) → (condition_operand (suc room)).IsText text v →
-        Form condition_grammar (condition_operand room) text v
-    some room text v (inl a) = inl a
-    some room text v (inr i) = inr (inr i)
+condition_operands = search rules
 
 pub condition_nesting : (room : ℕ) (text : List Sign) (v : Condition) →
     (condition room).IsText text v ↔ Within room IsCondition text v

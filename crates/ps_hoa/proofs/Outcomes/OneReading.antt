@@ -2,9 +2,8 @@
 --     one_behind      the blanks at the front of a text are one run
 --     one_version      so is its version
 --     one_reading      and so is its answer
-use Rattle.std.proofs.Common.{◌≡◌, ℕ, ◌+◌, eqb, if◌then◌else◌, List, ◌++◌, length, codes, Result, refl, sym, ap, ap₂}
-use Rattle.std.proofs.Common.{subst, ◌∙◌, append_assoc, arith}
-use Rattle.std.specs.List.{prefix_len}
+use Rattle.std.proofs.Common.{if◌then◌else◌, ◌≡◌, ℕ, ◌+◌, eqb, List, ◌++◌, length, codes, Result, refl, sym, ap, ap₂}
+use Rattle.std.proofs.Common.{subst, ◌∙◌, append_assoc, arith, rules}
 use Rattle.std.proofs.lemmas.List.{append_cancel_left}
 use Rattle.ps_text.specs.Answers.{Piece, Found, AreNumbered}
 use Rattle.ps_text.specs.Parts.{PartAnswers, IsWrong}
@@ -13,8 +12,8 @@ use Rattle.ps_text.proofs.Splits.{same_split}
 use Rattle.ps_hoa.specs.Causes.{cause_number, hoa_causes}
 use Rattle.ps_hoa.specs.Files.{FileData}
 use Rattle.ps_hoa.specs.Scan.{fresh, step_of}
-use Rattle.ps_hoa.specs.Texts.{IsBehindBlanks, IsVersion, is_version_byte, at_offset, file, ReadsFile, too_long}
-use Rattle.ps_hoa.specs.Texts.{not_hoa, other_version, by_tokens}
+use Rattle.ps_hoa.specs.Texts.{IsBehindBlanks, IsVersion, at_offset, file, ReadsFile, too_long, not_hoa, other_version}
+use Rattle.ps_hoa.specs.Texts.{by_tokens}
 use Rattle.ps_hoa.specs.Tokens.{Sign, IsBlankPart, IsBlankRun, no_blank, blank, AreTokens, marked}
 use Rattle.ps_hoa.specs.declared.fault.HoaCause.{HoaCause}
 use Rattle.ps_hoa.specs.declared.fault.HoaCause.TheVariants as causes
@@ -26,8 +25,7 @@ use Rattle.ps_hoa.proofs.Lexing.TokenSteps.{run_len}
 -- ## Causes have numbers of their own
 
 abbrev of_number : ℕ → HoaCause
-of_number n =
-    if eqb n 1 then causes.NotHoa else (if eqb n 2 then causes.Version else
+of_number n = if eqb n 1 then causes.NotHoa else (if eqb n 2 then causes.Version else
     (if eqb n 3 then causes.Token else (if eqb n 4 then causes.Syntax
     else (if eqb n 5 then causes.Number else (if eqb n 6 then causes.HeaderTwice else
     (if eqb n 7 then causes.MissingAcceptance else (if eqb n 8 then causes.UnknownHeader
@@ -39,25 +37,7 @@ of_number n =
     causes.SeveralAutomata)))))))))))))))))
 
 back : (f : HoaCause) → of_number (cause_number f) ≡ f
-back causes.NotHoa = refl
-back causes.Version = refl
-back causes.Token = refl
-back causes.Syntax = refl
-back causes.Number = refl
-back causes.HeaderTwice = refl
-back causes.MissingAcceptance = refl
-back causes.UnknownHeader = refl
-back causes.Limit = refl
-back causes.Aborted = refl
-back causes.Alternating = refl
-back causes.Start = refl
-back causes.Range = refl
-back causes.Alias = refl
-back causes.Labels = refl
-back causes.StateTwice = refl
-back causes.Controllable = refl
-back causes.Name = refl
-back causes.SeveralAutomata = refl
+back f = search rules
 
 numbered : AreNumbered cause_number
 numbered f g e = sym (back f) ∙ ap of_number e ∙ back g
@@ -72,8 +52,7 @@ same_skip m n e = cc
 
 -- two blanks at one place are one
 one_part : (p q more rest : List ℕ) → IsBlankPart p → IsBlankPart q → p ++ more ≡ q ++ rest → (p ≡ q) × (more ≡ rest)
-one_part p q more rest h k e =
-    same_split p more q rest e (same_skip (length p) (length q)
+one_part p q more rest h k e = same_split p more q rest e (same_skip (length p) (length q)
     (sym (part_is p more h).0 ∙ ap step_of e ∙ (part_is q rest k).0))
 
 pub one_behind : {a b : List ℕ} → IsBlankRun a → IsBlankRun b → (x y : List ℕ) → a ++ x ≡ b ++ y → NoBlankBegins x →
@@ -99,15 +78,11 @@ same_hoa bytes a b m n h k = let s = same_blanks bytes a b (codes "HOA:" ++ m) (
     (s.0, append_cancel_left (codes "HOA:") m n s.1)
 
 pub one_version : (bytes v w x y : List ℕ) → IsVersion bytes v x → IsVersion bytes w y → (v ≡ w) × (x ≡ y)
-one_version bytes v w x y h k = same_split v x w y (sym h.split ∙ k.split) (sym (long v x h) ∙ long w y k)
-  where
-    long : (v x : List ℕ) → IsVersion bytes v x → prefix_len is_version_byte bytes ≡ length v
-    long v x h = ap (λ z. prefix_len is_version_byte z) h.split ∙ run_len is_version_byte v x h.run h.longest
+one_version bytes v w x y h k = search (rules, same_split, run_len)
 
 same_tokens : (at at' : ℕ) (bytes bytes' : List ℕ) (ps qs : List (Piece Sign)) → at ≡ at' → bytes ≡ bytes' →
     AreTokens at bytes ps → AreTokens at' bytes' qs → ps ≡ qs
-same_tokens at at' bytes bytes' ps qs e f h k = only_lex at bytes ps h
-    ∙ sym (only_lex at bytes qs (subst (λ z. AreTokens z bytes qs) (sym e) (subst (λ z. AreTokens at' z qs) (sym f) k)))
+same_tokens at at' bytes bytes' ps qs e f h k = search (rules, only_lex)
 
 abbrev Answer : Type 0
 Answer = Result FileData (Found HoaCause)

@@ -66,8 +66,7 @@ module _ (text : List ℕ) where
           read.0,
           with_version text first second o stream stop refl e
               (λ pieces are. ap (marked fresh) (only_lex stop (drop stop text) found.0 found.1
-              ∙ sym (only_lex stop (drop stop text) pieces are)))
-              refl read.0 read.1,
+              ∙ sym (only_lex stop (drop stop text) pieces are))) refl read.0 read.1,
         )
 
     by_word : (first : PastBlanks 0) (there : Bool) → begins_with (drop first.at text) (codes "HOA:") ≡ there →

@@ -5,7 +5,7 @@
 --     trails_answers      both were read, and a token stands behind them
 -- `reads` says of the tokens behind the version that what they mean, or the first cause in them, is the answer to the
 -- text.
-use Rattle.std.proofs.Common.{◌≡◌, ℕ, List, [], ◌∷◌, Some, Result, Ok, Err, IsErrAnd, refl, sym, ap, subst, ◌∙◌}
+use Rattle.std.proofs.Common.{◌≡◌, ℕ, List, [], ◌∷◌, Some, Result, Ok, Err, IsErrAnd, refl, sym, ap, subst, ◌∙◌, rules}
 use Rattle.std.proofs.lemmas.Result.{err_from_is_err_and}
 use Rattle.ps_text.specs.Answers.{Piece, Stream, Found, signs}
 use Rattle.ps_text.specs.Parts.{PartAnswers, IsRead, refusal_of}
@@ -28,8 +28,7 @@ module _ {X : Type 0} (view : X → FileData) (text : List ℕ) where
   exit e r h i = let y = err_from_is_err_and r i in subst (IsFileAnswer view text) (sym (y.1 ∙ ap Err y.2)) h
 
   is_fault : (e : HoaFault) → IsRefusedAs text e → IsFaultOf text e
-  is_fault (Text cause offset) h = h
-  is_fault OutOfMemory h = tt
+  is_fault e h1 = search rules
 
   pub refused_answers : (e : HoaFault) (r : Result X HoaFault) → IsRefusedAs text e → IsErrAnd r (λ y. y ≡ e) →
       IsFileAnswer view text r
@@ -38,8 +37,7 @@ module _ {X : Type 0} (view : X → FileData) (text : List ℕ) where
   module _ (stream : Stream Sign) (reads : (answer : Result FileData (Found HoaCause)) →
       PartAnswers hoa_causes file stream answer → ReadsFile text answer) where
     stopped : (e : HoaFault) → Stops hoa_causes file stream (found_of e) → IsFaultOf text e
-    stopped (Text cause offset) s =
-        reads _ (answers_fault laws_file stream (record { cause = cause; offset = offset }) s)
+    stopped (Text cause offset) s = search (rules, answers_fault, laws_file)
     stopped OutOfMemory s = tt
 
     pub header_fails : (e : HoaFault) (r : Result X HoaFault) → Stops hoa_causes header stream (found_of e) →
@@ -49,8 +47,7 @@ module _ {X : Type 0} (view : X → FileData) (text : List ℕ) where
     module _ (h : HeaderData) (mid : Stream Sign) (m : PartReads header stream h mid) where
       pub body_fails : (e : HoaFault) (r : Result X HoaFault) → Stops hoa_causes (body h) mid (found_of e) →
           IsErrAnd r (λ y. y ≡ e) → IsFileAnswer view text r
-      body_fails e r s i =
-          exit e r (stopped e (stops_behind hoa_causes joint_file m (found_of e)
+      body_fails e r s i = exit e r (stopped e (stops_behind hoa_causes joint_file m (found_of e)
           (stops_mapped hoa_causes (file_of h) (body h) mid (found_of e) s))) i
 
       module _ (b : BodyData) (new : Stream Sign) (n : PartReads (body h) mid b new) where

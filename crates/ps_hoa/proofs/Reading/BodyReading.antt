@@ -6,8 +6,8 @@
 --     edge_begins, bracket_serves, int_serves      how an edge begins, and what stands for it by that
 --     braces_serve, no_braces_serve      and so with marks
 --     pushed_edge      the edges of a row behind one more
-use Rattle.std.proofs.Common.{◌⊎◌, ◌++◌, map, ◌≡◌, true, inl, ℕ, List, [], ◌∷◌, Option, None, Some, Ok, Err, refl, sym}
-use Rattle.std.proofs.Common.{inr, ap, ◌∙◌}
+use Rattle.std.proofs.Common.{◌⊎◌, ◌++◌, map, ◌≡◌, true, inl, ℕ, List, [], ◌∷◌, Option, Some, Ok, Err, refl, sym, inr}
+use Rattle.std.proofs.Common.{ap, ◌∙◌, rules}
 use Rattle.std.proofs.lemmas.List.{map-append}
 use Rattle.ps_text.specs.Answers.{Piece, Stream, next_of as there_of}
 use Rattle.ps_text.specs.Parts.{give, one, barred}
@@ -89,14 +89,10 @@ module _ (Bad : ℕ → HoaCause → Type 0) (old : Stream Sign) {piece : Piece 
 
 target_begins : (Bad : ℕ → HoaCause → Type 0) (there : Option Sign) → Enters (one int_in (BadIn Bad)) there →
     Enters (barred (one int_in (BadIn Bad)) IsAlternating) there
-target_begins Bad None e = e
-target_begins Bad (Some t) (inl b) = inl (record { more = b.more; value = b.value; is_text = b.is_text })
-target_begins Bad (Some t) (inr c) = inr (c.0, inl c.1)
+target_begins Bad there h1 = search rules
 
 bracket_or_int : (kind : Kind) → begins_edge kind ≡ true → (kind ≡ LeftBracket) ⊎ (kind ≡ Int)
-bracket_or_int LeftBracket e = inl refl
-bracket_or_int Int e = inr refl
-bracket_or_int kind e = absurd (false_true e)
+bracket_or_int kind h1 = search (rules, false_true)
 
 module _ (h : HeaderData) (before : ℕ) (row : RowData) (s : Stream Sign) where
   pub edge_begins : begins_edge (next_of s).sign.kind ≡ true → Enters (edge h before row) (there_of s)

@@ -12,12 +12,12 @@ conditions_of-items : {n : _} (k : Row_of-Cond n) → conditions_of k ≡ row_of
 conditions_of-items end_of-Cond = refl
 conditions_of-items (more_of-Cond l k) = ap (more (condition_of l)) (conditions_of-items k)
 
+conditions_of-vec : (v : Vec Cond Global) → conditions_of (hidden-the_row-Cond-0 v) ≡ row_of (map condition_of v.items)
+conditions_of-vec v = conditions_of-items (hidden-the_row-Cond-0 v)
+    ∙ ap (λ (ls : List Cond). row_of (map condition_of ls)) (items_hidden-the_row-Cond-0 v)
+
 pub condition_of-All : (v : Vec Cond Global) → condition_of (All v) ≡ all_hold (row_of (map condition_of v.items))
-condition_of-All v =
-    ap all_hold (conditions_of-items (hidden-the_row-Cond-0 v)
-    ∙ ap (λ (ls : List Cond). row_of (map condition_of ls)) (items_hidden-the_row-Cond-0 v))
+condition_of-All v = ap all_hold (conditions_of-vec v)
 
 pub condition_of-Any : (v : Vec Cond Global) → condition_of (Any v) ≡ any_holds (row_of (map condition_of v.items))
-condition_of-Any v =
-    ap any_holds (conditions_of-items (hidden-the_row-Cond-0 v)
-    ∙ ap (λ (ls : List Cond). row_of (map condition_of ls)) (items_hidden-the_row-Cond-0 v))
+condition_of-Any v = ap any_holds (conditions_of-vec v)

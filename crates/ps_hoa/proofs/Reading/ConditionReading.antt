@@ -44,7 +44,7 @@ pub set_signs : (complemented : Bool) → IsOfSigns (set_in complemented) BadSet
 set_signs complemented =
     record { sign = record { kind = Int; text = [] }; value = _; taken = refl; end = refl; good = λ f b. b }
 
-often_signs : IsOfSigns often_in (NoBad {F = HoaCause})
+pub often_signs : IsOfSigns often_in (NoBad {F = HoaCause})
 often_signs =
     record {
       sign = record { kind = Word; text = codes "Inf" };

@@ -102,8 +102,7 @@ module _ {C : Type 0} {item : C → Part Sign C HoaCause} {First : Sign → Type
   loop_more = carries_many item w.laws w.apart hoa_causes
 
   pub loop_fails : {whole : Part Sign C HoaCause} {start now : Stream Sign} {c : C} →
-      Carries hoa_causes whole start (many item c) now → Enters (item c) (there_of now) →
-      Leads whole start (item c) now
+      Carries hoa_causes whole start (many item c) now → Enters (item c) (there_of now) → Leads whole start (item c) now
   loop_fails {whole} {start} {now} {c} k e =
       record {
         stops = λ o s. carries_stops hoa_causes whole (many item c) start now o k

@@ -2,7 +2,7 @@
 --     index_begins, read_over_begins      an index, or what is read over, stands next
 --     string_serves, no_string_serves      a second string, or none
 --     index_loop, read_over_loop, item_loop      the loops
-use Rattle.std.proofs.Common.{◌≡◌, ℕ, true, List, Some, refl, sym, ap, ◌∙◌}
+use Rattle.std.proofs.Common.{◌≡◌, ℕ, true, List, Some, sym, ap, ◌∙◌, rules}
 use Rattle.ps_text.specs.Answers.{Stream, next_of as there_of}
 use Rattle.ps_text.specs.Parts.{give, mapped}
 use Rattle.ps_text.proofs.Branches.{left_entered, right_otherwise}
@@ -14,7 +14,7 @@ use Rattle.ps_hoa.specs.Operands.{number_limit}
 use Rattle.ps_hoa.specs.Scan.{next_of}
 use Rattle.ps_hoa.specs.Tokens.{Sign}
 use Rattle.ps_hoa.specs.declared.tokens.Kind.{Kind}
-use Rattle.ps_hoa.specs.declared.tokens.Kind.TheVariants.{Int, Text, Word}
+use Rattle.ps_hoa.specs.declared.tokens.Kind.TheVariants.{Int, Text}
 use Rattle.ps_hoa.proofs.Grammar.ConditionLaws.{is_int}
 use Rattle.ps_hoa.proofs.Grammar.HeaderLaws.{laws_index, laws_read_over, laws_read_string, laws_no_string}
 use Rattle.ps_hoa.proofs.Grammar.OperandLaws.{Of, false_true, nothing_apart}
@@ -28,10 +28,7 @@ pub index_begins : (ns : List ℕ) (s : Stream Sign) → (next_of s).sign.kind �
 index_begins ns s e = enters_mapped (kept ns) (int number_limit) (there_of s) (int_begins _ s e)
 
 value_taken : (h : HeaderData) (kind : Kind) → is_value kind ≡ true → read_over_value h kind ≡ Some h
-value_taken h Int e = refl
-value_taken h Text e = refl
-value_taken h Word e = refl
-value_taken h kind e = absurd (false_true e)
+value_taken h kind h1 = search (rules, false_true)
 
 pub read_over_begins : (h : HeaderData) (s : Stream Sign) → is_value (next_of s).sign.kind ≡ true →
     Enters (read_over h) (there_of s)

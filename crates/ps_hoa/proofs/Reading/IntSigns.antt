@@ -3,8 +3,8 @@
 --     takes_err      it is wrong in the first way
 --     takes_further      it is wrong in the second way only
 --     takes_both      it is wrong in neither
-use Rattle.std.proofs.Common.{◌≡◌, ℕ, ◌≤◌, ◌⊎◌, Option, None, Some, IfSome, Result, Err, IsErrAnd, refl, sym, ap, subst}
-use Rattle.std.proofs.Common.{inl, inr, ◌∙◌}
+use Rattle.std.proofs.Common.{◌≡◌, ℕ, ◌≤◌, ◌⊎◌, Option, None, Some, IfSome, Result, Err, IsErrAnd, sym, subst, inl, inr}
+use Rattle.std.proofs.Common.{◌∙◌, rules}
 use Rattle.std.proofs.lemmas.Result.{err_from_is_err_and}
 use Rattle.ps_text.specs.Answers.{Piece}
 use Rattle.ps_text.proofs.Simple.{none_is_some, same_some}
@@ -14,12 +14,10 @@ use Rattle.ps_hoa.specs.Header.{int_in}
 use Rattle.ps_hoa.specs.Body.{BadIn}
 use Rattle.ps_hoa.specs.Inner.Reads.{Takes, IsTaken, IsWorst, IsRefusal}
 use Rattle.ps_hoa.specs.declared.fault.HoaCause.{HoaCause}
-use Rattle.ps_text.specs.declared.faults.Fault.TheVariants.{Text, OutOfMemory}
 
 -- what holds of the number that is there
 there : (o : Option ℕ) (P : ℕ → Type 0) → IfSome o P → (o ≡ None → ⊥) → (n : ℕ) × (o ≡ Some n) × P n
-there None P h some = absurd (some refl)
-there (Some n) P h some = (n, refl, h)
+there o P h1 h2 = search rules
 
 holds : (o : Option ℕ) (P : ℕ → Type 0) (n : ℕ) → o ≡ Some n → P n → IfSome o P
 holds o P n e h = subst (λ z. IfSome z P) (sym e) h
@@ -33,8 +31,7 @@ bad_at Bad s f n e b = (holds (int_in s) (λ m. Bad m f) n e b, is_there (int_in
 
 pub bad_of : (Bad : ℕ → HoaCause → Type 0) (s : Sign) (f : HoaCause) (n : ℕ) → int_in s ≡ Some n →
     BadIn Bad s f → Bad n f
-bad_of Bad s f n e b =
-    let t = there (int_in s) (λ m. Bad m f) b.0 b.1 in subst (λ m. Bad m f) (same_some t.0 n (sym t.1 ∙ e)) t.2
+bad_of Bad s f n e b = search (rules, there, same_some)
 
 module _ (B E : ℕ → HoaCause → Type 0) where
   abbrev pub BothBad : ℕ → HoaCause → Type 0
@@ -56,23 +53,15 @@ module _ (B E : ℕ → HoaCause → Type 0) where
 
     takes_fault : (p : Piece Sign) (e : HoaFault) → Takes {X = ℕ} (λ n. n) int_in (BadIn B) p (Err e) →
         Takes {X = ℕ} (λ n. n) int_in (BadIn BothBad) p (Err e)
-    takes_fault p (Text cause offset) t = (t.0, go t.1)
-      where
-        go : IsWorst (BadIn B) p.sign cause ⊎ IsRefusal int_in (BadIn B) p.sign cause →
-            IsWorst (BadIn BothBad) p.sign cause ⊎ IsRefusal int_in (BadIn BothBad) p.sign cause
-        go (inl w) = inl (worst p.sign cause w)
-        go (inr r) = inr (refusal p.sign cause r)
-    takes_fault p OutOfMemory t = tt
+    takes_fault p e h1 = search (rules, worst, refusal)
 
     pub takes_err : (p : Piece Sign) (e : HoaFault) (r : Result ℕ HoaFault) →
         Takes {X = ℕ} (λ n. n) int_in (BadIn B) p (Err e) → IsErrAnd r (λ y. y ≡ e) →
         Takes (λ n. n) int_in (BadIn BothBad) p r
-    takes_err p e r t i = let y = err_from_is_err_and r i in
-        subst (λ z. Takes (λ n. n) int_in (BadIn BothBad) p z) (sym (y.1 ∙ ap Err y.2)) (takes_fault p e t)
+    takes_err p e r t i = search (rules, err_from_is_err_and, takes_fault)
 
   pub takes_further : (p : Piece Sign) (n : ℕ) (f : HoaCause) → IsTaken int_in (BadIn B) p.sign n → E n f →
-      ((g : HoaCause) → E n g → cause_number f ≤ cause_number g) →
-      IsWorst (BadIn BothBad) p.sign f
+      ((g : HoaCause) → E n g → cause_number f ≤ cause_number g) → IsWorst (BadIn BothBad) p.sign f
   takes_further p n f k b least =
       record {
         stands = bad_at BothBad p.sign f n k.some (inr b);

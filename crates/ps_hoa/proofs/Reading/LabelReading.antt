@@ -55,14 +55,12 @@ module _ (scope : ScopeData) (room : ℕ) (old : Stream Sign) where
   serves_not : (next_of old).sign.kind ≡ Not → Serves old (negation less) (operand scope (suc room))
   serves_not k = let e = entered joint_not old (mark_begins tests_not old k) in
       serves_both (serves_as old (left_entered (laws_negation less laws_less) (laws_nested less together laws_less)
-      (there_of old) not_left e))
-      (serves_nested (enters_left (negation less) held (there_of old) e))
+      (there_of old) not_left e)) (serves_nested (enters_left (negation less) held (there_of old) e))
 
   serves_paren : (next_of old).sign.kind ≡ LeftParen → Serves old held (operand scope (suc room))
   serves_paren k = let e = inner_begins (laws_rows less together laws_less) apart_right old k in
       serves_both (serves_as old (right_entered (laws_negation less laws_less) (laws_nested less together laws_less)
-      (there_of old) not_left e))
-      (serves_nested (enters_right (negation less) held (there_of old) e))
+      (there_of old) not_left e)) (serves_nested (enters_right (negation less) held (there_of old) e))
 
 pub label_operands : (scope : ScopeData) → Operands together (operand scope)
 label_operands scope = record { laws = laws_operand scope; serves = serves_paren scope }

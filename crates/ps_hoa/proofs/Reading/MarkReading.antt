@@ -5,10 +5,10 @@
 --               stand there
 --     tests_not, .., tests_string      the tests of the grammar
 --     inner_begins, inner_reads, inner_fails, inner_stays_open      a part in parentheses, and its exits behind its `(`
-use Rattle.std.proofs.Common.{◌≡◌, ℕ, ◌≤◌, Bool, true, cond, List, [], ◌∷◌, length, Option, None, Some, Ok, refl, sym}
-use Rattle.std.proofs.Common.{ap, subst, ◌∙◌, inl, inr, arith}
-use Rattle.ps_text.specs.Answers.{Piece, Stream, next_of as there_of}
-use Rattle.ps_text.specs.Parts.{Part, NoBad, one, then_by, either}
+use Rattle.std.proofs.Common.{◌≡◌, ◌≤◌, Bool, true, cond, length, Option, None, Some, Ok, refl, sym, ap, subst, ◌∙◌}
+use Rattle.std.proofs.Common.{inl, rules}
+use Rattle.ps_text.specs.Answers.{Stream, next_of as there_of}
+use Rattle.ps_text.specs.Parts.{Part, one, then_by, either}
 use Rattle.ps_text.specs.Readers.{Reads}
 use Rattle.ps_text.proofs.Laws.{Laws, Joint, Apart}
 use Rattle.ps_text.proofs.Covered.{Enters, Avoids, enters_one}
@@ -58,20 +58,14 @@ module _ {test : Kind → Bool} {kind : Kind} (tests : Tests test kind) where
       (record { some = taken_there (next_of old).sign e; good = λ f b. b }) n
 
   pub mark_begins : (s : Stream Sign) → (next_of s).sign.kind ≡ kind → Enters (mark test) (there_of s)
-  mark_begins s e =
-      sign_begins (mark_in test) NoBad s (λ f. tests.proper (sym e ∙ f)) (taken_there (next_of s).sign e)
+  mark_begins s e = search (rules, sign_begins, taken_there)
 
   pub mark_elsewhere : (s : Stream Sign) → ((next_of s).sign.kind ≡ kind → ⊥) → Avoids (Of test) (there_of s)
   mark_elsewhere s differs = avoids_kind test s (λ h. differs (tests.is.1 (next_of s).sign.kind h))
 
 -- going on by a token leaves no more pieces
 pub behind_shrinks : (s new : Stream Sign) → new ≡ behind_next s → length new.pieces ≤ length s.pieces
-behind_shrinks s new e = subst (λ (x : Stream Sign). length x.pieces ≤ length s.pieces) (sym e) (go s.pieces s.end)
-  where
-    go : (ps : List (Piece Sign)) (end : ℕ) →
-        length (behind_next (record { pieces = ps; end = end })).pieces ≤ length ps
-    go [] end = omega arith
-    go (p ∷ ps) end = omega arith
+behind_shrinks s new e = search rules
 
 pub tests_not : Tests is_not Not
 tests_not = record { is = test_of is_not Not refl refl; proper = λ e. cc }
@@ -109,15 +103,11 @@ tests_string = record { is = test_of is_string Text refl refl; proper = λ e. cc
 -- what begins a form of `either` begins the whole
 pub enters_left : {V : Type 0} (P Q : Part Sign V HoaCause) (there : Option Sign) → Enters P there →
     Enters (either P Q) there
-enters_left P Q None e = e
-enters_left P Q (Some t) (inl b) = inl (record { more = b.more; value = b.value; is_text = inl b.is_text })
-enters_left P Q (Some t) (inr c) = inr (c.0, inl c.1)
+enters_left P Q there h1 = search rules
 
 pub enters_right : {V : Type 0} (P Q : Part Sign V HoaCause) (there : Option Sign) → Enters Q there →
     Enters (either P Q) there
-enters_right P Q None e = e
-enters_right P Q (Some t) (inl b) = inl (record { more = b.more; value = b.value; is_text = inr b.is_text })
-enters_right P Q (Some t) (inr c) = inr (c.0, inr c.1)
+enters_right P Q there h1 = search rules
 
 -- ## Parentheses
 

@@ -39,8 +39,7 @@ module _ {V : Type 0} (sign : Kind → Bool) (P : Part Sign V HoaCause) where
             is_left = (t, refl, mark_taken sign t e);
             is_right = (v, p, refl);
           };
-      is_right =
-          subst (λ us. (times r.0 (λ us. further sign P us) (with_last ws v)).IsText rest us)
+      is_right = subst (λ us. (times r.0 (λ us. further sign P us) (with_last ws v)).IsText rest us)
           (append_assoc ws (v ∷ []) vs) (r.1 (with_last ws v));
     },
   )

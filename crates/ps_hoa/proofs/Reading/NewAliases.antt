@@ -1,6 +1,6 @@
 -- Which names of aliases are new.
-use Rattle.std.proofs.Common.{◌≡◌, ℕ, suc, ◌+◌, ◌<◌, ◌≤◌, Bool, true, false, cond, not, List, [], ◌∷◌, length, None}
-use Rattle.std.proofs.Common.{Some, is_some, refl, sym, ap, subst, inr, ⊎_elim, ◌∙◌, arith}
+use Rattle.std.proofs.Common.{◌≡◌, ℕ, suc, ◌+◌, ◌<◌, ◌≤◌, Bool, true, false, cond, not, List, [], ◌∷◌, length, is_some}
+use Rattle.std.proofs.Common.{refl, subst, rules}
 use Rattle.std.specs.List.{position_or_len}
 use Rattle.std.specs.Str.{bytes_eq}
 use Rattle.std.proofs.lemmas.Bool.{le-ltb, lt-ltb}
@@ -23,8 +23,7 @@ module _ (text : List ℕ) where
 
   at_first : (b rest : Bool) (k n : ℕ) → cond b true rest ≡ true → (rest ≡ true → k < n) →
       cond (not b) (1 + k) 0 < suc n
-  at_first true rest k n e h = omega arith
-  at_first false rest k n e h = let l = h e in omega (arith, l)
+  at_first b rest k n h1 h2 = search rules
 
   among_place : (names : List (List ℕ)) → is_name_among text names ≡ true → place names < length names
   among_place [] e = absurd (false_true e)
@@ -34,8 +33,7 @@ module _ (text : List ℕ) where
 
   past_first : (b rest : Bool) (k n : ℕ) → cond b true rest ≡ false → (rest ≡ false → k ≡ n) →
       cond (not b) (1 + k) 0 ≡ suc n
-  past_first true rest k n e h = absurd (false_true (sym e))
-  past_first false rest k n e h = let l = h e in omega (arith, l)
+  past_first b rest k n h1 h2 = search (rules, false_true)
 
   no_place : (names : List (List ℕ)) → is_name_among text names ≡ false → place names ≡ length names
   no_place [] e = refl
@@ -44,37 +42,20 @@ module _ (text : List ℕ) where
       (past_first (bytes_eq text name) (is_name_among text names) (place names) (length names) e (no_place names))
 
   pub number-among : (names : List (List ℕ)) → is_some (alias_number names text) ≡ is_name_among text names
-  number-among names = go (is_name_among text names) refl
-    where
-      go : (b : Bool) → is_name_among text names ≡ b → is_some (alias_number names text) ≡ is_name_among text names
-      go true e =
-          ap (λ (b : Bool). is_some (cond b (Some (place names)) None))
-          (lt-ltb (place names) (length names) (among_place names e)) ∙ sym e
-      go false e = let l = no_place names e in
-          ap (λ (b : Bool). is_some (cond b (Some (place names)) None))
-          (le-ltb (place names) (length names) (omega (arith, l))) ∙ sym e
+  number-among names = search (rules, lt-ltb, among_place, no_place, le-ltb)
 
   -- a name that is new, and within the limit
   pub new_alias_taken : (names : List (List ℕ)) (kind : Kind) → kind ≡ AliasName → length names < alias_limit →
       is_name_among text names ≡ false →
       IsTaken alias_name_in (IsBadAlias names) (record { kind = kind; text = text }) text
-  new_alias_taken names kind e short new =
-      subst (λ k. IsTaken alias_name_in (IsBadAlias names) (record { kind = k; text = text }) text) (sym e)
-      (record { some = refl; good = good })
-    where
-      good : (f : HoaCause) → IsBadAlias names (record { kind = AliasName; text = text }) f → ⊥
-      good f b = ⊎_elim (λ h. let l = h.0 in omega (arith, short, l)) (λ h. false_true (sym new ∙ h.0)) b.0
+  new_alias_taken names kind e short new = search (rules, false_true)
 
   -- a name of an earlier one
   module _ (names : List (List ℕ)) (kind : Kind) (e : kind ≡ AliasName) (short : length names < alias_limit)
       (old : is_name_among text names ≡ true) where
     pub old_alias_bad : IsBadAlias names (record { kind = kind; text = text }) Alias
-    old_alias_bad =
-        subst (λ k. IsBadAlias names (record { kind = k; text = text }) Alias) (sym e) (inr (old, refl), λ h. cc)
+    old_alias_bad = search rules
 
     pub old_alias_least : (g : HoaCause) → IsBadAlias names (record { kind = kind; text = text }) g →
         cause_number Alias ≤ cause_number g
-    old_alias_least g b = least (subst (λ k. IsBadAlias names (record { kind = k; text = text }) g) e b)
-      where
-        least : IsBadAlias names (record { kind = AliasName; text = text }) g → cause_number Alias ≤ cause_number g
-        least b = ⊎_elim (λ h. let l = h.0 in absurd (omega (arith, short, l))) (λ h. least_same Alias g h.1) b.0
+    old_alias_least g b = search (rules, least_same)

@@ -1,6 +1,6 @@
 -- How a text opens, and what its answer is by that.
 use Rattle.std.proofs.Common.{Bool, ◌≡◌, ℕ, ◌+◌, ◌-◌, ◌≤◌, true, false, List, ◌++◌, length, take, drop, ap, sym, subst}
-use Rattle.std.proofs.Common.{◌∙◌, arith, length-drop}
+use Rattle.std.proofs.Common.{◌∙◌, arith, length-drop, rules}
 use Rattle.std.specs.Prelude.{codes, Result}
 use Rattle.std.specs.List.{prefix_len}
 use Rattle.std.specs.Str.{bytes_eq}
@@ -30,16 +30,10 @@ to_end : (text : List ℕ) (at : ℕ) → to_its_end text at ≡ drop at text
 to_end text at = take_all (length text - at) (drop at text) (rw length-drop (omega arith))
 
 word_stands : (rest word : List ℕ) → begins_with rest word ≡ true → rest ≡ word ++ drop (length word) rest
-word_stands rest word h =
-    whole (length word) rest ∙ ap (λ (xs : List ℕ). xs ++ drop (length word) rest) (begins_is rest word h).0
+word_stands rest word h = search (rules, whole, begins_is)
 
 word_missing : (rest word : List ℕ) → begins_with rest word ≡ false → (more : List ℕ) → rest ≡ word ++ more → ⊥
-word_missing rest word h more e =
-    wrong (sym ((bytes_eq-Decides (take (length word) rest) word).1
-    (ap (λ (xs : List ℕ). take (length word) xs) e ∙ take-append_seam word more)) ∙ h)
-  where
-    wrong : true ≡ false → ⊥
-    wrong f = cc
+word_missing rest word h more e = search (rules, bytes_eq-Decides, take-append_seam)
 
 behind : (text : List ℕ) (from at : ℕ) (b : AreBlanks text from at) → IsNoBlank (step_of (drop at text)) →
     IsBehindBlanks (drop from text) b.blanks (drop at text)
@@ -71,15 +65,7 @@ told_word text first e = ap (λ (xs : List ℕ). begins_with xs (codes "HOA:")) 
 pub opens : {text : List ℕ} {first second : ℕ} → length text ≤ text_limit → AreBlanks text 0 first →
     IsNoBlank (step_of (drop first text)) → begins_with (to_its_end text first) (codes "HOA:") ≡ true →
     AreBlanks text (first + 4) second → IsNoBlank (step_of (drop second text)) → Opens text first second
-opens {text} {first} short before first_end word further second_end =
-    record {
-      short = short;
-      before = before;
-      first_end = first_end;
-      word = told_word text first word;
-      further = further;
-      second_end = second_end;
-    }
+opens {text} {first} short before first_end word further second_end = search (rules, told_word)
 
 module _ (text : List ℕ) (first second : ℕ) (o : Opens text first second) where
   abbrev more : List ℕ
@@ -146,7 +132,4 @@ module _ (text : List ℕ) (second count : ℕ) (is : count ≡ prefix_len is_ve
 
   pub told_version : {b : Bool} → bytes_eq (take ((second + count) - second) (drop second text)) (codes "v1") ≡ b →
       bytes_eq (take (prefix_len is_version_byte (drop second text)) (drop second text)) (codes "v1") ≡ b
-  told_version told =
-      let e = told_count in
-      let same : prefix_len is_version_byte (drop second text) ≡ (second + count) - second = omega arith in
-      ap (λ (k : ℕ). bytes_eq (take k (drop second text)) (codes "v1")) same ∙ told
+  told_version told = search (rules, told_count)

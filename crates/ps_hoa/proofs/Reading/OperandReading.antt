@@ -2,12 +2,12 @@
 --     Operands      what is needed of the operands of a grammar
 --     operand_row      what the lemmas on rows need, for a grammar of operands
 --     paren_reads, paren_fails, paren_stays_open      the exits of an operand in parentheses
-use Rattle.std.proofs.Common.{◌≡◌, ℕ, suc, ◌-◌, ◌<◌, List, subst, arith}
+use Rattle.std.proofs.Common.{◌≡◌, ℕ, suc, ◌-◌, ◌<◌, List, subst, arith, rules}
 use Rattle.ps_text.specs.Answers.{Stream}
 use Rattle.ps_text.specs.Parts.{Part}
 use Rattle.ps_text.specs.Readers.{Reads}
 use Rattle.ps_text.proofs.Laws.{Laws, Nothing}
-use Rattle.ps_hoa.specs.Operands.{is_and, is_right, mark, inner, kind_of, is_sign_of, between, rows}
+use Rattle.ps_hoa.specs.Operands.{is_right, mark, inner, kind_of, is_sign_of, between, rows}
 use Rattle.ps_hoa.specs.Scan.{next_of, behind_next}
 use Rattle.ps_hoa.specs.Tokens.{Sign}
 use Rattle.ps_hoa.specs.declared.connective.Connective.{Connective}
@@ -38,8 +38,7 @@ pub record Operands {V : Type 0} (together : Connective → List V → V) (opera
 pub operand_row : {V : Type 0} {together : Connective → List V → V} {operand : ℕ → Part Sign V HoaCause} →
     Operands together operand → (room : ℕ) (c : Connective) →
     Row (is_sign_of c) (kind_of c) (between together c (operand room)) (Of is_start) (Behind c)
-operand_row o room connectives.And =
-    record { tests = tests_and; mark_laws = laws_and; laws = o.laws room; apart = nothing_apart (Of is_and) }
+operand_row o room connectives.And = search (rules, tests_and, laws_and, nothing_apart, Of)
 operand_row {together = together} {operand = operand} o room connectives.Or =
     record {
       tests = tests_or;

@@ -6,7 +6,7 @@
 --     row_starts, row_more, row_shrinks      the invariant of the loop and its measure
 --     row_fails, row_done      a later operand fails, and the end of the loop
 use Rattle.std.proofs.Common.{◌≡◌, ℕ, ◌+◌, ◌<◌, Bool, true, List, [], ◌∷◌, ◌++◌, length, map, refl, sym, ap, subst, ◌∙◌}
-use Rattle.std.proofs.Common.{arith, length-append}
+use Rattle.std.proofs.Common.{arith, length-append, rules}
 use Rattle.std.proofs.lemmas.List.{map-append}
 use Rattle.ps_text.specs.Answers.{Stream}
 use Rattle.ps_text.specs.Parts.{Part, many}
@@ -60,8 +60,7 @@ module _ {V : Type 0} {sign : Kind → Bool} {kind : Kind} {operand : Part Sign 
 
   pub first_alone : (join : List V → V) {old now : Stream Sign} {v : V} → Reads operand old v now →
       ((next_of now).sign.kind ≡ kind → ⊥) → Reads (row sign join operand) old v now
-  first_alone join {now = now} r differs =
-      row_alone sign operand w.mark_laws w.laws w.apart join r (mark_elsewhere w.tests now differs)
+  first_alone join {now = now} r differs = search (rules, row_alone, mark_elsewhere)
 
   pub row_starts : {old now : Stream Sign} {v : V} {vs : List V} → Reads operand old v now →
       (next_of now).sign.kind ≡ kind → vs ≡ single v → IsRow sign operand old vs now
@@ -74,8 +73,7 @@ module _ {V : Type 0} {sign : Kind → Bool} {kind : Kind} {operand : Part Sign 
   module _ {old now : Stream Sign} {vs : List V} (i : IsRow sign operand old vs now) where
     pub row_done : (join : List V → V) → ((next_of now).sign.kind ≡ kind → ⊥) →
         Reads (row sign join operand) old (join vs) now
-    row_done join differs =
-        subst (λ v. Reads (row sign join operand) old v now) (all vs
+    row_done join differs = subst (λ v. Reads (row sign join operand) old v now) (all vs
         (λ one. differs (w.tests.is.1 _ (i.several one))))
         (row_ends sign operand w.mark_laws w.laws w.apart join i.carries (mark_elsewhere w.tests now differs))
       where
@@ -97,9 +95,7 @@ module _ {V : Type 0} {sign : Kind → Bool} {kind : Kind} {operand : Part Sign 
           })
 
       pub row_fails : (join : List V → V) → Leads (row sign join operand) old operand mid
-      row_fails join = record {
-        stops = λ o s. row_stops sign operand w.mark_laws w.laws w.apart join o i.carries (mark_read w.tests e n) s;
-      }
+      row_fails join = search (rules, row_stops, mark_read)
 
   pub row_shrinks : (now : Stream Sign) {mid new : Stream Sign} {v : V} → mid ≡ behind_next now →
       Reads operand mid v new → length new.pieces < length now.pieces

@@ -4,7 +4,7 @@
 --     place_push      the places behind one more row
 --     nat_same      numbers that compare as equal are equal
 use Rattle.std.proofs.Common.{◌≡◌, ℕ, suc, Bool, true, false, cond, List, [], ◌∷◌, ◌++◌, length, Option, None, Some}
-use Rattle.std.proofs.Common.{refl, sym, ap, ◌∙◌, arith}
+use Rattle.std.proofs.Common.{refl, sym, ap, ◌∙◌, arith, rules}
 use Rattle.std.specs.List.{slice_get}
 use Rattle.std.specs.Option.{is_some}
 use Rattle.std.specs.Ordering.{nat_cmp, is_eq}
@@ -20,8 +20,7 @@ pub nat_same : (k q : ℕ) → is_eq (nat_cmp k q) ≡ nat_eq q k
 nat_same k q = grind arith
 
 further_some : (o : Option ℕ) → is_some (one_further o) ≡ is_some o
-further_some None = refl
-further_some (Some k) = refl
+further_some o = search rules
 
 pub has_place_row : (n : ℕ) (rows : List RowData) → is_some (row_place n rows) ≡ has_row n rows
 has_place_row n [] = refl
@@ -38,8 +37,7 @@ at_place rows (Some k) = slice_get rows k
 
 further_at : (row : RowData) (rows : List RowData) (o : Option ℕ) →
     at_place rows o ≡ at_place (row ∷ rows) (one_further o)
-further_at row rows None = refl
-further_at row rows (Some k) = refl
+further_at row rows o = search rules
 
 pub row_at : (n : ℕ) (rows : List RowData) → row_among rows n ≡ at_place rows (row_place n rows)
 row_at n [] = refl
@@ -67,8 +65,7 @@ place_push n (r ∷ rows) row free = rest (nat_eq row.state r.state) refl free (
 
     rest : (t : Bool) → nat_eq row.state r.state ≡ t → cond t true (has_row row.state rows) ≡ false →
         (has_row row.state rows ≡ false → cond (nat_eq n row.state) (Some (length rows)) (row_place n rows) ≡ row_place
-        n (rows ++ row ∷ [])) →
-        cond (nat_eq n row.state) (Some (suc (length rows))) (cond (nat_eq n r.state) (Some 0)
+        n (rows ++ row ∷ [])) → cond (nat_eq n row.state) (Some (suc (length rows))) (cond (nat_eq n r.state) (Some 0)
         (one_further (row_place n rows))) ≡ cond (nat_eq n r.state) (Some 0)
         (one_further (row_place n (rows ++ row ∷ [])))
     rest true e f more = absurd (false_true (sym f))

@@ -39,10 +39,8 @@ module _ {V X : Type 0} (view : X → V) {take : Sign → Option V} {Bad : Sign 
       (λ i. Some (record { cause = k.cause i; offset = x i }))
 
   at_sign : (p : Piece Sign) (ps : List (Piece Sign)) (e offset : ℕ) (cause : HoaCause) (new : Stream Sign) →
-      offset ≡ p.start →
-      (IsWorst Bad p.sign cause ⊎ IsRefusal take Bad p.sign cause) →
-      Meets found_of hoa_causes view (one take Bad) (record { pieces = p ∷ ps; end = e })
-      (Err (Text cause offset)) new
+      offset ≡ p.start → (IsWorst Bad p.sign cause ⊎ IsRefusal take Bad p.sign cause) →
+      Meets found_of hoa_causes view (one take Bad) (record { pieces = p ∷ ps; end = e }) (Err (Text cause offset)) new
   at_sign p ps e offset cause new x (inl w) =
       meets_bad_next found_of hoa_causes take Bad view (record { pieces = p ∷ ps; end = e }) new p.sign cause
       (Text cause offset)
@@ -54,8 +52,7 @@ module _ {V X : Type 0} (view : X → V) {take : Sign → Option V} {Bad : Sign 
       (Text cause offset) (λ i. Some (record { cause = k.cause i; offset = x i }))
 
   pub reads_one : (old new : Stream Sign) (r : Result X HoaFault) → Takes view take Bad (next_of old) r →
-      new ≡ behind_next old →
-      Meets found_of hoa_causes view (one take Bad) old r new
+      new ≡ behind_next old → Meets found_of hoa_causes view (one take Bad) old r new
   reads_one old new r = go old.pieces old.end r
     where
       go : (ps : List (Piece Sign)) (e : ℕ) (r : Result X HoaFault) →

@@ -5,7 +5,7 @@
 --     name_serves, no_name_serves      and so with its name
 --     edges_serve      the edges of a row that has none yet
 --     state_loop, edge_loop, set_loop      the loops of the body
-use Rattle.std.proofs.Common.{◌≡◌, true, false, List, [], Option, None, Some, is_some, refl, sym, ap, subst, ◌∙◌}
+use Rattle.std.proofs.Common.{◌≡◌, true, false, List, [], Option, None, Some, is_some, refl, sym, ap, ◌∙◌, rules}
 use Rattle.std.specs.Prelude.{codes, ℕ}
 use Rattle.ps_text.specs.Answers.{Stream, next_of as there_of}
 use Rattle.ps_text.specs.Parts.{NoBad, give, then_by, mapped}
@@ -56,8 +56,7 @@ end_signs h b =
 -- ## `State:`
 
 there : (o : Option (Unit {0})) → is_some o ≡ true → o ≡ Some tt
-there None e = absurd (false_true e)
-there (Some v) e = refl
+there o h1 = search (rules, false_true)
 
 pub state_enters : (h : HeaderData) (b : BodyData) (s : Stream Sign) → is_some (state_value (next_of s).sign) ≡ true →
     Enters (state h b) (there_of s)
@@ -89,19 +88,16 @@ module _ (s : Stream Sign) where
   string_begins e = sign_begins string_in NoBad s (λ f. tests_string.proper (sym e ∙ f)) (string_next e).1
 
   pub name_serves : (next_of s).sign.kind ≡ Text → Serves s (mapped nothing_of string) state_name
-  name_serves e = serves_as s (left_entered laws_named laws_no_name (there_of s) (λ t a b. b)
-      (enters_mapped nothing_of string (there_of s) (string_begins e)))
+  name_serves e = search (rules, serves_as, left_entered, laws_named, laws_no_name, enters_mapped, string_begins)
 
   pub no_name_serves : ((next_of s).sign.kind ≡ Text → ⊥) → Serves s (give tt) state_name
-  no_name_serves differs = serves_as s (right_otherwise laws_named laws_no_name (there_of s)
-      (mark_elsewhere tests_string s differs) (λ k. k))
+  no_name_serves differs =
+      search (rules, serves_as, right_otherwise, laws_named, laws_no_name, mark_elsewhere, tests_string)
 
 -- the edges of a new row
 pub edges_serve : (h : HeaderData) {before count : ℕ} {row empty : RowData} → before ≡ count → row ≡ empty →
     (s : Stream Sign) → Serves s (edges h before row) (edges h count empty)
-edges_serve h {before} {count} {row} e q s =
-    subst (λ (x : RowData). Serves s (edges h before row) (edges h count x)) q
-    (subst (λ n. Serves s (edges h before row) (edges h n row)) e itself)
+edges_serve h {before} {count} {row} e q s = search (rules, Serves, itself)
 
 -- ## Loops
 

@@ -1,7 +1,7 @@
 -- Numbers that are kept once: what holds of each holds of each of those that are kept, and they differ.
 --     neither      a list of which a test fails: it fails of the first, and of the others
 --     all_once, different_once      behind one more number
-use Rattle.std.proofs.Common.{◌≡◌, ℕ, Bool, true, false, cond, List, [], ◌∷◌, ◌++◌, refl, arith}
+use Rattle.std.proofs.Common.{◌≡◌, ℕ, Bool, true, false, cond, List, [], ◌∷◌, ◌++◌, refl, arith, rules}
 use Rattle.std.proofs.lemmas.Bool.{cond_both}
 use Rattle.std.specs.List.{AllByRecursion}
 use Rattle.std.specs.Prelude.{nat_eq}
@@ -10,8 +10,7 @@ use Rattle.ps_hoa.specs.Sound.{AreDifferent}
 use Rattle.ps_hoa.proofs.Soundness.SoundLabels.{all_push}
 
 pub neither : (a b : Bool) → cond a true b ≡ false → (a ≡ false) × (b ≡ false)
-neither true b e = cc
-neither false b e = (refl, e)
+neither a b h1 = search rules
 
 pub nat_eq_not : (a b : ℕ) → nat_eq a b ≡ false → nat_eq b a ≡ false
 nat_eq_not a b e = grind arith
@@ -29,5 +28,4 @@ pub different_once : (ns : List ℕ) (n : ℕ) → AreDifferent ns → AreDiffer
 different_once ns n a = cond_both (is_among n ns) ns (ns ++ n ∷ []) AreDifferent (λ _. a) (different_push ns n a)
 
 pub all_once : (P : ℕ → Type 0) (ns : List ℕ) (n : ℕ) → AllByRecursion P ns → P n → AllByRecursion P (once ns n)
-all_once P ns n a p =
-    cond_both (is_among n ns) ns (ns ++ n ∷ []) (AllByRecursion P) (λ _. a) (λ _. all_push P ns n a p)
+all_once P ns n a p = search (rules, cond_both, all_push)

@@ -39,10 +39,8 @@ keeps_then {P = P} {Q = Q} p q text b i quiet = q i.value (p i.left i.value i.is
         (inl c)
 
     right : IsQuiet (Q i.value) i.right
-    right front rest t f e c =
-        quiet (i.left ++ front) rest t f (i.split ∙ ap (λ z. i.left ++ z) e
-        ∙ sym (append_assoc i.left front (t ∷ rest)))
-        (inr (record {
+    right front rest t f e c = quiet (i.left ++ front) rest t f (i.split ∙ ap (λ z. i.left ++ z) e
+        ∙ sym (append_assoc i.left front (t ∷ rest))) (inr (record {
           left = i.left;
           right = front;
           value = i.value;

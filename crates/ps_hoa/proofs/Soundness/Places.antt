@@ -1,6 +1,6 @@
 -- Places of numbers.
 --     different_kept      numbers that are kept differ
-use Rattle.std.proofs.Common.{◌≡◌, ℕ, false, List, [], ◌∷◌, ◌++◌, refl, ap}
+use Rattle.std.proofs.Common.{◌≡◌, ℕ, false, List, [], ◌∷◌, refl, ap, rules}
 use Rattle.std.specs.Prelude.{nat_eq}
 use Rattle.std.proofs.lemmas.Bool.{cond_both, eqb-true, eqb-false, false_from_ne_true}
 use Rattle.ps_hoa.specs.Files.{is_among}
@@ -17,5 +17,4 @@ free_place n (m ∷ ns) e =
     rw (differ, free_place n ns f.1) refl
 
 pub different_kept : (ns : List ℕ) (n : ℕ) → AreDifferent ns → AreDifferent (kept ns n)
-different_kept ns n a = cond_both (has_place (place_of n) ns) ns (ns ++ n ∷ []) AreDifferent (λ _. a)
-    (λ e. different_push ns n a (free_place n ns e))
+different_kept ns n a = search (rules, cond_both, different_push, free_place)

@@ -1,7 +1,7 @@
 -- What the states and edges of a body that was read are.
 --     keeps_body      for each body
-use Rattle.std.proofs.Common.{◌≡◌, ℕ, suc, ◌+◌, ◌-◌, ◌<◌, ◌≤◌, ◌⊎◌, false, cond, List, [], ◌∷◌, ◌++◌, length, Option}
-use Rattle.std.proofs.Common.{None, Some, refl, sym, ap, subst, inl, inr, ◌∙◌, arith, length-append}
+use Rattle.std.proofs.Common.{◌≡◌, ℕ, suc, ◌+◌, ◌-◌, ◌<◌, ◌≤◌, ◌⊎◌, false, List, [], ◌∷◌, ◌++◌, length, Option, None}
+use Rattle.std.proofs.Common.{Some, refl, sym, ap, subst, inl, inr, ◌∙◌, arith, length-append, rules}
 use Rattle.std.specs.Option.{IfSome}
 use Rattle.std.specs.List.{AllByRecursion, slice_get}
 use Rattle.std.proofs.lemmas.List.Sums.{sum_by_push}
@@ -25,7 +25,6 @@ use Rattle.ps_hoa.specs.declared.edges.Labelling.{Labelling}
 use Rattle.ps_hoa.specs.declared.edges.Labelling.TheVariants.{ByState, ByEdge, ByPlace}
 use Rattle.ps_hoa.specs.declared.fault.HoaCause.{HoaCause}
 use Rattle.ps_hoa.specs.declared.fault.HoaCause.TheVariants as causes
-use Rattle.ps_hoa.specs.declared.tokens.Kind.{Kind}
 use Rattle.ps_hoa.specs.declared.tokens.Kind.TheVariants.{LeftBracket}
 use Rattle.std.proofs.lemmas.Bool.{false_from_ne_true}
 use Rattle.ps_hoa.proofs.Reading.MarkReading.{tests_left_bracket}
@@ -63,8 +62,7 @@ module _ (h : HeaderData) where
   keeps_marks : Keeps (marks h) AreSets
   keeps_marks = keeps_either (keeps_behind (mark is_left_brace) (λ _.
       keeps_then (keeps_many (set_number (sets_of h)) keeps_set_number [] (tt, tt))
-      (λ ns a. keeps_mapped _ (λ _. ns) (mark is_right_brace) (λ text u i q. a))))
-      (keeps_give _ [] (tt, tt))
+      (λ ns a. keeps_mapped _ (λ _. ns) (mark is_right_brace) (λ text u i q. a)))) (keeps_give _ [] (tt, tt))
 
   -- ## Labels between brackets
 
@@ -116,17 +114,11 @@ letters_push k n (y ∷ es) x a e g = (a.0, letters_push (k + 1) n es x a.1 (ome
 
 push_plain : (o : Option Expression) (es : List EdgeData) (x : EdgeData) → x.guard ≡ plain_by o (length es) →
     LabelledBy o es → ((MayHaveNoLabel (way o es) → ⊥) → ⊥) → LabelledBy o (es ++ x ∷ [])
-push_plain (Some e) es x g l m = all_push IsOfState es x l g
-push_plain None [] x g l m = inr (g, tt)
-push_plain None (y ∷ es) x g (inl s) m = absurd (m (λ h. subst (λ z. MayHaveNoLabel (way_of z)) s.0.1 h))
-push_plain None (y ∷ es) x g (inr a) m = inr (letters_push 0 (length (y ∷ es)) (y ∷ es) x a (omega arith) g)
+push_plain o es x h1 h2 h3 = search (rules, all_push, letters_push)
 
 push_stated : (o : Option Expression) (es : List EdgeData) (x : EdgeData) → IsStated x → LabelledBy o es →
     ((MayHaveLabel (way o es) → ⊥) → ⊥) → LabelledBy o (es ++ x ∷ [])
-push_stated (Some e) es x s l m = absurd (m (λ h. h))
-push_stated None [] x s l m = inl (s, tt)
-push_stated None (y ∷ es) x s (inl a) m = inl (all_push IsStated (y ∷ es) x a s)
-push_stated None (y ∷ es) x s (inr a) m = absurd (m (λ h. subst (λ z. MayHaveLabel (way_of z)) a.0 h))
+push_stated o es x h1 h2 h3 = search (rules, all_push)
 
 -- ## Rows
 
@@ -136,10 +128,6 @@ pub record IsRowKept (h : HeaderData) (row : RowData) : Type 0 where
   pub marks : AreSets h row.marks
   pub edges : AllByRecursion (IsEdgeKept h) row.edges
   pub labelled : LabelledBy row.label row.edges
-
-bracket_kind : (kind : Kind) (v : Unit {0}) → cond (is_left_bracket kind) (Some tt) None ≡ Some v → kind ≡ LeftBracket
-bracket_kind LeftBracket v e = refl
-bracket_kind kind v e = absurd (none_is_some v e)
 
 -- behind so many edges of earlier states
 module _ (h : HeaderData) (before : ℕ) (n : ℕ) where
@@ -185,8 +173,7 @@ module _ (h : HeaderData) (before : ℕ) (n : ℕ) where
         (keeps_marks h text ns i q) m.0 (push_stated row.label row.edges _ (l.0, g) k.0.labelled m.1)))))
 
     plain_kept : (o : Option Expression) → IsGuardKept h (plain_by o (length row.edges))
-    plain_kept None = tt
-    plain_kept (Some e) = tt
+    plain_kept o = search rules
 
     keeps_plain_edge : Keeps (plain_edge h before row) RowOf
     keeps_plain_edge =
@@ -262,19 +249,10 @@ module _ (h : HeaderData) (b : BodyData) where
 
   starts : (label : Option Expression) (n : ℕ) (ns : List ℕ) → IfSome label (IsScoped h) → IsStateOf h.states n →
       AreSets h ns → b.edges ≤ edge_limit → RowOf h b.edges n (empty_row n label ns)
-  starts label n ns l s a few = (
-    record { state = s; label = l; marks = a; edges = tt; labelled = none label },
-    refl,
-    (let z : b.edges + 0 ≤ edge_limit = omega (arith, few) in z),
-  )
-    where
-      none : (o : Option Expression) → LabelledBy o []
-      none None = inl tt
-      none (Some e) = tt
+  starts label n ns l s a few = search rules
 
   keeps_state : IsBodyKept h b → Keeps (state h b) (IsBodyKept h)
-  keeps_state k =
-      keeps_then keeps_state_begins (λ _ r. keeps_then (keeps_state_label h)
+  keeps_state k = keeps_then keeps_state_begins (λ _ r. keeps_then (keeps_state_label h)
       (λ label l. keeps_then (keeps_number (IsBadRow h b)) (λ n g.
       keeps_behind state_name (λ _. keeps_then (keeps_marks h) (λ ns a.
       keeps_mapped _ (with_row b) (edges h b.edges (empty_row n label ns)) (λ text row i q.
@@ -302,6 +280,5 @@ module _ (h : HeaderData) (b : BodyData) where
       }))
 
 pub keeps_body : (h : HeaderData) → Keeps (body h) (IsBodyDone h)
-keeps_body h =
-    keeps_then (keeps_many (state h) (keeps_state h) no_rows (record
+keeps_body h = keeps_then (keeps_many (state h) (keeps_state h) no_rows (record
     { rows = tt; once = tt; counts = tt; edges = refl; few = omega arith })) (keeps_ended h)

@@ -1,6 +1,6 @@
 -- Each file that was read is sound.
 use Rattle.std.proofs.Common.{◌≡◌, ℕ, ◌^◌, ◌<◌, ◌≤◌, ◌≢◌, max, true, List, [], ◌∷◌, length, Option, None, Some, Ok}
-use Rattle.std.proofs.Common.{refl, ap, subst, inl, inr, arith}
+use Rattle.std.proofs.Common.{refl, inl, inr, arith, rules}
 use Rattle.std.specs.Option.{IfSome, unwrap_or}
 use Rattle.std.specs.List.{AllByRecursion}
 use Rattle.std.proofs.lemmas.Bool.Decides.{eqb_tells}
@@ -10,8 +10,7 @@ use Rattle.ps_text.specs.Parts.{by_part}
 use Rattle.ps_hoa.specs.Body.{BodyData, body}
 use Rattle.ps_hoa.specs.Conditions.{Condition, Conditions}
 use Rattle.ps_hoa.specs.Conditions as conditions
-use Rattle.ps_hoa.specs.Files.{GuardData, EdgeData, RowData, FileData, stated, of_state, at_letter, greatest_target}
-use Rattle.ps_hoa.specs.Files.{greatest_state, count_of_states}
+use Rattle.ps_hoa.specs.Files.{GuardData, EdgeData, RowData, FileData, greatest_target, greatest_state, count_of_states}
 use Rattle.ps_hoa.specs.Header.{HeaderData, AcceptanceData, names_of, state_limit, set_limit, IsStartBeyond}
 use Rattle.ps_hoa.specs.Header.{IsStartTooLarge, IsConditionBeyond, IsControlBeyond, AnIndexBeyond, NamesSetBeyond}
 use Rattle.ps_hoa.specs.Header.{SomeNamesSetBeyond, start_too_large, no_start, out_of_range}
@@ -45,8 +44,7 @@ state_rises s (r ∷ rows) = omega (
 
 targets_up_to : (g s : ℕ) (es : List EdgeData) → greatest_target s es ≤ g → AllByRecursion (λ e. e.target ≤ g) es
 targets_up_to g s [] l = tt
-targets_up_to g s (e ∷ es) l =
-    (omega (arith, target_rises (max s e.target) es), targets_up_to g (max s e.target) es l)
+targets_up_to g s (e ∷ es) l = (omega (arith, target_rises (max s e.target) es), targets_up_to g (max s e.target) es l)
 
 abbrev IsUpTo : ℕ → RowData → Type 0
 IsUpTo g row = (row.state ≤ g) × AllByRecursion (λ e. e.target ≤ g) row.edges
@@ -71,8 +69,7 @@ IsBelow limit row = (row.state < limit) × AllByRecursion (λ e. e.target < limi
 rows_below : (limit s : ℕ) (rows : List RowData) → s < limit → AllByRecursion (IsBelow limit) rows →
     greatest_state s rows < limit
 rows_below limit s [] l a = l
-rows_below limit s (r ∷ rows) l a =
-    rows_below limit (greatest_target (max s r.state) r.edges) rows
+rows_below limit s (r ∷ rows) l a = rows_below limit (greatest_target (max s r.state) r.edges) rows
     (targets_below limit (max s r.state) r.edges (omega arith) a.0.1) a.1
 
 all_map : {X : Type 0} {P Q : X → Type 0} → ((x : X) → P x → Q x) → (xs : List X) → AllByRecursion P xs →
@@ -84,30 +81,25 @@ abbrev IsOf : Option ℕ → RowData → Type 0
 IsOf states row = IsStateOf states row.state × AllByRecursion (λ e. IsStateOf states e.target) row.edges
 
 count_limit : (states : Option ℕ) (start : ℕ) (rows : List RowData) → IfSome states (λ n. n ≤ state_limit) →
-    IsStateOf states start → AllByRecursion (IsOf states) rows →
-    count_of_states states start rows ≤ state_limit
+    IsStateOf states start → AllByRecursion (IsOf states) rows → count_of_states states start rows ≤ state_limit
 count_limit (Some n) start rows l s a = l
 count_limit None start rows l s a = omega (arith, rows_below state_limit start rows s a)
 
 start_below : (states : Option ℕ) (start : ℕ) (rows : List RowData) → IsStateOf states start →
     start < count_of_states states start rows
-start_below (Some n) start rows s = s
-start_below None start rows s = omega (arith, state_rises start rows)
+start_below states start rows h1 = search (rules, state_rises)
 
 all_below : (states : Option ℕ) (start : ℕ) (rows : List RowData) → AllByRecursion (IsOf states) rows →
     AllByRecursion (IsBelow (count_of_states states start rows)) rows
 all_below (Some n) start rows a = a
-all_below None start rows a =
-    all_map (λ r u. (omega arith, all_map (λ e m. omega arith) r.edges u.1)) rows
+all_below None start rows a = all_map (λ r u. (omega arith, all_map (λ e m. omega arith) r.edges u.1)) rows
     (rows_up_to (greatest_state start rows) start rows (omega arith))
 
 -- ## What the checks at `--BODY--` leave
 
 start_state : (states start : Option ℕ) → (start ≡ None → ⊥) → (IsStartTooLarge states start → ⊥) →
     (IsStartBeyond states start → ⊥) → IsStateOf states (unwrap_or start 0)
-start_state states None n l b = absurd (n refl)
-start_state None (Some s) n l b = below l
-start_state (Some states) (Some s) n l b = below b
+start_state states start h1 h2 h3 = search (rules, below)
 
 abbrev pub sets_in : Option AcceptanceData → ℕ
 sets_in o = elim o [ None ↦ 0 | Some a ↦ a.sets ]
@@ -116,8 +108,7 @@ abbrev pub condition_in : Option AcceptanceData → Condition
 condition_in o = elim o [ None ↦ conditions.constant true | Some a ↦ a.condition ]
 
 few_sets : (o : Option AcceptanceData) → IfSome o (λ a. a.sets ≤ set_limit) → sets_in o ≤ set_limit
-few_sets None l = omega arith
-few_sets (Some a) l = l
+few_sets o h1 = search rules
 
 mutual
   condition_from : (count : ℕ) (c : Condition) → (NamesSetBeyond count c → ⊥) → IsCondition count c
@@ -143,38 +134,26 @@ indices_from count (n ∷ ns) b = (below (λ h. b (inl h)), indices_from count n
 control_within : (count : ℕ) (o : Option (List ℕ)) → (IsControlBeyond count o → ⊥) → IfSome o AreDifferent →
     AreBelow count (unwrap_or o [])
 control_within count None b d = record { all = all_at (λ n. n < count) [] tt; different = tt }
-control_within count (Some ns) b d =
-    record { all = all_at (λ n. n < count) ns (indices_from count ns b); different = d }
+control_within count (Some ns) b d = search (rules, all_at, indices_from)
 
 -- ## Rows
 
 labelled_right : (propositions : ℕ) (o : Option Expression) (es : List EdgeData) → LabelledBy o es →
     ((way o es ≡ ByPlace) × (length es ≢ 2 ^ propositions) → ⊥) → AreLabelled propositions o es
-labelled_right propositions (Some e) es l c = l
-labelled_right propositions None es (inl s) c = inl s
-labelled_right propositions None [] (inr a) c = inl tt
-labelled_right propositions None (y ∷ es) (inr a) c = (elim (eqb_tells (length (y ∷ es)) (2 ^ propositions)) [
-  | inl h ↦ inr (a, h.1)
-  | inr h ↦ absurd (c (ap way_of a.0, h.1))
-])
+labelled_right propositions o es h1 h2 = search (rules, eqb_tells, way_of)
 
 module _ (h : HeaderData) (b : BodyData) (k : Kept h) (n : HasNoFlaw h) (d : IsBodyDone h b) where
   abbrev whole : FileData
   whole = file_of h b
 
   is_label : (e : Expression) → IsScoped h e → IsLabelOf whole e
-  is_label e s =
-      label_from (length (names_of h)) (length h.aliases) e (subst (λ m. NamesBelow m e) k.2.one_each s.0)
-      (s.1 (length (names_of h)) refl)
+  is_label e s = search (rules, label_from, NamesBelow)
 
   guard_sound : (g : GuardData) → IsGuardKept h g → IsGuard whole g
-  guard_sound (stated e) s = is_label e s
-  guard_sound of_state s = tt
-  guard_sound (at_letter m) s = tt
+  guard_sound g h1 = search (rules, is_label)
 
   label_sound : (o : Option Expression) → IfSome o (IsScoped h) → IfSome o (IsLabelOf whole)
-  label_sound None s = tt
-  label_sound (Some e) s = is_label e s
+  label_sound o h1 = search (rules, is_label)
 
   marks_sound : (ns : List ℕ) → AreSets h ns → AreBelow whole.sets ns
   marks_sound ns a = record { all = all_at (λ n. n < whole.sets) ns a.0; different = a.1 }
@@ -202,8 +181,7 @@ module _ (h : HeaderData) (b : BodyData) (k : Kept h) (n : HasNoFlaw h) (d : IsB
   )
 
   start_is : IsStateOf h.states (unwrap_or h.start 0)
-  start_is =
-      start_state h.states h.start (λ e. n causes.Start (no_start e)) (λ l. n causes.Limit (start_too_large l))
+  start_is = start_state h.states h.start (λ e. n causes.Start (no_start e)) (λ l. n causes.Limit (start_too_large l))
       (λ l. n causes.Range (out_of_range (inl l)))
 
   rows_are : AllByRecursion (IsOf h.states) b.rows
@@ -222,8 +200,7 @@ module _ (h : HeaderData) (b : BodyData) (k : Kept h) (n : HasNoFlaw h) (d : IsB
     aliases = sound_aliases h k n;
     sets = few_sets h.acceptance k.3;
     condition = condition_within h.acceptance (λ c. n causes.Range (out_of_range (inr (inr (inl c)))));
-    rows =
-        all_at (IsSoundRow whole) b.rows (rows_sound b.rows d.rows d.counts
+    rows = all_at (IsSoundRow whole) b.rows (rows_sound b.rows d.rows d.counts
         (all_below h.states (unwrap_or h.start 0) b.rows rows_are));
     rows_once = d.once;
     few_edges = d.few;

@@ -2,17 +2,17 @@
 --     keeps_header      for each header
 --     sound_aliases      its aliases
 use Rattle.std.proofs.Common.{◌≡◌, ℕ, zero, suc, ◌+◌, ◌<◌, ◌≤◌, true, List, [], ◌∷◌, ◌++◌, length, codes, Option, None}
-use Rattle.std.proofs.Common.{Some, refl, sym, subst, inl, inr, ◌∙◌, arith, length-append}
+use Rattle.std.proofs.Common.{Some, refl, sym, subst, inl, inr, ◌∙◌, arith, length-append, rules}
 use Rattle.std.specs.Option.{IfSome}
 use Rattle.ps_label.specs.Expression.{Expression}
 use Rattle.ps_text.specs.Parts.{one, times, many, barred}
 use Rattle.ps_text.proofs.Simple.{none_is_some, same_some}
 use Rattle.ps_hoa.specs.Header.{HeaderData, no_items, names_of, state_limit, proposition_limit, alias_limit, set_limit}
-use Rattle.ps_hoa.specs.Header.{item_name, int_in, IsAbove, int, string, with_states, IsAlternating, is_name_among}
-use Rattle.ps_hoa.specs.Header.{with_start, string_in, IsBadName, with_name, proposition_name, with_names, alias_value}
-use Rattle.ps_hoa.specs.Header.{IsBadAlias, header_scope, with_alias, with_acceptance, index, with_controllable}
-use Rattle.ps_hoa.specs.Header.{unchanged, read_over_value, read_over, form_of, item, AnAliasBeyond, IsBadHeader}
-use Rattle.ps_hoa.specs.Header.{out_of_range, body_value, IsBadBody, body_mark, header, is_empty, has_control, kept}
+use Rattle.ps_hoa.specs.Header.{item_name, int_in, int, IsAlternating, is_name_among, with_start, string_in, IsBadName}
+use Rattle.ps_hoa.specs.Header.{with_name, proposition_name, with_names, alias_value, IsBadAlias, header_scope}
+use Rattle.ps_hoa.specs.Header.{with_alias, with_acceptance, index, with_controllable, read_over_value, read_over}
+use Rattle.ps_hoa.specs.Header.{form_of, item, AnAliasBeyond, IsBadHeader, out_of_range, body_value, IsBadBody}
+use Rattle.ps_hoa.specs.Header.{body_mark, header, is_empty, has_control, kept}
 use Rattle.ps_hoa.specs.ItemNames as items
 use Rattle.ps_hoa.specs.ItemNames.{ItemName}
 use Rattle.ps_hoa.specs.Labels.{label}
@@ -22,7 +22,7 @@ use Rattle.ps_hoa.specs.Tokens.{Sign}
 use Rattle.ps_hoa.specs.declared.fault.HoaCause.{HoaCause}
 use Rattle.ps_hoa.specs.declared.fault.HoaCause.TheVariants as causes
 use Rattle.ps_hoa.specs.declared.tokens.Kind.{Kind}
-use Rattle.ps_hoa.specs.declared.tokens.Kind.TheVariants.{Body, Int, Text, Word}
+use Rattle.ps_hoa.specs.declared.tokens.Kind.TheVariants.{Body}
 use Rattle.std.specs.Prelude.{◌||◌, Bool, false}
 use Rattle.std.specs.Str.{bytes_eq}
 use Rattle.ps_hoa.specs.Sound.{AreDifferent, AreAliases, AreNames}
@@ -66,8 +66,7 @@ pub record HasAliases (names : List (List ℕ)) (es : List Expression) : Type 0 
 
 -- what the items so far say: the states, propositions, aliases, sets and controllable propositions
 abbrev pub Kept : HeaderData → Type 0
-Kept h =
-    IfSome h.states (λ n. n ≤ state_limit) × ((length (names_of h) ≤ proposition_limit) × AreNames (names_of h)) ×
+Kept h = IfSome h.states (λ n. n ≤ state_limit) × ((length (names_of h) ≤ proposition_limit) × AreNames (names_of h)) ×
     HasAliases h.alias_names h.aliases × IfSome h.acceptance (λ a. a.sets ≤ set_limit) ×
     IfSome h.controllable AreDifferent
 
@@ -77,8 +76,7 @@ rise_push k m [] e r is n = (let z : m ≡ k = omega arith in rw z at n, tt)
 rise_push k m (x ∷ es) e r is n = (r.0, rise_push (k + 1) m es e r.1 (omega (arith, is)) n)
 
 one_more_alias : (names : List (List ℕ)) (es : List Expression) (name : List ℕ) (e : Expression) → HasAliases names es →
-    length names < alias_limit → NamesBelow (length names) e →
-    HasAliases (names ++ name ∷ []) (es ++ e ∷ [])
+    length names < alias_limit → NamesBelow (length names) e → HasAliases (names ++ name ∷ []) (es ++ e ∷ [])
 one_more_alias names es name e a l n =
     let y : length (names ++ name ∷ []) ≡ length names + 1 = length-append names (name ∷ []) in
     let z : length (es ++ e ∷ []) ≡ length es + 1 = length-append es (e ∷ []) in
@@ -129,18 +127,13 @@ few_more : (names : List (List ℕ)) (t : Sign) (name : List ℕ) → alias_valu
 few_more names t name e good = below (λ l. good causes.Limit (if_there _ e (inl (l, refl))))
 
 same_value : (h g : HeaderData) (kind : Kind) → read_over_value h kind ≡ Some g → h ≡ g
-same_value h g Int e = same_some h g e
-same_value h g Text e = same_some h g e
-same_value h g Word e = same_some h g e
-same_value h g kind e = absurd (none_is_some g e)
+same_value h g kind h1 = search (rules, same_some, none_is_some)
 
 keeps_read_over : (h : HeaderData) → Kept h → Keeps (read_over h) Kept
-keeps_read_over h k = keeps_one (λ s. read_over_value h s.kind) (IsAbove number_limit)
-    (λ t g e good. subst Kept (same_value h g t.kind e) k)
+keeps_read_over h k = search (rules, keeps_one, same_value)
 
 keeps_form : (h : HeaderData) → Kept h → (name : ItemName) → Keeps (form_of h name) Kept
-keeps_form h k items.states = keeps_behind (item_name (codes "States:")) (λ _. keeps_mapped _ (with_states h)
-    (int state_limit) (λ text n i q. (keeps_int state_limit text n i q, k.1, k.2, k.3, k.4)))
+keeps_form h k items.states = search (rules, keeps_behind, keeps_mapped, keeps_int)
 keeps_form h k items.start = keeps_behind (start_name h) (λ _. keeps_mapped _ (with_start h)
     (barred (int number_limit) IsAlternating) (λ text n i q. k))
 keeps_form h k items.propositions = keeps_behind (item_name (codes "AP:")) (λ _.
@@ -165,10 +158,8 @@ keeps_form h k items.controllable = keeps_behind (item_name (codes "controllable
       keeps_many index
           (λ ns a. keeps_mapped _ (kept ns) (int number_limit) (λ text n i q. different_kept ns n a)) [] tt text ns i q,
     )))
-keeps_form h k items.tool = keeps_behind (item_name (codes "tool:")) (λ _. keeps_behind string (λ _.
-    keeps_either (keeps_mapped _ (unchanged h) string (λ text v i q. k)) (keeps_give _ h k)))
-keeps_form h k items.name = keeps_behind (item_name (codes "name:")) (λ _.
-    keeps_mapped _ (unchanged h) string (λ text v i q. k))
+keeps_form h k items.tool = search (rules, keeps_behind, keeps_either, keeps_mapped, keeps_give)
+keeps_form h k items.name = search (rules, keeps_behind, keeps_mapped)
 keeps_form h k items.other = keeps_behind other_name (λ _. keeps_many read_over keeps_read_over h k)
 
 keeps_item : (h : HeaderData) → Kept h → Keeps (item h) Kept
@@ -180,8 +171,7 @@ abbrev pub HasNoFlaw : HeaderData → Type 0
 HasNoFlaw h = (f : HoaCause) → IsBadHeader h f → ⊥
 
 same_header : (h g : HeaderData) (kind : Kind) → body_value h kind ≡ Some g → (kind ≡ Body) × (h ≡ g)
-same_header h g Body e = (refl, same_some h g e)
-same_header h g kind e = absurd (none_is_some g e)
+same_header h g kind h1 = search (rules, same_some, none_is_some)
 
 keeps_body_mark : (h : HeaderData) → Kept h → Keeps (body_mark h) (λ g. Kept g × HasNoFlaw g)
 keeps_body_mark h k = keeps_one (λ s. body_value h s.kind) (IsBadBody h) (λ t g e good.

@@ -2,10 +2,9 @@
 --     NamesBelow count e      e speaks of aliases below that number
 --     label_from      where it speaks of no proposition beyond, it is sound
 --     keeps_label      for each label in its surroundings
-use Rattle.std.proofs.Common.{◌≡◌, ℕ, zero, suc, ◌<◌, ◌≤◌, Bool, List, [], ◌∷◌, ◌++◌, length, Option, None, Some, refl}
-use Rattle.std.proofs.Common.{sym, subst, inl, inr, arith}
+use Rattle.std.proofs.Common.{◌≡◌, ℕ, zero, suc, ◌<◌, ◌≤◌, Bool, List, [], ◌∷◌, ◌++◌, length, Some, refl, sym, subst}
+use Rattle.std.proofs.Common.{inl, inr, arith, rules}
 use Rattle.std.specs.List.{AllByRecursion}
-use Rattle.std.specs.Str.{bytes_eq}
 use Rattle.std.proofs.lemmas.List.Quantifiers.{position-Some}
 use Rattle.ps_label.specs.Expression.{Expression, constant, proposition, alias, not_of, all_of, any_of, Operands, last}
 use Rattle.ps_label.specs.Expression.{more, row_of}
@@ -13,10 +12,10 @@ use Rattle.ps_text.specs.Digits.{decimal_value}
 use Rattle.ps_text.specs.Parts.{Part}
 use Rattle.ps_text.proofs.Simple.{none_is_some, same_some}
 use Rattle.ps_hoa.specs.Header.{SpeaksBeyond, SomeSpeaksBeyond}
-use Rattle.ps_hoa.specs.Labels.{ScopeData, boolean_in, constant_in, alias_number, alias_in, leaf_value, leaf_in}
-use Rattle.ps_hoa.specs.Labels.{IsBeyond, IsBadLeaf, BadLeaf, leaf, together, operand, label}
-use Rattle.ps_hoa.specs.Operands.{is_not, is_and, is_or, is_left, is_right, mark, before, single, with_last, joined}
-use Rattle.ps_hoa.specs.Operands.{further, operands, row, rows}
+use Rattle.ps_hoa.specs.Labels.{ScopeData, leaf_value, leaf_in, IsBeyond, IsBadLeaf, BadLeaf, leaf, together, operand}
+use Rattle.ps_hoa.specs.Labels.{label}
+use Rattle.ps_hoa.specs.Operands.{is_not, is_left, is_right, mark, before, single, with_last, joined, further, operands}
+use Rattle.ps_hoa.specs.Operands.{row, rows}
 use Rattle.ps_hoa.specs.Sound.{IsLabel, AreLabels}
 use Rattle.ps_hoa.specs.Tokens.{Sign}
 use Rattle.ps_hoa.specs.declared.connective.Connective.{Connective}
@@ -77,13 +76,10 @@ module _ {V : Type 0} {S : V → Type 0} (sign : Kind → Bool) (join : List V �
       keeps_mapped _ (with_last vs) part (λ text v i q. all_push S vs v a (k text v i q)))))
 
   joined_too : (vs : List V) → AllByRecursion S vs → S (joined join vs)
-  joined_too [] a = joins [] a
-  joined_too (v ∷ []) a = a.0
-  joined_too (v ∷ w ∷ vs) a = joins (v ∷ w ∷ vs) a
+  joined_too vs h1 = search rules
 
   pub keeps_row : Keeps (row sign join part) S
-  keeps_row =
-      keeps_mapped _ (joined join) (operands sign part) (λ text vs i q. joined_too vs (keeps_operands text vs i q))
+  keeps_row = search (rules, keeps_mapped, joined_too, keeps_operands)
 
 -- ## Labels
 
@@ -94,20 +90,10 @@ InScope scope e = NamesBelow (length scope.names) e ×
 leaf_sound : (scope : ScopeData) (room : ℕ) (kind : Kind) (text : List ℕ) (e : Expression) →
     leaf_value scope.names kind text ≡ Some e →
     ((f : HoaCause) → IsBadLeaf scope room kind text f → ⊥) → InScope scope e
-leaf_sound scope room Word text e is good = go (boolean_in text) is
-  where
-    go : (o : Option Bool) → constant_in o ≡ Some e → InScope scope e
-    go None h = absurd (none_is_some e h)
-    go (Some b) h = subst (InScope scope) (same_some (constant b) e h) (tt, λ _ _ h. h)
-leaf_sound scope room Int text e is good =
-    subst (InScope scope) (same_some (proposition (decimal_value text)) e is)
+leaf_sound scope room Word text e is good = search (rules, none_is_some, same_some)
+leaf_sound scope room Int text e is good = subst (InScope scope) (same_some (proposition (decimal_value text)) e is)
     (tt, λ count p h. good causes.Range (inr (subst (λ o. IsBeyond o (decimal_value text)) (sym p) h, refl)))
-leaf_sound scope room AliasName text e is good = go (alias_number scope.names text) refl is
-  where
-    go : (o : Option ℕ) → alias_number scope.names text ≡ o → alias_in o ≡ Some e → InScope scope e
-    go None n h = absurd (none_is_some e h)
-    go (Some k) n h = subst (InScope scope) (same_some (alias k) e h)
-        ((position-Some (λ name. bytes_eq name text) scope.names k [] n).0, λ _ _ h. h)
+leaf_sound scope room AliasName text e is good = search (rules, none_is_some, same_some, position-Some)
 leaf_sound scope room kind text e is good = absurd (none_is_some e is)
 
 names_together : (scope : ScopeData) (es : List Expression) → AllByRecursion (InScope scope) es →
@@ -123,8 +109,7 @@ some_beyond scope (x ∷ es) a count e (inr h) = some_beyond scope es a.1 count 
 
 together_sound : (scope : ScopeData) (c : Connective) (es : List Expression) → AllByRecursion (InScope scope) es →
     InScope scope (together c es)
-together_sound scope connectives.And es a = (names_together scope es a, some_beyond scope es a)
-together_sound scope connectives.Or es a = (names_together scope es a, some_beyond scope es a)
+together_sound scope c es h1 = search (rules, names_together, some_beyond)
 
 module _ (scope : ScopeData) where
   keeps_leaf : (room : ℕ) → Keeps (leaf scope room) (InScope scope)
@@ -132,9 +117,7 @@ module _ (scope : ScopeData) where
 
   keeps_rows : {part : Part Sign Expression HoaCause} → Keeps part (InScope scope) →
       Keeps (rows together connectives.Or part) (InScope scope)
-  keeps_rows k = keeps_row is_or (together connectives.Or)
-      (keeps_row is_and (together connectives.And) k (together_sound scope connectives.And))
-      (together_sound scope connectives.Or)
+  keeps_rows k = search (rules, keeps_row, together_sound)
 
   keeps_operand : (room : ℕ) → Keeps (operand scope room) (InScope scope)
   unfolding operand

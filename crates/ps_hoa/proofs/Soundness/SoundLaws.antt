@@ -59,8 +59,7 @@ module _ (file : FileData) (s : IsSoundFile file) where
 
   pub state_label : (row : RowData) → IsSoundRow file row → (e : Expression) → row.label ≡ Some e →
       IsWithin (length file.aliases) e
-  state_label row r e l =
-      label_within (length file.aliases) (length file.names) e s.few_names
+  state_label row r e l = label_within (length file.aliases) (length file.names) e s.few_names
       (subst (λ o. IfSome o (IsLabel (length file.aliases) (length file.names))) l r.label)
 
   among : (rows : List RowData) (q : ℕ) (row : RowData) → All (IsSoundRow file) rows → row_among rows q ≡ Some row →

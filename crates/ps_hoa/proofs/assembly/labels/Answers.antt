@@ -1,6 +1,7 @@
 -- Each alias speaks of those before it, which are the ones that were added.
-use Rattle.std.proofs.Common.{◌≡◌, ℕ, zero, suc, ◌+◌, ◌<◌, List, [], ◌∷◌, length, map, get_or, refl, sym, ap, subst}
-use Rattle.std.proofs.Common.{◌∙◌, arith, rules}
+use Rattle.std.proofs.Common.{◌≡◌, ℕ, zero, suc, ◌+◌, ◌<◌, List, [], ◌∷◌, length, get_or, sym, ap, subst, ◌∙◌, arith}
+use Rattle.std.proofs.Common.{rules}
+use Rattle.std.proofs.lemmas.List.{map-id}
 use Rattle.std.proofs.lemmas.Iterator.Adapters.{YieldsList-from_vec}
 use Rattle.std.proofs.lemmas.Iterator.Consumers.{YieldsList-turn, YieldsList-end}
 use Rattle.ps_label.specs.Expression.{expression, IsWithin, AreOrderedFrom}
@@ -10,15 +11,10 @@ use Rattle.ps_hoa.proofs.assembly.labels.Goals as goal
 
 within_at : (k i : ℕ) (es : List Label) (d : Label) → AreOrderedFrom k (expressions es) → i < length es →
     IsWithin (k + i) (expression (get_or es i d))
-within_at k i [] d a l = absurd (omega (arith, l))
+within_at k i [] d a l = absurd (omega arith)
 within_at k zero (e ∷ es) d a l = let z : k ≡ k + 0 = omega arith in subst (λ m. IsWithin m (expression e)) z a.0
 within_at k (suc i) (e ∷ es) d a l = let z : (k + 1) + i ≡ k + suc i = omega arith in
-    subst (λ m. IsWithin m (expression (get_or es i d))) z (within_at (k + 1) i es d a.1
-    (let s : suc i < suc (length es) = l in omega (arith, s)))
-
-same : (xs : List Label) → map (λ x. x) xs ≡ xs
-same [] = refl
-same (x ∷ xs) = ap (λ ys. x ∷ ys) (same xs)
+    subst (λ m. IsWithin m (expression (get_or es i d))) z (within_at (k + 1) i es d a.1 (omega arith))
 
 pub push-requires : goal.push-requires
 push-requires c =
@@ -41,4 +37,4 @@ returns c =
     YieldsList-end (YieldsList-from_vec {s = c.into_iter-alias-iterator.result} c.args.aliases.items (search rules)
     (search (rules, arith))) c.loop-alias.yielded c.loop-alias.alias-iterator c.loop-alias.yielded_by c.next.result
     c.next.new.self c.in-None.is c.next.ensures.steps in
-    c.loop-alias.invariant ∙ sym (same c.loop-alias.yielded) ∙ t.0
+    c.loop-alias.invariant ∙ sym (map-id c.loop-alias.yielded) ∙ t.0

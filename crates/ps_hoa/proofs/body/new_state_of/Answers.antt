@@ -23,13 +23,11 @@ returns-then-has-clause-sign c =
     (sym c.fault_at.ensures) (
       refl,
       inl (takes_further (IsBadState c.args.header.now.states) (Again b) (piece_of c.args.token) c.in_ok-state.state
-          StateTwice c.in_ok-state.ensures
-          (sym c.has.ensures ∙ c.if-has.true, refl)
+          StateTwice c.in_ok-state.ensures (sym c.has.ensures ∙ c.if-has.true, refl)
           (λ g k. subst (λ z. cause_number StateTwice ≤ cause_number z) (sym k.1) (omega arith))),
     )
 
 pub returns-clause-sign : goal.returns-clause-sign
 returns-clause-sign c =
     takes_both (IsBadState c.args.header.now.states) (Again (body_data c.args.rows.now)) (piece_of c.args.token).sign
-    c.in_ok-state.state c.in_ok-state.ensures
-    (λ f k. false_true (sym c.if-has.false ∙ c.has.ensures ∙ k.0))
+    c.in_ok-state.state c.in_ok-state.ensures (λ f k. false_true (sym c.if-has.false ∙ c.has.ensures ∙ k.0))

@@ -35,8 +35,7 @@ returns-in_err-marks-clause-part c =
     let h = header_data c.args.header.now in
     let b = body_data c.args.rows.now in
     let l = option_map expression c.in_ok-label.label in
-    exit _ _ _ _ (behind (joint_state h b) c.in_ok-begin.ensures
-    (behind (joint_state_label h b) c.in_ok-label.ensures
+    exit _ _ _ _ (behind (joint_state h b) c.in_ok-begin.ensures (behind (joint_state_label h b) c.in_ok-label.ensures
     (behind (joint_number h b l) c.in_ok-state.ensures.part
     (behind (joint_name h b l c.in_ok-state.state) c.pass_name.ensures
     (first (joint_marks h b l c.in_ok-state.state)))))) c.in_err-marks.ensures c.from_residual-in_err-marks.ensures.1
@@ -48,8 +47,7 @@ returns-in_err-edges-clause-part c =
     let l = option_map expression c.in_ok-label.label in
     let empty = empty_row c.in_ok-state.state l c.in_ok-marks.marks.items in
     let same = ap (λ (es : List EdgeData). record empty { edges = es }) (ap (map edge_data) c.new.ensures.items) in
-    exit _ _ _ _ (behind (joint_state h b) c.in_ok-begin.ensures
-    (behind (joint_state_label h b) c.in_ok-label.ensures
+    exit _ _ _ _ (behind (joint_state h b) c.in_ok-begin.ensures (behind (joint_state_label h b) c.in_ok-label.ensures
     (behind (joint_number h b l) c.in_ok-state.ensures.part
     (behind (joint_name h b l c.in_ok-state.state) c.pass_name.ensures
     (behind (joint_marks h b l c.in_ok-state.state) c.in_ok-marks.ensures
@@ -64,10 +62,8 @@ returns-clause-part c =
     let l = option_map expression c.in_ok-label.label in
     let empty = empty_row c.in_ok-state.state l c.in_ok-marks.marks.items in
     let same = ap (λ (es : List EdgeData). record empty { edges = es }) (ap (map edge_data) c.new.ensures.items) in
-    reads_then (joint_state h b) c.in_ok-begin.ensures
-    (reads_then (joint_state_label h b) c.in_ok-label.ensures
+    reads_then (joint_state h b) c.in_ok-begin.ensures (reads_then (joint_state_label h b) c.in_ok-label.ensures
     (reads_then (joint_number h b l) c.in_ok-state.ensures.part
     (reads_then (joint_name h b l c.in_ok-state.state) c.pass_name.ensures
-    (reads_then (joint_marks h b l c.in_ok-state.state) c.in_ok-marks.ensures
-    (reads_mapped (with_row b)
+    (reads_then (joint_marks h b l c.in_ok-state.state) c.in_ok-marks.ensures (reads_mapped (with_row b)
     ((edges_serve h c.edges-before.ensures.value same _).reads _ _ c.in_ok-edges.ensures.part))))))

@@ -9,8 +9,7 @@ use Rattle.ps_hoa.specs.Views.{header_data}
 use Rattle.ps_hoa.proofs.body.states.Given as goal
 
 abbrev pub invariant-more : goal.invariant-more
-invariant-more l =
-    Carries hoa_causes (many (state (header_data l.header)) no_rows) (stream_of l.fn.tokens)
+invariant-more l = Carries hoa_causes (many (state (header_data l.header)) no_rows) (stream_of l.fn.tokens)
     (many (state (header_data l.header)) (body_data l.rows)) (stream_of l.tokens)
 
 abbrev pub decreases-more : goal.decreases-more

@@ -23,7 +23,8 @@ returns-in_err-mark c =
     let read = subst (λ s. Reads (label s nesting_limit) (stream_of c.args.tokens.now) (expression c.in_ok-label.label)
     (stream_of c.label.new.tokens)) c.scope-scope.ensures c.in_ok-label.ensures in
     exit _ _ _ _ (behind (joint_label (header_data c.args.header.now)) read
-    (under (some_label _) (mark is_right_bracket))) (c.in_err-mark.ensures is_right_bracket tests_right_bracket.is) c.from_residual-in_err-mark.ensures.1
+    (under (some_label _) (mark is_right_bracket))) (c.in_err-mark.ensures is_right_bracket tests_right_bracket.is)
+    c.from_residual-in_err-mark.ensures.1
 
 pub returns : goal.returns
 returns c =

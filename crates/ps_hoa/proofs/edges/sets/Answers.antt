@@ -22,7 +22,6 @@ returns-in_err-mark-2 c = exit _ _ _ _ (behind (joint_braces c.args.count)
     (c.in_err-mark-2.ensures is_right_brace tests_right_brace.is) c.from_residual-in_err-mark-2.ensures.1
 
 pub returns : goal.returns
-returns c =
-    reads_then (joint_braces c.args.count) (c.in_ok-mark.ensures is_left_brace tests_left_brace.is)
+returns c = reads_then (joint_braces c.args.count) (c.in_ok-mark.ensures is_left_brace tests_left_brace.is)
     (reads_then (joint_sets c.args.count) c.in_ok-marks.ensures
     (reads_mapped (λ _. c.in_ok-marks.marks.items) (c.in_ok-mark-2.ensures is_right_brace tests_right_brace.is)))

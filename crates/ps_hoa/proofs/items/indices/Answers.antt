@@ -19,8 +19,7 @@ returns-in_err-number c = exit _ _ _ _ (loop_fails index_loop c.indices.invarian
     c.from_residual.ensures.1
 
 pub indices-preserved : goal.indices-preserved
-indices-preserved c =
-    subst (λ ks. Carries hoa_causes (many index []) (stream_of c.args.tokens.now) (many index ks)
+indices-preserved c = subst (λ ks. Carries hoa_causes (many index []) (stream_of c.args.tokens.now) (many index ks)
     (stream_of c.int.new.tokens)) (sym c.in_ok-add.ensures.ok)
     (loop_more index_loop c.indices.invariant (reads_mapped (kept c.indices.indices) c.in_ok-number.ensures.part))
 

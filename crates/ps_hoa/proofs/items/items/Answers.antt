@@ -55,5 +55,4 @@ returns c =
     ∙ ap (λ o. option_map item_name_of o) c.in_default.is))
 
 pub read_item-requires : goal.read_item-requires
-read_item-requires c =
-    told (stream_of c.items.tokens) (Some c.in-Some.item) c.peek.ensures.next c.in-Some.ensures
+read_item-requires c = told (stream_of c.items.tokens) (Some c.in-Some.item) c.peek.ensures.next c.in-Some.ensures

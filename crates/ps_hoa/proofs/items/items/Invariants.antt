@@ -8,8 +8,7 @@ use Rattle.ps_hoa.specs.Views.{header_data}
 use Rattle.ps_hoa.proofs.items.items.Given as goal
 
 abbrev pub invariant-items : goal.invariant-items
-invariant-items l =
-    Carries hoa_causes (many item no_items) (stream_of l.fn.tokens) (many item (header_data l.header))
+invariant-items l = Carries hoa_causes (many item no_items) (stream_of l.fn.tokens) (many item (header_data l.header))
     (stream_of l.tokens)
 
 abbrev pub decreases-items : goal.decreases-items

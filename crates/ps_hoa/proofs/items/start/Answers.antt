@@ -23,5 +23,4 @@ returns-in_err-start_state c = λ before next rest. let h = header_data c.args.h
 pub returns : goal.returns
 returns c = λ before next rest. let h = header_data c.args.header.now in
     reads_then (joint_start h) (reads_token {X = Unit {0}} (λ u. u) (signs_start h) _ _ _ (Ok tt)
-    c.in_ok-start_name.ensures next rest)
-    (reads_mapped (with_start h) c.in_ok-start_state.ensures)
+    c.in_ok-start_name.ensures next rest) (reads_mapped (with_start h) c.in_ok-start_state.ensures)

@@ -61,8 +61,7 @@ operand-returns-in_err-negated t c = exit expression _ _ _
     c.advance.ensures.rest) c.in_err-negated.ensures c.from_residual.ensures.1
 
 pub operand-returns-then-is_at : goal.operand-returns-then-is_at
-operand-returns-then-is_at t c =
-    value_is (ap (λ v. not_of (expression v)) (sym c.in_ok-new.ensures.ok))
+operand-returns-then-is_at t c = value_is (ap (λ v. not_of (expression v)) (sym c.in_ok-new.ensures.ok))
     (not_reads c.args.scope.now c.args.room c.if-room-gt0.true (c.is_at.ensures.0 c.if-is_at.true)
     c.advance.ensures.rest c.in_ok-negated.ensures)
 
@@ -79,8 +78,7 @@ operand-returns-in_err-mark t c = exit expression _ _ _
     (c.in_err-mark.ensures is_right tests_right.is) c.from_residual-in_err-mark.ensures.1
 
 pub operand-returns-then-is_at-2 : goal.operand-returns-then-is_at-2
-operand-returns-then-is_at-2 t c =
-    paren_reads (label_operands c.args.scope.now) c.args.room c.if-room-gt0-2.true
+operand-returns-then-is_at-2 t c = paren_reads (label_operands c.args.scope.now) c.args.room c.if-room-gt0-2.true
     (c.is_at-then-room-gt0-2.ensures.0 c.if-is_at-2.true) c.advance-then-is_at-2.ensures.rest c.in_ok-inner.ensures
     (c.in_ok-mark.ensures is_right tests_right.is)
 

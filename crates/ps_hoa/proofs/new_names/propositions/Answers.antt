@@ -21,8 +21,7 @@ names-init c =
     (carries_start hoa_causes whole s))
 
 pub returns-in_err-proposition : goal.returns-in_err-proposition
-returns-in_err-proposition c =
-    exit _ _ _ _ here (carries_stops hoa_causes (times c.args.count proposition_name [])
+returns-in_err-proposition c = exit _ _ _ _ here (carries_stops hoa_causes (times c.args.count proposition_name [])
     (times (c.args.count - c.names.counter) proposition_name c.names.names) _ _ _ c.names.invariant
     (times_fails proposition_name laws_proposition_name (nothing_apart (Of is_string)) hoa_causes
     (c.args.count - c.names.counter) c.names.names _ _ (omega arith) c.in_err-proposition.ensures))
@@ -37,7 +36,6 @@ names-preserved c =
     (c.args.count - c.names.counter) (omega arith) c.names.invariant c.in_ok-proposition.ensures)
 
 pub returns : goal.returns
-returns c =
-    carries_reads hoa_causes c.names.invariant (times_ends proposition_name laws_proposition_name
+returns c = carries_reads hoa_causes c.names.invariant (times_ends proposition_name laws_proposition_name
     (nothing_apart (Of is_string)) (c.args.count - c.names.counter) c.names.names (stream_of c.names.tokens)
     (omega arith))

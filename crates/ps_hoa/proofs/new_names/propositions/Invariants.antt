@@ -7,6 +7,5 @@ use Rattle.ps_hoa.specs.Scan.{stream_of}
 use Rattle.ps_hoa.proofs.new_names.propositions.Given as goal
 
 abbrev pub invariant-names : goal.invariant-names
-invariant-names l =
-    Carries hoa_causes (times l.count proposition_name []) (stream_of l.fn.tokens)
+invariant-names l = Carries hoa_causes (times l.count proposition_name []) (stream_of l.fn.tokens)
     (times (l.count - l.counter) proposition_name l.names) (stream_of l.tokens)

@@ -1,11 +1,10 @@
 use Rattle.std.proofs.Common.{◌≡◌, ℕ, List, Result, Ok, Err, IfOk, IfErr, refl, sym, subst}
-use Rattle.ps_text.specs.Answers.{Stream, signs}
+use Rattle.ps_text.specs.Answers.{Stream}
 use Rattle.ps_text.specs.Readers.{Reads}
 use Rattle.ps_text.proofs.Exits.{reads_mapped, reads_then}
 use Rattle.ps_hoa.specs.Body.{BodyData, body}
 use Rattle.ps_hoa.specs.Files.{FileData}
 use Rattle.ps_hoa.specs.Header.{HeaderData, header}
-use Rattle.ps_hoa.specs.Inner.Rows.{body_data}
 use Rattle.ps_hoa.specs.Scan.{next_of, stream_of}
 use Rattle.ps_hoa.specs.Sound.{IsSoundFile}
 use Rattle.ps_hoa.specs.Texts.{file_of, file, IsFileAnswer, IsFaultOf}
@@ -13,76 +12,62 @@ use Rattle.ps_hoa.specs.Causes.{HoaFault}
 use Rattle.ps_text.specs.declared.faults.Fault.TheVariants.{OutOfMemory}
 use Rattle.ps_hoa.specs.declared.file.HoaFile.{HoaFile}
 use Rattle.ps_hoa.specs.Tokens.{Sign}
-use Rattle.ps_hoa.specs.Views.{header_data}
 use Rattle.ps_hoa.proofs.Reading.Answering.{refused_answers, header_fails, body_fails, ends_answers, trails_answers}
 use Rattle.ps_hoa.proofs.Grammar.FileLaws.{joint_file}
 use Rattle.ps_hoa.proofs.Soundness.Keeping.{keeps_read}
 use Rattle.ps_hoa.proofs.Soundness.SoundFiles.{keeps_file}
 use Rattle.ps_hoa.proofs.reader.read.Goals as goal
 
+abbrev seen : FileData → FileData
+seen x = x
+
 -- what a header and a body that were read say together is sound
-sound : (old mid new : Stream Sign) (h : HeaderData) (b : BodyData) → Reads header old h mid →
+sound : {old mid new : Stream Sign} {h : HeaderData} {b : BodyData} → Reads header old h mid →
     Reads (body h) mid b new → IsSoundFile (file_of h b)
-sound old mid new h b m n =
-    keeps_read file keeps_file (signs old.pieces) (signs new.pieces) (file_of h b)
-    (reads_then joint_file m (reads_mapped (file_of h) n)).1
+sound {h = h} {b = b} m n =
+    keeps_read file keeps_file _ _ (file_of h b) (reads_then joint_file m (reads_mapped (file_of h) n)).1
 
 pub returns-in_err-tokens-clause-answer : goal.returns-in_err-tokens-clause-answer
 returns-in_err-tokens-clause-answer c =
-    refused_answers (λ (x : FileData). x) c.args.text.now c.in_err-tokens.field-0.0 c.from_residual.result
-    c.in_err-tokens.ensures.refused c.from_residual.ensures.1
+    refused_answers seen c.args.text.now _ _ c.in_err-tokens.ensures.refused c.from_residual.ensures.1
 
 pub returns-in_err-header-clause-answer : goal.returns-in_err-header-clause-answer
 returns-in_err-header-clause-answer c =
-    header_fails (λ (x : FileData). x) c.args.text.now (stream_of c.in_ok-tokens.tokens) c.in_ok-tokens.ensures.tokens
-    c.in_err-header.field-0.0 c.from_residual-in_err-header.result c.in_err-header.ensures
-    c.from_residual-in_err-header.ensures.1
+    header_fails seen c.args.text.now (stream_of c.in_ok-tokens.tokens) c.in_ok-tokens.ensures.tokens _ _
+    c.in_err-header.ensures c.from_residual-in_err-header.ensures.1
 
 pub returns-in_err-rows-clause-answer : goal.returns-in_err-rows-clause-answer
 returns-in_err-rows-clause-answer c =
-    body_fails (λ (x : FileData). x) c.args.text.now (stream_of c.in_ok-tokens.tokens) c.in_ok-tokens.ensures.tokens
-    (header_data c.in_ok-header.header) (stream_of c.header.new.tokens) c.in_ok-header.ensures
-    c.in_err-rows.field-0.0 c.from_residual-in_err-rows.result c.in_err-rows.ensures
-    c.from_residual-in_err-rows.ensures.1
+    body_fails seen c.args.text.now (stream_of c.in_ok-tokens.tokens) c.in_ok-tokens.ensures.tokens _ _
+    c.in_ok-header.ensures _ _ c.in_err-rows.ensures c.from_residual-in_err-rows.ensures.1
 
 pub returns-in_err-finish-clause-answer : goal.returns-in_err-finish-clause-answer
 returns-in_err-finish-clause-answer c =
-    trails_answers (λ (x : FileData). x) c.args.text.now (stream_of c.in_ok-tokens.tokens) c.in_ok-tokens.ensures.tokens
-    (header_data c.in_ok-header.header) (stream_of c.header.new.tokens) c.in_ok-header.ensures
-    (body_data c.in_ok-rows.rows) (stream_of c.body.new.tokens) c.in_ok-rows.ensures
-    (next_of (stream_of c.body.new.tokens)) c.in_err-finish.field-0.0 c.from_residual-in_err-finish.result refl
+    trails_answers seen c.args.text.now (stream_of c.in_ok-tokens.tokens) c.in_ok-tokens.ensures.tokens _ _
+    c.in_ok-header.ensures _ _ c.in_ok-rows.ensures (next_of (stream_of c.body.new.tokens)) _ _ refl
     c.in_err-finish.ensures.0 c.in_err-finish.ensures.1 c.from_residual-in_err-finish.ensures.1
 
 pub file-requires : goal.file-requires
-file-requires c = sound (stream_of c.in_ok-tokens.tokens) (stream_of c.header.new.tokens) (stream_of c.body.new.tokens)
-    (header_data c.in_ok-header.header) (body_data c.in_ok-rows.rows) c.in_ok-header.ensures c.in_ok-rows.ensures
+file-requires c = sound c.in_ok-header.ensures c.in_ok-rows.ensures
 
 -- what holds of the file where it was made, and of the fault that there was no memory for it
 made : (text : List ℕ) (v : FileData) (r : Result HoaFile HoaFault) →
-    ((x : HoaFile) → (λ (x : FileData). x) x ≡ v → IsFileAnswer (λ (x : FileData). x) text (Ok x)) →
-    IfOk r (λ x. (λ (x : FileData). x) x ≡ v) → IfErr r (λ e. e ≡ OutOfMemory) →
-    IsFileAnswer (λ (x : FileData). x) text r
+    ((x : HoaFile) → seen x ≡ v → IsFileAnswer seen text (Ok x)) →
+    IfOk r (λ x. seen x ≡ v) → IfErr r (λ e. e ≡ OutOfMemory) → IsFileAnswer seen text r
 made text v (Ok x) h o m = h x o
 made text v (Err e) h o m = subst (IsFaultOf text) (sym m) tt
 
 pub returns-clause-answer : goal.returns-clause-answer
-returns-clause-answer c =
-    made c.args.text.now (file_of (header_data c.in_ok-header.header) (body_data c.in_ok-rows.rows)) c.file.result
-    (λ x v. ends_answers (λ (x : FileData). x) c.args.text.now (stream_of c.in_ok-tokens.tokens)
-    c.in_ok-tokens.ensures.tokens
-    (header_data c.in_ok-header.header) (stream_of c.header.new.tokens) c.in_ok-header.ensures
-    (body_data c.in_ok-rows.rows) (stream_of c.body.new.tokens) c.in_ok-rows.ensures
-    x v c.in_ok-finish.ensures)
+returns-clause-answer c = made c.args.text.now _ c.file.result
+    (λ x v. ends_answers seen c.args.text.now (stream_of c.in_ok-tokens.tokens) c.in_ok-tokens.ensures.tokens _ _
+    c.in_ok-header.ensures _ _ c.in_ok-rows.ensures x v c.in_ok-finish.ensures)
     c.file.ensures.value c.file.ensures.memory
 
-made_sound : (v : FileData) (r : Result HoaFile HoaFault) → IsSoundFile v → IfOk r (λ x. (λ (x : FileData). x) x ≡ v) →
+made_sound : {v : FileData} (r : Result HoaFile HoaFault) → IsSoundFile v → IfOk r (λ x. seen x ≡ v) →
     IfOk r IsSoundFile
-made_sound v (Ok x) s e = subst IsSoundFile (sym e) s
-made_sound v (Err e) s o = tt
+made_sound (Ok x) s e = subst IsSoundFile (sym e) s
+made_sound (Err e) s o = tt
 
 pub returns-clause-sound : goal.returns-clause-sound
 returns-clause-sound c =
-    made_sound (file_of (header_data c.in_ok-header.header) (body_data c.in_ok-rows.rows)) c.file.result
-    (sound (stream_of c.in_ok-tokens.tokens) (stream_of c.header.new.tokens) (stream_of c.body.new.tokens)
-    (header_data c.in_ok-header.header) (body_data c.in_ok-rows.rows) c.in_ok-header.ensures c.in_ok-rows.ensures)
-    c.file.ensures.value
+    made_sound c.file.result (sound c.in_ok-header.ensures c.in_ok-rows.ensures) c.file.ensures.value

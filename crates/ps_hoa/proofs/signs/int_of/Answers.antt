@@ -6,14 +6,12 @@ use Rattle.ps_hoa.proofs.signs.int_of.Goals as goal
 pub returns-in_err-checked_mul : goal.returns-in_err-checked_mul
 returns-in_err-checked_mul c =
     c.from_residual.ensures ∙ checked-front c.args.digits.now c.loop-digit.digit-index c.loop-digit.value
-    c.loop-digit-test.true c.loop-digit.invariant.0
-    (let h = c.in_err-checked_mul.ensures in omega (arith, h))
+    c.loop-digit-test.true c.loop-digit.invariant.0 (let h = c.in_err-checked_mul.ensures in omega (arith, h))
 
 pub returns-in_err-value : goal.returns-in_err-value
 returns-in_err-value c = c.from_residual-in_err-value.ensures
     ∙ checked-front c.args.digits.now c.loop-digit.digit-index c.loop-digit.value c.loop-digit-test.true
-    c.loop-digit.invariant.0
-    (let h = c.in_err-value.ensures in let s = c.saturating_sub.ensures in
+    c.loop-digit.invariant.0 (let h = c.in_err-value.ensures in let s = c.saturating_sub.ensures in
     omega (arith, h, s, c.in_ok-checked_mul.ensures.1, c.from.ensures))
 
 pub loop-digit-preserved : goal.loop-digit-preserved
@@ -31,6 +29,5 @@ loop-digit-preserved c = let s = c.saturating_sub.ensures in (
 )
 
 pub returns : goal.returns
-returns c =
-    checked-whole c.args.digits.now c.loop-digit.digit-index c.loop-digit.value c.loop-digit-test.false
+returns c = checked-whole c.args.digits.now c.loop-digit.digit-index c.loop-digit.value c.loop-digit-test.false
     c.loop-digit.auto.digit-index-end c.loop-digit.invariant.0 c.loop-digit.invariant.1

@@ -7,8 +7,7 @@ use Rattle.ps_hoa.specs.Scan.{stream_of}
 use Rattle.ps_hoa.proofs.skipped.other.Given as goal
 
 abbrev pub invariant-values : goal.invariant-values
-invariant-values l =
-    (h : HeaderData) → Carries hoa_causes (many read_over h) (stream_of l.fn.tokens) (many read_over h)
+invariant-values l = (h : HeaderData) → Carries hoa_causes (many read_over h) (stream_of l.fn.tokens) (many read_over h)
     (stream_of l.tokens)
 
 abbrev pub decreases-values : goal.decreases-values

@@ -7,8 +7,7 @@ use Rattle.ps_hoa.proofs.Reading.HeaderLoops.{string_serves, no_string_serves}
 use Rattle.ps_hoa.proofs.skipped.tool.Goals as goal
 
 pub returns-in_err-quoted : goal.returns-in_err-quoted
-returns-in_err-quoted c =
-    λ h. exit _ _ _ _ (first (joint_strings h)) c.in_err-quoted.ensures c.from_residual.ensures.1
+returns-in_err-quoted c = λ h. exit _ _ _ _ (first (joint_strings h)) c.in_err-quoted.ensures c.from_residual.ensures.1
 
 pub returns-in_err-quoted-2 : goal.returns-in_err-quoted-2
 returns-in_err-quoted-2 c = λ h. exit _ _ _ _ (behind (joint_strings h) c.in_ok-quoted.ensures

@@ -12,8 +12,7 @@ returns-clause-value c =
     ∙ c.loop-at.invariant.rest
 
 pub returns-then-depth-eq0-clause-value : goal.returns-then-depth-eq0-clause-value
-returns-then-depth-eq0-clause-value c =
-    sym (comment_ends c.args.bytes.now c.loop-at.at c.loop-at-test.true
+returns-then-depth-eq0-clause-value c = sym (comment_ends c.args.bytes.now c.loop-at.at c.loop-at-test.true
     (sym c.is_pair.ensures.value ∙ c.if-is_pair.true)) ∙ (rw (c.if-skip.false, c.if-depth-eq0.true) at
     c.loop-at.invariant.rest)
 
@@ -27,21 +26,18 @@ loop-at-preserved c = elim c.if-skip.branch [
   | else-skip+then-is_pair+else-depth-eq0 w ↦
       let some : 0 < c.loop-at.depth = omega (arith, w.if-depth-eq0.false) in
       rw (w.skip-is, w.depth-is) (record {
-        rest =
-            sym (comment_closes c.args.bytes.now c.loop-at.at c.loop-at.depth c.loop-at-test.true some
+        rest = sym (comment_closes c.args.bytes.now c.loop-at.at c.loop-at.depth c.loop-at-test.true some
             (sym w.is_pair.ensures.value ∙ w.if-is_pair.true)) ∙ (rw w.if-skip.false at c.loop-at.invariant.rest);
         within = omega arith;
       })
   | else-skip+else-is_pair+then-is_pair-2 w ↦ rw (w.skip-is, w.depth-is) (record {
-    rest =
-        sym (comment_opens c.args.bytes.now c.loop-at.at c.loop-at.depth c.loop-at-test.true
+    rest = sym (comment_opens c.args.bytes.now c.loop-at.at c.loop-at.depth c.loop-at-test.true
         (sym w.is_pair.ensures.value ∙ w.if-is_pair.false) (sym w.is_pair-else-is_pair.ensures.value
         ∙ w.if-is_pair-2.true)) ∙ (rw w.if-skip.false at c.loop-at.invariant.rest);
     within = omega arith;
   })
   | else-skip+else-is_pair+else-is_pair-2 w ↦ rw (w.skip-is, w.if-skip.false, w.depth-is) (record {
-    rest =
-        sym (comment_on c.args.bytes.now c.loop-at.at c.loop-at.depth c.loop-at-test.true
+    rest = sym (comment_on c.args.bytes.now c.loop-at.at c.loop-at.depth c.loop-at-test.true
         (sym w.is_pair.ensures.value ∙ w.if-is_pair.false) (sym w.is_pair-else-is_pair.ensures.value
         ∙ w.if-is_pair-2.false)) ∙ (rw w.if-skip.false at c.loop-at.invariant.rest);
     within = omega arith;

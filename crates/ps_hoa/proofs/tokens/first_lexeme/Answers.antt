@@ -17,8 +17,7 @@ blanks-preserved c =
           more_blanks c.args.source.now c.args.from c.blanks.at c.in-Skip.count c.blanks.invariant.blanks is;
       from = omega arith;
       within = (let w = c.in-Skip.ensures.within in omega (arith, w, simp (whole, length-drop) at w));
-      same =
-          lex_step c.args.source.now c.args.from c.blanks.at c.in-Skip.count is c.in-Skip.ensures.skips
+      same = lex_step c.args.source.now c.args.from c.blanks.at c.in-Skip.count is c.in-Skip.ensures.skips
           c.blanks.invariant.same;
     }
 

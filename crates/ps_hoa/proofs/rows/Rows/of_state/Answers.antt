@@ -19,7 +19,6 @@ pub returns : goal.returns
 returns c =
     let rows = map row_data c.args.self.now.rows.items in
     ap (option_map row_data) (c.row_at.ensures ∙ ap (λ xs. slice_get xs c.in_ok-place.field-0.now)
-    c.deref.ensures.value)
-    ∙ sym (slice_get-map row_data c.args.self.now.rows.items c.in_ok-place.field-0.now)
+    c.deref.ensures.value) ∙ sym (slice_get-map row_data c.args.self.now.rows.items c.in_ok-place.field-0.now)
     ∙ ap (at_place rows) (c.in_ok-place.ensures.value ∙ c.args.self.now.places_are c.args.state)
     ∙ sym (row_at c.args.state rows)

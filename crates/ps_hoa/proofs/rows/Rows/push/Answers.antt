@@ -1,7 +1,6 @@
 -- One more row, and its place in the table.
-use Rattle.std.proofs.Common.{◌≡◌, ◌<◌, true, cond, Bool, ◌++◌, ◌∷◌, [], Some, length, map, ap, sym, ◌∙◌, arith}
-use Rattle.std.specs.Vec.{vec_len, vec_capacity}
-use Rattle.std.specs.Result.{is_ok}
+use Rattle.std.proofs.Common.{◌≡◌, cond, ◌++◌, ◌∷◌, [], Some, length, map, ap, sym, ◌∙◌, arith}
+use Rattle.std.proofs.lemmas.Bool.{cond-true}
 use Rattle.std.proofs.lemmas.List.{map-append, length-map}
 use Rattle.ps_hoa.specs.Inner.RowPlaces.{row_place}
 use Rattle.ps_hoa.specs.Views.{row_data}
@@ -11,12 +10,9 @@ use Rattle.ps_hoa.proofs.rows.Rows.push.Goals as goal
 pub invariant_of-self-2-clause-places_are : goal.invariant_of-self-2-clause-places_are
 invariant_of-self-2-clause-places_are c = λ state.
     let rows = c.args.self.now.rows.items in
-    let room : vec_len c.reserve.new.self < vec_capacity c.reserve.new.self =
-    omega (arith, c.in_ok-reserve.ensures.ok) in
-    let done : is_ok c.push.result ≡ true = c.push.ensures.succeeds room in
-    let pushed : c.push.new.self.items ≡ rows ++ c.args.row ∷ [] =
-    c.push.ensures.items ∙ ap (λ (b : Bool). cond b (c.reserve.new.self.items ++ c.args.row ∷ [])
-    c.reserve.new.self.items) done ∙ ap (λ rs. rs ++ c.args.row ∷ []) c.in_ok-reserve.ensures.items in
+    let pushed : c.push.new.self.items ≡ rows ++ c.args.row ∷ [] = c.push.ensures.items
+    ∙ cond-true _ _ _ (c.push.ensures.succeeds (omega (arith, c.in_ok-reserve.ensures.ok)))
+    ∙ ap (λ rs. rs ++ c.args.row ∷ []) c.in_ok-reserve.ensures.items in
     let same : length c.reserve.new.self.items ≡ length rows = ap length c.in_ok-reserve.ensures.items in
     let count : c.len.result ≡ length (map row_data rows) =
     omega (arith, c.len.ensures, c.reserve.new.self.ok.0, same, length-map rows row_data) in
