@@ -74,10 +74,10 @@ pub part_is : (part more : List ℕ) → IsBlankPart part → (step_of (part ++ 
     (0 < length part)
 part_is part more (inl b) = rw b.1 (by_class b.0 more Blank b.2, omega arith)
 part_is part more (inr c) = rw c.1 (
-      by_class 47 (42 ∷ c.0 ++ more) Slash class_47 ∙ ap comment_by (comment_found more c.2)
-          ∙ (let e : 2 + length c.0 ≡ suc (suc (length c.0)) = omega arith in ap (λ (n : ℕ). Skip n) e),
-      omega arith,
-    )
+  by_class 47 (42 ∷ c.0 ++ more) Slash class_47 ∙ ap comment_by (comment_found more c.2)
+      ∙ (let e : 2 + length c.0 ≡ suc (suc (length c.0)) = omega arith in ap (λ (n : ℕ). Skip n) e),
+  omega arith,
+)
 
 blank_lex : {blanks : List ℕ} → IsBlankRun blanks → (at : ℕ) (more : List ℕ) →
     lex at (blanks ++ more) ≡ lex (at + length blanks) more

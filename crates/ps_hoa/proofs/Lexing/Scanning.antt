@@ -66,8 +66,7 @@ pub comment_closes : (bs : List ℕ) (at depth : ℕ) → at < length bs → 0 <
     plus at (comment_len (drop at bs) false depth) ≡ plus (at + 1) (comment_len (drop (at + 1) bs) true (depth - 1))
 unfolding comment_len
 comment_closes bs at zero h some close = absurd (omega arith)
-comment_closes bs at (suc depth) h some close =
-    let same : suc depth - 1 ≡ depth = omega arith in
+comment_closes bs at (suc depth) h some close = let same : suc depth - 1 ≡ depth = omega arith in
     rw (drop-cons bs at 0 h, next-is bs at, close, add-one at, same)
     (rw add-one at (plus-one_more at (comment_len (drop (suc at) bs) true depth)))
 

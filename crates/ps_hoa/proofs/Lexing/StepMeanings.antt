@@ -9,7 +9,7 @@ use Rattle.std.proofs.lemmas.Bool.{eqb-true, eq-eqb, ltb-true}
 use Rattle.std.proofs.lemmas.Slice.Eq.{bytes_eq-Decides}
 use Rattle.std.proofs.lemmas.List.Folds.{length-prefix_len}
 use Rattle.ps_hoa.specs.Bytes.{class_of, is_digit, is_name_byte, digits}
-use Rattle.ps_hoa.specs.Tokens.{IsBlankPart, lengthens, StopsBefore, Stands, IsToken}
+use Rattle.ps_hoa.specs.Tokens.{IsBlankPart, lengthens, StopsBefore, IsToken}
 use Rattle.ps_hoa.specs.Scan.{comment_len, quoted_len, head_or_zero, step_of, class_step, name_step, text_by}
 use Rattle.ps_hoa.specs.Scan.{comment_by, mark_step, begins_with, comment_step, alias_step, text_step}
 use Rattle.ps_hoa.specs.declared.tokens.Kind.{Kind}
@@ -21,8 +21,7 @@ use Rattle.ps_hoa.specs.declared.tokens.Class.TheVariants.{Blank, Digit, Letter,
 use Rattle.ps_hoa.specs.declared.tokens.Class.TheVariants.{Other}
 use Rattle.ps_hoa.specs.declared.tokens.Step.{Step}
 use Rattle.ps_hoa.specs.declared.tokens.Step.TheVariants.{Skip, Found}
-use Rattle.ps_hoa.proofs.Lexing.TokenSteps.{class_47, step_is, by_class, run_sound, comment_found, zero_test}
-use Rattle.ps_hoa.proofs.Lexing.TokenSteps.{stand_step}
+use Rattle.ps_hoa.proofs.Lexing.TokenSteps.{class_47, step_is, by_class, run_sound, comment_found, stand_step}
 use Rattle.ps_hoa.proofs.Lexing.Enclosed.{comment_sound, quoted_sound}
 
 -- ## What a class says of its byte
@@ -67,8 +66,7 @@ odd_here b bs is = (
     no_blank = λ e. not_skip 1 (sym (by_class b bs Blank e) ∙ is);
     no_comment = λ more e. not_comment (comment_len more false 0) (sym (by_class 47 (42 ∷ more) Slash class_47)
         ∙ ap step_of (sym e) ∙ is);
-    no_token = λ kind token more e stands. not_token kind token more stands
-        (sym (stand_step kind token more stands).0 ∙ ap step_of (sym e) ∙ is);
+    no_token = search (rules, stand_step);
   },
   omega arith,
   omega arith,
@@ -80,13 +78,6 @@ odd_here b bs is = (
     not_comment : (o : Option ℕ) → comment_by o ≡ Found Odd 1 → ⊥
     not_comment None e = cc
     not_comment (Some n) e = cc
-
-    odd_form : (kind : Kind) (token more : List ℕ) → kind ≡ Odd → Stands kind token more → ⊥
-    odd_form kind token more e stands = (rw e at stands).form
-
-    not_token : (kind : Kind) (token more : List ℕ) → Stands kind token more →
-        Found kind (length token) ≡ Found Odd 1 → ⊥
-    not_token kind token more stands e = odd_form kind token more (let k : kind ≡ Odd = cc in k) stands
 
 -- the test by which a step is chosen
 cond_sound : (bytes : List ℕ) (t : Bool) (x y : Step) → (t ≡ true → Sound bytes x) → (t ≡ false → Sound bytes y) →
@@ -111,11 +102,7 @@ number_sound b bs e =
     (λ t. let h = and_true (nat_eq b 48) (nat_lt 0 k) t in let some : 0 < k = ltb-true 0 k h.1 in
     rw one (
       record {
-        form = (
-          let long : 1 < suc (length (take k bs)) = omega arith in long,
-          (digit, r.0),
-          eqb-true b 48 h.0,
-        );
+        form = search (rules, eqb-true);
         longest = r.1;
       },
       omega arith,
@@ -123,19 +110,12 @@ number_sound b bs e =
     ))
     (λ t. rw one (
       record {
-        form = (
-          let some : 0 < suc (length (take k bs)) = omega arith in some,
-          (digit, r.0),
-          λ long zero'. plain_form b k t (rw len at long) zero',
-        );
+        form = search rules;
         longest = r.1;
       },
       omega arith,
       omega arith,
     ))
-  where
-    plain_form : (b k : ℕ) → (nat_eq b 48 && nat_lt 0 k) ≡ false → 1 < suc k → b ≡ 48 → ⊥
-    plain_form b k t long e = let both = sym (zero_test b k e long) ∙ t in cc
 
 -- a byte that stands behind a front
 take_head : (k : ℕ) (bs : List ℕ) (c : ℕ) → 0 < c → head_or_zero (drop k bs) ≡ c →
@@ -184,12 +164,7 @@ alias_sound b bs e =
     (λ t. let some : k ≢ 0 = λ z. wrong (sym (eq-eqb k 0 z) ∙ t) in
     rw one (
       record {
-        form = (
-          take k bs,
-          (let more : 0 < length (take k bs) = omega arith in more),
-          r.0,
-          ap (λ (x : ℕ). x ∷ take k bs) at,
-        );
+        form = search rules;
         longest = r.1;
       },
       omega arith,
@@ -228,8 +203,7 @@ begins_is bs word t =
     )
 
 mark_sound : (b : ℕ) (bs : List ℕ) → class_of b ≡ Dash → Sound (b ∷ bs) (mark_step bs)
-mark_sound b bs e =
-    let dash : b ≡ 45 = tells_of b Dash e in
+mark_sound b bs e = let dash : b ≡ 45 = tells_of b Dash e in
     cond_sound (b ∷ bs) (begins_with bs (codes "-BODY--")) _ _
     (λ t. let w = begins_is bs (codes "-BODY--") t in let l = w.1 in
     (record { form = (λ i. dash i ∷ w.0 i); longest = stops_never Body (λ c. refl) _ }, omega arith, omega arith))
@@ -256,16 +230,11 @@ slash_sound b (c ∷ cs) e = cond_sound (b ∷ c ∷ cs) (nat_eq c 42) _ _
     slash : b ≡ 47
     slash = tells_of b Slash e
 
-    shut : (o : Option ℕ) (n : ℕ) → o ≡ None → o ≡ Some n → ⊥
-    shut o n e f = cc
-
     go : c ≡ 42 → (o : Option ℕ) → comment_len cs false 0 ≡ o → Sound (b ∷ c ∷ cs) (comment_by o)
     go star None is = (
       record {
         begins = (λ i. slash i ∷ star i ∷ []);
-        unclosed = λ comment more f closed. shut (comment_len cs false 0) (length closed.0) is (
-            let same : b ∷ c ∷ cs ≡ 47 ∷ 42 ∷ closed.0 ++ more = f ∙ ap (λ (xs : List ℕ). xs ++ more) closed.1 in
-            ap (λ (xs : List ℕ). comment_len (drop 2 xs) false 0) same ∙ comment_found more closed.2);
+        unclosed = search (rules, comment_found);
       },
       omega arith,
       omega arith,

@@ -107,8 +107,7 @@ module _ (source : List ℕ) (l : Lexeme) (marks : Marks) (h : IsLexeme source l
       ∙ ap (λ (bytes : List ℕ). lex l.stop bytes) rest)
 
   pub next_is : next_of (stream_of (before source l marks)) ≡ token_piece source l marks
-  next_is =
-      let r = before source l marks in
+  next_is = let r = before source l marks in
       (elim (dec_lt l.start (length source)) as (λ _. next_of (stream_of r) ≡ token_piece source l marks) [
         | yes some ↦ next_at (stream_of r) _ _ (found some)
         | no none ↦
@@ -127,8 +126,7 @@ module _ (source : List ℕ) (l : Lexeme) (marks : Marks) (h : IsLexeme source l
 
   -- the end of the text is at no token, and nothing else is
   pub finish_iff : ((token_piece source l marks).sign.kind ≡ Finish) ↔ ((stream_of (before source l marks)).pieces ≡ [])
-  finish_iff =
-      let r = before source l marks in
+  finish_iff = let r = before source l marks in
       (elim (dec_lt l.start (length source)) as (λ _. ((token_piece source l marks).sign.kind ≡ Finish) ↔
       ((stream_of r).pieces ≡ [])) [
         | yes some ↦ search (rules, never, no_piece, found)

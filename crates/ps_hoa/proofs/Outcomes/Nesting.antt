@@ -118,8 +118,7 @@ module _ {V : Type 0} (g : Grammar V) (part : ℕ → Part Sign V HoaCause) (is 
   of_form : (room : ℕ) → ((text : List Sign) (v : V) → (part room).IsText text v → Within room (IsOperand g) text v) →
       (text : List Sign) (v : V) → Form g (part room) text v → Within (suc room) (IsOperand g) text v
   of_form room h text v (inl a) = (0, omega arith, atom text v a)
-  of_form room h text v (inr (inl (t, rest, w, e, n, k, o))) =
-      let q = h rest w o in
+  of_form room h text v (inr (inl (t, rest, w, e, n, k, o))) = let q = h rest w o in
       subst (λ z. Within (suc room) (IsOperand g) z v) (sym e) (
         suc q.0,
         omega (arith, q.1),
@@ -180,16 +179,7 @@ label_operands scope =
     some : (room : ℕ) (text : List Sign) (v : Expression) → (label_operand scope (suc room)).IsText text v →
         Form (label_grammar scope.names) (label_operand scope room) text v
     some room text v (inl a) = inl a
-    some room text v (inr (inl i)) = let t = i.is_left.0 in
-        inr (inl (
-          t,
-          i.right,
-          i.is_right.0,
-          i.split ∙ ap (λ z. z ++ i.right) i.is_left.1,
-          taken_mark is_not t tt i.is_left.2,
-          i.is_right.2,
-          i.is_right.1,
-        ))
+    some room text v (inr (inl i)) = search (rules, taken_mark)
     some room text v (inr (inr i)) = inr (inr i)
 
 pub label_nesting : (scope : ScopeData) (room : ℕ) (text : List Sign) (v : Expression) →

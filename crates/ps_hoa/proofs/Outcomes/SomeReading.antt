@@ -75,8 +75,7 @@ module _ (text : List ℕ) where
       at_offset causes.NotHoa first.at,
       without_hoa text first.at short first.blanks first.end e,
     )
-    by_word first true e =
-        let second = blanks_from (first.at + 4) in
+    by_word first true e = let second = blanks_from (first.at + 4) in
         by_version first.at second.at (record {
           short = short;
           before = first.blanks;

@@ -38,23 +38,15 @@ use Rattle.ps_hoa.proofs.Reading.Exits.{Serves, serves_as, entered}
 use Rattle.ps_hoa.proofs.Reading.MarkReading.{tests_and, tests_int, tests_left_brace, tests_left_bracket, sign_begins}
 use Rattle.ps_hoa.proofs.Reading.MarkReading.{taken_there, mark_begins, mark_elsewhere, enters_left, enters_right}
 use Rattle.ps_hoa.proofs.Reading.NextSign.{next_there, next_same, start_there}
-use Rattle.ps_hoa.proofs.Reading.SingleSigns.{IsOfSigns}
+use Rattle.ps_hoa.proofs.Reading.SingleSigns.{IsOfSigns, signs_of}
 
 -- ## Single signs
 
 pub int_signs : (Bad : ℕ → HoaCause → Type 0) → IsOfSigns int_in (BadIn Bad)
-int_signs Bad =
-    record { sign = record { kind = Int; text = [] }; value = _; taken = refl; end = refl; good = λ f b. b.1 refl }
+int_signs Bad = signs_of Int [] refl refl (λ f b. b.1 refl)
 
 pub bracket_signs : (before : ℕ) (row : RowData) → IsOfSigns is_bracket (IsBadBracket before row)
-bracket_signs before row =
-    record {
-      sign = record { kind = LeftBracket; text = [] };
-      value = tt;
-      taken = refl;
-      end = refl;
-      good = λ f b. tests_left_bracket.proper (sym b.0);
-    }
+bracket_signs before row = signs_of LeftBracket [] refl refl (λ f b. tests_left_bracket.proper (sym b.0))
 
 pub int_begins : (Bad : ℕ → HoaCause → Type 0) (s : Stream Sign) → (next_of s).sign.kind ≡ Int →
     Enters (one int_in (BadIn Bad)) (there_of s)

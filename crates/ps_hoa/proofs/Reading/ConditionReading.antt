@@ -31,28 +31,19 @@ use Rattle.ps_hoa.proofs.Grammar.ConditionLaws.{laws_word, word_left, laws_opera
 use Rattle.ps_hoa.proofs.Reading.Exits.{Serves, serves_as, itself, serves_meets, Leads, first, behind, under, instead}
 use Rattle.ps_hoa.proofs.Reading.Exits.{entered}
 use Rattle.ps_hoa.proofs.Reading.NextSign.{next_same}
-use Rattle.ps_hoa.proofs.Reading.SingleSigns.{IsOfSigns, reads_one}
+use Rattle.ps_hoa.proofs.Reading.SingleSigns.{IsOfSigns, signs_of, reads_one}
 use Rattle.ps_hoa.proofs.Reading.MarkReading.{tests_not, tests_left, mark_read, mark_begins, mark_elsewhere}
 use Rattle.ps_hoa.proofs.Reading.MarkReading.{inner_begins}
 use Rattle.ps_hoa.proofs.Reading.OperandReading.{Operands}
 
 pub constant_signs : (room : ℕ) → IsOfSigns constant_in (BadStart room)
-constant_signs room =
-    record { sign = record { kind = Word; text = codes "t" }; value = _; taken = refl; end = refl; good = λ f b. b }
+constant_signs room = signs_of Word (codes "t") refl refl (λ f b. b)
 
 pub set_signs : (complemented : Bool) → IsOfSigns (set_in complemented) BadSet
-set_signs complemented =
-    record { sign = record { kind = Int; text = [] }; value = _; taken = refl; end = refl; good = λ f b. b }
+set_signs complemented = signs_of Int [] refl refl (λ f b. b)
 
 pub often_signs : IsOfSigns often_in (NoBad {F = HoaCause})
-often_signs =
-    record {
-      sign = record { kind = Word; text = codes "Inf" };
-      value = true;
-      taken = refl;
-      end = refl;
-      good = λ f b. b;
-    }
+often_signs = signs_of Word (codes "Inf") refl refl (λ f b. b)
 
 -- ## Operands in parentheses
 
@@ -74,8 +65,7 @@ pub atom_serves : (room : ℕ) (old : Stream Sign) → (0 < room → (next_of ol
     Serves old (atom room) (operand room)
 unfolding operand
 atom_serves zero old no_left = itself
-atom_serves (suc room) old no_left =
-    let some : 0 < suc room = omega arith in
+atom_serves (suc room) old no_left = let some : 0 < suc room = omega arith in
     serves_as old (left_otherwise (laws_word room) (laws_held room) (there_of old)
     (mark_elsewhere tests_left old (no_left some)) (λ h. h))
 

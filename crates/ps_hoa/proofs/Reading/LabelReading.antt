@@ -23,14 +23,13 @@ use Rattle.ps_hoa.proofs.Grammar.OperandLaws.{Odd, Of, joint_mark}
 use Rattle.ps_hoa.proofs.Grammar.LabelLaws.{is_start, laws_not, laws_rows, laws_nested, laws_negation, laws_deep}
 use Rattle.ps_hoa.proofs.Grammar.LabelLaws.{laws_single, laws_operand, not_left, single_nested, apart_right}
 use Rattle.ps_hoa.proofs.Reading.Exits.{Serves, serves_as, itself, serves_both, Leads, behind, under, instead, entered}
-use Rattle.ps_hoa.proofs.Reading.SingleSigns.{IsOfSigns}
+use Rattle.ps_hoa.proofs.Reading.SingleSigns.{IsOfSigns, signs_of}
 use Rattle.ps_hoa.proofs.Reading.MarkReading.{tests_not, tests_left, mark_read, mark_begins, mark_elsewhere}
 use Rattle.ps_hoa.proofs.Reading.MarkReading.{enters_left, enters_right, inner_begins}
 use Rattle.ps_hoa.proofs.Reading.OperandReading.{Operands}
 
 pub leaf_signs : (scope : ScopeData) (room : ℕ) → IsOfSigns (leaf_in scope.names) (BadLeaf scope room)
-leaf_signs scope room =
-    record { sign = record { kind = Int; text = [] }; value = _; taken = refl; end = refl; good = λ f b. b }
+leaf_signs scope room = signs_of Int [] refl refl (λ f b. b)
 
 -- an operand where one more may nest
 module _ (scope : ScopeData) (room : ℕ) (old : Stream Sign) where
@@ -87,8 +86,7 @@ pub leaf_serves : (scope : ScopeData) (room : ℕ) (old : Stream Sign) →
     Serves old (leaf scope room) (operand scope room)
 unfolding operand
 leaf_serves scope zero old no_not no_left = itself
-leaf_serves scope (suc room) old no_not no_left =
-    let some : 0 < suc room = omega arith in
+leaf_serves scope (suc room) old no_not no_left = let some : 0 < suc room = omega arith in
     serves_as old (left_otherwise (laws_single scope room) (laws_deep (operand scope room) (laws_operand scope room))
     (there_of old) (λ t x h. ⊎_elim (mark_elsewhere tests_not old (no_not some) t x)
     (mark_elsewhere tests_left old (no_left some) t x) h) (λ h. h))

@@ -43,8 +43,7 @@ behind text from at b h = record { split = b.split; are_blanks = b.run; all = no
 pub without_hoa : (text : List ℕ) (first : ℕ) → length text ≤ text_limit → AreBlanks text 0 first →
     IsNoBlank (step_of (drop first text)) →
     begins_with (drop first text) (codes "HOA:") ≡ false → ReadsFile text (at_offset causes.NotHoa first)
-without_hoa text first short b h none =
-    let e : length b.blanks ≡ first = let end = b.end in omega arith in
+without_hoa text first short b h none = let e : length b.blanks ≡ first = let end = b.end in omega arith in
     subst (λ (k : ℕ). ReadsFile text (at_offset causes.NotHoa k)) e
     (not_hoa short (behind text 0 first b h) (word_missing (drop first text) (codes "HOA:") none))
 
@@ -113,8 +112,7 @@ module _ (text : List ℕ) (first second : ℕ) (o : Opens text first second) wh
       let within = (run_sound is_version_byte (drop second text)).2 in
       let two : k ≡ 2 = sym (length-take-le k (drop second text) within) ∙ ap length v1 in
       let at : stop ≡ length o.before.blanks + 4 + length o.further.blanks + 2 = let p = place in omega arith in
-      let tail : drop stop text ≡ drop k (drop second text) = ap (λ (n : ℕ). drop n text) is
-      ∙ sym (drop-drop k second text) in
+      let tail : drop stop text ≡ drop k (drop second text) = search (rules, drop-drop) in
       let found = some_tokens (length (drop stop text)) stop (drop stop text) (omega arith) in
       let version = subst (λ (v : List ℕ). IsVersion (drop second text) v (drop k (drop second text))) v1 version_is in
       let tokens =

@@ -13,6 +13,7 @@ use Rattle.ps_hoa.specs.Scan.{next_of, behind_next}
 use Rattle.ps_hoa.specs.Tokens.{Sign}
 use Rattle.ps_hoa.specs.declared.fault.HoaCause.{HoaCause}
 use Rattle.ps_text.specs.declared.faults.Fault.TheVariants.{Text, OutOfMemory}
+use Rattle.ps_hoa.specs.declared.tokens.Kind.{Kind}
 use Rattle.ps_hoa.specs.declared.tokens.Kind.TheVariants.{Finish}
 
 -- what stands at the end of a text
@@ -26,6 +27,12 @@ pub record IsOfSigns {V : Type 0} (take : Sign → Option V) (Bad : Sign → Hoa
   pub taken : take sign ≡ Some value
   pub end : take end_sign ≡ None
   pub good : (f : HoaCause) → Bad end_sign f → ⊥
+
+pub signs_of : {V : Type 0} {take : Sign → Option V} {Bad : Sign → HoaCause → Type 0} (kind : Kind) (text : List ℕ)
+    {v : V} → take (record { kind = kind; text = text }) ≡ Some v → take end_sign ≡ None →
+    ((f : HoaCause) → Bad end_sign f → ⊥) → IsOfSigns take Bad
+signs_of kind text {v} taken end good =
+    record { sign = record { kind = kind; text = text }; value = v; taken = taken; end = end; good = good }
 
 module _ {V X : Type 0} (view : X → V) {take : Sign → Option V} {Bad : Sign → HoaCause → Type 0}
     (o : IsOfSigns take Bad) where

@@ -31,27 +31,13 @@ use Rattle.ps_hoa.proofs.Reading.Exits.{Serves, serves_as, itself, entered, Loop
 use Rattle.ps_hoa.proofs.Reading.MarkReading.{tests_left_bracket, tests_string, sign_begins, mark_begins}
 use Rattle.ps_hoa.proofs.Reading.MarkReading.{mark_elsewhere}
 use Rattle.ps_hoa.proofs.Reading.NextSign.{next_same}
-use Rattle.ps_hoa.proofs.Reading.SingleSigns.{IsOfSigns}
+use Rattle.ps_hoa.proofs.Reading.SingleSigns.{IsOfSigns, signs_of}
 
 pub next_signs : (h : HeaderData) (b : BodyData) → IsOfSigns state_value (IsBadNext h b)
-next_signs h b =
-    record {
-      sign = record { kind = Header; text = codes "State:" };
-      value = tt;
-      taken = refl;
-      end = refl;
-      good = λ f k. k.0 refl;
-    }
+next_signs h b = signs_of Header (codes "State:") refl refl (λ f k. k.0 refl)
 
 pub end_signs : (h : HeaderData) (b : BodyData) → IsOfSigns (mark_in is_end) (IsBadClose h b)
-end_signs h b =
-    record {
-      sign = record { kind = End; text = [] };
-      value = tt;
-      taken = refl;
-      end = refl;
-      good = λ f k. false_true k.0;
-    }
+end_signs h b = signs_of End [] refl refl (λ f k. false_true k.0)
 
 -- ## `State:`
 
@@ -60,8 +46,7 @@ there o h1 = search (rules, false_true)
 
 pub state_enters : (h : HeaderData) (b : BodyData) (s : Stream Sign) → is_some (state_value (next_of s).sign) ≡ true →
     Enters (state h b) (there_of s)
-state_enters h b s e =
-    let v = there (state_value (next_of s).sign) e in
+state_enters h b s e = let v = there (state_value (next_of s).sign) e in
     entered (joint_state h b) s (sign_begins state_value (IsBadNext h b) s
     (λ f. let x = sym (text_of_state (next_of s).sign.kind (next_of s).sign.text tt v).0 ∙ f in cc) v)
 

@@ -13,12 +13,10 @@ or_cond b r = search rules
 take-without_last : (xs : List ℕ) → take (length xs - 1) xs ≡ without_last xs
 take-without_last [] = refl
 take-without_last (b ∷ []) = refl
-take-without_last (b ∷ c ∷ bs) =
-    let e : length (b ∷ c ∷ bs) - 1 ≡ suc (length (c ∷ bs) - 1) = omega arith in
+take-without_last (b ∷ c ∷ bs) = let e : length (b ∷ c ∷ bs) - 1 ≡ suc (length (c ∷ bs) - 1) = omega arith in
     ap (λ n. take n (b ∷ c ∷ bs)) e ∙ ap (λ xs. b ∷ xs) (take-without_last (c ∷ bs))
 
 pub inside-range : (text : List ℕ) → slice_range text 1 (length text - 1) ≡ inside text
 inside-range [] = refl
-inside-range (b ∷ bs) =
-    let e : length (b ∷ bs) - 1 - 1 ≡ length bs - 1 = omega arith in
+inside-range (b ∷ bs) = let e : length (b ∷ bs) - 1 - 1 ≡ length bs - 1 = omega arith in
     ap (λ n. take n bs) e ∙ take-without_last bs

@@ -274,8 +274,7 @@ module _ (h : HeaderData) (b : BodyData) where
       (keeps_one (mark_in is_end) (IsBadClose h b) (λ t v e good. record {
         rows = k.rows;
         once = k.once;
-        counts = last_right h b.rows k.counts (λ row l wrong. good causes.Labels
-            (taken_mark is_end t v e, ((row, l, wrong), refl)));
+        counts = search (rules, last_right, taken_mark);
         few = subst (λ m. m ≤ edge_limit) k.edges k.few;
       }))
 

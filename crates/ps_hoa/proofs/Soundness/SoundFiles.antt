@@ -200,8 +200,7 @@ module _ (h : HeaderData) (b : BodyData) (k : Kept h) (n : HasNoFlaw h) (d : IsB
     aliases = sound_aliases h k n;
     sets = few_sets h.acceptance k.3;
     condition = condition_within h.acceptance (λ c. n causes.Range (out_of_range (inr (inr (inl c)))));
-    rows = all_at (IsSoundRow whole) b.rows (rows_sound b.rows d.rows d.counts
-        (all_below h.states (unwrap_or h.start 0) b.rows rows_are));
+    rows = search (rules, all_at, rows_sound, all_below, rows_are);
     rows_once = d.once;
     few_edges = d.few;
   }

@@ -89,8 +89,7 @@ one_more_alias names es name e a l n =
 not_named : (other name : List ℕ) (names : List (List ℕ)) → is_name_among other names ≡ false →
     bytes_eq other name ≡ false → is_name_among other (names ++ name ∷ []) ≡ false
 not_named other name [] e d = rw d refl
-not_named other name (next ∷ names) e d =
-    let f = neither (bytes_eq other next) (is_name_among other names) e in
+not_named other name (next ∷ names) e d = let f = neither (bytes_eq other next) (is_name_among other names) e in
     rw (f.0, not_named other name names f.1 d) refl
 
 -- one more name, which is none of the others

@@ -14,43 +14,36 @@ use Rattle.ps_hoa.proofs.condition.+condition.Goals.{operand-else-room-gt0-via-t
 use Rattle.ps_hoa.proofs.condition.+condition.Goals.{operand-else-room-gt0-via-else-room-gt0}
 
 pub row-returns-in_err-first : goal.row-returns-in_err-first
-row-returns-in_err-first t c =
-    let row = operand_row condition_operands c.args.room c.args.connective in
+row-returns-in_err-first t c = let row = operand_row condition_operands c.args.room c.args.connective in
     exit condition_of _ _ _ (first_fails row (together c.args.connective)) c.in_err-first.ensures
     c.from_residual.ensures.1
 
 pub row-returns-then-not-is_at : goal.row-returns-then-not-is_at
-row-returns-then-not-is_at t c =
-    let row = operand_row condition_operands c.args.room c.args.connective in
+row-returns-then-not-is_at t c = let row = operand_row condition_operands c.args.room c.args.connective in
     first_alone row (together c.args.connective) c.in_ok-first.ensures (iff_false c.is_at.ensures c.if-not-is_at.true)
 
 pub row-more-init : goal.row-more-init
-row-more-init t c =
-    let row = operand_row condition_operands c.args.room c.args.connective in
+row-more-init t c = let row = operand_row condition_operands c.args.room c.args.connective in
     row_starts row c.in_ok-first.ensures (c.is_at.ensures.0 c.if-not-is_at.false)
     (first_value condition_of _ c.in_ok-push.ensures.items c.new-operands.ensures.items)
 
 pub row-returns-in_err-part : goal.row-returns-in_err-part
-row-returns-in_err-part t c =
-    let row = operand_row condition_operands c.args.room c.args.connective in
+row-returns-in_err-part t c = let row = operand_row condition_operands c.args.room c.args.connective in
     exit condition_of _ _ _ (row_fails row c.more.invariant (c.is_at-in-more.ensures.0 c.more-test.true)
     c.advance.ensures.rest (together c.args.connective)) c.in_err-part.ensures c.from_residual-in_err-part.ensures.1
 
 pub row-more-preserved : goal.row-more-preserved
-row-more-preserved t c =
-    let row = operand_row condition_operands c.args.room c.args.connective in
+row-more-preserved t c = let row = operand_row condition_operands c.args.room c.args.connective in
     row_more row c.more.invariant (c.is_at-in-more.ensures.0 c.more-test.true) c.advance.ensures.rest
     c.in_ok-part.ensures (last_value condition_of _ _ c.in_ok-push-2.ensures.items)
 
 pub row-returns : goal.row-returns
-row-returns t c =
-    let row = operand_row condition_operands c.args.room c.args.connective in
+row-returns t c = let row = operand_row condition_operands c.args.room c.args.connective in
     value_is (sym c.together.ensures) (row_done row c.more.invariant (together c.args.connective)
     (iff_false c.is_at-in-more.ensures c.more-test.false))
 
 pub row-more-smaller : goal.row-more-smaller
-row-more-smaller t c =
-    let row = operand_row condition_operands c.args.room c.args.connective in
+row-more-smaller t c = let row = operand_row condition_operands c.args.room c.args.connective in
     row_shrinks row _ c.advance.ensures.rest c.in_ok-part.ensures
 
 pub operand-returns-in_err-inner : goal.operand-returns-in_err-inner

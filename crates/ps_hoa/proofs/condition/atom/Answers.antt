@@ -32,7 +32,6 @@ returns-in_err-mark-2 c =
     c.from_residual-in_err-mark-2.ensures.1
 
 pub returns : goal.returns
-returns c =
-    let often = ap (λ p. often_in p.sign) (sym c.peek.ensures.next) ∙ sym c.often_of.ensures ∙ c.in-Some.is in
+returns c = let often = ap (λ p. often_in p.sign) (sym c.peek.ensures.next) ∙ sym c.often_of.ensures ∙ c.in-Some.is in
     value_is (sym c.visits.ensures) (visit_reads c.args.room often c.advance.ensures.rest
     (c.in_ok-mark.ensures is_left tests_left.is) c.in_ok-set.ensures (c.in_ok-mark-2.ensures is_right tests_right.is))

@@ -27,8 +27,7 @@ returns-in_err-set c =
     c.advance-token.ensures.next c.advance-token.ensures.rest)) c.from_residual.ensures.1
 
 pub more-preserved : goal.more-preserved
-more-preserved c =
-    let item = set_number c.args.count in
+more-preserved c = let item = set_number c.args.count in
     subst (λ ns. Carries hoa_causes (many item []) (stream_of c.args.tokens.now) (many item ns)
     (stream_of c.advance-token.new.self)) (sym c.in_ok-add_once.ensures)
     (loop_more (set_loop c.args.count) c.more.invariant (reads_mapped (once c.more.marks.items)

@@ -20,8 +20,7 @@ told : {piece : Piece Sign} (s : Stream Sign) (o : Option Item) → piece ≡ ne
 told s o next e = sym (ap (λ (p : Piece Sign). item_at p.sign) next) ∙ sym e
 
 pub items-init : goal.items-init
-items-init c =
-    let s = stream_of c.args.tokens.now in
+items-init c = let s = stream_of c.args.tokens.now in
     subst (λ h. Carries hoa_causes (many item no_items) s (many item h) s) (sym c.new-header.ensures)
     (carries_start hoa_causes (many item no_items) s)
 
@@ -49,8 +48,7 @@ returns-in_err-read_item c =
     c.from_residual.ensures.1
 
 pub returns : goal.returns
-returns c =
-    let s = stream_of c.items.tokens in
+returns c = let s = stream_of c.items.tokens in
     loop_ends item_loop c.items.invariant (avoids_next s (told s c.item_at.result c.peek.ensures.next c.item_at.ensures
     ∙ ap (λ o. option_map item_name_of o) c.in_default.is))
 

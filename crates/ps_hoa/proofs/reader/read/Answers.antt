@@ -1,4 +1,4 @@
-use Rattle.std.proofs.Common.{◌≡◌, ℕ, List, Result, Ok, Err, IfOk, IfErr, refl, sym, subst}
+use Rattle.std.proofs.Common.{◌≡◌, ℕ, List, Result, Ok, IfOk, IfErr, refl, rules}
 use Rattle.ps_text.specs.Answers.{Stream}
 use Rattle.ps_text.specs.Readers.{Reads}
 use Rattle.ps_text.proofs.Exits.{reads_mapped, reads_then}
@@ -7,7 +7,7 @@ use Rattle.ps_hoa.specs.Files.{FileData}
 use Rattle.ps_hoa.specs.Header.{HeaderData, header}
 use Rattle.ps_hoa.specs.Scan.{next_of, stream_of}
 use Rattle.ps_hoa.specs.Sound.{IsSoundFile}
-use Rattle.ps_hoa.specs.Texts.{file_of, file, IsFileAnswer, IsFaultOf}
+use Rattle.ps_hoa.specs.Texts.{file_of, file, IsFileAnswer}
 use Rattle.ps_hoa.specs.Causes.{HoaFault}
 use Rattle.ps_text.specs.declared.faults.Fault.TheVariants.{OutOfMemory}
 use Rattle.ps_hoa.specs.declared.file.HoaFile.{HoaFile}
@@ -54,8 +54,7 @@ file-requires c = sound c.in_ok-header.ensures c.in_ok-rows.ensures
 made : (text : List ℕ) (v : FileData) (r : Result HoaFile HoaFault) →
     ((x : HoaFile) → seen x ≡ v → IsFileAnswer seen text (Ok x)) →
     IfOk r (λ x. seen x ≡ v) → IfErr r (λ e. e ≡ OutOfMemory) → IsFileAnswer seen text r
-made text v (Ok x) h o m = h x o
-made text v (Err e) h o m = subst (IsFaultOf text) (sym m) tt
+made text v r h1 h2 h3 = search rules
 
 pub returns-clause-answer : goal.returns-clause-answer
 returns-clause-answer c = made c.args.text.now _ c.file.result
@@ -65,8 +64,7 @@ returns-clause-answer c = made c.args.text.now _ c.file.result
 
 made_sound : {v : FileData} (r : Result HoaFile HoaFault) → IsSoundFile v → IfOk r (λ x. seen x ≡ v) →
     IfOk r IsSoundFile
-made_sound (Ok x) s e = subst IsSoundFile (sym e) s
-made_sound (Err e) s o = tt
+made_sound r h1 h2 = search rules
 
 pub returns-clause-sound : goal.returns-clause-sound
 returns-clause-sound c =

@@ -19,8 +19,7 @@ returns-in_err-state c = exit (λ n. n) _ _ _ here (stops_barred IsAlternating (
     hoa_causes _ _ c.in_err-state.ensures.part) c.from_residual.ensures.1
 
 pub returns-then-is_at : goal.returns-then-is_at
-returns-then-is_at c =
-    let s = stream_of c.int.new.tokens in
+returns-then-is_at c = let s = stream_of c.int.new.tokens in
     stops_bar IsAlternating (laws_int number_limit) (nothing_apart _) hoa_causes c.in_ok-state.ensures.part
     (next_of s).sign Alternating _ (next_there s (λ e. let is = c.is_at.ensures.0 c.if-is_at.true in cc))
     (c.is_at.ensures.0 c.if-is_at.true, refl) (λ g b. least_same Alternating g b.1)
