@@ -45,12 +45,12 @@ Tight part first = Laws Odd part (Of first) Nothing ⊥
 pub false_true : false ≡ true → ⊥
 false_true e = let x : false ≡ true = e in cc
 
+pub was_true : (b : Bool) (v : Unit {0}) → cond b (Some tt) None ≡ Some v → b ≡ true
+was_true true v e = refl
+was_true false v e = absurd (none_is_some v e)
+
 pub taken_mark : (test : Kind → Bool) (sign : Sign) (v : Unit {0}) → mark_in test sign ≡ Some v → Of test sign
-taken_mark test sign v e = go (test sign.kind) e
-  where
-    go : (b : Bool) → cond b (Some tt) None ≡ Some v → b ≡ true
-    go true h = refl
-    go false h = absurd (none_is_some v h)
+taken_mark test sign v e = was_true (test sign.kind) v e
 
 pub nothing_apart : (A : Sign → Type 0) → Apart Nothing A
 nothing_apart A t h k = h
