@@ -52,9 +52,6 @@ module _ (h : HeaderData) where
   joint_states = joint_named (codes "States:") refl (laws_mapped _ _ (laws_int state_limit))
 
   -- `Start:`
-  abbrev pub start_state : Part Sign HeaderData HoaCause
-  start_state = mapped (with_start h) (barred (int number_limit) IsAlternating)
-
   abbrev pub start_name : Part Sign (Unit {0}) HoaCause
   start_name = one (λ s. name_value (codes "Start:") s.kind s.text) (IsSecondStart h)
 
@@ -63,7 +60,7 @@ module _ (h : HeaderData) where
       (plain_named (codes "Start:") refl) (λ t k. k.1)
       (λ t k. some_there (name_value (codes "Start:") t.kind t.text) k.1.0)
 
-  pub joint_start : Joint start_name (λ _. start_state)
+  pub joint_start : Joint start_name (λ _. mapped (with_start h) (barred (int number_limit) IsAlternating))
   joint_start = joint_tight laws_start_name (λ _. laws_mapped _ _ (laws_alternating (laws_int number_limit)))
 
   -- `AP:`

@@ -2,9 +2,10 @@
 --     reads_token      what is answered to the next token is the reading of its part
 --     signs_mark, .., signs_body      some sign is taken, and the end of the text is neither taken nor bad
 --     takes_refused, takes_bad      what is answered to a sign that can't stand, and to one that is bad
-use Rattle.std.proofs.Common.{◌≡◌, ℕ, ◌≤◌, Bool, true, false, cond, List, [], codes, Option, None, Some, Result, Err}
+use Rattle.std.proofs.Common.{◌≡◌, ℕ, ◌≤◌, Bool, cond, List, [], codes, Option, None, Some, Result, Err}
 use Rattle.std.proofs.Common.{refl, sym, ap, subst, inl, inr, arith}
 use Rattle.ps_hoa.proofs.Grammar.SignLaws.{same_name}
+use Rattle.std.proofs.lemmas.Bool.{false_from_ne_true}
 use Rattle.ps_text.specs.Answers.{Piece, Stream}
 use Rattle.ps_text.specs.Parts.{one, NoBad, refusal_of}
 use Rattle.ps_text.specs.Readers.{Meets}
@@ -30,17 +31,11 @@ pub reads_token : {V X : Type 0} (view : X → V) {take : Sign → Option V} {Ba
 reads_token view {take} {Bad} o piece old new r t e n =
     reads_one view o old new r (subst (λ p. Takes view take Bad p r) e t) n
 
-abbrev no_value : Option (Unit {0})
-no_value = None
-
 -- a sign of another kind
 pub mark_none : (test : Kind → Bool) (kind : Kind) (sign : Sign) → IsTestOf test kind → (sign.kind ≡ kind → ⊥) →
     mark_in test sign ≡ None
-mark_none test kind sign is differs = go (test sign.kind) refl
-  where
-    go : (b : Bool) → test sign.kind ≡ b → cond b (Some tt) None ≡ no_value
-    go true e = absurd (differs (is.1 sign.kind e))
-    go false e = refl
+mark_none test kind sign is differs = ap (λ (b : Bool). cond b (Some tt) None)
+    (false_from_ne_true (test sign.kind) (λ e. differs (is.1 sign.kind e)))
 
 -- some sign that is taken, by its kind, its text and its value
 signs : {V : Type 0} {take : Sign → Option V} {Bad : Sign → HoaCause → Type 0} (kind : Kind) (text : List ℕ) (v : V) →

@@ -6,7 +6,8 @@
 --               where it has a value, of one without a value
 --     laws_behind_option      a part behind one that may be empty
 use Rattle.std.proofs.Common.{◌≡◌, ℕ, zero, suc, ◌<◌, Bool, true, false, not, cond, List, [], ◌∷◌, length, get_or}
-use Rattle.std.proofs.Common.{Option, None, Some, is_some, refl, sym, ap, subst, ◌∙◌, arith}
+use Rattle.std.proofs.Common.{Option, None, Some, is_some, refl, sym, ap, subst, ◌∙◌, arith, ◌&&◌, ◌||◌}
+use Rattle.std.proofs.lemmas.Bool.{and_parts, or_left, or_right}
 use denote.Enum.Bare.{sameb, same_true}
 use denote.Enum.Declared.{tag_of}
 use Rattle.ps_text.specs.Parts.{Part, one, then_by}
@@ -33,7 +34,7 @@ kinds = Header ∷ HeaderAgain ∷ Word ∷ AliasName ∷ Int ∷ ZeroRun ∷ Te
 
 abbrev all : (Kind → Bool) → List Kind → Bool
 all p [] = true
-all p (k ∷ ks) = cond (p k) (all p ks) false
+all p (k ∷ ks) = p k && all p ks
 
 abbrev pub Each : (Kind → Bool) → Type 0
 Each p = all p kinds ≡ true
@@ -42,14 +43,10 @@ chosen : (b c d : Bool) → cond b c d ≡ true → b ≡ true → c ≡ true
 chosen true c d e h = e
 chosen false c d e h = absurd (false_true h)
 
-both : (b c : Bool) → cond b c false ≡ true → (b ≡ true) × (c ≡ true)
-both true c e = (refl, e)
-both false c e = absurd (false_true e)
-
 at : (p : Kind → Bool) (ks : List Kind) (n : ℕ) → n < length ks → all p ks ≡ true → p (get_or ks n Finish) ≡ true
 at p [] n l e = absurd (omega (arith, l))
-at p (k ∷ ks) zero l e = (both (p k) (all p ks) e).0
-at p (k ∷ ks) (suc n) l e = at p ks n (omega (arith, l)) (both (p k) (all p ks) e).1
+at p (k ∷ ks) zero l e = (and_parts (p k) (all p ks) e).0
+at p (k ∷ ks) (suc n) l e = at p ks n (omega (arith, l)) (and_parts (p k) (all p ks) e).1
 
 -- each kind stands in the list, at its tag
 place : (k : Kind) → (tag_of the_type k < length kinds) × (get_or kinds (tag_of the_type k) Finish ≡ k)
@@ -62,20 +59,13 @@ each p e k = subst (λ x. p x ≡ true) (place k).1 (at p kinds (tag_of the_type
 -- ## Sets of kinds
 
 abbrev pub union : (Kind → Bool) → (Kind → Bool) → Kind → Bool
-union p q k = cond (p k) true (q k)
+union p q k = p k || q k
 
 abbrev pub inside : (Kind → Bool) → (Kind → Bool) → Kind → Bool
 inside p q k = cond (p k) (q k) true
 
 abbrev pub beside : (Kind → Bool) → (Kind → Bool) → Kind → Bool
 beside p q k = cond (p k) (not (q k)) true
-
-in_left : {b : Bool} (c : Bool) → b ≡ true → cond b true c ≡ true
-in_left c h = rw h
-
-in_right : {c : Bool} (b : Bool) → c ≡ true → cond b true c ≡ true
-in_right true h = refl
-in_right false h = h
 
 pub within : (p q : Kind → Bool) → Each (inside p q) → Within (Of p) (Of q)
 within p q e t h = chosen (p t.kind) (q t.kind) true (each (inside p q) e t.kind) h
@@ -143,7 +133,7 @@ pub laws_behind_option : {A V : Type 0} {P : Part Sign A HoaCause} {Q : A → Pa
     (p q m : Kind → Bool) → Known P p p (Unit {0}) → ((a : A) → Known (Q a) q m Null) → Each (beside p q) →
     Each (inside p m) → Known (then_by P Q) (union p q) m Null
 laws_behind_option p q m l r e f = weaker (laws_then l r (apart p q e))
-    (both_within (λ t h. in_left (q t.kind) h) (λ t h. in_right (p t.kind) h.1))
+    (both_within (λ t h. or_left (p t.kind) (q t.kind) h) (λ t h. or_right (p t.kind) (q t.kind) h.1))
     (both_within (λ t h. h) (λ t h. within p m f t h.1)) (λ n. n.1)
 
 pub laws_mark : (p : Kind → Bool) (kind : Kind) → p kind ≡ true → AreSigns p (mark_in p) →

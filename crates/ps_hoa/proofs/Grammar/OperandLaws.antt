@@ -45,12 +45,12 @@ Tight part first = Laws Odd part (Of first) Nothing ⊥
 pub false_true : false ≡ true → ⊥
 false_true e = let x : false ≡ true = e in cc
 
+pub was_true : (b : Bool) (v : Unit {0}) → cond b (Some tt) None ≡ Some v → b ≡ true
+was_true true v e = refl
+was_true false v e = absurd (none_is_some v e)
+
 pub taken_mark : (test : Kind → Bool) (sign : Sign) (v : Unit {0}) → mark_in test sign ≡ Some v → Of test sign
-taken_mark test sign v e = go (test sign.kind) e
-  where
-    go : (b : Bool) → cond b (Some tt) None ≡ Some v → b ≡ true
-    go true h = refl
-    go false h = absurd (none_is_some v h)
+taken_mark test sign v e = was_true (test sign.kind) v e
 
 pub nothing_apart : (A : Sign → Type 0) → Apart Nothing A
 nothing_apart A t h k = h
@@ -81,39 +81,32 @@ module _ {V : Type 0} (sign : Kind → Bool) (operand : Part Sign V HoaCause) {F
   laws_item : (vs : List V) → Laws Odd (item vs) (Of sign) More ⊥
   laws_item vs = laws_behind sign m (laws_mapped _ _ l)
 
-  laws_items : (vs : List V) → Laws Odd (many item vs) (Of sign) (Or More (Of sign)) (Unit {0})
-  laws_items vs = laws_many item laws_item apart vs
-
   pub joint_operands : Joint (mapped single operand) (λ vs. many (λ ws. further sign operand ws) vs)
-  joint_operands = joint (laws_mapped _ _ l) laws_items apart
+  joint_operands = joint (laws_mapped _ _ l) (laws_many item laws_item apart) apart
 
   pub laws_row : (join : List V → V) → Laws Odd (row sign join operand) First (Or More (Of sign)) ⊥
-  laws_row join = laws_mapped _ _ (weaker
-      (laws_then (laws_mapped _ _ l) laws_items apart) (both_within (λ t h. h) (λ t h. absurd h.0))
-      (both_within (λ t h. h) (λ t h. inl h.1)) (λ n. n.0))
+  laws_row join = laws_mapped _ _ (weaker (laws_then (laws_mapped _ _ l) (laws_many item laws_item apart) apart)
+      (both_within (λ t h. h) (λ t h. absurd h.0)) (both_within (λ t h. h) (λ t h. inl h.1)) (λ n. n.0))
 
   -- the first operand fails
   pub row_fails : (join : List V → V) (old : Stream Sign) (o : Option (Found HoaCause)) →
       Stops hoa_causes operand old o → Stops hoa_causes (row sign join operand) old o
-  row_fails join old o s =
-      stops_mapped hoa_causes (joined join) (operands sign operand) old o
+  row_fails join old o s = stops_mapped hoa_causes (joined join) (operands sign operand) old o
       (stops_first hoa_causes joint_operands old o (stops_mapped hoa_causes single operand old o s))
 
   -- no further one stands behind it
   pub row_alone : (join : List V → V) {old new : Stream Sign} {v : V} → Reads operand old v new →
       Avoids (Of sign) (next_of new) → Reads (row sign join operand) old v new
-  row_alone join {new = new} {v = v} r a =
-      reads_mapped (joined join) (reads_then joint_operands (reads_mapped single r)
-      (many_ends item laws_item apart (single v) new a))
+  row_alone join {new = new} {v = v} r a = reads_mapped (joined join)
+      (reads_then joint_operands (reads_mapped single r) (many_ends item laws_item apart (single v) new a))
 
   -- behind some operands
   abbrev pub InRow : Stream Sign → List V → Stream Sign → Type 0
   InRow old vs now = Carries hoa_causes (operands sign operand) old (many (λ ws. further sign operand ws) vs) now
 
   pub row_begins : {old now : Stream Sign} {v : V} → Reads operand old v now → InRow old (single v) now
-  row_begins {old = old} r =
-      carries_then hoa_causes joint_operands (carries_start hoa_causes (operands sign operand) old)
-      (reads_mapped single r)
+  row_begins {old = old} r = carries_then hoa_causes joint_operands
+      (carries_start hoa_causes (operands sign operand) old) (reads_mapped single r)
 
   joint_item : (vs : List V) → Joint (mark sign) (λ _. mapped (with_last vs) operand)
   joint_item vs = joint_mark sign m (laws_mapped _ _ l)

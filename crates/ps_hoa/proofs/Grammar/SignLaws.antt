@@ -20,7 +20,7 @@ use Rattle.ps_hoa.specs.declared.fault.HoaCause.{HoaCause}
 use Rattle.ps_hoa.specs.declared.fault.HoaCause.TheVariants.{UnknownHeader}
 use Rattle.ps_hoa.specs.declared.tokens.Kind.{Kind}
 use Rattle.ps_hoa.specs.declared.tokens.Kind.TheVariants.{Header, Int, Text, AliasName, Body}
-use Rattle.ps_hoa.proofs.Grammar.OperandLaws.{Odd, Of, Tight}
+use Rattle.ps_hoa.proofs.Grammar.OperandLaws.{was_true, false_true, Odd, Of, Tight}
 use Rattle.ps_hoa.proofs.Grammar.KindSets.{plain, laws_value}
 use Rattle.ps_hoa.proofs.Grammar.ConditionLaws.{is_int}
 
@@ -47,14 +47,14 @@ Named name sign = name_value name sign.kind sign.text ≡ Some tt
 abbrev pub Other : Sign → Type 0
 Other sign = other_value sign.kind sign.text ≡ Some tt
 
-was_true : (b : Bool) (v : Unit {0}) → cond b (Some tt) None ≡ Some v → b ≡ true
-was_true true v e = refl
-was_true false v e = absurd (none_is_some v e)
-
 pub named_text : (name : List ℕ) (kind : Kind) (text : List ℕ) → name_value name kind text ≡ Some tt →
     (kind ≡ Header) × (text ≡ name)
 named_text name Header text e = (refl, (bytes_eq-Decides text name).0 (was_true (bytes_eq text name) tt e))
 named_text name kind text e = absurd (none_is_some tt e)
+
+-- a name is of no set of other kinds
+pub header_apart : (test : Kind → Bool) → test Header ≡ false → (t : Sign) → t.kind ≡ Header → Of test t → ⊥
+header_apart test e t h k = false_true (sym e ∙ ap test (sym h) ∙ k)
 
 -- a name that is there is that name
 pub some_there : (o : Option (Unit {0})) → (o ≡ None → ⊥) → o ≡ Some tt

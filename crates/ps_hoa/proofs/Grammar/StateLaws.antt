@@ -2,7 +2,7 @@
 --     laws_state, laws_states, laws_ended, laws_body      the laws
 --     joint_state, joint_state_label, joint_number, joint_name, joint_marks      the parts of a state, from the front
 --     joint_body      the states and `--END--`
-use Rattle.std.proofs.Common.{◌≡◌, ℕ, Bool, false, List, [], codes, Option, Some, refl, sym, ap, ◌∙◌}
+use Rattle.std.proofs.Common.{◌≡◌, ℕ, Bool, List, [], codes, Option, Some, refl}
 use Rattle.ps_label.specs.Expression.{Expression}
 use Rattle.ps_text.specs.Parts.{Part, give, then_by, many, mapped}
 use Rattle.ps_text.proofs.Following.{laws_tight}
@@ -22,8 +22,8 @@ use Rattle.ps_hoa.specs.declared.tokens.Kind.{Kind}
 use Rattle.ps_hoa.specs.declared.tokens.Kind.TheVariants.{Header, End}
 use Rattle.ps_hoa.proofs.Grammar.ConditionLaws.{is_int}
 use Rattle.ps_hoa.proofs.Grammar.KindSets.{laws_behind_option, within_both, apart, laws_sign, union}
-use Rattle.ps_hoa.proofs.Grammar.OperandLaws.{Odd, Of, false_true, Known, Tight}
-use Rattle.ps_hoa.proofs.Grammar.SignLaws.{is_string, some_there, named_text, plain_named, laws_string}
+use Rattle.ps_hoa.proofs.Grammar.OperandLaws.{Odd, Of, Known, Tight}
+use Rattle.ps_hoa.proofs.Grammar.SignLaws.{header_apart, is_string, some_there, named_text, plain_named, laws_string}
 use Rattle.ps_hoa.proofs.Grammar.BodyLaws.{lengthens_edge, laws_target_number, laws_marks, laws_state_label, laws_edge}
 use Rattle.ps_hoa.proofs.Grammar.BodyLaws.{edge_apart}
 
@@ -118,14 +118,12 @@ module _ (h : HeaderData) (b : BodyData) where
 
 -- ## All states
 
-state_kind : (test : Kind → Bool) → test Header ≡ false → Apart IsState (Of test)
-state_kind test e t h k = false_true (sym e ∙ ap test (sym (text_of_state t.kind t.text h.0 h.1).0) ∙ k)
-
 pub state_apart : Apart (Of lengthens_state) IsState
-state_apart t h k = state_kind lengthens_state refl t k h
+state_apart t h k = header_apart lengthens_state refl t (text_of_state t.kind t.text k.0 k.1).0 h
 
 end_apart : Apart (Or (Of lengthens_state) IsState) (Of is_end)
-end_apart = both_within (apart lengthens_state is_end refl) (state_kind is_end refl)
+end_apart = both_within (apart lengthens_state is_end refl)
+    (λ t h. header_apart is_end refl t (text_of_state t.kind t.text h.0 h.1).0)
 
 module _ (h : HeaderData) where
   laws_states : Laws Odd (many (state h) no_rows) IsState (Or (Of lengthens_state) IsState) (Unit {0})

@@ -3,7 +3,7 @@
 --     laws_form, laws_item, laws_items, laws_header      the laws
 --     joint_header      the items and `--BODY--`
 -- proofs/Grammar/ItemChoice goes on with which item stands.
-use Rattle.std.proofs.Common.{◌≡◌, ℕ, Bool, false, List, [], codes, Option, Some, inl, refl, sym, ap, ◌∙◌}
+use Rattle.std.proofs.Common.{◌≡◌, ℕ, Bool, List, [], codes, Option, Some, inl, refl, ap}
 use Rattle.ps_text.specs.Parts.{Part, one, then_by, many}
 use Rattle.ps_text.proofs.Following.{laws_tight}
 use Rattle.ps_text.proofs.Laws.{Laws, Joint, Nothing, Or, Within, Apart}
@@ -23,11 +23,11 @@ use Rattle.ps_hoa.specs.declared.fault.HoaCause.{HoaCause}
 use Rattle.ps_hoa.specs.declared.tokens.Kind.{Kind}
 use Rattle.ps_hoa.specs.declared.tokens.Kind.TheVariants.{Header, Body}
 use Rattle.ps_hoa.proofs.Grammar.KindSets.{union, within, apart, laws_sign}
-use Rattle.ps_hoa.proofs.Grammar.OperandLaws.{Odd, Of, false_true, Tight}
+use Rattle.ps_hoa.proofs.Grammar.OperandLaws.{Odd, Of, Tight}
 use Rattle.ps_hoa.proofs.Grammar.LabelLaws.{is_connective}
 use Rattle.ps_hoa.proofs.Grammar.ConditionLaws.{is_int}
 use Rattle.ps_hoa.proofs.Grammar.ItemNames.{StartsWith, begins}
-use Rattle.ps_hoa.proofs.Grammar.SignLaws.{laws_int, laws_alternating, is_string, is_body, laws_name}
+use Rattle.ps_hoa.proofs.Grammar.SignLaws.{header_apart, laws_int, laws_alternating, is_string, is_body, laws_name}
 use Rattle.ps_hoa.proofs.Grammar.HeaderLaws.{laws_start_name, laws_counted_names, laws_named_label}
 use Rattle.ps_hoa.proofs.Grammar.HeaderLaws.{laws_counted_condition, laws_strings, laws_index, laws_read_over}
 use Rattle.ps_hoa.proofs.Grammar.HeaderLaws.{laws_read_string, laws_other_name}
@@ -96,11 +96,8 @@ first_header t h = go t.kind t.text h.0 h.1
     go Header text name e = refl
     go kind text name e = absurd (none_is_some name e)
 
-item_kind : (test : Kind → Bool) → test Header ≡ false → Apart ItemFirst (Of test)
-item_kind test e t h k = false_true (sym e ∙ ap test (sym (first_header t h)) ∙ k)
-
 pub item_apart : Apart ItemMore ItemFirst
-item_apart t h k = item_kind is_argument refl t k h
+item_apart t h k = header_apart is_argument refl t (first_header t k) h
 
 pub laws_items : (h : HeaderData) → Laws Odd (many item h) ItemFirst (Or ItemMore ItemFirst) (Unit {0})
 laws_items h = laws_many item laws_item item_apart h
@@ -109,7 +106,7 @@ pub laws_body_mark : (h : HeaderData) → Tight (body_mark h) is_body
 laws_body_mark h = laws_sign is_body Body [] h refl (λ _. refl) (λ t k. ap is_body k.1.0)
 
 item_body : Apart (Or ItemMore ItemFirst) (Of is_body)
-item_body = both_within (apart is_argument is_body refl) (item_kind is_body refl)
+item_body = both_within (apart is_argument is_body refl) (λ t h. header_apart is_body refl t (first_header t h))
 
 abbrev pub HeaderFirst : Sign → Type 0
 HeaderFirst = Or ItemFirst (Of is_body)
