@@ -1,49 +1,34 @@
 -- What the moves of a cursor read of a text, and how they fail.
 use Rattle.std.proofs.Common.{◌≡◌, ℕ, suc, ◌+◌, ◌-◌, ◌^◌, ◌<◌, ◌≤◌, Bool, true, false, not, cond, eqb, List, [], ◌∷◌}
-use Rattle.std.proofs.Common.{◌++◌, length, take, drop, get_or, Option, None, Some, Result, Ok, Err, IsErrAnd, refl}
-use Rattle.std.proofs.Common.{sym, ap, ap₂, subst, inl, ◌∙◌, append_assoc, arith, length-append}
+use Rattle.std.proofs.Common.{◌++◌, length, take, drop, get_or, Option, None, Some, Result, Ok, refl, sym, ap, ap₂}
+use Rattle.std.proofs.Common.{subst, inl, ◌∙◌, append_assoc, arith, length-append}
 use Rattle.std.specs.Option.{option_map}
 use Rattle.std.specs.List.{prefix_len, take_while}
 use Rattle.std.specs.Char.{is_ascii_digit}
 use Rattle.std.proofs.lemmas.Bool.{eqb-true}
 use Rattle.std.proofs.lemmas.List.{take-append-drop}
-use Rattle.ps_text.specs.Answers.{Piece, Stream, Found, signs, first_of, next_of}
+use Rattle.ps_text.specs.Answers.{Piece, Stream, signs, first_of, next_of}
 use Rattle.ps_text.specs.Parts.{NoBad, give, either}
 use Rattle.ps_text.specs.Readers.{tail, Reads, Stops}
 use Rattle.ps_text.specs.Digits.{decimal_value}
-use Rattle.ps_text.proofs.Laws.{Joint}
 use Rattle.ps_text.specs.Runs.{AllOf, StopsBefore}
 use Rattle.ps_text.proofs.ByteRuns.{run_all, run_ends, run_whole}
-use Rattle.ps_text.proofs.Joined.{joint}
 use Rattle.ps_text.proofs.Simple.{same_some, none_is_some, laws_give}
 use Rattle.ps_text.proofs.Covered.{Avoids, Enters, enters_read, enters_one, enters_mapped}
-use Rattle.ps_text.proofs.Exits.{exits, reads_next, reads_give, reads_mapped, reads_then, stops_mapped, stops_first}
-use Rattle.ps_text.proofs.Exits.{stops_behind}
-use Rattle.ps_text.proofs.Branches.{Stands, left_entered, left_otherwise, right_otherwise, reads_as, stops_as_well}
-use Rattle.ps_circuit.specs.declared.fault.AigCause.{AigCause}
+use Rattle.ps_text.proofs.Exits.{reads_next, reads_give, then_meets}
+use Rattle.ps_text.proofs.Branches.{left_entered, left_otherwise, right_otherwise, reads_as}
 use Rattle.ps_circuit.specs.declared.fault.AigCause.TheVariants.{Syntax}
 use Rattle.ps_circuit.specs.Causes.{AigFault}
-use Rattle.ps_text.specs.declared.faults.Fault.TheVariants.{Text, OutOfMemory}
-use Rattle.ps_circuit.specs.Signs.{Seen, pieces_at, ends_line, stream_of, aig_causes, Field, take_byte, byte, word}
-use Rattle.ps_circuit.specs.Signs.{is_digit, is_blank, is_inner, gap, rest_of_line, newline, line_end, more, NoBadRun}
+use Rattle.ps_text.specs.declared.faults.Fault.TheVariants.{Text}
+use Rattle.ps_circuit.specs.Signs.{Seen, pieces_at, ends_line, stream_of, aig_causes, take_byte, byte, is_digit}
+use Rattle.ps_circuit.specs.Signs.{is_blank, is_inner, gap, rest_of_line, newline, line_end, more, NoBadRun}
 use Rattle.ps_circuit.specs.declared.cursor.Class.{Class}
 use Rattle.ps_circuit.specs.declared.cursor.Class.TheVariants.{Digit, Blank, Inner}
 use Rattle.ps_circuit.specs.Cursors.{in_class, ended, next_byte, place_of, found_of, Tells, Passes, saturated}
 use Rattle.ps_circuit.proofs.Runs.{Odd, run_reads, run_stops, stops_here}
-use Rattle.ps_circuit.proofs.SignLaws.{At, AtBlank, byte_taken, laws_byte, laws_word, laws_gap, laws_blanks}
-use Rattle.ps_circuit.proofs.SignLaws.{laws_newline, laws_ends_here, laws_gap_more, ends_here, behind_gap, gap_more}
-use Rattle.ps_circuit.proofs.SignLaws.{joint_gap_more, blank_newline}
-
--- ## The exits
-
-pub exit : {V X : Type 0} (view : X → V) (P : Field V) (old new : Stream Seen) (e : AigFault) (r : Result X AigFault) →
-    Stops aig_causes P old (found_of e) → IsErrAnd r (λ y. y ≡ e) → Tells view P old r new
-exit view P old new e r m i = exits found_of aig_causes view P old new e r m i
-
-pub memory_exit : {V X : Type 0} (view : X → V) (P : Field V) (old new : Stream Seen) {e : AigFault}
-    (r : Result X AigFault) → e ≡ OutOfMemory → IsErrAnd r (λ y. y ≡ e) → Tells view P old r new
-memory_exit view P old new {e} r m i =
-    exit view P old new e r (subst (λ y. Stops aig_causes P old (found_of y)) (sym m) tt) i
+use Rattle.ps_circuit.proofs.Exits.{Left, unread, past, branch}
+use Rattle.ps_circuit.proofs.SignLaws.{At, AtBlank, byte_taken, laws_byte, laws_gap, laws_ends_here, ends_here}
+use Rattle.ps_circuit.proofs.SignLaws.{gap_more, chain_line_end, chain_gap_more, blank_newline}
 
 -- ## The beginning
 
@@ -97,7 +82,7 @@ pub byte_stops : (b : ℕ) (old : Stream Seen) {e : AigFault} → (next_byte old
     e ≡ Text Syntax (place_of old) → Stops aig_causes (byte b) old (found_of e)
 byte_stops b old none is =
     subst (λ x. Stops aig_causes (byte b) old (found_of x)) (sym is)
-    (stops_here (laws_byte b) (λ t n h. none (ap (option_map (λ (s : Seen). s.byte)) n ∙ ap Some h)))
+    (stops_here (laws_byte b).laws (λ t n h. none (ap (option_map (λ (s : Seen). s.byte)) n ∙ ap Some h)))
 
 -- ## Runs
 
@@ -191,26 +176,22 @@ avoids_run {p} x t n h = go x.rest x.longest (sym (ap (λ z. first_of (signs z))
 
 blanks_read : {old new : Stream Seen} {r : List ℕ} → Passes is_blank old new r → (b : Bool) → eqb (length r) 0 ≡ b →
     Reads (either gap (give tt)) old tt new
-blanks_read {old} {new} x true e =
+blanks_read {old} x true e =
     let none = is_empty_true (sym e) refl in
-    let y : Passes is_blank old new [] = subst (Passes is_blank old new) none x in
+    let y : Passes is_blank old _ [] = subst (Passes is_blank old _) none x in
     subst (λ z. Reads (either gap (give tt)) old tt z) (sym (same_place x none))
-    (reads_as {P = give tt} {Q = either gap (give tt)} {old = old} {new = old} {v = tt}
-    (right_otherwise laws_gap (laws_give Odd tt) (next_of old) (avoids_run y) (λ z. z)) (reads_give old tt))
+    (reads_as (right_otherwise laws_gap.laws (laws_give Odd tt) (next_of old) (avoids_run y) (λ z. z))
+    (reads_give old tt))
 blanks_read {old} {new} {r} x false e =
     let m = gap_reads x (is_empty_false r (sym e) refl) in
-    reads_as {P = gap} {Q = either gap (give tt)} {old = old} {new = new} {v = tt}
-    (left_entered laws_gap (laws_give Odd tt) (next_of old) (λ t h k. k)
-    (enters_read gap (signs old.pieces) (signs new.pieces) tt (λ w h. laws_gap.null w h) m.1)) m
+    reads_as (left_entered laws_gap.laws (laws_give Odd tt) (next_of old) (λ t h k. k)
+    (enters_read gap (signs old.pieces) (signs new.pieces) tt (λ w h. laws_gap.laws.null w h) m.1)) m
 
 pub line_end_tells : {old mid : Stream Seen} (new : Stream Seen) {r : List ℕ} (result : Result (Unit {0}) AigFault) →
     Passes is_blank old mid r → Tells (λ u. u) newline mid result new → Tells (λ u. u) line_end old result new
 unfolding line_end
-line_end_tells new {r} (Ok u) x m =
-    reads_then (joint laws_blanks (λ _. laws_newline) blank_newline) (blanks_read x (eqb (length r) 0) refl) m
-line_end_tells new {r} (Err e) x m =
-    stops_behind aig_causes (joint laws_blanks (λ _. laws_newline) blank_newline)
-    (blanks_read x (eqb (length r) 0) refl) (found_of e) m
+line_end_tells new {r} result x m =
+    then_meets found_of aig_causes (λ u. u) new result chain_line_end.joint (blanks_read x (eqb (length r) 0) refl) m
 
 -- ## A further field
 
@@ -230,57 +211,25 @@ enters_newline old e =
     subst (Enters newline) (sym t.1) (enters_one (take_byte 10) NoBad t.0 (inl (tt, byte_taken t.0 t.2)))
 
 module _ (old : Stream Seen) where
-  at_line_end : next_byte old ≡ Some 10 → Stands (next_of old) ends_here more
+  pub at_line_end : next_byte old ≡ Some 10 → Left more old ends_here old
   unfolding more
-  at_line_end e = left_otherwise laws_ends_here laws_gap_more (next_of old) (avoids_blank old e) (λ z. z)
+  at_line_end e = branch unread (left_otherwise laws_ends_here.laws chain_gap_more.whole.laws (next_of old)
+      (avoids_blank old e) (λ z. z))
 
-  at_gap : (next_byte old ≡ Some 10 → ⊥) → Stands (next_of old) gap_more more
+  pub at_gap : (next_byte old ≡ Some 10 → ⊥) → Left more old gap_more old
   unfolding more
-  at_gap none = right_otherwise laws_ends_here laws_gap_more (next_of old) (avoids_newline old none) (λ z. z)
+  at_gap none = branch unread (right_otherwise laws_ends_here.laws chain_gap_more.whole.laws (next_of old)
+      (avoids_newline old none) (λ z. z))
 
-  pub more_ends : {new : Stream Seen} → next_byte old ≡ Some 10 → Reads newline old tt new → Reads more old false new
-  more_ends {new} e m =
-      reads_as {P = ends_here} {Q = more} {old = old} {new = new} {v = false} (at_line_end e)
-      (reads_mapped (λ _. false) m)
+  module _ {mid : Stream Seen} (none : next_byte old ≡ Some 10 → ⊥) (g : Reads gap old tt mid) where
+    pub past_gap_ends : next_byte mid ≡ Some 10 → Left more old ends_here mid
+    past_gap_ends e =
+        branch (past chain_gap_more (at_gap none) g) (left_entered laws_ends_here.laws (laws_give Odd true)
+        (next_of mid) (λ t h k. k) (enters_mapped (λ _. false) newline (next_of mid) (enters_newline mid e)))
 
-  pub more_fails : (o : Option (Found AigCause)) → next_byte old ≡ Some 10 → Stops aig_causes newline old o →
-      Stops aig_causes more old o
-  more_fails o e m =
-      stops_as_well aig_causes {P = ends_here} {Q = more} old o (at_line_end e)
-      (stops_mapped aig_causes (λ _. false) newline old o m)
-
-  pub gap_fails : (o : Option (Found AigCause)) → (next_byte old ≡ Some 10 → ⊥) → Stops aig_causes gap old o →
-      Stops aig_causes more old o
-  gap_fails o none m =
-      stops_as_well aig_causes {P = gap_more} {Q = more} old o (at_gap none)
-      (stops_first aig_causes joint_gap_more old o m)
-
-  module _ (mid : Stream Seen) (none : next_byte old ≡ Some 10 → ⊥) (g : Reads gap old tt mid) where
-    behind_ends : next_byte mid ≡ Some 10 → Stands (next_of mid) ends_here behind_gap
-    behind_ends e =
-        left_entered laws_ends_here (laws_give Odd true) (next_of mid) (λ t h k. k)
-        (enters_mapped (λ _. false) newline (next_of mid) (enters_newline mid e))
-
-    pub behind_gap_ends : {new : Stream Seen} → next_byte mid ≡ Some 10 → Reads newline mid tt new →
-        Reads more old false new
-    behind_gap_ends {new} e m =
-        reads_as {P = gap_more} {Q = more} {old = old} {new = new} {v = false} (at_gap none)
-        (reads_then joint_gap_more g (reads_as {P = ends_here} {Q = behind_gap} {old = mid} {new = new} {v = false}
-        (behind_ends e) (reads_mapped (λ _. false) m)))
-
-    pub behind_gap_fails : (o : Option (Found AigCause)) → next_byte mid ≡ Some 10 → Stops aig_causes newline mid o →
-        Stops aig_causes more old o
-    behind_gap_fails o e m =
-        stops_as_well aig_causes {P = gap_more} {Q = more} old o (at_gap none)
-        (stops_behind aig_causes joint_gap_more g o (stops_as_well aig_causes {P = ends_here} {Q = behind_gap} mid o
-        (behind_ends e) (stops_mapped aig_causes (λ _. false) newline mid o m)))
-
-    pub behind_gap_more : (next_byte mid ≡ Some 10 → ⊥) → Reads more old true mid
-    behind_gap_more n =
-        reads_as {P = gap_more} {Q = more} {old = old} {new = mid} {v = true} (at_gap none)
-        (reads_then joint_gap_more g (reads_as {P = give true} {Q = behind_gap} {old = mid} {new = mid} {v = true}
-        (right_otherwise laws_ends_here (laws_give Odd true) (next_of mid) (avoids_newline mid n) (λ z. z))
-        (reads_give mid true)))
+    pub past_gap_more : (next_byte mid ≡ Some 10 → ⊥) → Reads more old true mid
+    past_gap_more n = (branch (past chain_gap_more (at_gap none) g) (right_otherwise laws_ends_here.laws
+        (laws_give Odd true) (next_of mid) (avoids_newline mid n) (λ z. z))).carries (Ok true) mid (reads_give mid true)
 
 -- ## Values
 
@@ -293,9 +242,6 @@ value_held digits {v} all small e =
 pub value_large : (digits : List ℕ) → AllOf is_digit digits →
     2 ^ 64 ≤ decimal_value (take_while is_ascii_digit digits) → 18446744073709551615 ≡ saturated (decimal_value digits)
 value_large digits all large = omega (arith, large, ap decimal_value (run_whole is_ascii_digit digits all))
-
-pub joint_word : (b : ℕ) (bytes : List ℕ) → Joint (byte b) (λ _. word bytes)
-joint_word b bytes = joint (laws_byte b) (λ _. laws_word bytes) (λ t x y. x)
 
 pub class_line : (k : Class) → in_class k 10 ≡ false
 class_line Digit = refl

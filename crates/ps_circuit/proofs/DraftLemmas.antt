@@ -1,175 +1,170 @@
 -- What the lines of a text add, and what they make.
---     input_lines, latch_lines, output_lines, gate_lines      what any number of lines adds
+--     Lined kind most before read d      what the lines of one kind define, behind what was defined before, and read
+--     gates_placed      each gate of a draft has the offset of its line
 --     sound_draft      a draft whose literals are all defined makes a circuit, but that a gate may depend on itself
 --     each_named      a name or none for each item
-use Rattle.std.proofs.Common.{◌≡◌, ℕ, ◌+◌, ◌^◌, ◌<◌, List, [], ◌∷◌, ◌++◌, length, map, flat_map, Option, All, refl, sym}
-use Rattle.std.proofs.Common.{ap, subst, ◌∙◌, append-nil, append_assoc, arith, length-append}
+use Rattle.std.proofs.Common.{◌≡◌, ℕ, zero, suc, ◌+◌, ◌*◌, ◌^◌, ◌<◌, List, [], ◌∷◌, ◌++◌, length, map, Option, All}
+use Rattle.std.proofs.Common.{refl, sym, ap, subst, ◌∙◌, append-nil, append_assoc, arith, length-append}
 use Rattle.std.specs.Prelude.{vec_len, Vec}
 use Rattle.std.specs.Global.{Global}
-use Rattle.std.proofs.lemmas.List.{length-map}
-use Rattle.std.proofs.lemmas.List.Elements.{All-map}
+use Rattle.std.proofs.lemmas.List.{length-map, map-append}
+use Rattle.std.proofs.lemmas.List.Elements.{All-append, All-map}
+use Rattle.ps_text.specs.Parts.{times}
 use Rattle.ps_circuit.specs.declared.cursor.Number.{Number}
 use Rattle.ps_circuit.specs.Drafts.{name_bytes}
 use Rattle.ps_circuit.specs.declared.parts.Latch.{Latch}
 use Rattle.ps_circuit.specs.declared.parts.Gate.{Gate}
-use Rattle.ps_circuit.specs.Circuits.{readings, IsName, IsDraft}
-use Rattle.ps_circuit.specs.Texts.{Lines, no_lines, next_lines, NamesData, draft_of as drafted, IsDefined}
+use Rattle.ps_circuit.specs.Circuits.{IsName, IsDefinition}
+use Rattle.ps_circuit.specs.Literals.{variable}
+use Rattle.ps_circuit.specs.Signs.{Seen, Field}
+use Rattle.ps_circuit.specs.Texts.{HeaderData, Lines, no_lines, next_lines, NamesData, draft_of as drafted}
+use Rattle.ps_circuit.specs.Texts.{input_line, latch_line, output_line, gate_line, DraftData, symbols, body}
+use Rattle.ps_circuit.specs.Texts.{circuit_text}
 use Rattle.ps_circuit.specs.Reading.{Defines, IsKnownIn, AddsInput, AddsLatch, AddsOutput, AddsGate, Grown, none, more}
 use Rattle.ps_circuit.specs.Reading.{IsSoundDraft}
-use Rattle.ps_circuit.proofs.ReadingLemmas.{defines_none, defines_more, defines_mapped, reads_more, reads_gate}
+use Rattle.ps_circuit.proofs.Adding.{values, LineKind, AddsItem, none_more, one_more, input_kind, latch_kind}
+use Rattle.ps_circuit.proofs.Adding.{output_kind, gate_kind, adds_input, adds_latch, adds_output, adds_gate}
 use Rattle.ps_circuit.proofs.ReadingLemmas.{draft_of}
-
-abbrev values : List Number → List ℕ
-values ls = map (λ l. l.value) ls
 
 -- ## Lines
 
-pub record Inputs (most : ℕ) (c d : Lines ℕ) : Type 0 where
-  pub new : Defines most c.defined d.items d.defined
-  pub readings : d.readings ≡ c.readings
-  pub starts : d.starts ≡ c.starts
+defines_none : {most : ℕ} {old : List ℕ} → Defines most old [] old
+defines_none {old = old} =
+    record { variables = sym (append-nil old); each = λ k d lt. absurd (omega arith); apart = λ h. h }
 
-pub input_lines : {most : ℕ} {c d : Lines ℕ} → c.items ≡ [] → Grown (AddsInput most) c d → Inputs most c d
-input_lines {most} {c} e none =
-    record {
-      new = subst (λ xs. Defines most c.defined xs c.defined) (sym e) (defines_none);
-      readings = refl;
-      starts = refl;
-    }
-input_lines {most} {c} e (more {d} {e = e2} g a) =
-    let x = input_lines e g in
-    record {
-      new =
-          subst (λ xs. Defines most c.defined xs e2.defined) (sym (ap (λ (z : Lines ℕ). z.items) a.is))
-          (defines_more a.literal.value refl x.new a.new);
-      readings = ap (λ (z : Lines ℕ). z.readings) a.is ∙ x.readings;
-      starts = ap (λ (z : Lines ℕ). z.starts) a.is ∙ x.starts;
-    }
-
-pub record Latches (most : ℕ) (c d : Lines Latch) : Type 0 where
-  pub new : Defines most c.defined (map (λ l. l.literal) d.items) d.defined
-  pub readings : values d.readings ≡ values c.readings ++ map (λ l. l.next) d.items
-  pub starts : d.starts ≡ c.starts
-
-map_push : (xs : List Number) (x : Number) → values (xs ++ x ∷ []) ≡ values xs ++ x.value ∷ []
-map_push [] x = refl
-map_push (y ∷ xs) x = ap (λ zs. y.value ∷ zs) (map_push xs x)
-
-pub latch_lines : {most : ℕ} {c d : Lines Latch} → c.items ≡ [] → Grown (AddsLatch most) c d → Latches most c d
-latch_lines {most} {c} e none = record {
-  new = subst (λ (xs : List Latch). Defines most c.defined (map (λ l. l.literal) xs) c.defined) (sym e) (defines_none);
-  readings =
-      sym (append-nil (values c.readings)) ∙ ap (λ (xs : List Latch). values c.readings ++ map (λ l. l.next) xs)
-      (sym e);
-  starts = refl;
+defines_both : {most : ℕ} {old mid new xs ys : List ℕ} → Defines most old xs mid → Defines most mid ys new →
+    Defines most old (xs ++ ys) new
+defines_both {most} {old} {xs = xs} {ys} d e = record {
+  variables = e.variables ∙ ap (λ z. z ++ map variable ys) d.variables
+      ∙ append_assoc old (map variable xs) (map variable ys) ∙ ap (λ z. old ++ z) (sym (map-append variable xs ys));
+  each = All-append (IsDefinition most) xs ys d.each e.each;
+  apart = λ h. e.apart (d.apart h);
 }
-latch_lines {most} {c} e (more {d} {e = e2} g a) =
-    let x = latch_lines e g in
-    let l : Latch = record { literal = a.literal.value; next = a.next.value; reset = a.reset } in
-    record {
-      new =
-          defines_mapped (λ (l : Latch). l.literal) d.items e2.items l most most c.defined d.defined e2.defined
-          e2.defined (ap (λ (z : Lines Latch). z.items) a.is) refl x.new a.new refl;
-      readings =
-          reads_more (λ (l : Latch). l.next) d.items l (values c.readings)
-          (values e2.readings) (ap (λ (z : Lines Latch). z.items) a.is) x.readings
-          (ap (λ (z : Lines Latch). values z.readings) a.is ∙ map_push d.readings a.next);
-      starts = ap (λ (z : Lines Latch). z.starts) a.is ∙ x.starts;
-    }
 
-pub record Outputs (c d : Lines ℕ) : Type 0 where
-  pub defined : d.defined ≡ c.defined
-  pub readings : values d.readings ≡ values c.readings ++ d.items
-  pub starts : d.starts ≡ c.starts
+pub record Lined {X : Type 0} (kind : LineKind X) (most : ℕ) (before read : List ℕ) (d : Lines X) : Type 0 where
+  pub new : Defines most [] (before ++ kind.defines d.items) d.defined
+  pub readings : values d.readings ≡ read ++ kind.reads d.items
 
-pub output_lines : {c d : Lines ℕ} → c.items ≡ [] → Grown AddsOutput c d → Outputs c d
-output_lines {c} e none =
-    record {
-      defined = refl;
-      readings = sym (append-nil (values c.readings)) ∙ ap (λ xs. values c.readings ++ xs) (sym e);
-      starts = refl;
-    }
-output_lines {c} e (more {d} {e = e2} g a) =
-    let x = output_lines e g in
-    record {
-      defined = ap (λ (z : Lines ℕ). z.defined) a.is ∙ x.defined;
-      readings = ap (λ (z : Lines ℕ). values z.readings) a.is ∙ map_push d.readings a.literal
-          ∙ ap (λ xs. xs ++ a.literal.value ∷ []) x.readings ∙ append_assoc (values c.readings) d.items
-          (a.literal.value ∷ []) ∙ ap (λ (z : Lines ℕ). values c.readings ++ z.items) (sym a.is);
-      starts = ap (λ (z : Lines ℕ). z.starts) a.is ∙ x.starts;
-    }
+module _ {X : Type 0} (kind : LineKind X) (most : ℕ) {Adds : Lines X → Lines X → Type 0}
+    (adds : (c d : Lines X) → Adds c d →
+    (x : X) × AddsItem kind c d x × Defines most c.defined (kind.defines (x ∷ [])) d.defined) where
+  lined : {before read : List ℕ} {c d : Lines X} → c.items ≡ [] → Defines most [] before c.defined →
+      values c.readings ≡ read → Grown Adds c d → Lined kind most before read d
+  lined {before} {read} {c} e f g none = record {
+    new = subst (λ z. Defines most [] z c.defined) (none_more kind.defines kind.defines_none before e) f;
+    readings = g ∙ none_more kind.reads kind.reads_none read e;
+  }
+  lined {before} {read} e f g (more {d} {e = now} grown a) =
+      let h = lined e f g grown in
+      let i = adds d now a in record {
+        new = subst (λ z. Defines most [] z now.defined)
+            (one_more kind.defines kind.defines_both before d.items i.0 i.1.items) (defines_both h.new i.2);
+        readings = i.1.readings ∙ ap (λ z. z ++ kind.reads (i.0 ∷ [])) h.readings
+            ∙ one_more kind.reads kind.reads_both read d.items i.0 i.1.items;
+      }
 
-pub record Gates (most : ℕ) (c d : Lines Gate) : Type 0 where
-  pub new : Defines most c.defined (map (λ g. g.literal) d.items) d.defined
-  pub readings : values d.readings ≡ values c.readings ++ flat_map (λ g. g.first ∷ g.second ∷ []) d.items
-  pub starts : length d.starts ≡ length c.starts + length d.items
+module _ (most : ℕ) where
+  input_adds : (c d : Lines ℕ) → AddsInput most c d →
+      (x : ℕ) × AddsItem input_kind c d x × Defines most c.defined (x ∷ []) d.defined
+  input_adds c d a = (
+    a.literal.value,
+    subst (λ z. AddsItem input_kind c z a.literal.value) (sym a.is) (adds_input c a.literal refl),
+    a.new,
+  )
 
-pub gate_lines : {most : ℕ} {c d : Lines Gate} → c.items ≡ [] → Grown (AddsGate most) c d → Gates most c d
-gate_lines {most} {c} e none = record {
-  new = subst (λ (xs : List Gate). Defines most c.defined (map (λ g. g.literal) xs) c.defined) (sym e) (defines_none);
-  readings =
-      sym (append-nil (values c.readings)) ∙ ap (λ (xs : List Gate).
-      values c.readings ++ flat_map (λ g. g.first ∷ g.second ∷ []) xs) (sym e);
-  starts = omega (arith, ap length e);
-}
-gate_lines {most} {c} e (more {d} {e = e2} g a) =
-    let x = gate_lines e g in
-    let h : Gate = record { literal = a.literal.value; first = a.first.value; second = a.second.value } in
-    record {
-      new =
-          defines_mapped (λ (g : Gate). g.literal) d.items e2.items h most most c.defined d.defined e2.defined
-          e2.defined (ap (λ (z : Lines Gate). z.items) a.is) refl x.new a.new refl;
-      readings =
-          reads_gate d.items h (values c.readings) (ap (λ (z : Lines Gate). z.items) a.is) x.readings refl
-          (ap (λ (z : Lines Gate). values z.readings) a.is ∙ map_push (d.readings ++ a.first ∷ []) a.second
-          ∙ ap (λ xs. xs ++ a.second.value ∷ []) (map_push d.readings a.first));
-      starts =
-          omega (
-            arith,
-            ap (λ (z : Lines Gate). length z.starts) a.is,
-            length-append d.starts (a.literal.offset ∷ []),
-            ap (λ (z : Lines Gate). length z.items) a.is,
-            length-append d.items (h ∷ []),
-            x.starts,
-          );
-    }
+  latch_adds : (c d : Lines Latch) → AddsLatch most c d →
+      (x : Latch) × AddsItem latch_kind c d x × Defines most c.defined (x.literal ∷ []) d.defined
+  latch_adds c d a = let x : Latch =
+      record { literal = a.literal.value; next = a.next.value; reset = a.reset } in
+      (x, subst (λ z. AddsItem latch_kind c z x) (sym a.is) (adds_latch c a.literal a.next refl refl), a.new)
+
+  output_adds : (c d : Lines ℕ) → AddsOutput c d →
+      (x : ℕ) × AddsItem output_kind c d x × Defines most c.defined [] d.defined
+  output_adds c d a = (
+    a.literal.value,
+    subst (λ z. AddsItem output_kind c z a.literal.value) (sym a.is) (adds_output c a.literal refl),
+    subst (λ (z : Lines ℕ). Defines most c.defined [] z.defined) (sym a.is) defines_none,
+  )
+
+  gate_adds : (c d : Lines Gate) → AddsGate most c d →
+      (x : Gate) × AddsItem gate_kind c d x × Defines most c.defined (x.literal ∷ []) d.defined
+  gate_adds c d a = let x : Gate =
+      record { literal = a.literal.value; first = a.first.value; second = a.second.value } in
+      (x, subst (λ z. AddsItem gate_kind c z x) (sym a.is) (adds_gate c a.literal a.first a.second refl refl refl),
+      a.new)
+
+-- ## The offsets of the gates' lines
+
+-- each item more has k offsets
+abbrev Keeps : {A : Type 0} → ℕ → (Lines A → Field (Lines A)) → Type 0
+Keeps {A} k item = (c d : Lines A) (text : List Seen) → (item c).IsText text d →
+    length d.starts + k * length c.items ≡ length c.starts + k * length d.items
+
+keeps_input : (most : ℕ) → Keeps 0 (input_line most)
+unfolding input_line
+keeps_input most c d text h = omega (arith, ap (λ (z : Lines ℕ). length z.starts) h.is_right.2)
+
+keeps_latch : (most : ℕ) → Keeps 0 (latch_line most)
+unfolding latch_line
+keeps_latch most c d text h = omega (arith, ap (λ (z : Lines Latch). length z.starts) h.is_right.is_right.2)
+
+keeps_output : (most : ℕ) → Keeps 0 (output_line most)
+unfolding output_line
+keeps_output most c d text h = omega (arith, ap (λ (z : Lines ℕ). length z.starts) h.is_right.2)
+
+keeps_gate : (most : ℕ) → Keeps 1 (gate_line most)
+unfolding gate_line
+keeps_gate most c d text h =
+    let l : Number = h.value in
+    let first : Number = h.is_right.value in
+    let second : Number = h.is_right.is_right.value in
+    let gate : Gate = record { literal = l.value; first = first.value; second = second.value } in
+    let is = h.is_right.is_right.is_right.2 in
+    omega (arith, ap (λ (z : Lines Gate). length z.starts) is, ap (λ (z : Lines Gate). length z.items) is,
+    length-append c.starts (l.offset ∷ []), length-append c.items (gate ∷ []))
+
+keeps_all : {A : Type 0} (k : ℕ) (item : Lines A → Field (Lines A)) → Keeps k item → (n : ℕ) → Keeps k (times n item)
+keeps_all {A} k item s zero c d text h =
+    subst (λ (z : Lines A). length z.starts + k * length c.items ≡ length c.starts + k * length z.items) (sym h.1) refl
+keeps_all k item s (suc n) c d text h =
+    omega (arith, keeps_all k item s n h.value d h.right h.is_right, s c h.value h.left h.is_left)
+
+pub gates_placed : (text : List Seen) (d : DraftData) → circuit_text.IsText text d →
+    length d.starts ≡ length d.circuit.gates
+unfolding circuit_text body symbols
+gates_placed text d h =
+    let head : HeaderData = h.value in
+    let i = h.is_right in
+    let l = i.is_right in
+    let o = l.is_right in
+    let a = o.is_right in
+    let placed : length a.value.starts ≡ length a.value.items = omega (arith,
+    keeps_all 0 (input_line head.most) (keeps_input head.most) head.inputs _ i.value i.left i.is_left,
+    keeps_all 0 (latch_line head.most) (keeps_latch head.most) head.latches _ l.value l.left l.is_left,
+    keeps_all 0 (output_line head.most) (keeps_output head.most) head.outputs _ o.value o.left o.is_left,
+    keeps_all 1 (gate_line head.most) (keeps_gate head.most) head.gates _ a.value a.left a.is_left) in
+    rw a.is_right.is_right.2 placed
 
 -- ## Drafts
 
 pub sound_draft : (most : ℕ) {i : Lines ℕ} {l : Lines Latch} {o : Lines ℕ} {a : Lines Gate} (names : NamesData) →
-    most < 2 ^ 31
-    → Grown (AddsInput most) no_lines i → Grown (AddsLatch most) (next_lines i) l → Grown AddsOutput (next_lines l) o →
+    most < 2 ^ 31 → length a.starts ≡ length a.items →
+    Grown (AddsInput most) no_lines i → Grown (AddsLatch most) (next_lines i) l → Grown AddsOutput (next_lines l) o →
     Grown (AddsGate most) (next_lines o) a
     → length names.inputs ≡ length i.items → length names.latches ≡ length l.items →
     length names.outputs ≡ length o.items → All IsName names.inputs → All IsName names.latches →
     All IsName names.outputs → IsSoundDraft (drafted most i l o a names)
-sound_draft most {i} {l} {o} {a} names limit gi gl go ga n1 n2 n3 a1 a2 a3 =
-    record { draft = make; starts = omega (arith, ag.starts, ap length (ao.starts ∙ al.starts ∙ ai.starts)) }
-  where
-    ai : Inputs most no_lines i
-    ai = input_lines refl gi
-
-    al : Latches most (next_lines i) l
-    al = latch_lines refl gl
-
-    ao : Outputs (next_lines l) o
-    ao = output_lines refl go
-
-    ag : Gates most (next_lines o) a
-    ag = gate_lines refl ga
-
-    all_read : values a.readings ≡ readings (drafted most i l o a names).circuit
-    all_read =
-        ag.readings ∙ ap (λ xs. xs ++ flat_map (λ (g : Gate). g.first ∷ g.second ∷ []) a.items)
-        (ao.readings ∙ ap (λ xs. xs ++ o.items) (al.readings ∙ ap
-        (λ (ls : List Number). values ls ++ map (λ (x : Latch). x.next) l.items) ai.readings))
-
-    make : All (IsDefined a.defined) a.readings → IsDraft (drafted most i l o a names).circuit
-    make h =
-        draft_of limit refl refl refl ai.new al.new
-        (subst (λ ks. Defines most ks (map (λ (g : Gate). g.literal) a.items) a.defined) ao.defined ag.new)
-        (subst (λ ls. All (IsKnownIn a.defined) ls) all_read (All-map (IsKnownIn a.defined) (λ (x : Number). x.value)
-        a.readings h)) n1 n2 n3 a1 a2 a3
+sound_draft most {i} {l} {o} {a} names limit placed gi gl go ga n1 n2 n3 a1 a2 a3 =
+    let li = lined input_kind most (input_adds most) {before = []} {read = []} refl defines_none refl gi in
+    let ll = lined latch_kind most (latch_adds most) refl li.new li.readings gl in
+    let lo = lined output_kind most (output_adds most) refl ll.new ll.readings go in
+    let la = lined gate_kind most (gate_adds most) refl (subst (λ z. Defines most [] z o.defined)
+    (append-nil (i.items ++ map (λ l. l.literal) l.items)) lo.new) lo.readings ga in
+    record {
+      draft = λ h. draft_of limit la.new (subst (λ ls. All (IsKnownIn a.defined) ls) la.readings
+          (All-map (IsKnownIn a.defined) (λ (x : Number). x.value) a.readings h)) n1 n2 n3 a1 a2 a3;
+      starts = placed;
+    }
 
 -- a name or none for each item
 pub each_named : {A : Type 0} (names : Vec (Option (Vec ℕ Global)) Global) (items : Vec A Global) {k n : ℕ} →

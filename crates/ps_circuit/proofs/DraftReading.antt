@@ -1,23 +1,20 @@
 -- A text from its first to its last byte.
 --     text_reads, text_trails      from the whole part to the answer
---     Reached start now left      what is left is read from here
+--     Reached start now rest      what is left is read from here
 --     past_header, past_lines, all_reads      section by section
 --     answered      the answer to a text
---     draft_fails, lines_exit, draft_trails      the exits of the reading of a text
+--     draft_fails, draft_trails      the exits of the reading of a text
 use Rattle.std.proofs.Common.{◌≡◌, ℕ, ◌^◌, ◌≤◌, List, [], ◌∷◌, length, Option, None, Some, Result, Ok, Err, IsErrAnd}
 use Rattle.std.proofs.Common.{All, refl, sym, ap, ap₂, subst, ◌∙◌, arith, length-append}
 use Rattle.std.specs.Prelude.{replicate, IfOk}
 use Rattle.std.proofs.lemmas.Result.{err_from_is_err_and}
-use Rattle.ps_text.specs.Answers.{Piece, Stream, Found, signs}
-use Rattle.ps_text.specs.Parts.{PartAnswers, then_by, times, many}
-use Rattle.ps_text.specs.Readers.{Reads as ReadsPart, Stops, Carries}
-use Rattle.ps_text.proofs.Laws.{Joint}
-use Rattle.ps_text.proofs.Exits.{reads_mapped, stops_first, carries_start, carries_reads, carries_stops, carries_then}
+use Rattle.ps_text.specs.Answers.{Piece, Stream, Found, signs, offset_of}
+use Rattle.ps_text.specs.Parts.{PartAnswers, IsRead, then_by, times, many}
+use Rattle.ps_text.specs.Readers.{Reads as ReadsPart, Stops}
 use Rattle.ps_text.proofs.Whole.{answers_ok, answers_fault, answers_trailing}
+use Rattle.ps_text.proofs.Simple.{same_some}
 use Rattle.ps_circuit.specs.declared.reader.Draft.{Draft}
 use Rattle.ps_circuit.specs.Names.{AreNone, TellsComment}
-use Rattle.ps_text.proofs.Simple.{same_some}
-use Rattle.ps_circuit.proofs.SymbolLemmas.{comment_other}
 use Rattle.ps_circuit.specs.declared.parts.Latch.{Latch}
 use Rattle.ps_circuit.specs.declared.parts.Gate.{Gate}
 use Rattle.ps_circuit.specs.declared.fault.AigCause.{AigCause}
@@ -28,30 +25,29 @@ use Rattle.ps_components.specs.Graphs.{Way}
 use Rattle.ps_circuit.specs.Circuits.{CircuitData, IsCircuit, ReadsGate}
 use Rattle.ps_circuit.specs.Signs.{Seen, Field, aig_causes, stream_of}
 use Rattle.ps_circuit.specs.Cursors.{next_byte, place_of, found_of, saturated}
-use Rattle.ps_circuit.specs.Texts.{HeaderData, header, Lines, no_lines, next_lines, input_line, latch_line, output_line}
-use Rattle.ps_circuit.specs.Texts.{gate_line, NamesData, no_names, symbol_line, comment, DraftData, draft_of as drafted}
-use Rattle.ps_circuit.specs.Texts.{symbols, body, circuit_text, IsDefined, refused, undefined, cyclic, meaning}
-use Rattle.ps_circuit.specs.Texts.{IsCircuitAnswer}
+use Rattle.ps_circuit.specs.Texts.{HeaderData, header, Lines, no_lines, input_line, NamesData, no_names, symbol_line}
+use Rattle.ps_circuit.specs.Texts.{comment, DraftData, draft_of as drafted, symbols, body, circuit_text, IsDefined}
+use Rattle.ps_circuit.specs.Texts.{refused, undefined, cyclic, meaning, IsCircuitAnswer}
 use Rattle.ps_circuit.specs.Reading.{FoundAnswers, TellsDraft, TellsDefined, TellsCyclic}
-use Rattle.ps_circuit.proofs.LineLemmas.{value_is}
-use Rattle.ps_circuit.proofs.TextLaws.{joint_text, joint_lines, joint_symbols, first_names, body_gates, body_outputs}
-use Rattle.ps_circuit.proofs.TextLaws.{body_latches, laws_text, laws_input_line, laws_latch_line, laws_output_line}
-use Rattle.ps_circuit.proofs.TextLaws.{laws_gate_line, laws_behind_gates, laws_body_gates, laws_body_outputs}
-use Rattle.ps_circuit.proofs.TextLaws.{laws_body_latches}
+use Rattle.ps_circuit.proofs.Exits.{Left, unread, past, stops_at, reads_last, value_is}
+use Rattle.ps_circuit.proofs.Lawful.{Chain}
+use Rattle.ps_circuit.proofs.SignLaws.{Any, AtBody}
+use Rattle.ps_circuit.proofs.SymbolLemmas.{comment_other}
+use Rattle.ps_circuit.proofs.TextLaws.{laws_text, chain_text, chain_symbols, first_names, body_latches}
 
 -- ## From parts to answers
 
 pub text_stops : (text : List ℕ) (e : AigFault) → Stops aig_causes circuit_text (stream_of text) (found_of e) →
     FoundAnswers text (found_of e)
 text_stops text (Text cause offset) s =
-    answers_fault laws_text (stream_of text) (record { cause = cause; offset = offset }) s
+    answers_fault laws_text.laws (stream_of text) (record { cause = cause; offset = offset }) s
 text_stops text OutOfMemory s = tt
 
 pub text_reads : (text : List ℕ) (new : Stream Seen) (d : DraftData) → new.pieces ≡ [] →
     ReadsPart circuit_text (stream_of text) d new → PartAnswers aig_causes circuit_text (stream_of text) (Ok d)
 text_reads text new d e m =
-    answers_ok laws_text (stream_of text) d (subst (λ ps. Rattle.ps_text.specs.Parts.IsRead circuit_text
-    (signs (stream_of text).pieces) d (signs ps)) e m.1)
+    answers_ok laws_text.laws (stream_of text) d (subst (λ ps. IsRead circuit_text (signs (stream_of text).pieces) d
+    (signs ps)) e m.1)
 
 pub text_trails : (text : List ℕ) (new : Stream Seen) (d : DraftData) {b : ℕ} {e : AigFault} →
     ReadsPart circuit_text (stream_of text) d new → next_byte new ≡ Some b → e ≡ Text Syntax (place_of new) →
@@ -64,72 +60,65 @@ text_trails text new d {b} m n is = subst (λ x. FoundAnswers text (found_of x))
         absurd (let z : next_byte (record { pieces = []; end = new.end }) ≡ Some b = subst
         (λ ps. next_byte (record { pieces = ps; end = new.end }) ≡ Some b) y n in cc)
     go (p ∷ ps) y =
-        let o : p.start ≡ place_of new = sym (ap (λ z. Rattle.ps_text.specs.Answers.offset_of z new.end) y) in
+        let o : p.start ≡ place_of new = sym (ap (λ z. offset_of z new.end) y) in
         subst (λ x. PartAnswers aig_causes circuit_text (stream_of text) (Err (record { cause = Syntax; offset = x })))
-        o (answers_trailing laws_text (stream_of text) new d p ps m.0 m.1 y)
+        o (answers_trailing laws_text.laws (stream_of text) new d p ps m.0 m.1 y)
 
 -- ## The parts of the text, one behind another
 
--- what is left is read from here, and reading it gives what reading the text from its start gives
-pub record Reached (start now : Stream Seen) (left : Field DraftData) : Type 0 where
-  pub carries : Carries aig_causes circuit_text start left now
+-- what is left is read from here, and there are not too many bytes
+pub record Reached (start now : Stream Seen) (rest : Field DraftData) : Type 0 where
+  pub left : Left circuit_text start rest now
   pub short : length now.pieces ≤ 2 ^ 63
 
-module _ {A : Type 0} {P : Field A} {Q : A → Field DraftData} (j : Joint P Q) {start now : Stream Seen}
-    (r : Reached start now (then_by P Q)) where
-  reads_on : (a : A) {next : Stream Seen} → ReadsPart P now a next → Reached start next (Q a)
-  reads_on a {next} m = record {
-    carries = carries_then aig_causes j r.carries m;
-    short = omega (arith, ap length m.0.split, length-append m.0.taken next.pieces, r.short);
-  }
-
-  fails_there : (o : Option (Found AigCause)) → Stops aig_causes P now o → Stops aig_causes circuit_text start o
-  fails_there o m =
-      carries_stops aig_causes circuit_text (then_by P Q) start now o r.carries (stops_first aig_causes j now o m)
+reads_on : {A : Type 0} {P : Field A} {Q : A → Field DraftData} {First More : Seen → Type 0} {Null : Type 0} →
+    Chain P Q First More Null → {start now : Stream Seen} → Reached start now (then_by P Q) → (a : A)
+    {next : Stream Seen} → ReadsPart P now a next → Reached start next (Q a)
+reads_on j {now = now} r a {next} m = record {
+  left = past j r.left m;
+  short = omega (arith, ap length m.0.split, length-append m.0.taken next.pieces, r.short);
+}
 
 -- the numbers of the first line, with the greatest variable as the code has it
 abbrev pub numbers : ℕ → HeaderData → HeaderData
 numbers most d = record { most = most; inputs = d.inputs; latches = d.latches; outputs = d.outputs; gates = d.gates }
 
-module _ (h : HeaderData) where
-  pub joint_inputs : Joint (times h.inputs (input_line h.most) no_lines) (body_latches h)
-  joint_inputs = joint_lines (laws_input_line h.most) h.inputs no_lines (laws_body_latches h)
-
-  pub joint_latches : (i : Lines ℕ) → Joint (times h.latches (latch_line h.most) (next_lines i)) (body_outputs h i)
-  joint_latches i = joint_lines (laws_latch_line h.most) h.latches (next_lines i) (laws_body_outputs h i)
-
-  pub joint_outputs : (i : Lines ℕ) (l : Lines Latch) → Joint (times h.outputs (output_line h.most) (next_lines l))
-      (body_gates h i l)
-  joint_outputs i l = joint_lines (laws_output_line h.most) h.outputs (next_lines l) (laws_body_gates h i l)
-
-  pub joint_gates : (i : Lines ℕ) (l : Lines Latch) (u : Lines ℕ) →
-      Joint (times h.gates (gate_line h.most) (next_lines u)) (λ a. symbols h.most i l u a)
-  joint_gates i l u = joint_lines (laws_gate_line h.most) h.gates (next_lines u) (laws_behind_gates h i l u)
-
-pub header_fails : (start : Stream Seen) (o : Option (Found AigCause)) → Stops aig_causes header start o →
-    Stops aig_causes circuit_text start o
+pub text_unread : {start : Stream Seen} → Left circuit_text start (then_by header body) start
 unfolding circuit_text
-header_fails start o m = stops_first aig_causes joint_text start o m
+text_unread = unread
 
 -- the four sections of number lines, and what stands behind them
-abbrev pub body_inputs : HeaderData → Field DraftData
-body_inputs h = then_by (times h.inputs (input_line h.most) no_lines) (body_latches h)
+abbrev pub body_inputs : HeaderData → Lines ℕ → Field DraftData
+body_inputs h c = then_by (times h.inputs (input_line h.most) c) (body_latches h)
 
 pub past_header : {start next : Stream Seen} {most : ℕ} {d : HeaderData} → most ≡ d.most →
-    length start.pieces ≤ 2 ^ 63 → ReadsPart header start d next → Reached start next (body_inputs (numbers most d))
-unfolding circuit_text body
-past_header {start} {next} {most} {d} e short m =
-    reads_on joint_text (record { carries = carries_start aig_causes circuit_text start; short = short })
-    (numbers most d) (value_is (ap (λ k. numbers k d) (sym e)) m)
+    length start.pieces ≤ 2 ^ 63 → ReadsPart header start d next → {c : Lines ℕ} → c ≡ no_lines →
+    Reached start next (body_inputs (numbers most d) c)
+unfolding body
+past_header {start} {next} {most} {d} e short m is =
+    subst (λ x. Reached start next (body_inputs (numbers most d) x)) (sym is)
+    (reads_on chain_text (record { left = text_unread; short = short }) (numbers most d)
+    (value_is (ap (λ k. numbers k d) (sym e)) m))
 
--- the lines of one kind, as the code counts them, behind what it has noted
-pub past_lines : {A : Type 0} (item : Lines A → Field (Lines A)) (n : ℕ) {count : ℕ} {c d : Lines A}
-    {Q : Lines A → Field DraftData} → Joint (times n item c) Q → count ≡ saturated n → d ≡ c → {start now : Stream Seen}
-    → Reached start now (then_by (times n item c) Q) → (a : Lines A) {next : Stream Seen} →
-    ((k : ℕ) → count ≡ saturated k → length now.pieces ≤ 2 ^ 63 → ReadsPart (times k item d) now a next) →
-    Reached start next (Q a)
-past_lines item n j counted is {now = now} r a {next} m =
-    reads_on j r a (subst (λ x. ReadsPart (times n item x) now a next) is (m n counted r.short))
+-- the lines of one kind stand there, as many as the code counts, behind what it has noted
+pub record Ahead {A : Type 0} (item : Lines A → Field (Lines A)) (Q : Lines A → Field DraftData)
+    (start now : Stream Seen) (count : ℕ) (noted : Lines A) : Type 0 where
+  pub n : ℕ
+  pub counted : count ≡ saturated n
+  pub chain : Chain (times n item noted) Q AtBody Any (Unit {0})
+  pub reached : Reached start now (then_by (times n item noted) Q)
+
+module _ {A : Type 0} {item : Lines A → Field (Lines A)} {Q : Lines A → Field DraftData} {start now : Stream Seen}
+    {count : ℕ} {noted : Lines A} (x : Ahead item Q start now count noted) where
+  pub past_lines : (a : Lines A) {next : Stream Seen} →
+      ((k : ℕ) → count ≡ saturated k → length now.pieces ≤ 2 ^ 63 → ReadsPart (times k item noted) now a next) →
+      Reached start next (Q a)
+  past_lines a m = reads_on x.chain x.reached a (m x.n x.counted x.reached.short)
+
+  pub lines_fail : (o : Option (Found AigCause)) →
+      ((k : ℕ) → count ≡ saturated k → length now.pieces ≤ 2 ^ 63 → Stops aig_causes (times k item noted) now o) →
+      Stops aig_causes circuit_text start o
+  lines_fail o m = stops_at x.chain x.reached.left o (m x.n x.counted x.reached.short)
 
 -- the names, and the comment behind them
 module _ (most : ℕ) (i : Lines ℕ) (l : Lines Latch) (u : Lines ℕ) (a : Lines Gate) {start now : Stream Seen}
@@ -137,16 +126,15 @@ module _ (most : ℕ) (i : Lines ℕ) (l : Lines Latch) (u : Lines ℕ) (a : Lin
   pub symbols_fail : (o : Option (Found AigCause)) → Stops aig_causes (many symbol_line n0) now o →
       Stops aig_causes circuit_text start o
   unfolding symbols
-  symbols_fail o m =
-      fails_there (joint_symbols most i l u a) r o (subst (λ n. Stops aig_causes (many symbol_line n) now o) en m)
+  symbols_fail o m = stops_at (chain_symbols most i l u a) r.left o
+      (subst (λ n. Stops aig_causes (many symbol_line n) now o) en m)
 
   pub all_reads : {names : NamesData} {next last : Stream Seen} → ReadsPart (many symbol_line n0) now names next →
       ReadsPart comment next tt last → ReadsPart circuit_text start (drafted most i l u a names) last
   unfolding symbols
-  all_reads {names} {next} {last} m k =
-      carries_reads aig_causes (reads_on (joint_symbols most i l u a) r names
-      (subst (λ n. ReadsPart (many symbol_line n) now names next) en m)).carries
-      (reads_mapped (λ _. drafted most i l u a names) k)
+  all_reads {names} {next} m k =
+      reads_last (λ _. drafted most i l u a names) (past (chain_symbols most i l u a) r.left
+      (subst (λ n. ReadsPart (many symbol_line n) now names next) en m)) k refl
 
 -- ## The answer
 
@@ -184,17 +172,6 @@ pub draft_fails : (text : List ℕ) {start : Stream Seen} (e : AigFault) (r : Re
 draft_fails text e r is s i = let y = err_from_is_err_and r i in
     subst (TellsDraft text) (sym (y.1 ∙ ap Err y.2)) (text_stops text e
     (subst (λ x. Stops aig_causes circuit_text x (found_of e)) is s))
-
--- in the lines of one kind
-pub lines_exit : {A : Type 0} (item : Lines A → Field (Lines A)) (n : ℕ) {count : ℕ} {c d : Lines A}
-    {Q : Lines A → Field DraftData} → Joint (times n item c) Q → count ≡ saturated n → d ≡ c → {start now : Stream Seen}
-    → Reached start now (then_by (times n item c) Q) → (text : List ℕ) (e : AigFault) (result : Result Draft AigFault) →
-    start ≡ stream_of text →
-    ((k : ℕ) → count ≡ saturated k → length now.pieces ≤ 2 ^ 63 → Stops aig_causes (times k item d) now (found_of e)) →
-    IsErrAnd result (λ y. y ≡ e) → TellsDraft text result
-lines_exit item n {d = d} j counted is {start = start} {now = now} r text e result begins m exit =
-    draft_fails text e result begins (fails_there j r (found_of e) (subst
-    (λ x. Stops aig_causes (times n item x) now (found_of e)) is (m n counted r.short))) exit
 
 pub draft_memory : (text : List ℕ) {e : AigFault} (r : Result Draft AigFault) → e ≡ OutOfMemory →
     IsErrAnd r (λ y. y ≡ e) → TellsDraft text r

@@ -1,10 +1,11 @@
 -- The gates of a builder, and one more.
 use Rattle.std.proofs.Common.{◌≡◌, ◌∙◌, ℕ, ◌+◌, ◌-◌, ◌*◌, ◌/◌, ◌%◌, ◌^◌, ◌<◌, ◌≤◌, ◌&&◌, ◌||◌, Bool, true, false, not}
-use Rattle.std.proofs.Common.{cond, eqb, List, [], ◌∷◌, ◌++◌, length, length-append, get_or, slice_get, Some, refl, sym}
-use Rattle.std.proofs.Common.{ap, subst, arith, inl, inr, ◌⊎◌, Result, Ok, Err, IsErrAnd}
+use Rattle.std.proofs.Common.{cond, eqb, [], ◌∷◌, ◌++◌, length, length-append, get_or, slice_get, Some, refl, sym}
+use Rattle.std.proofs.Common.{ap, ap₂, subst, arith, inl, inr, ◌⊎◌, Result, Ok, Err, IsErrAnd}
 use Rattle.ps_circuit.specs.declared.encode_fault.EncodeFault.{EncodeFault}
 use Rattle.std.specs.List.{list_any}
-use Rattle.std.proofs.lemmas.Bool.{eqb-true, eq-eqb, cases_eq}
+use Rattle.std.proofs.Math.Bool.{not-not}
+use Rattle.std.proofs.lemmas.Bool.{eqb-true, eq-eqb, cases_eq, cases_Bool, and_parts, and_from}
 use Rattle.std.proofs.lemmas.List.Folds.{list_any_at}
 use Rattle.std.proofs.lemmas.Option.{slice_get_within, get_or_from_slice_get}
 use Rattle.indexmap.specs.IndexSet.{insert_key}
@@ -16,34 +17,21 @@ use Rattle.ps_circuit.specs.Building.{Drafted, AreSides, Extends, IsFull, IsHeld
 use Rattle.ps_circuit.specs.Building.{bit, variables_of}
 
 pub bool_cases : (b : Bool) → (b ≡ true) ⊎ (b ≡ false)
-bool_cases true = inl refl
-bool_cases false = inr refl
+bool_cases b = cases_Bool b
 
 pub true_is_not_false : true ≡ false → ⊥
 true_is_not_false e = cc
 
-and_both : (a : Bool) {b : Bool} → (a && b) ≡ true → (a ≡ true) × (b ≡ true)
-and_both true e = (refl, e)
-and_both false e = (e, absurd (true_is_not_false (sym e)))
-
-and_true : (a : Bool) {b : Bool} → a ≡ true → b ≡ true → (a && b) ≡ true
-and_true true e f = f
-and_true false e f = e
-
 pub sides_are : (a b : Sides) → a.first ≡ b.first → a.second ≡ b.second → a ≡ b
-sides_are a b e f = let made : ℕ → ℕ → Sides = λ x y. record { first = x; second = y } in ap (λ x. made x a.second) e
-    ∙ ap (λ y. made b.first y) f
+sides_are a b e f = ap₂ (λ x y. record { first = x; second = y }) e f
 
 pub same_sides : {a b : Sides} → (sides_eq.eq-value).it a b ≡ true → a ≡ b
-same_sides {a} {b} e = let t = and_both (eqb a.first b.first) e in
+same_sides {a} {b} e = let t = and_parts (eqb a.first b.first) (eqb a.second b.second) e in
     sides_are a b (eqb-true a.first b.first t.0) (eqb-true a.second b.second t.1)
 
 pub sides_same : (a : Sides) → (sides_eq.eq-value).it a a ≡ true
-sides_same a = and_true (eqb a.first a.first) (eq-eqb a.first a.first refl) (eq-eqb a.second a.second refl)
-
-not_not : (b : Bool) → not (not b) ≡ b
-not_not true = refl
-not_not false = refl
+sides_same a = and_from (eqb a.first a.first) (eqb a.second a.second) (eq-eqb a.first a.first refl)
+    (eq-eqb a.second a.second refl)
 
 pub bit-plain : (v : ℕ → Bool) (n : ℕ) → bit v (2 * n) ≡ v n
 bit-plain v n =
@@ -51,34 +39,37 @@ bit-plain v n =
     let half : 2 * n / 2 ≡ n = omega arith in
     ap (λ r. cond (eqb r 1) (not (v (2 * n / 2))) (v (2 * n / 2))) even ∙ ap v half
 
-pub bit-negated : (v : ℕ → Bool) (l : ℕ) → bit v (negated l) ≡ not (bit v l)
-bit-negated v l = elim (cases_eq (l % 2) 1) [
-  | inl odd ↦
-      let is : negated l ≡ l - 1 = ap (λ b. cond b (l - 1) (l + 1)) (eq-eqb (l % 2) 1 odd) in
-      let even : (l - 1) % 2 ≡ 0 = omega arith in
-      let half : (l - 1) / 2 ≡ l / 2 = omega arith in
-      let here : bit v l ≡ not (v (l / 2)) = ap (λ b. cond b (not (v (l / 2))) (v (l / 2))) (eq-eqb (l % 2) 1 odd) in
-      let there : bit v (l - 1) ≡ v (l / 2) =
-      ap (λ r. cond (eqb r 1) (not (v ((l - 1) / 2))) (v ((l - 1) / 2))) even ∙ ap v half in
-      ap (bit v) is ∙ there ∙ sym (not_not (v (l / 2))) ∙ ap not (sym here)
-  | inr other ↦
-      let even : l % 2 ≡ 0 = omega arith in
-      let is : negated l ≡ l + 1 = ap (λ r. cond (eqb r 1) (l - 1) (l + 1)) even in
-      let odd : (l + 1) % 2 ≡ 1 = omega arith in
-      let half : (l + 1) / 2 ≡ l / 2 = omega arith in
-      let here : bit v l ≡ v (l / 2) = ap (λ r. cond (eqb r 1) (not (v (l / 2))) (v (l / 2))) even in
-      let there : bit v (l + 1) ≡ not (v (l / 2)) =
-      ap (λ r. cond (eqb r 1) (not (v ((l + 1) / 2))) (v ((l + 1) / 2))) odd ∙ ap (λ n. not (v n)) half in
-      ap (bit v) is ∙ there ∙ ap not (sym here)
+bit_odd : (v : ℕ → Bool) (n : ℕ) → bit v (2 * n + 1) ≡ not (v n)
+bit_odd v n =
+    let odd : (2 * n + 1) % 2 ≡ 1 = omega arith in
+    let half : (2 * n + 1) / 2 ≡ n = omega arith in
+    ap (λ r. cond (eqb r 1) (not (v ((2 * n + 1) / 2))) (v ((2 * n + 1) / 2))) odd ∙ ap (λ k. not (v k)) half
+
+negated_even : (n : ℕ) → negated (2 * n) ≡ 2 * n + 1
+negated_even n = let even : 2 * n % 2 ≡ 0 = omega arith in ap (λ r. cond (eqb r 1) (2 * n - 1) (2 * n + 1)) even
+
+negated_odd : (n : ℕ) → negated (2 * n + 1) ≡ 2 * n
+negated_odd n =
+    let odd : (2 * n + 1) % 2 ≡ 1 = omega arith in
+    let less : 2 * n + 1 - 1 ≡ 2 * n = omega arith in
+    ap (λ r. cond (eqb r 1) (2 * n + 1 - 1) (2 * n + 1 + 1)) odd ∙ less
+
+-- a literal is a variable's, or its negation
+of_literal : (P : ℕ → Type 0) → ((n : ℕ) → P (2 * n)) → ((n : ℕ) → P (2 * n + 1)) → (l : ℕ) → P l
+of_literal P even odd l = elim (cases_eq (l % 2) 1) [
+  | inl o ↦ subst P (let e : 2 * (l / 2) + 1 ≡ l = omega arith in e) (odd (l / 2))
+  | inr o ↦ subst P (let e : 2 * (l / 2) ≡ l = omega arith in e) (even (l / 2))
 ]
 
-pub variable-negated : (l : ℕ) → variable (negated l) ≡ variable l
-variable-negated l = elim (cases_eq (l % 2) 1) [
-  | inl odd ↦ ap (λ b. cond b (l - 1) (l + 1) / 2) (eq-eqb (l % 2) 1 odd)
-      ∙ (let e : (l - 1) / 2 ≡ l / 2 = omega arith in e)
-  | inr other ↦ let even : l % 2 ≡ 0 = omega arith in ap (λ r. cond (eqb r 1) (l - 1) (l + 1) / 2) even
-      ∙ (let e : (l + 1) / 2 ≡ l / 2 = omega arith in e)
-]
+pub bit-negated : (v : ℕ → Bool) (l : ℕ) → bit v (negated l) ≡ not (bit v l)
+bit-negated v l = of_literal (λ x. bit v (negated x) ≡ not (bit v x))
+    (λ n. ap (bit v) (negated_even n) ∙ bit_odd v n ∙ sym (ap not (bit-plain v n)))
+    (λ n. ap (bit v) (negated_odd n) ∙ bit-plain v n ∙ sym (ap not (bit_odd v n) ∙ not-not (v n))) l
+
+variable-negated : (l : ℕ) → variable (negated l) ≡ variable l
+variable-negated l = of_literal (λ x. variable (negated x) ≡ variable x)
+    (λ n. ap variable (negated_even n) ∙ (let e : (2 * n + 1) / 2 ≡ 2 * n / 2 = omega arith in e))
+    (λ n. ap variable (negated_odd n) ∙ (let e : 2 * n / 2 ≡ (2 * n + 1) / 2 = omega arith in e)) l
 
 pub held-negated : (d : Drafted) (l : ℕ) → IsHeld d l → IsHeld d (negated l)
 held-negated d l h = subst (λ n. n ≤ variables_of d) (sym (variable-negated l)) h
@@ -149,8 +140,7 @@ sound-more {d} {s} is room sides none = record {
 }
 
 pub drafted_are : (a b : Drafted) → a.given ≡ b.given → a.gates ≡ b.gates → a ≡ b
-drafted_are a b e f = let made : ℕ → List Sides → Drafted = λ n g. record { given = n; gates = g } in
-    ap (λ n. made n a.gates) e ∙ ap (λ g. made b.given g) f
+drafted_are a b e f = ap₂ (λ n g. record { given = n; gates = g }) e f
 
 -- what is true once a gate has its place
 pub record Placed (old new : Drafted) (s : Sides) (place : ℕ) : Type 0 where
@@ -215,7 +205,7 @@ needs-turned n =
 
 de_morgan : (a b : Bool) → not (not a && not b) ≡ (a || b)
 de_morgan true b = refl
-de_morgan false b = not_not b
+de_morgan false b = not-not b
 
 pub or_bits : (v : ℕ → Bool) (x y neither : ℕ) {nx ny result : ℕ} → nx ≡ negated x → ny ≡ negated y →
     result ≡ negated neither → bit v neither ≡ (bit v nx && bit v ny) → bit v result ≡ (bit v x || bit v y)
@@ -241,3 +231,8 @@ pub passed : {X : Type 0} (result : Result X EncodeFault) (fault other : EncodeF
     IsErrAnd result (λ given. given ≡ fault) → result ≡ Err other → fault ≡ other
 passed (Ok x) fault other is e = absurd is
 passed (Err given) fault other is e = sym is ∙ (let same : given ≡ other = cc in same)
+
+pub passed_on : {X Y : Type 0} {call : Result Y EncodeFault} {result : Result X EncodeFault}
+    {fault other : EncodeFault} → call ≡ Err fault → IsErrAnd result (λ given. given ≡ fault) → result ≡ Err other →
+    call ≡ Err other
+passed_on {result = result} {fault = fault} was is e = was ∙ ap (λ f. Err f) (passed result fault _ is e)

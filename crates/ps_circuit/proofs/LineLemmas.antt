@@ -1,13 +1,12 @@
 -- The number lines of a text: how they are read, and how they fail.
+--     past_..      what is left of a line behind what was read of it
 --     Lining      the invariant of a loop over the lines of one kind
-use Rattle.std.proofs.Common.{◌≡◌, ℕ, zero, suc, ◌+◌, ◌-◌, ◌*◌, ◌^◌, ◌<◌, ◌≤◌, Bool, true, false, eqb, List, [], ◌∷◌}
-use Rattle.std.proofs.Common.{◌++◌, length, Option, Result, Ok, Err, Contains, refl, sym, ap₂, subst, inl, inr, arith}
-use Rattle.ps_text.specs.Answers.{Stream, Found, signs}
-use Rattle.ps_text.specs.Parts.{IsRead, give, then_by, times, mapped}
+use Rattle.std.proofs.Common.{◌≡◌, ℕ, zero, suc, ◌+◌, ◌-◌, ◌*◌, ◌^◌, ◌<◌, ◌≤◌, Bool, true, false, List, [], ◌∷◌, ◌++◌}
+use Rattle.std.proofs.Common.{length, Option, Result, Ok, Err, Contains, refl, sym, ap₂, subst, inl, inr, arith}
+use Rattle.ps_text.specs.Answers.{Stream, Found}
+use Rattle.ps_text.specs.Parts.{give, then_by, times, mapped}
 use Rattle.ps_text.specs.Readers.{Reads, Stops, Goes, Carries}
-use Rattle.ps_text.proofs.Laws.{Laws, Joint}
-use Rattle.ps_text.proofs.Joined.{joint}
-use Rattle.ps_text.proofs.Exits.{reads_give, reads_mapped, reads_then, stops_mapped, stops_first, stops_behind}
+use Rattle.ps_text.proofs.Exits.{reads_give}
 use Rattle.ps_text.proofs.Branches.{reads_shrinks, times_reads, times_fails, times_fails_later}
 use Rattle.ps_circuit.specs.declared.cursor.Number.{Number}
 use Rattle.ps_circuit.specs.declared.parts.Latch.{Latch}
@@ -23,16 +22,14 @@ use Rattle.ps_circuit.specs.Cursors.{found_of, saturated, NumberIs}
 use Rattle.ps_circuit.specs.Texts.{WrongLiteral, WrongDefinition, WrongReset, field, Lines, add_input, add_latch}
 use Rattle.ps_circuit.specs.Texts.{add_output, add_gate, input_line, reset, latch_line, output_line, gate_line}
 use Rattle.ps_circuit.specs.Reading.{AddsVariable, Grown, none, more as grow, IsRow, TellsField}
-use Rattle.ps_circuit.proofs.Runs.{Odd}
-use Rattle.ps_circuit.proofs.TextLaws.{laws_field, laws_reset_value, is_one, latch_next, latch_end, laws_latch_next}
-use Rattle.ps_circuit.proofs.TextLaws.{laws_latch_end, gate_first, gate_second, laws_gate_first, laws_gate_second}
-use Rattle.ps_circuit.proofs.SignLaws.{AtDigit, Separates, digit_separates, separates_digit, laws_number, laws_line_end}
-use Rattle.ps_circuit.proofs.SignLaws.{laws_ended, joint_by_more}
+use Rattle.ps_circuit.proofs.Lawful.{Lawful}
+use Rattle.ps_circuit.proofs.Judges.{judge_literal}
+use Rattle.ps_circuit.proofs.Exits.{Left, unread, past, comes, none_comes}
+use Rattle.ps_circuit.proofs.TextLaws.{is_one, chain_input, chain_output, chain_reset, latch_end, latch_next}
+use Rattle.ps_circuit.proofs.TextLaws.{chain_next, chain_latch, gate_end, gate_second, gate_first, chain_second}
+use Rattle.ps_circuit.proofs.TextLaws.{chain_first, chain_gate}
+use Rattle.ps_circuit.proofs.SignLaws.{AtDigit, Separates, separates_digit}
 use Rattle.ps_circuit.proofs.NumberLemmas.{number_small, number_wrong, field_reads, field_fails}
-
-pub value_is : {V : Type 0} {P : Field V} {old new : Stream Seen} {v w : V} → v ≡ w → Reads P old v new →
-    Reads P old w new
-value_is {P} {old} {new} e m = (m.0, subst (λ x. IsRead P (signs old.pieces) x (signs new.pieces)) e m.1)
 
 -- ## Literals
 
@@ -87,107 +84,32 @@ literal_wrong most {old} {new} {n} {e} limit x large is =
 
 pub reading_reads : (most : ℕ) {old new : Stream Seen} {n : Number} → most < 2 ^ 31 → TellsField old (Ok n) new →
     n.value ≤ 2 * most + 1 → Reads (field (WrongLiteral most)) old n new
-reading_reads most {old} {new} {n} limit m small =
-    field_reads (WrongLiteral most) m.1 (literal_reads most limit m.2 small)
+reading_reads most limit m small = field_reads (judge_literal most) m.1 (literal_reads most limit m.2 small)
 
 pub reading_wrong : (most : ℕ) {old : Stream Seen} (new : Stream Seen) (n : Number) {e : AigFault} → most < 2 ^ 31 →
     TellsField old (Ok n) new → 2 * most + 1 < n.value → e ≡ Text Literal n.offset →
     Stops aig_causes (field (WrongLiteral most)) old (found_of e)
-reading_wrong most {old} new n {e} limit m large is =
-    field_fails (WrongLiteral most) (found_of e) m.1 (literal_wrong most limit m.2 large is)
+reading_wrong most new n {e} limit m large is =
+    field_fails (judge_literal most) (found_of e) m.1 (literal_wrong most limit m.2 large is)
 
--- ## Inputs and outputs
+-- ## Resets
 
-pub joint_input : (most : ℕ) (c : Lines ℕ) → Joint (number (WrongDefinition most c.defined))
-    (λ l. mapped (λ _. add_input c l) line_end)
-joint_input most c =
-    joint (laws_number (WrongDefinition most c.defined)) (λ l. laws_ended (add_input c l)) digit_separates
+abbrev pub reset_value : ℕ → Field Bool
+reset_value latch = then_by (number (WrongReset latch)) (λ n. mapped (is_one n) line_end)
 
-pub input_fails : (most : ℕ) (c : Lines ℕ) (old : Stream Seen) (o : Option (Found AigCause)) →
-    Stops aig_causes (number (WrongDefinition most c.defined)) old o → Stops aig_causes (input_line most c) old o
-unfolding input_line
-input_fails most c old o m = stops_first aig_causes (joint_input most c) old o m
-
-pub input_end_fails : (most : ℕ) (c : Lines ℕ) {old mid : Stream Seen} {l : Number} (o : Option (Found AigCause)) →
-    Reads (number (WrongDefinition most c.defined)) old l mid → Stops aig_causes line_end mid o →
-    Stops aig_causes (input_line most c) old o
-unfolding input_line
-input_end_fails most c {mid} {l} o m s =
-    stops_behind aig_causes (joint_input most c) m o (stops_mapped aig_causes (λ _. add_input c l) line_end mid o s)
-
-pub input_reads : (most : ℕ) (c : Lines ℕ) {d : Lines ℕ} {old mid new : Stream Seen} {l : Number} →
-    Reads (number (WrongDefinition most c.defined)) old l mid → Reads line_end mid tt new → d ≡ add_input c l →
-    Reads (input_line most c) old d new
-unfolding input_line
-input_reads most c {l} m s e =
-    value_is (sym e) (reads_then (joint_input most c) m (reads_mapped (λ _. add_input c l) s))
-
-pub joint_output : (most : ℕ) (c : Lines ℕ) → Joint (number (WrongLiteral most))
-    (λ l. mapped (λ _. add_output c l) line_end)
-joint_output most c = joint (laws_number (WrongLiteral most)) (λ l. laws_ended (add_output c l)) digit_separates
-
-pub output_fails : (most : ℕ) (c : Lines ℕ) (old : Stream Seen) (o : Option (Found AigCause)) →
-    Stops aig_causes (number (WrongLiteral most)) old o → Stops aig_causes (output_line most c) old o
-unfolding output_line
-output_fails most c old o m = stops_first aig_causes (joint_output most c) old o m
-
-pub output_end_fails : (most : ℕ) (c : Lines ℕ) {old mid : Stream Seen} {l : Number} (o : Option (Found AigCause)) →
-    Reads (number (WrongLiteral most)) old l mid → Stops aig_causes line_end mid o →
-    Stops aig_causes (output_line most c) old o
-unfolding output_line
-output_end_fails most c {mid} {l} o m s =
-    stops_behind aig_causes (joint_output most c) m o (stops_mapped aig_causes (λ _. add_output c l) line_end mid o s)
-
-pub output_reads : (most : ℕ) (c : Lines ℕ) {d : Lines ℕ} {old mid new : Stream Seen} {l : Number} →
-    Reads (number (WrongLiteral most)) old l mid → Reads line_end mid tt new → d ≡ add_output c l →
-    Reads (output_line most c) old d new
-unfolding output_line
-output_reads most c {l} m s e =
-    value_is (sym e) (reads_then (joint_output most c) m (reads_mapped (λ _. add_output c l) s))
-
--- ## Resets and latches
-
-pub joint_reset : (latch : ℕ) → Joint more (by_more (then_by (number (WrongReset latch))
-    (λ n. mapped (is_one n) line_end)) (give false))
-joint_reset latch = joint_by_more (laws_reset_value latch) false
-
-pub joint_reset_value : (latch : ℕ) → Joint (number (WrongReset latch)) (λ n. mapped (is_one n) line_end)
-joint_reset_value latch =
-    joint (laws_number (WrongReset latch)) (λ n. Rattle.ps_text.proofs.Simple.laws_mapped (is_one n) line_end
-    laws_line_end) digit_separates
-
-module _ (latch : ℕ) (old : Stream Seen) where
-  pub reset_more_fails : (o : Option (Found AigCause)) → Stops aig_causes more old o →
-      Stops aig_causes (reset latch) old o
+module _ (latch : ℕ) {old : Stream Seen} where
+  pub reset_unread : Left (reset latch) old (then_by more (by_more (reset_value latch) (give false))) old
   unfolding reset
-  reset_more_fails o m = stops_first aig_causes (joint_reset latch) old o m
+  reset_unread = unread
 
   pub reset_none : {new : Stream Seen} {b : Bool} → b ≡ false → Reads more old b new → Reads (reset latch) old false new
-  unfolding reset
-  reset_none {new} e m = reads_then (joint_reset latch) (subst (λ z. Reads more old z new) e m) (reads_give new false)
+  reset_none {new} e m =
+      (none_comes (reset_value latch) (give false) (past (chain_reset latch) reset_unread m) e).carries (Ok false) new
+      (reads_give new false)
 
-  pub reset_fails : {mid : Stream Seen} {b : Bool} (o : Option (Found AigCause)) → b ≡ true → Reads more old b mid →
-      Stops aig_causes (number (WrongReset latch)) mid o → Stops aig_causes (reset latch) old o
-  unfolding reset
-  reset_fails {mid} o e m s =
-      stops_behind aig_causes (joint_reset latch) (subst (λ z. Reads more old z mid) e m) o
-      (stops_first aig_causes (joint_reset_value latch) mid o s)
-
-  pub reset_end_fails : {mid next : Stream Seen} {b : Bool} {n : Number} (o : Option (Found AigCause)) → b ≡ true →
-      Reads more old b mid → Reads (number (WrongReset latch)) mid n next → Stops aig_causes line_end next o
-      → Stops aig_causes (reset latch) old o
-  unfolding reset
-  reset_end_fails {mid} {next} {n} o e m s t =
-      stops_behind aig_causes (joint_reset latch) (subst (λ z. Reads more old z mid) e m) o
-      (stops_behind aig_causes (joint_reset_value latch) s o (stops_mapped aig_causes (is_one n) line_end next o t))
-
-  pub reset_reads : {mid next new : Stream Seen} {b : Bool} {n : Number} → b ≡ true → Reads more old b mid →
-      Reads (number (WrongReset latch)) mid n next → Reads line_end next tt new →
-      Reads (reset latch) old (eqb n.value 1) new
-  unfolding reset
-  reset_reads {mid} {n} e m s t =
-      reads_then (joint_reset latch) (subst (λ z. Reads more old z mid) e m)
-      (reads_then (joint_reset_value latch) s (reads_mapped (is_one n) t))
+  pub past_more : {mid : Stream Seen} {b : Bool} → b ≡ true → Reads more old b mid →
+      Left (reset latch) old (reset_value latch) mid
+  past_more e m = comes (reset_value latch) (give false) (past (chain_reset latch) reset_unread m) e
 
 reset_least_unset : {latch v : ℕ} (g : AigCause) → v ≡ latch → WrongReset latch v g →
     cause_number UnsetLatch ≤ cause_number g
@@ -223,87 +145,43 @@ reset_good latch {old} {new} {n} x other small = number_small (WrongReset latch)
     good f (inl w) = other w.0
     good f (inr w) = omega (arith, w.0)
 
-module _ (most : ℕ) (c : Lines Latch) (old : Stream Seen) where
-  pub joint_latch : Joint (number (WrongDefinition most c.defined)) (λ l. latch_next most c l)
-  joint_latch = joint (laws_number (WrongDefinition most c.defined)) (λ l. laws_latch_next most c l) digit_separates
+-- ## What is left of a line
 
-  pub joint_latch_next : (l : Number) → Joint (field (WrongLiteral most)) (λ next. latch_end c l next)
-  joint_latch_next l = joint (laws_field (WrongLiteral most)) (λ next. laws_latch_end c l next) digit_separates
+module _ (most : ℕ) where
+  pub past_input : (c : Lines ℕ) {old s : Stream Seen} {l : Number} →
+      Reads (number (WrongDefinition most c.defined)) old l s →
+      Left (input_line most c) old (mapped (λ _. add_input c l) line_end) s
+  unfolding input_line
+  past_input c m = past (chain_input most c) unread m
 
-  pub latch_fails : (o : Option (Found AigCause)) → Stops aig_causes (number (WrongDefinition most c.defined)) old o →
-      Stops aig_causes (latch_line most c) old o
-  unfolding latch_line
-  latch_fails o m = stops_first aig_causes joint_latch old o m
+  pub past_output : (c : Lines ℕ) {old s : Stream Seen} {l : Number} → Reads (number (WrongLiteral most)) old l s →
+      Left (output_line most c) old (mapped (λ _. add_output c l) line_end) s
+  unfolding output_line
+  past_output c m = past (chain_output most c) unread m
 
-  module _ (s1 : Stream Seen) (l : Number) (m1 : Reads (number (WrongDefinition most c.defined)) old l s1) where
-    pub latch_next_fails : (o : Option (Found AigCause)) → Stops aig_causes (field (WrongLiteral most)) s1 o →
-        Stops aig_causes (latch_line most c) old o
+  module _ (c : Lines Latch) {old s : Stream Seen} {l : Number}
+      (m : Reads (number (WrongDefinition most c.defined)) old l s) where
+    pub past_latch : Left (latch_line most c) old (latch_next most c l) s
     unfolding latch_line
-    latch_next_fails o m = stops_behind aig_causes joint_latch m1 o (stops_first aig_causes (joint_latch_next l) s1 o m)
+    past_latch = past (chain_latch most c) unread m
 
-    module _ (s2 : Stream Seen) (next : Number) (m2 : Reads (field (WrongLiteral most)) s1 next s2) where
-      pub latch_reset_fails : (o : Option (Found AigCause)) → Stops aig_causes (reset l.value) s2 o →
-          Stops aig_causes (latch_line most c) old o
-      unfolding latch_line
-      latch_reset_fails o m =
-          stops_behind aig_causes joint_latch m1 o (stops_behind aig_causes (joint_latch_next l) m2 o
-          (stops_mapped aig_causes (λ r. add_latch c l next r) (reset l.value) s2 o m))
+    pub past_next : {t : Stream Seen} {n : Number} → Reads (field (WrongLiteral most)) s n t →
+        Left (latch_line most c) old (latch_end c l n) t
+    past_next k = past (chain_next most c l) past_latch k
 
-      pub latch_reads : {d : Lines Latch} {new : Stream Seen} {r : Bool} → Reads (reset l.value) s2 r new →
-          d ≡ add_latch c l next r → Reads (latch_line most c) old d new
-      unfolding latch_line
-      latch_reads {r} m e =
-          value_is (sym e)
-          (reads_then joint_latch m1 (reads_then (joint_latch_next l) m2 (reads_mapped (λ r. add_latch c l next r) m)))
-
--- ## Gates
-
-module _ (most : ℕ) (c : Lines Gate) (old : Stream Seen) where
-  pub joint_gate : Joint (number (WrongDefinition most c.defined)) (λ l. gate_first most c l)
-  joint_gate = joint (laws_number (WrongDefinition most c.defined)) (λ l. laws_gate_first most c l) digit_separates
-
-  pub joint_gate_first : (l : Number) → Joint (field (WrongLiteral most)) (λ first. gate_second most c l first)
-  joint_gate_first l = joint (laws_field (WrongLiteral most)) (λ first. laws_gate_second most c l first) digit_separates
-
-  pub joint_gate_second : (l first : Number) → Joint (field (WrongLiteral most))
-      (λ second. mapped (λ _. add_gate c l first second) line_end)
-  joint_gate_second l first =
-      joint (laws_field (WrongLiteral most)) (λ second. laws_ended (add_gate c l first second)) digit_separates
-
-  pub gate_fails : (o : Option (Found AigCause)) → Stops aig_causes (number (WrongDefinition most c.defined)) old o →
-      Stops aig_causes (gate_line most c) old o
-  unfolding gate_line
-  gate_fails o m = stops_first aig_causes joint_gate old o m
-
-  module _ (s1 : Stream Seen) (l : Number) (m1 : Reads (number (WrongDefinition most c.defined)) old l s1) where
-    pub gate_first_fails : (o : Option (Found AigCause)) → Stops aig_causes (field (WrongLiteral most)) s1 o →
-        Stops aig_causes (gate_line most c) old o
+  module _ (c : Lines Gate) {old s : Stream Seen} {l : Number}
+      (m : Reads (number (WrongDefinition most c.defined)) old l s) where
+    pub past_gate : Left (gate_line most c) old (gate_first most c l) s
     unfolding gate_line
-    gate_first_fails o m = stops_behind aig_causes joint_gate m1 o (stops_first aig_causes (joint_gate_first l) s1 o m)
+    past_gate = past (chain_gate most c) unread m
 
-    module _ (s2 : Stream Seen) (first : Number) (m2 : Reads (field (WrongLiteral most)) s1 first s2) where
-      pub gate_second_fails : (o : Option (Found AigCause)) → Stops aig_causes (field (WrongLiteral most)) s2 o →
-          Stops aig_causes (gate_line most c) old o
-      unfolding gate_line
-      gate_second_fails o m =
-          stops_behind aig_causes joint_gate m1 o (stops_behind aig_causes (joint_gate_first l) m2 o
-          (stops_first aig_causes (joint_gate_second l first) s2 o m))
+    module _ {t : Stream Seen} {first : Number} (k : Reads (field (WrongLiteral most)) s first t) where
+      pub past_first : Left (gate_line most c) old (gate_second most c l first) t
+      past_first = past (chain_first most c l) past_gate k
 
-      module _ (s3 : Stream Seen) (second : Number) (m3 : Reads (field (WrongLiteral most)) s2 second s3) where
-        pub gate_end_fails : (o : Option (Found AigCause)) → Stops aig_causes line_end s3 o →
-            Stops aig_causes (gate_line most c) old o
-        unfolding gate_line
-        gate_end_fails o m =
-            stops_behind aig_causes joint_gate m1 o (stops_behind aig_causes (joint_gate_first l) m2 o
-            (stops_behind aig_causes (joint_gate_second l first) m3 o
-            (stops_mapped aig_causes (λ _. add_gate c l first second) line_end s3 o m)))
-
-        pub gate_reads : {d : Lines Gate} {new : Stream Seen} → Reads line_end s3 tt new →
-            d ≡ add_gate c l first second → Reads (gate_line most c) old d new
-        unfolding gate_line
-        gate_reads m e =
-            value_is (sym e) (reads_then joint_gate m1 (reads_then (joint_gate_first l) m2
-            (reads_then (joint_gate_second l first) m3 (reads_mapped (λ _. add_gate c l first second) m))))
+      pub past_second : {u : Stream Seen} {second : Number} → Reads (field (WrongLiteral most)) t second u →
+          Left (gate_line most c) old (gate_end c l first second) u
+      past_second r = past (chain_second most c l first) past_first r
 
 -- ## Values of lines
 
@@ -345,19 +223,19 @@ pub record Lining {C : Type 0} (item : C → Field C) (Adds : C → C → Type 0
   pub fewer : i + length now.pieces ≤ length start.pieces
   pub grown : Grown Adds c d
 
-pub is_row : {C : Type 0} {item : C → Field C} → ((c : C) → Laws Odd (item c) AtDigit Separates ⊥) → IsRow item
+pub is_row : {C : Type 0} {item : C → Field C} → ((c : C) → Lawful (item c) AtDigit Separates ⊥) → IsRow item
 is_row {C} {item} l =
     record {
-      takes = λ c d old new m. reads_shrinks (λ w h. (l c).null w h) m;
+      takes = λ c d old new m. reads_shrinks (λ w h. (l c).laws.null w h) m;
       goes_on = go;
-      fails = times_fails item l separates_digit aig_causes;
+      fails = times_fails item (λ c. (l c).laws) separates_digit aig_causes;
     }
   where
     go : (n : ℕ) (c d : C) (old mid new : Stream Seen) (r : Result C (Option (Found AigCause))) → 0 < n →
         Reads (item c) old d mid → Goes aig_causes (times (n - 1) item d) mid r new →
         Goes aig_causes (times n item c) old r new
-    go n c d old mid new (Ok e) z m k = times_reads item l separates_digit n z m k
-    go n c d old mid new (Err o) z m k = times_fails_later item l separates_digit aig_causes n o z m k
+    go n c d old mid new (Ok e) z m k = times_reads item (λ c. (l c).laws) separates_digit n z m k
+    go n c d old mid new (Err o) z m k = times_fails_later item (λ c. (l c).laws) separates_digit aig_causes n o z m k
 
 module _ {C : Type 0} (item : C → Field C) (Adds : C → C → Type 0) (row : IsRow item) (count : ℕ)
     (start : Stream Seen) (c : C) where

@@ -1,6 +1,6 @@
 -- Links stand for the gates that a gate reads.
 use Rattle.std.proofs.Common.{◌≡◌, ◌≢◌, ℕ, ◌+◌, ◌<◌, IfSome, inl, inr, List, [], ◌∷◌, ◌++◌, map, length, get_or, refl}
-use Rattle.std.proofs.Common.{sym, ap, ap₂, subst, ◌∙◌, arith, nat_eq, Some, None, Option, slice_get, suc, zero, ◌⊎◌}
+use Rattle.std.proofs.Common.{sym, ap, ap₂, subst, ◌∙◌, arith, nat_eq, Some, None, Option, slice_get, suc, zero}
 use Rattle.std.proofs.Common.{AllPairs, Contains, take, length-append, option_map}
 use Rattle.std.proofs.lemmas.Option.{slice_get_within, slice_get-map, slice_get-get_or, get_or_from_slice_get}
 use Rattle.std.proofs.lemmas.List.{length-map, get_or-map, get_or-append-add, map-append, take_more}
@@ -83,58 +83,34 @@ links-by_places {gates} {place_of} a e = record {
   reads_link = λ i j r. subst (λ ls. Link (graph_of ls) i j) (sym e) (linked i j r);
 }
   where
-    there : (i : ℕ) (sides : Links) → slice_get (links_by place_of gates) i ≡ Some sides →
-        (g : Gate) × ((slice_get gates i ≡ Some g) × (place_of (variable g.first) ≡ sides.first) ×
-        (place_of (variable g.second) ≡ sides.second))
-    there i sides h = found (slice_get gates i) refl (sym (slice_get-map _ gates i) ∙ h)
-      where
-        found : (o : Option Gate) → slice_get gates i ≡ o → option_map
-            (λ g. record { first = place_of (variable g.first); second = place_of (variable g.second) }) o ≡ Some sides
-            → (g : Gate) × ((slice_get gates i ≡ Some g) × (place_of (variable g.first) ≡ sides.first) ×
-            (place_of (variable g.second) ≡ sides.second))
-        found None is e = cc
-        found (Some g) is e = (g, (is, cc, cc))
-
-    read_by : {i j : ℕ} {g h : Gate} → slice_get gates i ≡ Some g → (side : ℕ) →
-        (variable side ≡ variable g.first) ⊎ (variable side ≡ variable g.second) →
-        (slice_get gates j ≡ Some h) × (variable h.literal ≡ variable side) → ReadsGate gates i j
-    read_by {g} {h} at_i side (inl e) r =
-        record { reader = g; read = h; at_i = at_i; at_j = r.0; side = inl (sym e ∙ sym r.1) }
-    read_by {g} {h} at_i side (inr e) r =
-        record { reader = g; read = h; at_i = at_i; at_j = r.0; side = inr (sym e ∙ sym r.1) }
-
     reads : (i j : ℕ) → Link (graph_of (links_by place_of gates)) i j → ReadsGate gates i j
-    reads i j l = found (slice_get (links_by place_of gates) i) refl l.place l.at l.target
+    reads i j l = found (slice_get gates i) refl l.place
+        (sym (ap (λ o. target_of o l.place) (slice_get-map _ gates i)) ∙ l.target)
       where
-        found : (o : Option Links) → slice_get (links_by place_of gates) i ≡ o → (place : ℕ) → place < 2 →
-            target_of o place ≡ Some j → ReadsGate gates i j
-        found None is place lt t = cc
-        found (Some sides) is zero lt t =
-            (let g = there i sides is in let h = a.back (variable g.0.first) j (g.1.1 ∙ t) in
-            read_by {g = g.0} g.1.0 g.0.first (inl refl) (h.1, h.2))
-        found (Some sides) is (suc place) lt t =
-            (let g = there i sides is in let h = a.back (variable g.0.second) j (g.1.2 ∙ t) in
-            read_by {g = g.0} g.1.0 g.0.second (inr refl) (h.1, h.2))
+        found : (o : Option Gate) → slice_get gates i ≡ o → (place : ℕ) → target_of (option_map
+            (λ g. record { first = place_of (variable g.first); second = place_of (variable g.second) }) o) place ≡
+            Some j → ReadsGate gates i j
+        found None is place t = absurd cc
+        found (Some g) is zero t = let h = a.back (variable g.first) j t in
+            record { reader = g; read = h.0; at_i = is; at_j = h.1; side = inl (sym h.2) }
+        found (Some g) is (suc place) t = let h = a.back (variable g.second) j t in
+            record { reader = g; read = h.0; at_i = is; at_j = h.1; side = inr (sym h.2) }
 
     linked : (i j : ℕ) → ReadsGate gates i j → Link (graph_of (links_by place_of gates)) i j
     linked i j r =
         let sides : Links =
         record { first = place_of (variable r.reader.first); second = place_of (variable r.reader.second) } in
         let at : slice_get (links_by place_of gates) i ≡ Some sides = slice_get-map _ gates i ∙ (rw r.at_i) in
-        let from : i < length (links_by place_of gates) = slice_get_within (links_by place_of gates) i sides at in
+        let link : (place : ℕ) → place < 2 → side_of sides place ≡ Some j →
+        Link (graph_of (links_by place_of gates)) i j = λ place lt e. record {
+          from = slice_get_within (links_by place_of gates) i sides at;
+          place = place;
+          at = lt;
+          target = ap (λ o. target_of o place) at ∙ e;
+        } in
         elim r.side [
-          | inl e ↦ record {
-            from = from;
-            place = 0;
-            at = omega arith;
-            target = ap (λ o. target_of o 0) at ∙ ap place_of e ∙ a.forth j r.read r.at_j;
-          }
-          | inr e ↦ record {
-            from = from;
-            place = 1;
-            at = omega arith;
-            target = ap (λ o. target_of o 1) at ∙ ap place_of e ∙ a.forth j r.read r.at_j;
-          }
+          | inl e ↦ link 0 (omega arith) (ap place_of e ∙ a.forth j r.read r.at_j)
+          | inr e ↦ link 1 (omega arith) (ap place_of e ∙ a.forth j r.read r.at_j)
         ]
 
 abbrev sides : Option ℕ → Option ℕ → Links

@@ -1,7 +1,7 @@
 -- Gates that are made stay, and what was made once is there when it is asked for again.
 use Rattle.std.proofs.Common.{◌≡◌, ◌∙◌, ℕ, ◌+◌, ◌*◌, ◌<◌, ◌≤◌, ◌==◌, ◌&&◌, ◌||◌, Bool, true, false, cond, nat_lt}
 use Rattle.std.proofs.Common.{if◌then◌else◌, [], ◌∷◌, ◌++◌, length, length-append, get_or, slice_get, Some, refl, sym}
-use Rattle.std.proofs.Common.{ap, subst, arith, inl, inr}
+use Rattle.std.proofs.Common.{ap, ap₂, subst, arith, inl, inr}
 use Rattle.std.specs.List.{list_any, position_or_len}
 use Rattle.std.proofs.lemmas.Bool.{cases_lt, eq-eqb}
 use Rattle.std.proofs.lemmas.List.Folds.{list_any_at, list_any_none}
@@ -25,7 +25,7 @@ abbrev made_with : Drafted → ℕ → Made
 made_with d literal = record { draft = d; literal = literal }
 
 made_are : {a b : Made} → a.draft ≡ b.draft → a.literal ≡ b.literal → a ≡ b
-made_are {a} {b} e f = ap (λ d. made_with d a.literal) e ∙ ap (made_with b.draft) f
+made_are e f = ap₂ made_with e f
 
 -- ## One gate
 
@@ -113,116 +113,75 @@ gate-again d {e} s x =
     gate-found e (place_of d s) (x.same (place_of d s) s (gate_at d)) (λ k lt. first k lt (place_within d s)) in
     found ∙ ap (made_with e) (gate_literal d s x)
 
--- ## Conjunctions
+-- ## What stays
 
-abbrev pub both_by : Bool → Bool → Bool → Bool → ℕ → ℕ → Drafted → Made
-both_by never is_second is_first falls x y d =
-    if never then record { draft = d; literal = 0 }
-    else if is_second then record { draft = d; literal = y }
-    else if is_first then record { draft = d; literal = x }
-    else if falls then gate_of d (record { first = x; second = y })
-    else gate_of d (record { first = y; second = x })
+-- the gates that are there stay, and where they are all there it takes no further one
+pub record Lasts (make : Drafted → Made) : Type 0 where
+  pub extends : (d : Drafted) → Extends d (make d).draft
+  pub again : (d e : Drafted) → Extends (make d).draft e → IsThere (make d) make e
 
-both_extends : (a b c f : Bool) (x y : ℕ) {d : Drafted} → Extends d (both_by a b c f x y d).draft
-both_extends true b c f x y {d} = extends-refl d
-both_extends false true c f x y {d} = extends-refl d
-both_extends false false true f x y {d} = extends-refl d
-both_extends false false false true x y = gate-extends (record { first = x; second = y })
-both_extends false false false false x y = gate-extends (record { first = y; second = x })
+taken_as_is : (literal : ℕ) → Lasts (λ d. made_with d literal)
+taken_as_is literal = record { extends = extends-refl; again = λ d e x. refl }
 
-both_again : (a b c f : Bool) (x y : ℕ) (d : Drafted) {e : Drafted} → Extends (both_by a b c f x y d).draft e →
-    IsThere (both_by a b c f x y d) (both_by a b c f x y) e
-both_again true b c f x y d h = refl
-both_again false true c f x y d h = refl
-both_again false false true f x y d h = refl
-both_again false false false true x y d h = gate-again d (record { first = x; second = y }) h
-both_again false false false false x y d h = gate-again d (record { first = y; second = x }) h
+gate_lasts : (s : Sides) → Lasts (λ d. gate_of d s)
+gate_lasts s = record { extends = λ d. gate-extends s; again = λ d e x. gate-again d s x }
+
+by_test : (b : Bool) (f g : Drafted → Made) → Lasts f → Lasts g → Lasts (λ d. if b then f d else g d)
+by_test true f g x y = x
+by_test false f g x y = y
+
+and_lasts : (x y : ℕ) → Lasts (λ d. and_of d x y)
+unfolding and_of
+and_lasts x y =
+    by_test (x == 0 || y == 0 || x == negated y) _ _ (taken_as_is 0)
+    (by_test (x == 1 || x == y) _ _ (taken_as_is y) (by_test (y == 1) _ _ (taken_as_is x)
+    (by_test (nat_lt y x) _ _ (gate_lasts (record { first = x; second = y }))
+    (gate_lasts (record { first = y; second = x })))))
+
+or_lasts : (x y : ℕ) → Lasts (λ d. or_of d x y)
+unfolding or_of
+or_lasts x y = let both = and_lasts (negated x) (negated y) in
+    record { extends = both.extends; again = λ d e h. ap inverted (both.again d e h) }
 
 pub and-extends : {d : Drafted} (x y : ℕ) → Extends d (and_of d x y).draft
-unfolding and_of
-and-extends x y = both_extends (x == 0 || y == 0 || x == negated y) (x == 1 || x == y) (y == 1) (nat_lt y x) x y
-
-pub and-again : (d : Drafted) {e : Drafted} (x y : ℕ) → Extends (and_of d x y).draft e →
-    IsThere (and_of d x y) (λ t. and_of t x y) e
-unfolding and_of
-and-again d x y h = both_again (x == 0 || y == 0 || x == negated y) (x == 1 || x == y) (y == 1) (nat_lt y x) x y d h
+and-extends {d} x y = (and_lasts x y).extends d
 
 pub or-extends : {d : Drafted} (x y : ℕ) → Extends d (or_of d x y).draft
-unfolding or_of
-or-extends x y = and-extends (negated x) (negated y)
+or-extends {d} x y = (or_lasts x y).extends d
 
-pub or-again : (d : Drafted) {e : Drafted} (x y : ℕ) → Extends (or_of d x y).draft e →
-    IsThere (or_of d x y) (λ t. or_of t x y) e
-unfolding or_of
-or-again d x y h = ap inverted (and-again d (negated x) (negated y) h)
-
--- ## Choices
-
-pub chosen-extends : {d : Drafted} (s high low : ℕ) → Extends d (chosen_of d s high low).draft
+chosen_lasts : (s high low : ℕ) → Lasts (λ d. chosen_of d s high low)
 unfolding chosen_of
-chosen-extends {d} s high low =
-    let a = and_of d s high in
-    let b = and_of a.draft (negated s) low in
-    extends-trans d a.draft _ (and-extends s high) (extends-trans a.draft b.draft _
-    (and-extends (negated s) low) (or-extends a.literal b.literal))
+chosen_lasts s high low = record {
+  extends = λ d.
+      let a = and_of d s high in
+      let b = and_of a.draft (negated s) low in
+      extends-trans d a.draft _ (and-extends s high) (extends-trans a.draft b.draft _
+      (and-extends (negated s) low) (or-extends a.literal b.literal));
+  again = λ d e h.
+      let a = and_of d s high in
+      let b = and_of a.draft (negated s) low in
+      let hb : Extends b.draft e = extends-trans b.draft _ e (or-extends a.literal b.literal) h in
+      let ha : Extends a.draft e = extends-trans a.draft b.draft e (and-extends (negated s) low) hb in
+      let again : Made → Made → Made = λ p q. or_of q.draft p.literal q.literal in
+      ap (λ p. again p (and_of p.draft (negated s) low)) ((and_lasts s high).again d e ha)
+      ∙ ap (λ q. again (made_with e a.literal) q) ((and_lasts (negated s) low).again a.draft e hb)
+      ∙ (or_lasts a.literal b.literal).again b.draft e h;
+}
 
-pub chosen-again : (d : Drafted) {e : Drafted} (s high low : ℕ) → Extends (chosen_of d s high low).draft e →
-    IsThere (chosen_of d s high low) (λ t. chosen_of t s high low) e
-unfolding chosen_of
-chosen-again d {e} s high low h =
-    let a = and_of d s high in
-    let b = and_of a.draft (negated s) low in
-    let hb : Extends b.draft e =
-    extends-trans b.draft (or_of b.draft a.literal b.literal).draft e (or-extends a.literal b.literal) h in
-    let ha : Extends a.draft e = extends-trans a.draft b.draft e (and-extends (negated s) low) hb in
-    let again : Made → Made → Made = λ p q. or_of q.draft p.literal q.literal in
-    ap (λ p. again p (and_of p.draft (negated s) low)) (and-again d s high ha)
-    ∙ ap (λ q. again (record { draft = e; literal = a.literal }) q) (and-again a.draft (negated s) low hb)
-    ∙ or-again b.draft a.literal b.literal h
-
-abbrev pub choice_by : Bool → Bool → Bool → Bool → Bool → Bool → Bool → ℕ → ℕ → ℕ → Drafted → Made
-choice_by same is_s is_not_s high_true high_false low_false low_true s high low d =
-    if same then record { draft = d; literal = high }
-    else if is_s then record { draft = d; literal = s }
-    else if is_not_s then record { draft = d; literal = negated s }
-    else if high_true then or_of d s low else if high_false then and_of d (negated s) low
-    else if low_false then and_of d s high else if low_true then or_of d (negated s) high else chosen_of d s high low
-
-choice_extends : (a b c f g h i : Bool) (s high low : ℕ) {d : Drafted} →
-    Extends d (choice_by a b c f g h i s high low d).draft
-choice_extends true b c f g h i s high low {d} = extends-refl d
-choice_extends false true c f g h i s high low {d} = extends-refl d
-choice_extends false false true f g h i s high low {d} = extends-refl d
-choice_extends false false false true g h i s high low = or-extends s low
-choice_extends false false false false true h i s high low = and-extends (negated s) low
-choice_extends false false false false false true i s high low = and-extends s high
-choice_extends false false false false false false true s high low = or-extends (negated s) high
-choice_extends false false false false false false false s high low = chosen-extends s high low
-
-choice_again : (a b c f g h i : Bool) (s high low : ℕ) (d : Drafted) {e : Drafted} →
-    Extends (choice_by a b c f g h i s high low d).draft e → IsThere (choice_by a b c f g h i s high low d)
-    (choice_by a b c f g h i s high low) e
-choice_again true b c f g h i s high low d x = refl
-choice_again false true c f g h i s high low d x = refl
-choice_again false false true f g h i s high low d x = refl
-choice_again false false false true g h i s high low d x = or-again d s low x
-choice_again false false false false true h i s high low d x = and-again d (negated s) low x
-choice_again false false false false false true i s high low d x = and-again d s high x
-choice_again false false false false false false true s high low d x = or-again d (negated s) high x
-choice_again false false false false false false false s high low d x = chosen-again d s high low x
+mux_lasts : (s high low : ℕ) → Lasts (λ d. mux_of d s high low)
+unfolding mux_of
+mux_lasts s high low =
+    by_test (high == low) _ _ (taken_as_is high) (by_test (high == 1 && low == 0) _ _ (taken_as_is s)
+    (by_test (high == 0 && low == 1) _ _ (taken_as_is (negated s)) (by_test (high == 1) _ _ (or_lasts s low)
+    (by_test (high == 0) _ _ (and_lasts (negated s) low) (by_test (low == 0) _ _ (and_lasts s high)
+    (by_test (low == 1) _ _ (or_lasts (negated s) high) (chosen_lasts s high low)))))))
 
 pub mux-extends : (d : Drafted) (s high low : ℕ) → Extends d (mux_of d s high low).draft
-unfolding mux_of
-mux-extends d s high low =
-    choice_extends (high == low) (high == 1 && low == 0) (high == 0 && low == 1) (high == 1) (high == 0) (low == 0)
-    (low == 1) s high low
+mux-extends d s high low = (mux_lasts s high low).extends d
 
 pub mux-again : (d e : Drafted) (s high low : ℕ) → Extends (mux_of d s high low).draft e →
     IsThere (mux_of d s high low) (λ t. mux_of t s high low) e
-unfolding mux_of
-mux-again d e s high low x =
-    choice_again (high == low) (high == 1 && low == 0) (high == 0 && low == 1) (high == 1) (high == 0) (low == 0)
-    (low == 1) s high low d x
+mux-again d e s high low x = (mux_lasts s high low).again d e x
 
 pub mux-same : (d : Drafted) (s literal : ℕ) → mux_of d s literal literal ≡ record { draft = d; literal = literal }
 unfolding mux_of

@@ -1,10 +1,11 @@
 -- Gates made of literals that are held: where there is a literal for each variable they are sound, and what is made has
 -- the bit that is asked for.
-use Rattle.std.proofs.Common.{◌≡◌, ◌∙◌, ℕ, ◌+◌, ◌-◌, ◌*◌, ◌/◌, ◌%◌, ◌^◌, ◌<◌, ◌≤◌, ◌==◌, ◌&&◌, ◌||◌, Bool, true, false}
-use Rattle.std.proofs.Common.{not, cond, nat_lt, eqb, refl, sym, ap, ap₂, arith, inl, inr}
+use Rattle.std.proofs.Common.{if◌then◌else◌, ◌≡◌, ◌∙◌, ℕ, ◌+◌, ◌-◌, ◌*◌, ◌/◌, ◌%◌, ◌^◌, ◌<◌, ◌==◌, ◌&&◌, ◌||◌}
+use Rattle.std.proofs.Common.{Bool, true, false, not, cond, nat_lt, eqb, refl, sym, ap, ap₂, arith, inl, inr}
 use Rattle.std.specs.List.{list_any}
 use Rattle.std.proofs.lemmas.Bool.{and_parts, cases_eq, eq-eqb, eqb-false, eqb-true, ltb-false, ltb-true, or_cases}
 use Rattle.std.proofs.lemmas.Bool.{or_parts}
+use Rattle.std.proofs.Math.Bool.{and-false, and-true, and_self, and_comm, not-and_self}
 use Rattle.std.proofs.lemmas.Option.{slice_get_within}
 use Rattle.ps_circuit.specs.declared.builder.Sides.{Sides}
 use Rattle.ps_circuit.specs.Building.{Drafted, AreSides, Extends, IsFull, IsHeld, IsSoundDraft, Meets, bit}
@@ -13,7 +14,7 @@ use Rattle.ps_circuit.specs.Literals.{negated, variable}
 use Rattle.ps_circuit.specs.Gates.{Made, has_sides, gate_of, and_of, or_of, chosen_of, mux_of}
 use Rattle.ps_circuit.proofs.GateLemmas.{bit-negated, chosen_bits, held-extends, held-negated, meets-extends, or_bits}
 use Rattle.ps_circuit.proofs.GateLemmas.{placed, placed-bit, sides_same}
-use Rattle.ps_circuit.proofs.MadeLemmas.{above-new, and-extends, both_by, choice_by, gate_at, or-extends, place_of}
+use Rattle.ps_circuit.proofs.MadeLemmas.{above-new, and-extends, gate_at, or-extends, place_of}
 
 -- there is a literal for each variable
 abbrev pub HasRoom : Drafted → Type 0
@@ -42,53 +43,49 @@ made-later m p e x sound made = record {
   is = λ v meets. made.is v (meets-extends m.draft e x v meets);
 }
 
+-- it is made, unless there is no room
+pub record Makes (m : Made) (wanted : (ℕ → Bool) → Bool) : Type 0 where
+  pub made : HasRoom m.draft → IsMade m wanted
+
 -- a literal that is there already
-there : (d : Drafted) (literal : ℕ) (p : (ℕ → Bool) → Bool) → IsSoundDraft d → IsHeld d literal →
-    ((v : ℕ → Bool) → v 0 ≡ false → bit v literal ≡ p v) → IsMade (record { draft = d; literal = literal }) p
-there d literal p sound held is = record { sound = sound; held = held; is = λ v meets. is v meets.constant }
+there : {d : Drafted} (literal : ℕ) {wanted : (ℕ → Bool) → Bool} → IsSoundDraft d → IsHeld d literal →
+    ((v : ℕ → Bool) → v 0 ≡ false → bit v literal ≡ wanted v) → Makes (record { draft = d; literal = literal }) wanted
+there literal sound held is =
+    record { made = λ room. record { sound = sound; held = held; is = λ v meets. is v meets.constant } }
+
+by_test : {wanted : (ℕ → Bool) → Bool} (b : Bool) (m n : Made) → (b ≡ true → Makes m wanted) →
+    (b ≡ false → Makes n wanted) → Makes (if b then m else n) wanted
+by_test true m n f g = f refl
+by_test false m n f g = g refl
+
+seen_as : {m : Made} {p : (ℕ → Bool) → Bool} (q : (ℕ → Bool) → Bool) → Makes m p →
+    ((v : ℕ → Bool) → v 0 ≡ false → p v ≡ q v) → Makes m q
+seen_as {m} {p} q makes same = record { made = λ room. made-as m p q same (makes.made room) }
 
 -- ## One gate
 
-gate-made : {d : Drafted} {s : Sides} → IsSoundDraft d → AreSides (variables_of d + 1) s →
-    HasRoom (gate_of d s).draft → IsMade (gate_of d s) (λ v. bit v s.first && bit v s.second)
+gate_makes : {d : Drafted} (x y : ℕ) → IsSoundDraft d →
+    AreSides (variables_of d + 1) (record { first = x; second = y }) →
+    Makes (gate_of d (record { first = x; second = y })) (λ v. bit v x && bit v y)
 unfolding gate_of
-gate-made {d} {s} sound sides room =
-    let new : Drafted = (gate_of d s).draft in
-    let place = place_of d s in
-    let full : list_any (has_sides s) d.gates ≡ false → IsFull d → ⊥ =
-    λ none full. (let above = above-new d s full none in omega (arith, above, room)) in
-    let p = placed d new s place sound sides full refl refl (s, gate_at d, sides_same s) in
-    record {
-      sound = p.sound;
-      held = (let within = slice_get_within new.gates place s p.at in
-          let half : 2 * (d.given + 1 + place) / 2 ≡ d.given + 1 + place = omega arith in
-          omega (arith, within, half));
-      is = λ v meets. placed-bit new s place p.at v meets;
-    }
+gate_makes {d} x y sound sides = record {
+  made = λ room.
+      let s : Sides = record { first = x; second = y } in
+      let new : Drafted = (gate_of d s).draft in
+      let place = place_of d s in
+      let full : list_any (has_sides s) d.gates ≡ false → IsFull d → ⊥ =
+      λ none full. (let above = above-new d s full none in omega (arith, above, room)) in
+      let p = placed d new s place sound sides full refl refl (s, gate_at d, sides_same s) in
+      record {
+        sound = p.sound;
+        held = (let within = slice_get_within new.gates place s p.at in
+            let half : 2 * (d.given + 1 + place) / 2 ≡ d.given + 1 + place = omega arith in
+            omega (arith, within, half));
+        is = λ v meets. placed-bit new s place p.at v meets;
+      };
+}
 
 -- ## Conjunctions
-
-neither_both : (b : Bool) → not b && b ≡ false
-neither_both true = refl
-neither_both false = refl
-
-never_second : (b : Bool) → b && false ≡ false
-never_second true = refl
-never_second false = refl
-
-always_second : (b : Bool) → b ≡ (b && true)
-always_second true = refl
-always_second false = refl
-
-both_same : (b : Bool) → b ≡ (b && b)
-both_same true = refl
-both_same false = refl
-
-both_turned : (a b : Bool) → (a && b) ≡ (b && a)
-both_turned true true = refl
-both_turned true false = refl
-both_turned false true = refl
-both_turned false false = refl
 
 -- literals of one variable are equal, or each is the other's negation
 one_variable : {x y : ℕ} → (x ≡ negated y → ⊥) → variable x ≡ variable y → x ≡ y
@@ -114,20 +111,20 @@ never_is x y e v zero = elim (or_cases (x == 0 || y == 0) (x == negated y) e) [
   | inl one ↦ elim (or_cases (x == 0) (y == 0) one) [
     | inl first ↦ ap (λ l. bit v l && bit v y) (eqb-true x 0 first) ∙ ap (λ b. b && bit v y) zero
     | inr second ↦ ap (λ l. bit v x && bit v l) (eqb-true y 0 second) ∙ ap (λ b. bit v x && b) zero
-        ∙ never_second (bit v x)
+        ∙ and-false (bit v x)
   ]
   | inr turned ↦ ap (λ l. bit v l && bit v y) (eqb-true x (negated y) turned)
-      ∙ ap (λ b. b && bit v y) (bit-negated v y) ∙ neither_both (bit v y)
+      ∙ ap (λ b. b && bit v y) (bit-negated v y) ∙ not-and_self (bit v y)
 ]
 
 second_is : (x y : ℕ) → (x == 1 || x == y) ≡ true → (v : ℕ → Bool) → v 0 ≡ false → bit v y ≡ (bit v x && bit v y)
 second_is x y e v zero = elim (or_cases (x == 1) (x == y) e) [
   | inl one ↦ sym (ap (λ l. bit v l && bit v y) (eqb-true x 1 one) ∙ ap (λ b. not b && bit v y) zero)
-  | inr same ↦ both_same (bit v y) ∙ ap (λ l. bit v l && bit v y) (sym (eqb-true x y same))
+  | inr same ↦ sym (and_self (bit v y)) ∙ ap (λ l. bit v l && bit v y) (sym (eqb-true x y same))
 ]
 
 first_is : (x y : ℕ) → (y == 1) ≡ true → (v : ℕ → Bool) → v 0 ≡ false → bit v x ≡ (bit v x && bit v y)
-first_is x y e v zero = always_second (bit v x)
+first_is x y e v zero = sym (and-true (bit v x))
     ∙ sym (ap (λ l. bit v x && bit v l) (eqb-true y 1 e) ∙ ap (λ b. bit v x && not b) zero)
 
 -- what is neither constant nor of one variable
@@ -152,80 +149,69 @@ differ x y a b c =
       different = λ same. eqb-false x y r.1 (one_variable (eqb-false x (negated y) p.1) same);
     }
 
-both_made : (a b c f : Bool) (x y : ℕ) {d : Drafted} → (x == 0 || y == 0 || x == negated y) ≡ a →
-    (x == 1 || x == y) ≡ b → (y == 1) ≡ c → nat_lt y x ≡ f → IsSoundDraft d → IsHeld d x → IsHeld d y →
-    HasRoom (both_by a b c f x y d).draft → IsMade (both_by a b c f x y d) (λ v. bit v x && bit v y)
-both_made true b c f x y {d} ea eb ec ef sound hx hy room =
-    there d 0 _ sound (omega arith) (λ v zero. zero ∙ sym (never_is x y ea v zero))
-both_made false true c f x y {d} ea eb ec ef sound hx hy room = there d y _ sound hy (second_is x y eb)
-both_made false false true f x y {d} ea eb ec ef sound hx hy room = there d x _ sound hx (first_is x y ec)
-both_made false false false true x y ea eb ec ef sound hx hy room =
-    let less : y < x = ltb-true y x ef in
-    let apart = differ x y ea eb ec in
-    gate-made sound (record {
+and_makes : {d : Drafted} (x y : ℕ) → IsSoundDraft d → IsHeld d x → IsHeld d y →
+    Makes (and_of d x y) (λ v. bit v x && bit v y)
+unfolding and_of
+and_makes x y sound hx hy =
+    by_test (x == 0 || y == 0 || x == negated y) _ _
+    (λ e. there 0 sound (omega arith) (λ v zero. zero ∙ sym (never_is x y e v zero))) (λ a.
+    by_test (x == 1 || x == y) _ _ (λ e. there y sound hy (second_is x y e)) (λ b.
+    by_test (y == 1) _ _ (λ e. there x sound hx (first_is x y e)) (λ c. let apart = differ x y a b c in
+    by_test (nat_lt y x) _ _ (λ e. gate_makes x y sound (record {
       below = omega (arith, hx);
-      falls = less;
-      different = λ e. apart.different (sym e);
+      falls = ltb-true y x e;
+      different = λ s. apart.different (sym s);
       not_constant = (let p = apart.second in let q = apart.second_varies in omega arith);
-    }) room
-both_made false false false false x y {d} ea eb ec ef sound hx hy room =
-    let le : x ≤ y = ltb-false y x ef in
-    let apart = differ x y ea eb ec in
-    made-as (gate_of d (record { first = y; second = x })) (λ v. bit v y && bit v x) (λ v. bit v x && bit v y)
-    (λ v zero. both_turned (bit v y) (bit v x)) (gate-made sound (record {
+    }))
+    (λ e. seen_as (λ v. bit v x && bit v y) (gate_makes y x sound (record {
       below = omega (arith, hy);
-      falls = (let p = (λ (e : x ≡ y). apart.different (ap variable e)) in omega arith);
+      falls = (let p = (λ (s : x ≡ y). apart.different (ap variable s)) in omega (arith, ltb-false y x e));
       different = apart.different;
       not_constant = (let p = apart.first in let q = apart.first_varies in omega arith);
-    }) room)
+    })) (λ v zero. and_comm (bit v y) (bit v x))))))
 
-pub and-made : {d : Drafted} (x y : ℕ) → IsSoundDraft d → IsHeld d x → IsHeld d y → HasRoom (and_of d x y).draft →
-    IsMade (and_of d x y) (λ v. bit v x && bit v y)
-unfolding and_of
-and-made x y sound hx hy room =
-    both_made (x == 0 || y == 0 || x == negated y) (x == 1 || x == y) (y == 1) (nat_lt y x) x y refl refl refl refl
-    sound hx hy room
-
-pub or-made : {d : Drafted} (x y : ℕ) → IsSoundDraft d → IsHeld d x → IsHeld d y → HasRoom (or_of d x y).draft →
-    IsMade (or_of d x y) (λ v. bit v x || bit v y)
+or_makes : {d : Drafted} (x y : ℕ) → IsSoundDraft d → IsHeld d x → IsHeld d y →
+    Makes (or_of d x y) (λ v. bit v x || bit v y)
 unfolding or_of
-or-made {d} x y sound hx hy room =
-    let neither = and_of d (negated x) (negated y) in
-    let made = and-made (negated x) (negated y) sound (held-negated d x hx) (held-negated d y hy) room in
-    record {
-      sound = made.sound;
-      held = held-negated neither.draft neither.literal made.held;
-      is = λ v meets. or_bits v x y neither.literal refl refl refl (made.is v meets);
-    }
+or_makes {d} x y sound hx hy = record {
+  made = λ room.
+      let neither = and_of d (negated x) (negated y) in
+      let m = (and_makes (negated x) (negated y) sound (held-negated d x hx) (held-negated d y hy)).made room in
+      record {
+        sound = m.sound;
+        held = held-negated neither.draft neither.literal m.held;
+        is = λ v meets. or_bits v x y neither.literal refl refl refl (m.is v meets);
+      };
+}
 
 -- ## Choices
 
-chosen-made : {d : Drafted} (s high low : ℕ) → IsSoundDraft d → IsHeld d s → IsHeld d high → IsHeld d low →
-    HasRoom (chosen_of d s high low).draft →
-    IsMade (chosen_of d s high low) (λ v. cond (bit v s) (bit v high) (bit v low))
+chosen_makes : {d : Drafted} (s high low : ℕ) → IsSoundDraft d → IsHeld d s → IsHeld d high → IsHeld d low →
+    Makes (chosen_of d s high low) (λ v. cond (bit v s) (bit v high) (bit v low))
 unfolding chosen_of
-chosen-made {d} s high low sound hs hh hl room =
-    let a = and_of d s high in
-    let b = and_of a.draft (negated s) low in
-    let o = or_of b.draft a.literal b.literal in
-    let xa : Extends d a.draft = and-extends s high in
-    let xb : Extends a.draft b.draft = and-extends (negated s) low in
-    let xo : Extends b.draft o.draft = or-extends a.literal b.literal in
-    let room_b : HasRoom b.draft = room-before b.draft o.draft xo room in
-    let room_a : HasRoom a.draft = room-before a.draft b.draft xb room_b in
-    let first = and-made s high sound hs hh room_a in
-    let second = and-made (negated s) low first.sound (held-negated a.draft s (held-extends d a.draft xa s hs))
-    (held-extends d a.draft xa low hl) room_b in
-    let either = or-made a.literal b.literal second.sound (held-extends a.draft b.draft xb a.literal first.held)
-    second.held room in
-    record {
-      sound = either.sound;
-      held = either.held;
-      is = λ v meets.
-          (let behind = meets-extends b.draft o.draft xo v meets in
-          chosen_bits v s high low a.literal b.literal o.literal refl
-          (first.is v (meets-extends a.draft b.draft xb v behind)) (second.is v behind) (either.is v meets));
-    }
+chosen_makes {d} s high low sound hs hh hl = record {
+  made = λ room.
+      let a = and_of d s high in
+      let b = and_of a.draft (negated s) low in
+      let o = or_of b.draft a.literal b.literal in
+      let xa : Extends d a.draft = and-extends s high in
+      let xb : Extends a.draft b.draft = and-extends (negated s) low in
+      let xo : Extends b.draft o.draft = or-extends a.literal b.literal in
+      let room_b : HasRoom b.draft = room-before b.draft o.draft xo room in
+      let first = (and_makes s high sound hs hh).made (room-before a.draft b.draft xb room_b) in
+      let second = (and_makes (negated s) low first.sound (held-negated a.draft s (held-extends d a.draft xa s hs))
+      (held-extends d a.draft xa low hl)).made room_b in
+      let either = (or_makes a.literal b.literal second.sound (held-extends a.draft b.draft xb a.literal first.held)
+      second.held).made room in
+      record {
+        sound = either.sound;
+        held = either.held;
+        is = λ v meets.
+            (let behind = meets-extends b.draft o.draft xo v meets in
+            chosen_bits v s high low a.literal b.literal o.literal refl
+            (first.is v (meets-extends a.draft b.draft xb v behind)) (second.is v behind) (either.is v meets));
+      };
+}
 
 -- the literals of both truths
 zero_is : (v : ℕ → Bool) (l : ℕ) → v 0 ≡ false → (l == 0) ≡ true → bit v l ≡ false
@@ -250,54 +236,41 @@ then_true : (b x : Bool) → (b || x) ≡ cond b true x
 then_true true x = refl
 then_true false x = refl
 
-then_false : (b x : Bool) → (not b && x) ≡ cond b false x
-then_false true x = refl
-then_false false x = refl
-
 else_false : (b x : Bool) → (b && x) ≡ cond b x false
 else_false true x = refl
 else_false false x = refl
+
+then_false : (b x : Bool) → (not b && x) ≡ cond b false x
+then_false true x = refl
+then_false false x = refl
 
 else_true : (b x : Bool) → (not b || x) ≡ cond b x true
 else_true true x = refl
 else_true false x = refl
 
-choice_made : (a b c f g h i : Bool) (s high low : ℕ) {d : Drafted} → (high == low) ≡ a →
-    (high == 1 && low == 0) ≡ b → (high == 0 && low == 1) ≡ c → (high == 1) ≡ f → (high == 0) ≡ g → (low == 0) ≡ h →
-    (low == 1) ≡ i → IsSoundDraft d → IsHeld d s → IsHeld d high → IsHeld d low →
-    HasRoom (choice_by a b c f g h i s high low d).draft →
-    IsMade (choice_by a b c f g h i s high low d) (λ v. cond (bit v s) (bit v high) (bit v low))
-choice_made true b c f g h i s high low {d} ea eb ec ef eg eh ei sound hs hh hl room =
-    there d high _ sound hh (λ v zero. by_same (bit v s)
-    ∙ ap (λ l. cond (bit v s) (bit v high) (bit v l)) (eqb-true high low ea))
-choice_made false true c f g h i s high low {d} ea eb ec ef eg eh ei sound hs hh hl room =
-    let both = and_parts (high == 1) (low == 0) eb in
-    there d s _ sound hs (λ v zero. by_itself (bit v s)
-    ∙ sym (ap₂ (cond (bit v s)) (one_is v high zero both.0) (zero_is v low zero both.1)))
-choice_made false false true f g h i s high low {d} ea eb ec ef eg eh ei sound hs hh hl room =
-    let both = and_parts (high == 0) (low == 1) ec in
-    there d (negated s) _ sound (held-negated d s hs) (λ v zero. bit-negated v s ∙ by_other (bit v s)
-    ∙ sym (ap₂ (cond (bit v s)) (zero_is v high zero both.0) (one_is v low zero both.1)))
-choice_made false false false true g h i s high low {d} ea eb ec ef eg eh ei sound hs hh hl room =
-    made-as (or_of d s low) _ _ (λ v zero. then_true (bit v s) (bit v low)
-    ∙ sym (ap (λ t. cond (bit v s) t (bit v low)) (one_is v high zero ef))) (or-made s low sound hs hl room)
-choice_made false false false false true h i s high low {d} ea eb ec ef eg eh ei sound hs hh hl room =
-    made-as (and_of d (negated s) low) _ _ (λ v zero. ap (λ t. t && bit v low) (bit-negated v s)
-    ∙ then_false (bit v s) (bit v low) ∙ sym (ap (λ t. cond (bit v s) t (bit v low)) (zero_is v high zero eg)))
-    (and-made (negated s) low sound (held-negated d s hs) hl room)
-choice_made false false false false false true i s high low {d} ea eb ec ef eg eh ei sound hs hh hl room =
-    made-as (and_of d s high) _ _ (λ v zero. else_false (bit v s) (bit v high)
-    ∙ sym (ap (cond (bit v s) (bit v high)) (zero_is v low zero eh))) (and-made s high sound hs hh room)
-choice_made false false false false false false true s high low {d} ea eb ec ef eg eh ei sound hs hh hl room =
-    made-as (or_of d (negated s) high) _ _ (λ v zero. ap (λ t. t || bit v high) (bit-negated v s)
-    ∙ else_true (bit v s) (bit v high) ∙ sym (ap (cond (bit v s) (bit v high)) (one_is v low zero ei)))
-    (or-made (negated s) high sound (held-negated d s hs) hh room)
-choice_made false false false false false false false s high low ea eb ec ef eg eh ei sound hs hh hl room =
-    chosen-made s high low sound hs hh hl room
-
 pub mux-made : (d : Drafted) (s high low : ℕ) → IsSoundDraft d → IsHeld d s → IsHeld d high → IsHeld d low →
     HasRoom (mux_of d s high low).draft → IsMade (mux_of d s high low) (λ v. cond (bit v s) (bit v high) (bit v low))
 unfolding mux_of
 mux-made d s high low sound hs hh hl room =
-    choice_made (high == low) (high == 1 && low == 0) (high == 0 && low == 1) (high == 1) (high == 0) (low == 0)
-    (low == 1) s high low refl refl refl refl refl refl refl sound hs hh hl room
+    let wanted : (ℕ → Bool) → Bool = λ v. cond (bit v s) (bit v high) (bit v low) in
+    let m : Makes (mux_of d s high low) wanted =
+    by_test (high == low) _ _ (λ e. there high sound hh (λ v zero. by_same (bit v s)
+    ∙ ap (λ l. cond (bit v s) (bit v high) (bit v l)) (eqb-true high low e))) (λ _.
+    by_test (high == 1 && low == 0) _ _ (λ e. let both = and_parts (high == 1) (low == 0) e in
+    there s sound hs (λ v zero. by_itself (bit v s)
+    ∙ sym (ap₂ (cond (bit v s)) (one_is v high zero both.0) (zero_is v low zero both.1)))) (λ _.
+    by_test (high == 0 && low == 1) _ _ (λ e. let both = and_parts (high == 0) (low == 1) e in
+    there (negated s) sound (held-negated d s hs) (λ v zero. bit-negated v s ∙ by_other (bit v s)
+    ∙ sym (ap₂ (cond (bit v s)) (zero_is v high zero both.0) (one_is v low zero both.1)))) (λ _.
+    by_test (high == 1) _ _ (λ e. seen_as wanted (or_makes s low sound hs hl) (λ v zero. then_true (bit v s) (bit v low)
+    ∙ sym (ap (λ t. cond (bit v s) t (bit v low)) (one_is v high zero e)))) (λ _.
+    by_test (high == 0) _ _ (λ e. seen_as wanted (and_makes (negated s) low sound (held-negated d s hs) hl) (λ v zero.
+    ap (λ t. t && bit v low) (bit-negated v s) ∙ then_false (bit v s) (bit v low)
+    ∙ sym (ap (λ t. cond (bit v s) t (bit v low)) (zero_is v high zero e)))) (λ _.
+    by_test (low == 0) _ _ (λ e. seen_as wanted (and_makes s high sound hs hh) (λ v zero.
+    else_false (bit v s) (bit v high) ∙ sym (ap (cond (bit v s) (bit v high)) (zero_is v low zero e)))) (λ _.
+    by_test (low == 1) _ _ (λ e. seen_as wanted (or_makes (negated s) high sound (held-negated d s hs) hh) (λ v zero.
+    ap (λ t. t || bit v high) (bit-negated v s) ∙ else_true (bit v s) (bit v high)
+    ∙ sym (ap (cond (bit v s) (bit v high)) (one_is v low zero e)))) (λ _.
+    chosen_makes s high low sound hs hh hl))))))) in
+    m.made room

@@ -7,24 +7,25 @@ use Rattle.ps_text.specs.Answers.{Stream, Found}
 use Rattle.ps_text.specs.Parts.{give, then_by}
 use Rattle.ps_text.specs.Readers.{Reads, Stops}
 use Rattle.ps_text.specs.Digits.{decimal_value}
-use Rattle.ps_text.proofs.Laws.{Joint}
-use Rattle.ps_text.proofs.Joined.{joint}
-use Rattle.ps_text.proofs.Exits.{reads_give, reads_then, stops_mapped, stops_first, stops_behind}
+use Rattle.ps_text.proofs.Exits.{reads_give, reads_then, stops_first, stops_behind}
 use Rattle.ps_circuit.specs.declared.cursor.Number.{Number}
 use Rattle.ps_circuit.specs.declared.header.Header.{Header}
 use Rattle.ps_circuit.specs.declared.fault.AigCause.{AigCause}
 use Rattle.ps_circuit.specs.declared.fault.AigCause.TheVariants.{Literal, Sections}
 use Rattle.ps_circuit.specs.Causes.{AigFault, cause_number}
 use Rattle.ps_text.specs.declared.faults.Fault.TheVariants.{Text}
-use Rattle.ps_circuit.specs.Signs.{Seen, aig_causes, word, is_digit, number_at, number, gap, line_end, more, by_more}
+use Rattle.ps_circuit.specs.Signs.{Seen, aig_causes, Field, word, is_digit, number_at, number, gap, line_end, more}
+use Rattle.ps_circuit.specs.Signs.{by_more}
 use Rattle.ps_circuit.specs.Cursors.{place_of, found_of, Tells, saturated, NumberIs, TellsNumber}
-use Rattle.ps_circuit.specs.Texts.{AnyNumber, WrongMost, WrongCount, HeaderData, sections, field, header}
+use Rattle.ps_circuit.specs.Texts.{AnyNumber, WrongMost, WrongCount, sections, field, header}
 use Rattle.ps_circuit.specs.Reading.{TellsField, TellsCount, TellsHeader}
 use Rattle.ps_circuit.proofs.Runs.{run_reads, run_bad, run_stops}
-use Rattle.ps_circuit.proofs.TextLaws.{laws_sections, laws_counted, joint_field, laws_field, joint_header, header_1}
-use Rattle.ps_circuit.proofs.TextLaws.{header_2, header_3, header_4, header_5, header_of, laws_header_1, laws_header_2}
-use Rattle.ps_circuit.proofs.TextLaws.{laws_header_3, laws_header_4, laws_header_5}
-use Rattle.ps_circuit.proofs.SignLaws.{laws_number, joint_by_more, digit_separates}
+use Rattle.ps_circuit.proofs.Exits.{Left, unread, past, comes, none_comes}
+use Rattle.ps_circuit.proofs.Judges.{judge_any, judge_most}
+use Rattle.ps_circuit.proofs.Lawful.{Judges}
+use Rattle.ps_circuit.proofs.TextLaws.{laws_sections, chain_sections, chain_counted, chain_field, chain_header, chain_0}
+use Rattle.ps_circuit.proofs.TextLaws.{chain_1, chain_2, chain_3, chain_4, header_0, header_1, header_2, header_3}
+use Rattle.ps_circuit.proofs.TextLaws.{header_4, header_5}
 
 -- ## Numbers
 
@@ -73,41 +74,39 @@ number_none Wrong {old} new e m =
 
 -- ## Numbers behind a gap
 
-pub field_reads : (Wrong : ℕ → AigCause → Type 0) {old mid new : Stream Seen} {n : Number} → Reads gap old tt mid →
-    Reads (number Wrong) mid n new → Reads (field Wrong) old n new
+pub field_reads : {Wrong : ℕ → AigCause → Type 0} → Judges Wrong → {old mid new : Stream Seen} {n : Number} →
+    Reads gap old tt mid → Reads (number Wrong) mid n new → Reads (field Wrong) old n new
 unfolding field
-field_reads Wrong g m = reads_then (joint_field Wrong) g m
+field_reads judge g m = reads_then (chain_field judge).joint g m
 
-pub field_fails : (Wrong : ℕ → AigCause → Type 0) {old mid : Stream Seen} (o : Option (Found AigCause)) →
-    Reads gap old tt mid → Stops aig_causes (number Wrong) mid o → Stops aig_causes (field Wrong) old o
+pub field_fails : {Wrong : ℕ → AigCause → Type 0} → Judges Wrong → {old mid : Stream Seen}
+    (o : Option (Found AigCause)) → Reads gap old tt mid → Stops aig_causes (number Wrong) mid o →
+    Stops aig_causes (field Wrong) old o
 unfolding field
-field_fails Wrong o g m = stops_behind aig_causes (joint_field Wrong) g o m
+field_fails judge o g m = stops_behind aig_causes (chain_field judge).joint g o m
 
-pub field_none : (Wrong : ℕ → AigCause → Type 0) {old : Stream Seen} (new : Stream Seen) (e : AigFault) →
-    TellsField old (Err e) new →
-    Stops aig_causes (field Wrong) old (found_of e)
+pub field_none : {Wrong : ℕ → AigCause → Type 0} → Judges Wrong → {old : Stream Seen} (new : Stream Seen)
+    (e : AigFault) → TellsField old (Err e) new → Stops aig_causes (field Wrong) old (found_of e)
 unfolding field
-field_none Wrong {old} new e (inl m) = stops_first aig_causes (joint_field Wrong) old (found_of e) m
-field_none Wrong new e (inr m) =
-    stops_behind aig_causes (joint_field Wrong) m.1 (found_of e) (number_none Wrong new e m.2)
+field_none judge {old} new e (inl m) = stops_first aig_causes (chain_field judge).joint old (found_of e) m
+field_none {Wrong} judge new e (inr m) = field_fails judge (found_of e) m.1 (number_none Wrong new e m.2)
 
 pub most_reads : {old new : Stream Seen} {n : Number} → TellsField old (Ok n) new → n.value ≤ 2147483647 →
     Reads (field WrongMost) old n new
-most_reads m small = field_reads WrongMost m.1 (number_small WrongMost m.2 (omega arith) (λ f w. omega (arith, w.0)))
+most_reads m small = field_reads judge_most m.1 (number_small WrongMost m.2 (omega arith) (λ f w. omega (arith, w.0)))
 
 pub most_wrong : {old : Stream Seen} (new : Stream Seen) (n : Number) {e : AigFault} → TellsField old (Ok n) new →
     2147483647 < n.value → e ≡ Text Literal n.offset → Stops aig_causes (field WrongMost) old (found_of e)
-most_wrong new n {e} m large is =
-    field_fails WrongMost (found_of e) m.1 (number_wrong WrongMost Literal m.2 (λ v h. (omega (arith, h), refl))
-    (λ v h g w. rw w.1 (omega arith)) is)
+most_wrong new n {e} m large is = field_fails judge_most (found_of e) m.1
+    (number_wrong WrongMost Literal m.2 (λ v h. (omega (arith, h), refl)) (λ v h g w. rw w.1 (omega arith)) is)
 
 pub count_reads : (old new : Stream Seen) (n : Number) → TellsField old (Ok n) new → TellsCount old (Ok n.value) new
-count_reads old new n m = let v = number_any m.2 in (v.0, v.1, field_reads AnyNumber m.1 v.2)
+count_reads old new n m = let v = number_any m.2 in (v.0, v.1, field_reads judge_any m.1 v.2)
 
 pub count_fails : (old mid new : Stream Seen) (e : AigFault) (r : Result ℕ AigFault) → TellsField old (Err e) mid →
     IsErrAnd r (λ y. y ≡ e) → TellsCount old r new
 count_fails old mid new e r m i = let y = err_from_is_err_and r i in
-    subst (λ z. TellsCount old z new) (sym (y.1 ∙ ap Err y.2)) (field_none AnyNumber mid e m)
+    subst (λ z. TellsCount old z new) (sym (y.1 ∙ ap Err y.2)) (field_none judge_any mid e m)
 
 -- ## Sections
 
@@ -117,52 +116,38 @@ unfolding sections
 sections_end old new zero r e m = m
 sections_end old new (suc n) r e m = absurd (omega (arith, e))
 
-pub joint_sections : (n : ℕ) → Joint more (by_more (then_by (number WrongCount) (λ _. sections n)) (give tt))
-joint_sections n = joint_by_more (laws_counted n (laws_sections n)) tt
+abbrev pub section : ℕ → Field (Unit {0})
+section left = then_by (number WrongCount) (λ _. sections (left - 1))
 
-pub joint_counted : (n : ℕ) → Joint (number WrongCount) (λ _. sections n)
-joint_counted n = joint (laws_number WrongCount) (λ _. laws_sections n) digit_separates
-
-pub sections_more_fails : (old : Stream Seen) (left : ℕ) (o : Option (Found AigCause)) → 0 < left →
-    Stops aig_causes more old o → Stops aig_causes (sections left) old o
+pub sections_unread : (left : ℕ) {old : Stream Seen} → 0 < left →
+    Left (sections left) old (then_by more (by_more (section left) (give tt))) old
 unfolding sections
-sections_more_fails old zero o l m = absurd (omega arith)
-sections_more_fails old (suc n) o l m = stops_first aig_causes (joint_sections n) old o m
+sections_unread zero l = absurd (omega arith)
+sections_unread (suc n) {old} l =
+    let one : n ≡ suc n - 1 = omega arith in
+    subst (λ k. Left (sections (suc n)) old
+    (then_by more (by_more (then_by (number WrongCount) (λ _. sections k)) (give tt))) old) one unread
+
+-- a section comes
+pub section_unread : (left : ℕ) {old mid : Stream Seen} {b : Bool} → 0 < left → b ≡ true → Reads more old b mid →
+    Left (sections left) old (section left) mid
+section_unread left l e m =
+    comes (section left) (give tt) (past (chain_sections (left - 1)) (sections_unread left l) m) e
 
 pub sections_ended : {old new : Stream Seen} (left : ℕ) {b : Bool} → 0 < left → b ≡ false → Reads more old b new →
     Reads (sections left) old tt new
-unfolding sections
-sections_ended zero l e m = absurd (omega arith)
-sections_ended {old} {new} (suc n) l e m =
-    reads_then (joint_sections n) (subst (λ z. Reads more old z new) e m) (reads_give new tt)
+sections_ended {new = new} left l e m =
+    (none_comes (section left) (give tt) (past (chain_sections (left - 1)) (sections_unread left l) m) e).carries
+    (Ok tt) new (reads_give new tt)
 
-pub sections_fails : {old mid : Stream Seen} (left : ℕ) {b : Bool} (o : Option (Found AigCause)) → 0 < left → b ≡ true →
-    Reads more old b mid → Stops aig_causes (number WrongCount) mid o → Stops aig_causes (sections left) old o
-unfolding sections
-sections_fails zero o l e m s = absurd (omega arith)
-sections_fails {old} {mid} (suc n) o l e m s =
-    stops_behind aig_causes (joint_sections n) (subst (λ z. Reads more old z mid) e m) o
-    (stops_first aig_causes (joint_counted n) mid o s)
-
-pub sections_next : {old mid next : Stream Seen} (new : Stream Seen) (left : ℕ) {b : Bool} {k : Number}
-    (r : Result (Unit {0}) AigFault)
-    → 0 < left → b ≡ true → Reads more old b mid → Reads (number WrongCount) mid k next
-    → Tells (λ u. u) (sections (left - 1)) next r new → Tells (λ u. u) (sections left) old r new
-unfolding sections
-sections_next new zero r l e m s t = absurd (omega arith)
-sections_next {old} {mid} {next} new (suc n) r l e m s t =
-    go r (subst (λ x. Tells (λ u. u) (sections x) next r new) one t)
-  where
-    one : suc n - 1 ≡ n
-    one = omega arith
-
-    go : (r : Result (Unit {0}) AigFault) → Tells (λ u. u) (sections n) next r new →
-        Tells (λ u. u) (sections (suc n)) old r new
-    go (Ok u) t =
-        reads_then (joint_sections n) (subst (λ z. Reads more old z mid) e m) (reads_then (joint_counted n) s t)
-    go (Err f) t =
-        stops_behind aig_causes (joint_sections n) (subst (λ z. Reads more old z mid) e m) (found_of f)
-        (stops_behind aig_causes (joint_counted n) s (found_of f) t)
+pub sections_next : {old mid next : Stream Seen} (new : Stream Seen) (left : ℕ) {k : Number}
+    (r : Result (Unit {0}) AigFault) → Left (sections left) old (section left) mid →
+    Reads (number WrongCount) mid k next → Tells (λ u. u) (sections (left - 1)) next r new →
+    Tells (λ u. u) (sections left) old r new
+sections_next new left (Ok u) l s t =
+    (past (chain_counted (left - 1) (laws_sections (left - 1))) l s).carries (Ok u) new t
+sections_next {next = next} new left (Err f) l s t =
+    (past (chain_counted (left - 1) (laws_sections (left - 1))) l s).carries (Err (found_of f)) next t
 
 pub count_zero : {old new : Stream Seen} {n : Number} → NumberIs old new n → n.value ≡ 0 →
     Reads (number WrongCount) old n new
@@ -170,48 +155,38 @@ count_zero x e = number_small WrongCount x (omega (arith, e)) (λ f w. w.0 e)
 
 pub count_wrong : {old new : Stream Seen} {n : Number} {e : AigFault} → NumberIs old new n → (n.value ≡ 0 → ⊥) →
     e ≡ Text Sections n.offset → Stops aig_causes (number WrongCount) old (found_of e)
-count_wrong x some is =
-    number_wrong WrongCount Sections x (λ v h. (λ z. some (omega (arith, h, z)), refl))
+count_wrong x some is = number_wrong WrongCount Sections x (λ v h. (λ z. some (omega (arith, h, z)), refl))
     (λ v h g w. rw w.1 (omega arith)) is
 
 -- ## The first line
-
-module _ (old s0 : Stream Seen) (w : Reads (word (codes "aag")) old tt s0) where
-  pub header_0_fails : (o : Option (Found AigCause)) → Stops aig_causes (then_by (field WrongMost) header_1) s0 o →
-      Stops aig_causes header old o
-  unfolding header
-  header_0_fails o m = stops_behind aig_causes joint_header w o m
-
-  pub header_0_reads : {d : HeaderData} {new : Stream Seen} → Reads (then_by (field WrongMost) header_1) s0 d new →
-      Reads header old d new
-  unfolding header
-  header_0_reads m = reads_then joint_header w m
-
-pub joint_1 : Joint (field WrongMost) header_1
-joint_1 = joint (laws_field WrongMost) (λ m. laws_header_1 m) digit_separates
-
-pub joint_2 : (m : Number) → Joint (field AnyNumber) (header_2 m)
-joint_2 m = joint (laws_field AnyNumber) (λ i. laws_header_2 m i) digit_separates
-
-pub joint_3 : (m i : Number) → Joint (field AnyNumber) (header_3 m i)
-joint_3 m i = joint (laws_field AnyNumber) (λ l. laws_header_3 m i l) digit_separates
-
-pub joint_4 : (m i l : Number) → Joint (field AnyNumber) (header_4 m i l)
-joint_4 m i l = joint (laws_field AnyNumber) (λ o. laws_header_4 m i l o) digit_separates
-
-pub joint_5 : (m i l o : Number) → Joint (field AnyNumber) (header_5 m i l o)
-joint_5 m i l o = joint (laws_field AnyNumber) (λ a. laws_header_5 m i l o a) digit_separates
 
 pub header_exit : (old new : Stream Seen) (e : AigFault) (r : Result Header AigFault) →
     Stops aig_causes header old (found_of e) → IsErrAnd r (λ y. y ≡ e) → TellsHeader old r new
 header_exit old new e r m i =
     let y = err_from_is_err_and r i in subst (λ z. TellsHeader old z new) (sym (y.1 ∙ ap Err y.2)) m
 
-pub word_fails : (old : Stream Seen) (o : Option (Found AigCause)) → Stops aig_causes (word (codes "aag")) old o →
-    Stops aig_causes header old o
+pub header_unread : {old : Stream Seen} → Left header old (then_by (word (codes "aag")) (λ _. header_0)) old
 unfolding header
-word_fails old o m = stops_first aig_causes joint_header old o m
+header_unread = unread
 
-pub sections_mapped : (m i l o a : Number) (old : Stream Seen) (x : Option (Found AigCause)) →
-    Stops aig_causes (sections 4) old x → Stops aig_causes (header_5 m i l o a) old x
-sections_mapped m i l o a old x s = stops_mapped aig_causes (header_of m i l o a) (sections 4) old x s
+-- what is left of it behind the numbers that were read
+module _ {old : Stream Seen} {s0 s1 : Stream Seen} {m : Number} (w : Reads (word (codes "aag")) old tt s0)
+    (r1 : Reads (field WrongMost) s0 m s1) where
+  pub past_most : Left header old (header_1 m) s1
+  past_most = past chain_0 (past chain_header header_unread w) r1
+
+  module _ {s2 : Stream Seen} {i : Number} (r2 : Reads (field AnyNumber) s1 i s2) where
+    pub past_inputs : Left header old (header_2 m i) s2
+    past_inputs = past (chain_1 m) past_most r2
+
+    module _ {s3 : Stream Seen} {l : Number} (r3 : Reads (field AnyNumber) s2 l s3) where
+      pub past_latches : Left header old (header_3 m i l) s3
+      past_latches = past (chain_2 m i) past_inputs r3
+
+      module _ {s4 : Stream Seen} {o : Number} (r4 : Reads (field AnyNumber) s3 o s4) where
+        pub past_outputs : Left header old (header_4 m i l o) s4
+        past_outputs = past (chain_3 m i l) past_latches r4
+
+        pub past_gates : {s5 : Stream Seen} {a : Number} → Reads (field AnyNumber) s4 a s5 →
+            Left header old (header_5 m i l o a) s5
+        past_gates r5 = past (chain_4 m i l o) past_outputs r5

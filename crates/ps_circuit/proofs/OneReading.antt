@@ -1,12 +1,11 @@
 -- A text has one answer.
-use Rattle.std.proofs.Common.{◌≡◌, ℕ, ◌≤◌, eqb, if◌then◌else◌, List, ◌∷◌, ◌++◌, slice_get, Some, Result, Ok, Err, All}
+use Rattle.std.proofs.Common.{◌≡◌, ℕ, eqb, if◌then◌else◌, List, ◌∷◌, ◌++◌, slice_get, Some, Result, Ok, Err, All}
 use Rattle.std.proofs.Common.{refl, sym, ap, subst, ◌∙◌, arith}
 use Rattle.std.proofs.lemmas.List.Elements.{All-contains, Contains-append_right}
 use Rattle.std.specs.List.{Contains}
 use Rattle.ps_text.specs.Answers.{Found, AreNumbered}
 use Rattle.ps_text.specs.Parts.{PartAnswers, IsWrong}
 use Rattle.ps_text.proofs.OneAnswer.{has_one_answer}
-use Rattle.ps_text.proofs.Simple.{same_some}
 use Rattle.ps_text.proofs.Splits.{Compared, shorter, same, longer, compared, same_head}
 use Rattle.ps_circuit.specs.declared.cursor.Number.{Number}
 use Rattle.ps_circuit.specs.declared.fault.AigCause.{AigCause}
@@ -44,22 +43,10 @@ Draft = Result DraftData (Found AigCause)
 abbrev CircuitAnswer : Type 0
 CircuitAnswer = Result CircuitData (Found AigCause)
 
-abbrev draft_in : DraftData → Draft → DraftData
-draft_in d (Ok e) = e
-draft_in d (Err f) = d
-
-abbrev found_in : Found AigCause → Draft → Found AigCause
-found_in d (Ok e) = d
-found_in d (Err f) = f
-
-abbrev IsOkDraft : Draft → Type 0
-IsOkDraft (Ok d) = Unit {0}
-IsOkDraft (Err f) = ⊥
-
 same_draft : (text : List ℕ) (a b : Draft) → PartAnswers aig_causes circuit_text (stream_of text) a →
     PartAnswers aig_causes circuit_text (stream_of text) b → a ≡ b
 same_draft text a b h k =
-    has_one_answer circuit_text.IsText (IsWrong aig_causes circuit_text) cause_number laws_text.one_value numbered
+    has_one_answer circuit_text.IsText (IsWrong aig_causes circuit_text) cause_number laws_text.laws.one_value numbered
     (stream_of text) a b h k
 
 -- what is said of a text that has a draft
@@ -111,30 +98,25 @@ same_first {defined} {l} {m} u v = go (compared u.before (l ∷ u.after) v.befor
         (subst (λ z. Contains z t) (sym e) (in_split v.before w t)))))
 
 settled : (d : DraftData) (a b : CircuitAnswer) → Settled d a → Settled d b → a ≡ b
-settled d a b (undefined_at l u e) (undefined_at m v f) =
-    e ∙ ap (λ (n : Number). Err (record { cause = causes.Undefined; offset = n.offset }))
-    (same_first u v) ∙ sym f
+settled d a b (undefined_at l u e) (undefined_at m v f) = let same : l ≡ m = same_first u v in cc
 settled d a b (undefined_at l u e) (cyclic_at j s h c g f) = absurd (not_all u h)
 settled d a b (undefined_at l u e) (meant h n f) = absurd (not_all u h)
 settled d a b (cyclic_at i r k c g e) (undefined_at m v f) = absurd (not_all v k)
 settled d a b (cyclic_at i r k c g e) (cyclic_at j s h x y f) =
-    let under : i ≤ j = c.first j x.cyclic in
-    let above : j ≤ i = x.first i c.cyclic in
-    let place : i ≡ j = omega (arith, under, above) in
-    let start : r ≡ s = same_some r s (sym g ∙ ap (slice_get d.starts) place ∙ y) in
-    e ∙ ap (λ n. Err (record { cause = causes.Cyclic; offset = n })) start ∙ sym f
+    let place : i ≡ j = omega (arith, c.first j x.cyclic, x.first i c.cyclic) in cc
 settled d a b (cyclic_at i r k c g e) (meant h n f) = absurd (n i c.cyclic)
 settled d a b (meant k n e) (undefined_at m v f) = absurd (not_all v k)
 settled d a b (meant k n e) (cyclic_at j s h x y f) = absurd (n j x.cyclic)
 settled d a b (meant k n e) (meant h m f) = e ∙ sym f
 
 one_over : {text : List ℕ} {a b : CircuitAnswer} → Over text a → Over text b → a ≡ b
-one_over {text} (first f h e) (first g k i) =
-    e ∙ ap (λ r. Err (found_in f r)) (same_draft text (Err f) (Err g) h k) ∙ sym i
-one_over {text} (first f h e) (draft d k s) = absurd (subst IsOkDraft (sym (same_draft text (Err f) (Ok d) h k)) tt)
-one_over {text} (draft d h s) (first g k i) = absurd (subst IsOkDraft (same_draft text (Ok d) (Err g) h k) tt)
+one_over {text} (first f h e) (first g k i) = let same = same_draft text (Err f) (Err g) h k in cc
+one_over {text} (first f h e) (draft d k s) = let same = same_draft text (Err f) (Ok d) h k in cc
+one_over {text} (draft d h s) (first g k i) = let same = same_draft text (Ok d) (Err g) h k in cc
 one_over {text} {a} {b} (draft d h s) (draft x k t) =
-    settled d a b s (subst (λ z. Settled z b) (sym (ap (draft_in d) (same_draft text (Ok d) (Ok x) h k))) t)
+    let same = same_draft text (Ok d) (Ok x) h k in
+    let one : x ≡ d = cc in
+    settled d a b s (subst (λ z. Settled z b) one t)
 
 pub one_reading : (text : List ℕ) (a b : CircuitAnswer) → ReadsCircuit text a → ReadsCircuit text b → a ≡ b
 one_reading text a b h k = one_over (over text a h) (over text b k)

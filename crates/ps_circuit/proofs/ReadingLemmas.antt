@@ -1,11 +1,11 @@
 -- Lemmas of the reader.
-use Rattle.std.proofs.Common.{◌≡◌, ◌≢◌, ℕ, ◌+◌, ◌^◌, ◌<◌, ◌≤◌, ◌⊎◌, List, [], ◌∷◌, ◌++◌, Bool, true, false, map, length}
+use Rattle.std.proofs.Common.{◌≡◌, ◌≢◌, ℕ, ◌+◌, ◌^◌, ◌<◌, ◌≤◌, List, [], ◌∷◌, ◌++◌, Bool, true, false, map, length}
 use Rattle.std.proofs.Common.{take, drop, get_or, set, suc, refl, sym, ap, subst, ◌∙◌, arith, Some, Option, All}
-use Rattle.std.proofs.Common.{AllPairs, Contains, append-nil, append_assoc, flat_map, Vec}
-use Rattle.std.proofs.lemmas.List.{length-map, get_or-map, map-append, map-set, take_more, take_all, take-append-drop}
+use Rattle.std.proofs.Common.{AllPairs, Contains, Vec}
+use Rattle.std.proofs.lemmas.List.{length-map, get_or-map, map-set, take_more, take_all, take-append-drop}
 use Rattle.std.proofs.lemmas.Option.{slice_get_within, slice_get-get_or}
 use Rattle.std.proofs.Math.Seq.{drop-cons}
-use Rattle.std.proofs.lemmas.List.Elements.{All-append, All-push, All-set, Contains-get_or}
+use Rattle.std.proofs.lemmas.List.Elements.{All-push, All-set, Contains-get_or}
 use Rattle.std.proofs.lemmas.List.Quantifiers.{all_pairs_push}
 use Rattle.std.specs.Global.{Global}
 use Rattle.ps_circuit.specs.declared.parts.Gate.{Gate}
@@ -22,7 +22,6 @@ use Rattle.ps_circuit.specs.Texts.{IsDefined, IsFirstUndefined}
 use Rattle.ps_circuit.specs.Reading.{AddsVariable, Defines, IsKnownIn, TellsCyclic}
 use Rattle.ps_circuit.specs.declared.cursor.Number.{Number}
 use Rattle.std.specs.Bool.{OnTrue}
-use Rattle.std.proofs.lemmas.List.Concat.{flat_map-append}
 
 -- a variable that is none of those goes behind them
 pub adds_variable : {old new : List ℕ} {v : ℕ} → new ≡ old ++ v ∷ [] → (Contains old v → ⊥) → AddsVariable old v new
@@ -41,32 +40,6 @@ defines_one {most} literal {old} fits adds = record {
       (all_pairs_push (λ v w. v ≢ w) old (variable literal) h adds.fresh);
 }
 
--- one more literal behind those that stand there
-pub defines_more : {most m : ℕ} (literal : ℕ) {old mid new literals : List ℕ} → m ≡ most →
-    Defines most old literals mid →
-    Defines m mid (literal ∷ []) new → Defines most old (literals ++ literal ∷ []) new
-defines_more {most} literal {old} {literals} e d one = record {
-  variables = one.variables ∙ ap (λ xs. xs ++ variable literal ∷ []) d.variables
-      ∙ append_assoc old (map variable literals) (variable literal ∷ [])
-      ∙ ap (λ xs. old ++ xs) (sym (map-append variable literals (literal ∷ [])));
-  each =
-      All-push (IsDefinition most) literals literal d.each (subst (λ x. IsDefinition x literal) e
-      (one.each 0 literal (omega arith)));
-  apart = λ h. one.apart (d.apart h);
-}
-
-pub defines_none : {most : ℕ} {old : List ℕ} → Defines most old [] old
-defines_none {old} =
-    record { variables = sym (append-nil old); each = λ k d lt. absurd (omega arith); apart = λ h. h }
-
--- a name put at its place
-pub names_set : (names : List (Option (Vec ℕ Global))) (i : ℕ) (name : Vec ℕ Global) →
-    All IsName (map name_bytes names) → 0 < length name.items → All (λ b. b ≢ 10) name.items →
-    All IsName (map name_bytes (set names i (Some name)))
-names_set names i name h some plain =
-    subst (λ ns. All IsName ns) (sym (map-set name_bytes names i (Some name)))
-    (All-set IsName (map name_bytes names) i (Some name.items) (some, plain) h)
-
 pub way_within : (gates : List Gate) {i j : ℕ} → Way (ReadsGate gates) i j → i < length gates
 way_within gates {i} (last r) = slice_get_within gates i r.reader r.at_i
 way_within gates {i} (next r w) = slice_get_within gates i r.reader r.at_i
@@ -79,26 +52,16 @@ apart_of literals h i j d lt within e =
     ∙ sym (get_or-map variable literals j d (variable d) within))
 
 -- the parts that were read make a draft
-pub draft_of : {c : CircuitData} {m1 m2 m3 : ℕ} {first second third : List ℕ} → c.most < 2 ^ 31 → m1 ≡ c.most →
-    m2 ≡ c.most → m3 ≡ c.most →
-    Defines m1 [] c.inputs first → Defines m2 first (map (λ l. l.literal) c.latches) second →
-    Defines m3 second (map (λ g. g.literal) c.gates) third → All (IsKnownIn third) (readings c) →
-    length c.input_names ≡ length c.inputs → length c.latch_names ≡ length c.latches →
-    length c.output_names ≡ length c.outputs →
-    All IsName c.input_names → All IsName c.latch_names → All IsName c.output_names → IsDraft c
-draft_of {c} {third} limit e1 e2 e3 d1 d2 d3 known n1 n2 n3 a1 a2 a3 = record {
+pub draft_of : {c : CircuitData} {defined : List ℕ} → c.most < 2 ^ 31 → Defines c.most [] (definitions c) defined →
+    All (IsKnownIn defined) (readings c) → length c.input_names ≡ length c.inputs →
+    length c.latch_names ≡ length c.latches → length c.output_names ≡ length c.outputs → All IsName c.input_names →
+    All IsName c.latch_names → All IsName c.output_names → IsDraft c
+draft_of {c} limit d known n1 n2 n3 a1 a2 a3 = record {
   limit = limit;
-  defined = All-append (IsDefinition c.most) (c.inputs ++ map (λ l. l.literal) c.latches) (map (λ g. g.literal) c.gates)
-      (All-append (IsDefinition c.most) c.inputs (map (λ l. l.literal) c.latches)
-      (subst (λ m. All (IsDefinition m) c.inputs) e1 d1.each)
-      (subst (λ m. All (IsDefinition m) (map (λ l. l.literal) c.latches)) e2 d2.each))
-      (subst (λ m. All (IsDefinition m) (map (λ g. g.literal) c.gates)) e3 d3.each);
-  once =
-      apart_of (definitions c) (subst (λ ks. AllPairs (λ v w. v ≢ w) ks) keys
-      (d3.apart (d2.apart (d1.apart (λ i j d lt within. absurd (omega arith))))));
-  known =
-      λ k d lt. subst (λ ks. (variable (get_or (readings c) k d) ≡ 0) ⊎
-      Contains ks (variable (get_or (readings c) k d))) keys (known k d lt);
+  defined = d.each;
+  once = apart_of (definitions c)
+      (subst (λ ks. AllPairs (λ v w. v ≢ w) ks) d.variables (d.apart (λ i j d lt within. absurd (omega arith))));
+  known = subst (λ ks. All (IsKnownIn ks) (readings c)) d.variables known;
   inputs_named = n1;
   latches_named = n2;
   outputs_named = n3;
@@ -106,43 +69,10 @@ draft_of {c} {third} limit e1 e2 e3 d1 d2 d3 known n1 n2 n3 a1 a2 a3 = record {
   latch_names = a2;
   output_names = a3;
 }
-  where
-    keys : third ≡ map variable (definitions c)
-    keys =
-        d3.variables ∙ ap (λ xs. xs ++ map variable (map (λ g. g.literal) c.gates))
-        (d2.variables ∙ ap (λ xs. xs ++ map variable (map (λ l. l.literal) c.latches)) d1.variables
-        ∙ sym (map-append variable c.inputs (map (λ l. l.literal) c.latches)))
-        ∙ sym (map-append variable (c.inputs ++ map (λ l. l.literal) c.latches) (map (λ g. g.literal) c.gates))
 
 pub at_true : (b : Bool) (P : Type 0) → b ≡ true → OnTrue b P → P
 at_true true P e h = h
 at_true false P e h = cc
-
-pub reads_more : {X : Type 0} (f : X → ℕ) (xs : List X) {ys : List X} (x : X) (start : List ℕ) {now : List ℕ}
-    (then : List ℕ) → ys ≡ xs ++ x ∷ [] →
-    now ≡ start ++ map f xs → then ≡ now ++ f x ∷ [] → then ≡ start ++ map f ys
-reads_more f xs x start then e h k =
-    k ∙ ap (λ zs. zs ++ f x ∷ []) h ∙ append_assoc start (map f xs) (f x ∷ [])
-    ∙ ap (λ zs. start ++ zs) (sym (map-append f xs (x ∷ []))) ∙ ap (λ zs. start ++ map f zs) (sym e)
-
-pub reads_gate : (xs : List Gate) {ys : List Gate} (g : Gate) (start : List ℕ) {now one two : List ℕ} →
-    ys ≡ xs ++ g ∷ [] →
-    now ≡ start ++ flat_map (λ g. g.first ∷ g.second ∷ []) xs → one ≡ now ++ g.first ∷ [] → two ≡ one ++ g.second ∷ [] →
-    two ≡ start ++ flat_map (λ g. g.first ∷ g.second ∷ []) ys
-reads_gate xs g start {now} e h k m =
-    m ∙ ap (λ zs. zs ++ g.second ∷ []) k ∙ append_assoc now (g.first ∷ []) (g.second ∷ [])
-    ∙ ap (λ zs. zs ++ g.first ∷ g.second ∷ []) h
-    ∙ append_assoc start (flat_map (λ g. g.first ∷ g.second ∷ []) xs) (g.first ∷ g.second ∷ [])
-    ∙ ap (λ zs. start ++ zs) (sym (flat_map-append (λ (g : Gate). g.first ∷ g.second ∷ []) xs (g ∷ [])))
-    ∙ ap (λ zs. start ++ flat_map (λ g. g.first ∷ g.second ∷ []) zs) (sym e)
-
--- the literals that more elements define
-pub defines_mapped : {X : Type 0} (f : X → ℕ) (xs ys : List X) (x : X) (most m : ℕ) (old mid new now : List ℕ) →
-    ys ≡ xs ++ x ∷ [] → m ≡ most → Defines most old (map f xs) mid → Defines m mid (f x ∷ []) new → now ≡ new →
-    Defines most old (map f ys) now
-defines_mapped f xs ys x most m old mid new now e e' d one same =
-    subst (λ zs. Defines most old zs now) (sym (ap (map f) e ∙ map-append f xs (x ∷ [])))
-    (subst (λ z. Defines most old (map f xs ++ f x ∷ []) z) (sym same) (defines_more (f x) e' d one))
 
 pub known_more : (variables : List ℕ) (fields : List Number) (i : ℕ) (d : Number) → i < length fields →
     All (λ f. IsKnownIn variables f.value) (take i fields) → IsKnownIn variables (get_or fields i d).value →
@@ -178,4 +108,5 @@ pub name_set : (names : List (Option (Vec ℕ Global))) (i : ℕ) {name : List �
     All IsName (map name_bytes names) → v.items ≡ name → 0 < length name → All (λ b. b ≢ 10) name →
     All IsName (map name_bytes (set names i (Some v)))
 name_set names i v h e full plain =
-    names_set names i v h (subst (λ xs. 0 < length xs) (sym e) full) (subst (λ xs. All (λ b. b ≢ 10) xs) (sym e) plain)
+    subst (λ ns. All IsName ns) (sym (map-set name_bytes names i (Some v)))
+    (All-set IsName (map name_bytes names) i (Some v.items) (rw e full, rw e plain) h)

@@ -1,21 +1,20 @@
 -- A run of bytes has an outcome from each list of signs: what its first sign sees judges it.
 --     has_run      the outcome, where the run's bytes are judged
 --     run_of      the longest run that a list begins with
-use Rattle.std.proofs.Common.{◌≡◌, ℕ, ◌+◌, Bool, true, false, List, [], ◌∷◌, ◌++◌, length, Option, None, Some, refl}
+use Rattle.std.proofs.Common.{◌≡◌, ℕ, Bool, true, false, List, [], ◌∷◌, ◌++◌, Some, refl}
 use Rattle.std.proofs.Common.{sym, ap, subst, ◌∙◌, arith}
 use Rattle.std.specs.List.{AllByRecursion}
 use Rattle.ps_text.specs.Answers.{first_of}
-use Rattle.ps_text.specs.Parts.{IsRead, is_cause, CleanUpTo, StopsAt}
+use Rattle.ps_text.specs.Parts.{IsRead, is_cause}
 use Rattle.ps_text.specs.Outcomes.{Outcome, was_read, has_fault, HasOutcomes}
 use Rattle.ps_text.specs.Runs.{AllOf, StopsBefore}
-use Rattle.ps_text.proofs.ByteRuns.{all_left, all_right, same_run}
 use Rattle.ps_text.proofs.Outcomes.{Judged, bad, good, has_refusal}
 use Rattle.ps_text.proofs.Simple.{none_is_some, same_some}
 use Rattle.ps_text.proofs.Splits.{same_head}
 use Rattle.ps_circuit.specs.declared.fault.AigCause.{AigCause}
 use Rattle.ps_circuit.specs.Causes.{cause_number}
 use Rattle.ps_circuit.specs.Signs.{Seen, bytes_of, aig_causes, Field, BeginsRun, IsBadRun, run}
-use Rattle.ps_circuit.proofs.Runs.{bytes_append, laws_run}
+use Rattle.ps_circuit.proofs.Runs.{laws_run, bad_is, run_read}
 
 abbrev pub Has : {V : Type 0} → Field V → Type 0
 Has part = HasOutcomes aig_causes part
@@ -71,52 +70,25 @@ module _ {V : Type 0} (p : ℕ → Bool) (see : ℕ → List ℕ → V) (Bad : L
       longest = stops_bytes p seen.rest seen.longest;
     }
 
-    bad_is : {f : AigCause} → IsBadRun p Bad t f → Bad whole f
-    bad_is {f} b = subst (λ z. Bad z f)
-        (same_run p b.run whole b.begins.rest begins.rest (sym b.begins.split ∙ begins.split) b.begins.all begins.all
-        b.begins.longest begins.longest) b.bad
-
-    abbrev taken : Spanned (λ (s : Seen). p s.byte) after
+    taken : Spanned (λ (s : Seen). p s.byte) after
     taken = run_of after
 
-    abbrev text : List Seen
-    text = t ∷ taken.text
-
-    stops : (there : Option Seen) → ((s : Seen) → there ≡ Some s → p s.byte ≡ false) →
-        StopsAt (run p see Bad) text there
-    stops None h = tt
-    stops (Some c) h = λ b.
-        let one : AllOf p (bytes_of (text ++ c ∷ []) ++ bytes_of b.more) = subst (AllOf p)
-        (bytes_append (text ++ c ∷ []) b.more) b.is_text.all in
-        let two : AllOf p (bytes_of text ++ c.byte ∷ []) = subst (AllOf p) (bytes_append text (c ∷ []))
-        (all_left p (bytes_of (text ++ c ∷ [])) (bytes_of b.more) one) in
-        let three : p c.byte ≡ true = (all_right p (bytes_of text) (c.byte ∷ []) two).0 in
-        let four : p c.byte ≡ false = h c refl in
-        absurd cc
-
-    clean : ((f : AigCause) → Bad whole f → ⊥) → CleanUpTo (run p see Bad) (t ∷ after) (length text + 1)
-    clean right front more u f e n c = right f
-        (bad_is (subst (λ s. IsBadRun p Bad s f) (sym (same_head t u after more (e ∙ ap (λ z. z ++ u ∷ more) c.0)))
-        c.1))
-
-    run_read : ((f : AigCause) → Bad whole f → ⊥) →
-        IsRead (run p see Bad) (t ∷ after) (see t.at (bytes_of text)) taken.rest
-    run_read right = record {
-      text = text;
-      split = ap (λ z. t ∷ z) taken.split;
-      is_text = record { some = omega arith; all = (passes, all_bytes p taken.text taken.all); value = refl };
-      stops = stops (first_of taken.rest) taken.longest;
-      clean = clean right;
-    }
+    run_there : ((f : AigCause) → Bad whole f → ⊥) → Outcome aig_causes (run p see Bad) (t ∷ after)
+    run_there right = was_read _ taken.rest (subst (λ z. IsRead (run p see Bad) (t ∷ z)
+        (see t.at (t.byte ∷ bytes_of taken.text)) taken.rest) (sym taken.split)
+        (run_read p see Bad (t ∷ taken.text) taken.rest (omega arith) (passes, all_bytes p taken.text taken.all)
+        taken.longest (λ u more f e b. right f (bad_is p see Bad begins (subst (λ z. IsBadRun p Bad z f)
+        (sym (same_head t u (taken.text ++ taken.rest) more e)) b)))))
 
     judged : Judged cause_number (Bad whole) → Outcome aig_causes (run p see Bad) (t ∷ after)
     judged (bad f b least) = has_fault f (t ∷ after) (record {
       front = [];
       split = refl;
       clean = λ front rest u g e n c. absurd (omega (arith, n));
-      fault = is_cause t refl (refl, record { run = whole; begins = begins; bad = b }) (λ g c. least g (bad_is c.1));
+      fault = is_cause t refl (refl, record { run = whole; begins = begins; bad = b })
+          (λ g c. least g (bad_is p see Bad begins c.1));
     })
-    judged (good right) = was_read _ _ (run_read right)
+    judged (good right) = run_there right
 
   -- b is any byte that passes
   pub has_run : (b : ℕ) → p b ≡ true → ((bytes : List ℕ) → Judged cause_number (Bad bytes)) → Has (run p see Bad)

@@ -2,23 +2,23 @@
 --     laws_run      a run begins and goes on with the bytes that pass
 --     run_reads, run_bad      a run was passed: it is read, unless it is wrong
 --     stops_here      no sign comes with which the part begins
-use Rattle.std.proofs.Common.{◌≡◌, ℕ, suc, ◌+◌, ◌<◌, ◌≤◌, Bool, true, List, [], ◌∷◌, ◌++◌, length, Option, None, Some}
-use Rattle.std.proofs.Common.{refl, sym, ap, ap₂, subst, ◌∙◌, arith}
+use Rattle.std.proofs.Common.{◌≡◌, ℕ, suc, ◌+◌, ◌<◌, ◌≤◌, Bool, true, false, List, [], ◌∷◌, ◌++◌, length, Option, None}
+use Rattle.std.proofs.Common.{Some, refl, sym, ap, ap₂, subst, ◌∙◌, arith}
 use Rattle.ps_text.specs.Answers.{Begins, Piece, Stream, signs, first_of, next_of, offset_of}
-use Rattle.ps_text.specs.Parts.{is_cause, is_refusal, StopsAt, CleanUpTo}
+use Rattle.ps_text.specs.Parts.{IsRead, is_cause, is_refusal, StopsAt, CleanUpTo}
 use Rattle.ps_text.specs.Readers.{StopsWith, Reads}
 use Rattle.ps_text.proofs.Splits.{same_head}
 use Rattle.ps_text.specs.Runs.{AllOf, StopsBefore}
 use Rattle.ps_text.proofs.ByteRuns.{all_left, all_right, same_run}
 use Rattle.ps_text.proofs.Laws.{Laws}
-use Rattle.ps_text.proofs.Simple.{none_is_some, nil_is_cons}
+use Rattle.ps_text.proofs.Simple.{none_is_some, same_some, nil_is_cons}
 use Rattle.ps_text.proofs.Whole.{Own}
 use Rattle.ps_text.proofs.OneAnswer.{signs_split}
 use Rattle.ps_circuit.specs.declared.fault.AigCause.{AigCause}
 use Rattle.ps_circuit.specs.declared.fault.AigCause.TheVariants.{Syntax, Literal, DefinedTwice, Undefined, Cyclic}
 use Rattle.ps_circuit.specs.declared.fault.AigCause.TheVariants.{UnsetLatch, Sections}
 use Rattle.ps_circuit.specs.Causes.{cause_number}
-use Rattle.ps_circuit.specs.Signs.{Seen, pieces_at, bytes_of, first_at, aig_causes, Field, IsBadRun, run}
+use Rattle.ps_circuit.specs.Signs.{Seen, pieces_at, bytes_of, first_at, aig_causes, Field, BeginsRun, IsBadRun, run}
 use Rattle.ps_circuit.specs.Cursors.{Passes, place_of}
 
 abbrev pub Odd : Seen → Type 0
@@ -153,29 +153,56 @@ module _ {V : Type 0} (p : ℕ → Bool) (see : ℕ → List ℕ → V) (Bad : L
   }
 
   -- what is wrong with the run that comes is the run's
-  bad_is : {old new : Stream Seen} {r : List ℕ} → Passes p old new r → {t : Seen} (rest : List Seen) {f : AigCause} →
-      signs old.pieces ≡ t ∷ rest → IsBadRun p Bad t f → Bad r f
-  bad_is {r} x {t} rest {f} e b =
-      let whole : r ++ x.rest ≡ t.byte ∷ t.behind =
-      first_sees x.at (r ++ x.rest) t rest (ap signs (sym x.old_is) ∙ e) in
-      subst (λ z. Bad z f) (same_run p b.run r b.begins.rest x.rest (sym b.begins.split ∙ sym whole) b.begins.all x.all
-      b.begins.longest x.longest) b.bad
+  pub bad_is : {t : Seen} {r : List ℕ} {f : AigCause} → BeginsRun p r (t.byte ∷ t.behind) → IsBadRun p Bad t f → Bad r f
+  bad_is {t} {r} {f} x b = subst (λ z. Bad z f) (same_run p b.run r b.begins.rest x.rest
+      (sym b.begins.split ∙ x.split) b.begins.all x.all b.begins.longest x.longest) b.bad
+
+  -- a run that is not wrong, and behind which no byte passes
+  pub run_read : (text rest : List Seen) → 0 < length text → AllOf p (bytes_of text) →
+      ((c : Seen) → first_of rest ≡ Some c → p c.byte ≡ false) →
+      ((t : Seen) (more : List Seen) (f : AigCause) → text ++ rest ≡ t ∷ more → IsBadRun p Bad t f → ⊥) →
+      IsRead (run p see Bad) (text ++ rest) (see (first_at text) (bytes_of text)) rest
+  run_read text rest some all longest right = record {
+    text = text;
+    split = refl;
+    is_text = record { some = some; all = all; value = refl };
+    stops = stops (first_of rest) longest;
+    clean = λ front more t f e l c. right t more f (e ∙ ap (λ z. z ++ t ∷ more) c.0) c.1;
+  }
+    where
+      stops : (there : Option Seen) → ((c : Seen) → there ≡ Some c → p c.byte ≡ false) →
+          StopsAt (run p see Bad) text there
+      stops None h = tt
+      stops (Some c) h = λ b.
+          let one : AllOf p (bytes_of (text ++ c ∷ []) ++ bytes_of b.more) =
+          subst (AllOf p) (bytes_append (text ++ c ∷ []) b.more) b.is_text.all in
+          let two : AllOf p (bytes_of text ++ c.byte ∷ []) = subst (AllOf p) (bytes_append text (c ∷ []))
+          (all_left p (bytes_of (text ++ c ∷ [])) (bytes_of b.more) one) in
+          let three : p c.byte ≡ true = (all_right p (bytes_of text) (c.byte ∷ []) two).0 in
+          let four : p c.byte ≡ false = h c refl in
+          absurd cc
+
+  begins_there : {old new : Stream Seen} {r : List ℕ} → Passes p old new r → 0 < length r → (t : Seen)
+      (rest : List Seen) → signs old.pieces ≡ t ∷ rest → BeginsRun p r (t.byte ∷ t.behind)
+  begins_there {r = r} x some t rest e = record {
+    rest = x.rest;
+    split = sym (first_sees x.at (r ++ x.rest) t rest (ap signs (sym x.old_is) ∙ e));
+    some = some;
+    all = x.all;
+    longest = x.longest;
+  }
 
   pub run_reads : {old new : Stream Seen} {r : List ℕ} {v : V} → Passes p old new r → 0 < length r →
       ((f : AigCause) → Bad r f → ⊥) → v ≡ see (place_of old) r → Reads (run p see Bad) old v new
-  run_reads {old} {new} {r} x some good value = (
+  run_reads {old} {new} {r} {v} x some good value = (
     record { taken = pieces_with x.at r x.rest; split = split; end = x.end },
-    record {
-      text = text;
-      split = signs_split old.pieces (pieces_with x.at r x.rest) new.pieces split;
-      is_text = record {
-        some = length_with x.at r x.rest some;
-        all = subst (AllOf p) (sym bytes) x.all;
-        value = value ∙ ap₂ see (sym x.place ∙ sym (first_with r x.rest some)) (sym bytes);
-      };
-      stops = subst (λ z. StopsAt (run p see Bad) text (first_of (signs z))) (sym x.new_is) (stops x.rest x.longest);
-      clean = clean;
-    },
+    subst (λ z. IsRead (run p see Bad) (signs old.pieces) z (signs new.pieces))
+        (sym (value ∙ ap₂ see (sym x.place ∙ sym (first_with r x.rest some)) (sym bytes)))
+        (subst (λ z. IsRead (run p see Bad) z (see (first_at text) (bytes_of text)) (signs new.pieces)) (sym parts)
+        (run_read text (signs new.pieces) (length_with x.at r x.rest some) (subst (AllOf p) (sym bytes) x.all)
+        (subst (λ z. (c : Seen) → first_of (signs z) ≡ Some c → p c.byte ≡ false) (sym x.new_is)
+        (next_stops (x.at + length r) x.rest x.longest))
+        (λ t more f e b. good f (bad_is (begins_there x some t more (parts ∙ e)) b)))),
   )
     where
       text : List Seen
@@ -187,21 +214,13 @@ module _ {V : Type 0} (p : ℕ → Bool) (see : ℕ → List ℕ → V) (Bad : L
       split : old.pieces ≡ pieces_with x.at r x.rest ++ new.pieces
       split = x.old_is ∙ pieces_split x.at r x.rest ∙ ap (λ z. pieces_with x.at r x.rest ++ z) (sym x.new_is)
 
-      stops : (rest : List ℕ) → StopsBefore p rest → StopsAt (run p see Bad) text
-          (first_of (signs (pieces_at (x.at + length r) rest)))
-      stops [] s = tt
-      stops (c ∷ rest) s = λ b.
-          let sign : Seen = record { byte = c; at = x.at + length r; behind = rest } in
-          let one : AllOf p (bytes_of (text ++ sign ∷ []) ++ bytes_of b.more) =
-          subst (AllOf p) (bytes_append (text ++ sign ∷ []) b.more) b.is_text.all in
-          let two : AllOf p (bytes_of text ++ c ∷ []) =
-          subst (AllOf p) (bytes_append text (sign ∷ [])) (all_left p (bytes_of (text ++ sign ∷ []))
-          (bytes_of b.more) one) in
-          let three : p c ≡ true = (all_right p (bytes_of text) (c ∷ []) two).0 in
-          absurd cc
+      parts : signs old.pieces ≡ text ++ signs new.pieces
+      parts = signs_split old.pieces (pieces_with x.at r x.rest) new.pieces split
 
-      clean : CleanUpTo (run p see Bad) (signs old.pieces) (length text + 1)
-      clean front more t f e l c = good f (bad_is x more (e ∙ ap (λ z. z ++ t ∷ more) c.0) c.1)
+      next_stops : (at : ℕ) (rest : List ℕ) → StopsBefore p rest → (c : Seen) →
+          first_of (signs (pieces_at at rest)) ≡ Some c → p c.byte ≡ false
+      next_stops at [] s c e = absurd (none_is_some c e)
+      next_stops at (b ∷ rest) s c e = ap (λ (z : Seen). p z.byte) (sym (same_some _ c e)) ∙ s
 
   pub run_bad : {old new : Stream Seen} {r : List ℕ} (f : AigCause) → Passes p old new r → 0 < length r → Bad r f →
       ((g : AigCause) → Bad r g → cause_number f ≤ cause_number g)
@@ -227,12 +246,13 @@ module _ {V : Type 0} (p : ℕ → Bool) (see : ℕ → List ℕ → V) (Bad : L
                     refl,
                     record {
                       run = b ∷ r;
-                      begins = record
-                          { rest = x.rest; split = refl; some = omega arith; all = x.all; longest = x.longest };
+                      begins = begins_there x (omega arith) sign (signs (pieces_at (x.at + 1) (r ++ x.rest)))
+                          (ap signs x.old_is);
                       bad = bad;
                     },
                   )
-                  (λ g c. least g (bad_is x (signs (pieces_at (x.at + 1) (r ++ x.rest))) (ap signs x.old_is) c.1));
+                  (λ g c. least g (bad_is (begins_there x (omega arith) sign
+                  (signs (pieces_at (x.at + 1) (r ++ x.rest))) (ap signs x.old_is)) c.1));
             };
             offset = sym x.place;
           }

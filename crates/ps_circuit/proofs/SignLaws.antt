@@ -1,20 +1,21 @@
 -- The laws of the signs of an AIGER text: sets of signs, bytes, words, numbers, gaps and ends of lines.
 --     Separates      a blank or a newline: what stands behind a number
 --     AtBody, AtTail      the first byte of what stands behind the first line, and behind the number lines
+--     numbers, optional      the chains of a number, and of a further field or none, and what stands behind them
 use Rattle.std.proofs.Common.{◌≡◌, ℕ, ◌⊎◌, Bool, true, false, cond, ◌||◌, eqb, List, [], ◌∷◌, None, Some, refl, sym, ap}
 use Rattle.std.proofs.Common.{inl, inr, ◌∙◌, arith}
 use Rattle.std.proofs.lemmas.Bool.{eqb-true, eq-eqb}
 use Rattle.ps_text.specs.Parts.{NoBad, give, then_by, either, mapped}
 use Rattle.ps_text.specs.Digits.{decimal_value}
-use Rattle.ps_text.proofs.Laws.{Laws, Joint, Nothing, Or, When, Apart, weaker}
-use Rattle.ps_text.proofs.Joined.{joint}
-use Rattle.ps_text.proofs.Simple.{none_is_some, Taken, BadSign, laws_give, laws_one, laws_mapped, laws_then}
-use Rattle.ps_text.proofs.Following.{laws_tight}
-use Rattle.ps_text.proofs.Covered.{laws_either}
+use Rattle.ps_text.proofs.Decisions.{judge_none}
+use Rattle.ps_text.proofs.Laws.{Nothing, Apart}
+use Rattle.ps_circuit.specs.declared.cursor.Number.{Number}
 use Rattle.ps_circuit.specs.declared.fault.AigCause.{AigCause}
+use Rattle.ps_circuit.specs.Causes.{cause_number}
 use Rattle.ps_circuit.specs.Signs.{Seen, Field, take_byte, byte, word, is_digit, is_blank, is_inner, number_at, number}
 use Rattle.ps_circuit.specs.Signs.{gap, rest_of_line, newline, line_end, more, by_more, NoBadRun}
-use Rattle.ps_circuit.proofs.Runs.{Odd, laws_run}
+use Rattle.ps_circuit.proofs.Lawful.{Lawful, Chain, Judges, larger, chained, next, given, mapped_by, either_of}
+use Rattle.ps_circuit.proofs.Lawful.{or_nothing, one_sign, run_by}
 
 -- ## Sets of signs
 
@@ -103,9 +104,6 @@ kind_comment t (inl e) c = omega (arith, e, c)
 kind_comment t (inr (inl e)) c = omega (arith, e, c)
 kind_comment t (inr (inr e)) c = omega (arith, e, c)
 
-pub not_odd : (A : Seen → Type 0) → Apart A Odd
-not_odd A t a o = none_is_some o.0 o.1
-
 -- ## Bytes
 
 pub byte_taken : {b : ℕ} (s : Seen) → s.byte ≡ b → take_byte b s ≡ Some tt
@@ -121,65 +119,49 @@ taken_byte {b} s {u} e = go (eqb s.byte b) refl e
 abbrev pub seen : ℕ → Seen
 seen b = record { byte = b; at = 0; behind = [] }
 
-pub laws_byte : (b : ℕ) → Laws Odd (byte b) (At b) Nothing ⊥
+pub laws_byte : (b : ℕ) → Lawful (byte b) (At b) Nothing ⊥
 unfolding byte
-laws_byte b =
-    weaker (laws_one (take_byte b) NoBad Odd (seen b) tt (byte_taken (seen b) refl) (not_odd (Taken (take_byte b)))
-    (not_odd (BadSign NoBad))) first (λ t h. h) (λ n. n)
-  where
-    first : (t : Seen) → Or (Taken (take_byte b)) (BadSign {F = AigCause} NoBad) t → At b t
-    first t (inl x) = taken_byte t x.1
-    first t (inr x) = absurd x.1
+laws_byte b = one_sign (take_byte b) NoBad (seen b) (byte_taken (seen b) refl) (λ t. judge_none cause_number)
+    (λ t h. taken_byte t h.1) (λ t h. absurd h.1)
 
-pub laws_word : (bytes : List ℕ) → Laws Odd (word bytes) Any Nothing (Unit {0})
-laws_word [] = weaker (laws_give Odd tt) (λ t h. tt) (λ t h. h) (λ n. n)
-laws_word (b ∷ bytes) = weaker (laws_tight (laws_byte b) (λ _. laws_word bytes)) (λ t h. tt) (λ t h. h) (λ n. tt)
+letter_of : (b : ℕ) (bytes : List ℕ) → Lawful (word bytes) Any Nothing (Unit {0}) →
+    Chain (byte b) (λ _. word bytes) Any Nothing (Unit {0})
+letter_of b bytes l =
+    chained (laws_byte b) (λ _. l) (λ t h k. h) (λ t h. tt) (λ t h. tt) (λ t h. h) (λ t h. h.1) (λ n. tt)
+
+pub laws_word : (bytes : List ℕ) → Lawful (word bytes) Any Nothing (Unit {0})
+laws_word [] = larger (given tt) (λ t h. tt) (λ t h. h) (λ n. n)
+laws_word (b ∷ bytes) = (letter_of b bytes (laws_word bytes)).whole
+
+pub chain_word : (b : ℕ) (bytes : List ℕ) → Chain (byte b) (λ _. word bytes) Any Nothing (Unit {0})
+chain_word b bytes = letter_of b bytes (laws_word bytes)
 
 -- ## Numbers, gaps and ends of lines
 
-pub laws_number : (Wrong : ℕ → AigCause → Type 0) → Laws Odd (number Wrong) AtDigit AtDigit ⊥
+pub laws_number : {Wrong : ℕ → AigCause → Type 0} → Judges Wrong → Lawful (number Wrong) AtDigit AtDigit ⊥
 unfolding number
-laws_number Wrong = laws_run is_digit number_at (λ digits f. Wrong (decimal_value digits) f) 48 refl
+laws_number {Wrong} judge = run_by is_digit number_at (λ digits f. Wrong (decimal_value digits) f) 48 refl
+    (λ digits. judge (decimal_value digits))
 
-pub laws_gap : Laws Odd gap AtBlank AtBlank ⊥
+pub laws_gap : Lawful gap AtBlank AtBlank ⊥
 unfolding gap
-laws_gap = laws_run is_blank (λ at bytes. tt) NoBadRun 32 refl
+laws_gap = run_by is_blank (λ at bytes. tt) NoBadRun 32 refl (λ bytes. judge_none cause_number)
 
-pub laws_rest : Laws Odd rest_of_line AtInner AtInner ⊥
+pub laws_rest : Lawful rest_of_line AtInner AtInner ⊥
 unfolding rest_of_line
-laws_rest = laws_run is_inner (λ at bytes. bytes) NoBadRun 32 refl
+laws_rest = run_by is_inner (λ at bytes. bytes) NoBadRun 32 refl (λ bytes. judge_none cause_number)
 
-pub laws_newline : Laws Odd newline (At 10) Nothing ⊥
+pub laws_newline : Lawful newline (At 10) Nothing ⊥
 unfolding newline
 laws_newline = laws_byte 10
 
-pub laws_blanks : Laws Odd (either gap (give tt)) AtBlank AtBlank (Unit {0})
-laws_blanks = weaker (laws_either laws_gap (laws_give Odd tt) (λ t x y. y) (λ x y. x)) first next (λ n. tt)
-  where
-    first : (t : Seen) → Or AtBlank Nothing t → AtBlank t
-    first t (inl x) = x
-    first t (inr x) = absurd x
+pub chain_line_end : Chain (either gap (give tt)) (λ _. newline) Separates Separates ⊥
+chain_line_end = chained (or_nothing {More = AtBlank} tt laws_gap (λ t h. h) (λ t h. h)) (λ _. laws_newline)
+    blank_newline (λ t h. inl h) (λ t h. inr h.1) (λ t h. absurd h) (λ t h. absurd h.0) (λ n. n.1)
 
-    next : (t : Seen) → Or (Or AtBlank Nothing) (Or (When ⊥ Nothing) (When (Unit {0}) AtBlank)) t → AtBlank t
-    next t (inl (inl x)) = x
-    next t (inl (inr x)) = absurd x
-    next t (inr (inl x)) = absurd x.0
-    next t (inr (inr x)) = x.1
-
-pub laws_line_end : Laws Odd line_end Separates Nothing ⊥
+pub laws_line_end : Lawful line_end Separates Separates ⊥
 unfolding line_end
-laws_line_end = weaker (laws_then laws_blanks (λ _. laws_newline) blank_newline) first next (λ n. n.1)
-  where
-    first : (t : Seen) → Or AtBlank (When (Unit {0}) (At 10)) t → Separates t
-    first t (inl x) = inl x
-    first t (inr x) = inr x.1
-
-    next : (t : Seen) → Or Nothing (When ⊥ AtBlank) t → Nothing t
-    next t (inl x) = x
-    next t (inr x) = absurd x.0
-
-pub laws_ended : {V : Type 0} (v : V) → Laws Odd (mapped (λ _. v) line_end) Separates Nothing ⊥
-laws_ended v = laws_mapped (λ _. v) line_end laws_line_end
+laws_line_end = chain_line_end.whole
 
 abbrev pub ends_here : Field Bool
 ends_here = mapped (λ _. false) newline
@@ -187,76 +169,33 @@ ends_here = mapped (λ _. false) newline
 abbrev pub behind_gap : Field Bool
 behind_gap = either ends_here (give true)
 
-pub laws_ends_here : Laws Odd ends_here (At 10) Nothing ⊥
-laws_ends_here = laws_mapped (λ _. false) newline laws_newline
-
-pub laws_behind_gap : Laws Odd behind_gap (At 10) (At 10) (Unit {0})
-laws_behind_gap = weaker (laws_either laws_ends_here (laws_give Odd true) (λ t x y. y) (λ x y. x)) first next (λ n. tt)
-  where
-    first : (t : Seen) → Or (At 10) Nothing t → At 10 t
-    first t (inl x) = x
-    first t (inr x) = absurd x
-
-    next : (t : Seen) → Or (Or Nothing Nothing) (Or (When ⊥ Nothing) (When (Unit {0}) (At 10))) t → At 10 t
-    next t (inl (inl x)) = absurd x
-    next t (inl (inr x)) = absurd x
-    next t (inr (inl x)) = absurd x.0
-    next t (inr (inr x)) = x.1
+pub laws_ends_here : Lawful ends_here (At 10) Nothing ⊥
+laws_ends_here = mapped_by (λ _. false) laws_newline
 
 abbrev pub gap_more : Field Bool
 gap_more = then_by gap (λ _. behind_gap)
 
-pub joint_gap_more : Joint gap (λ _. behind_gap)
-joint_gap_more = joint laws_gap (λ _. laws_behind_gap) blank_newline
+pub chain_gap_more : Chain gap (λ _. behind_gap) AtBlank Separates ⊥
+chain_gap_more = chained laws_gap
+    (λ _. or_nothing {More = At 10} true laws_ends_here (λ t h. h) (λ t h. absurd h)) blank_newline (λ t h. h)
+    (λ t h. absurd h.0) (λ t h. inr h) (λ t h. inl h.1) (λ n. n.0)
 
-pub laws_gap_more : Laws Odd gap_more AtBlank Separates ⊥
-laws_gap_more = weaker (laws_then laws_gap (λ _. laws_behind_gap) blank_newline) first next (λ n. n.0)
-  where
-    first : (t : Seen) → Or AtBlank (When ⊥ (At 10)) t → AtBlank t
-    first t (inl x) = x
-    first t (inr x) = absurd x.0
-
-    next : (t : Seen) → Or (At 10) (When (Unit {0}) AtBlank) t → Separates t
-    next t (inl x) = inr x
-    next t (inr x) = inl x.1
-
-pub newline_blank : Apart (At 10) AtBlank
-newline_blank t e h = blank_newline t h e
-
-pub laws_more : Laws Odd more Separates Separates ⊥
+pub laws_more : Lawful more Separates Separates ⊥
 unfolding more
-laws_more = weaker (laws_either laws_ends_here laws_gap_more newline_blank (λ x y. x)) first next none
-  where
-    first : (t : Seen) → Or (At 10) AtBlank t → Separates t
-    first t (inl x) = inr x
-    first t (inr x) = inl x
+laws_more = either_of laws_ends_here chain_gap_more.whole (λ t e h. blank_newline t h e) (λ t h. inr h) (λ t h. inl h)
+    (λ t h. absurd h) (λ t h. h) (λ t h. absurd h.0)
 
-    next : (t : Seen) → Or (Or Nothing Separates) (Or (When ⊥ AtBlank) (When ⊥ (At 10))) t → Separates t
-    next t (inl (inl x)) = absurd x
-    next t (inl (inr x)) = x
-    next t (inr (inl x)) = absurd x.0
-    next t (inr (inr x)) = absurd x.0
-
-    none : ⊥ ⊎ ⊥ → ⊥
-    none (inl x) = x
-    none (inr x) = x
+-- a number, and what stands behind it
+pub numbers : {B : Type 0} {Q : Number → Field B} {Wrong : ℕ → AigCause → Type 0} {More : Seen → Type 0} →
+    Judges Wrong → ((n : Number) → Lawful (Q n) Separates More ⊥) → Chain (number Wrong) Q AtDigit More ⊥
+numbers judge q = next (laws_number judge) q digit_separates
 
 -- a further field of the line, or the value that stands for none
-module _ {V : Type 0} {P : Field V} (l : Laws Odd P AtDigit Separates ⊥) (v : V) where
-  pub laws_by_more : (comes : Bool) → Laws Odd (by_more P (give v) comes) AtDigit Separates (Unit {0})
-  laws_by_more true = weaker l (λ t h. h) (λ t h. h) (λ n. absurd n)
-  laws_by_more false = weaker (laws_give Odd v) (λ t h. absurd h) (λ t h. absurd h) (λ n. n)
-
-  pub joint_by_more : Joint more (by_more P (give v))
-  joint_by_more = joint laws_more laws_by_more separates_digit
-
-  pub laws_optional : Laws Odd (then_by more (by_more P (give v))) Separates Separates ⊥
-  laws_optional = weaker (laws_then laws_more laws_by_more separates_digit) first next (λ n. n.0)
-    where
-      first : (t : Seen) → Or Separates (When ⊥ AtDigit) t → Separates t
-      first t (inl x) = x
-      first t (inr x) = absurd x.0
-
-      next : (t : Seen) → Or Separates (When (Unit {0}) Separates) t → Separates t
-      next t (inl x) = x
-      next t (inr x) = x.1
+pub optional : {V : Type 0} {P : Field V} → Lawful P AtDigit Separates ⊥ → (v : V) →
+    Chain more (by_more P (give v)) Separates Separates ⊥
+optional {P = P} l v = chained laws_more by (λ t h d. digit_separates t d h) (λ t h. h) (λ t h. absurd h.0) (λ t h. h)
+    (λ t h. h.1) (λ n. n.0)
+  where
+    by : (comes : Bool) → Lawful (by_more P (give v) comes) AtDigit Separates (Unit {0})
+    by true = larger l (λ t h. h) (λ t h. h) (λ n. tt)
+    by false = larger (given v) (λ t h. absurd h) (λ t h. absurd h) (λ n. n)

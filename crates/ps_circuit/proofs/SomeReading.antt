@@ -1,11 +1,11 @@
 -- Each text of a circuit has an answer: the text's first cause, or the first literal that is not defined, or the first
 -- gate that depends on itself, or else its circuit.
-use Rattle.std.proofs.Common.{◌≡◌, ℕ, zero, suc, ◌<◌, ◌⊎◌, List, [], ◌∷◌, length, get_or, All, Result, Ok, Err, refl}
-use Rattle.std.proofs.Common.{sym, ap, subst, inl, inr, ◌∙◌, arith, length-append}
+use Rattle.std.proofs.Common.{ℕ, zero, suc, ◌<◌, ◌⊎◌, List, [], ◌∷◌, length, get_or, All, Result, Ok, Err, refl}
+use Rattle.std.proofs.Common.{ap, inl, inr, arith}
 use Rattle.std.proofs.lemmas.Bool.{cases_eq}
 use Rattle.std.proofs.lemmas.Option.{slice_get-get_or}
 use Rattle.ps_text.specs.Answers.{Found, signs}
-use Rattle.ps_text.specs.Parts.{PartAnswers, times}
+use Rattle.ps_text.specs.Parts.{PartAnswers}
 use Rattle.ps_text.proofs.Outcomes.{some_answer}
 use Rattle.ps_text.proofs.Decisions.{Decided, decide_one, decide_in}
 use Rattle.ps_components.specs.Graphs.{Way}
@@ -13,77 +13,16 @@ use Rattle.ps_components.specs.Orders.{IsFirstOnCycle}
 use Rattle.ps_circuit.specs.declared.cursor.Number.{Number}
 use Rattle.ps_circuit.specs.declared.fault.AigCause.{AigCause}
 use Rattle.ps_circuit.specs.declared.fault.AigCause.TheVariants.{Undefined, Cyclic}
-use Rattle.ps_circuit.specs.declared.parts.Gate.{Gate}
-use Rattle.ps_circuit.specs.declared.parts.Latch.{Latch}
 use Rattle.ps_circuit.specs.Circuits.{CircuitData, ReadsGate}
 use Rattle.ps_circuit.specs.Literals.{variable}
-use Rattle.ps_circuit.specs.Signs.{Seen, Field, aig_causes, stream_of}
-use Rattle.ps_circuit.specs.Texts.{HeaderData, Lines, input_line, latch_line, output_line, gate_line, DraftData}
-use Rattle.ps_circuit.specs.Texts.{symbols, body, circuit_text, IsDefined, IsFirstUndefined, ReadsCircuit, refused}
+use Rattle.ps_circuit.specs.Signs.{aig_causes, stream_of}
+use Rattle.ps_circuit.specs.Texts.{DraftData}
+use Rattle.ps_circuit.specs.Texts.{circuit_text, IsDefined, IsFirstUndefined, ReadsCircuit, refused}
 use Rattle.ps_circuit.specs.Texts.{undefined, cyclic, meaning}
+use Rattle.ps_circuit.proofs.DraftLemmas.{gates_placed}
 use Rattle.ps_circuit.proofs.GateCycles.{first_cyclic}
 use Rattle.ps_circuit.proofs.ReadingLemmas.{way_within}
 use Rattle.ps_circuit.proofs.TextLaws.{laws_text}
-use Rattle.ps_circuit.proofs.TextOutcomes.{has_text}
-
--- ## The offsets of the gates' lines
-
-abbrev Keeps : {A : Type 0} → (Lines A → Field (Lines A)) → Type 0
-Keeps {A} item = (c d : Lines A) (text : List Seen) → (item c).IsText text d → d.starts ≡ c.starts
-
-keeps_input : (most : ℕ) → Keeps (input_line most)
-unfolding input_line
-keeps_input most c d text h = ap (λ (z : Lines ℕ). z.starts) h.is_right.2
-
-keeps_latch : (most : ℕ) → Keeps (latch_line most)
-unfolding latch_line
-keeps_latch most c d text h = ap (λ (z : Lines Latch). z.starts) h.is_right.is_right.2
-
-keeps_output : (most : ℕ) → Keeps (output_line most)
-unfolding output_line
-keeps_output most c d text h = ap (λ (z : Lines ℕ). z.starts) h.is_right.2
-
-keeps_all : {A : Type 0} (item : Lines A → Field (Lines A)) → Keeps item → (n : ℕ) → Keeps (times n item)
-keeps_all item k zero c d text h = ap (λ z. z.starts) h.1
-keeps_all item k (suc n) c d text h = keeps_all item k n h.value d h.right h.is_right ∙ k c h.value h.left h.is_left
-
-abbrev Balanced : Lines Gate → Type 0
-Balanced c = length c.starts ≡ length c.items
-
-gate_starts : (most : ℕ) (c d : Lines Gate) (text : List Seen) → (gate_line most c).IsText text d → Balanced c →
-    Balanced d
-unfolding gate_line
-gate_starts most c d text h b =
-    let l : Number = h.value in
-    let first : Number = h.is_right.value in
-    let second : Number = h.is_right.is_right.value in
-    let gate : Gate = record { literal = l.value; first = first.value; second = second.value } in
-    subst Balanced (sym h.is_right.is_right.is_right.2)
-    (omega (arith, b, length-append c.starts (l.offset ∷ []), length-append c.items (gate ∷ [])))
-
-gates_starts : (most n : ℕ) (c d : Lines Gate) (text : List Seen) → (times n (gate_line most) c).IsText text d →
-    Balanced c → Balanced d
-gates_starts most zero c d text h b = subst Balanced (sym h.1) b
-gates_starts most (suc n) c d text h b = gates_starts most n h.value d h.right h.is_right
-    (gate_starts most c h.value h.left h.is_left b)
-
--- each gate of a draft has the offset of its line
-gates_placed : (text : List Seen) (d : DraftData) → circuit_text.IsText text d →
-    length d.starts ≡ length d.circuit.gates
-unfolding circuit_text body symbols
-gates_placed text d h =
-    let head : HeaderData = h.value in
-    let inputs = h.is_right in
-    let latches = inputs.is_right in
-    let outputs = latches.is_right in
-    let gates = outputs.is_right in
-    let none : outputs.value.starts ≡ [] =
-    keeps_all (output_line head.most) (keeps_output head.most) head.outputs _ outputs.value outputs.left outputs.is_left
-    ∙ keeps_all (latch_line head.most) (keeps_latch head.most) head.latches _ latches.value latches.left latches.is_left
-    ∙ keeps_all (input_line head.most) (keeps_input head.most) head.inputs _ inputs.value inputs.left inputs.is_left in
-    let balanced : Balanced gates.value =
-    gates_starts head.most head.gates _ gates.value gates.left gates.is_left (ap length none) in
-    rw gates.is_right.is_right.2 balanced
 
 -- ## The first literal that is not defined
 
@@ -150,7 +89,7 @@ module _ (text : List ℕ) (d : DraftData) (okay : PartAnswers aig_causes circui
   with_draft (inr u) = (Err (record { cause = Undefined; offset = u.0.offset }), undefined d u.0 okay u.1 refl)
 
 pub some_reading : (text : List ℕ) → SomeCircuit text
-some_reading text = let read = some_answer laws_text has_text (stream_of text) in go read.0 read.1
+some_reading text = let read = some_answer laws_text.laws laws_text.has (stream_of text) in go read.0 read.1
   where
     go : (one : Result DraftData (Found AigCause)) → PartAnswers aig_causes circuit_text (stream_of text) one →
         SomeCircuit text

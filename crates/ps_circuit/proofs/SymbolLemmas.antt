@@ -1,25 +1,24 @@
 -- The lines of names, and the comment: how they are read, and how they fail.
-use Rattle.std.proofs.Common.{◌≡◌, ◌≢◌, ℕ, zero, suc, ◌+◌, ◌^◌, ◌<◌, Bool, true, false, cond, eqb, ◌||◌, List, [], ◌∷◌}
-use Rattle.std.proofs.Common.{◌++◌, length, map, set, Option, None, Some, Err, Vec, refl, sym, ap, ap₂, subst, inl, inr}
-use Rattle.std.proofs.Common.{◌∙◌, arith}
+--     AtLetter      a letter of a symbol comes, and one step goes behind it
+--     past_letter, past_number, past_space, past_name      what is left of the line behind them
+use Rattle.std.proofs.Common.{◌≡◌, ◌≢◌, ℕ, zero, suc, ◌+◌, ◌^◌, ◌<◌, true, false, ◌==◌, ◌||◌, List, [], ◌∷◌, ◌++◌}
+use Rattle.std.proofs.Common.{length, map, set, Option, None, Some, Vec, refl, sym, ap, ap₂, subst, inl, inr, ◌∙◌, ◌⊎◌}
+use Rattle.std.proofs.Common.{arith}
 use Rattle.std.specs.Prelude.{slice_get, All}
 use Rattle.std.specs.Global.{Global}
 use Rattle.std.specs.Option.{option_map}
-use Rattle.std.proofs.lemmas.Bool.{eqb-true}
+use Rattle.std.proofs.lemmas.Bool.{eqb-true, or_cases}
 use Rattle.std.proofs.lemmas.List.{append-nil, length-map, map-set}
 use Rattle.std.proofs.lemmas.Option.{slice_get_within}
 use Rattle.ps_text.specs.Answers.{Piece, Stream, Found, signs, first_of, next_of}
-use Rattle.ps_text.specs.Parts.{NoBad, StopsAt, give, times, many}
+use Rattle.ps_text.specs.Parts.{NoBad, StopsAt, times, many}
 use Rattle.ps_text.specs.Readers.{tail, tail_of, Reads, Stops, Carries}
 use Rattle.ps_text.specs.Digits.{decimal_value}
-use Rattle.ps_text.specs.Runs.{AllOf, StopsBefore}
-use Rattle.ps_text.proofs.ByteRuns.{same_run}
-use Rattle.ps_text.proofs.Joined.{joint}
-use Rattle.ps_text.proofs.Splits.{same_head}
-use Rattle.ps_text.proofs.Simple.{same_some, none_is_some, nil_is_cons, laws_give}
+use Rattle.ps_text.specs.Runs.{AllOf}
+use Rattle.ps_text.proofs.Simple.{same_some, none_is_some, laws_give}
+use Rattle.ps_text.proofs.Laws.{Laws, Nothing}
 use Rattle.ps_text.proofs.Covered.{Avoids, Enters, enters_one, enters_then}
-use Rattle.ps_text.proofs.Exits.{reads_next, stops_bad, reads_give, reads_mapped, reads_then, stops_mapped, stops_first}
-use Rattle.ps_text.proofs.Exits.{stops_behind}
+use Rattle.ps_text.proofs.Exits.{reads_next, stops_bad, reads_give, reads_then}
 use Rattle.ps_text.proofs.Branches.{reads_as, left_entered, right_otherwise, many_ends, many_fails, carries_many}
 use Rattle.ps_text.proofs.Branches.{reads_shrinks}
 use Rattle.ps_circuit.specs.declared.cursor.Number.{Number}
@@ -28,21 +27,20 @@ use Rattle.ps_circuit.specs.declared.fault.AigCause.TheVariants.{Syntax}
 use Rattle.ps_circuit.specs.Causes.{AigFault}
 use Rattle.ps_text.specs.declared.faults.Fault.TheVariants.{Text}
 use Rattle.ps_circuit.specs.Drafts.{name_bytes}
-use Rattle.ps_circuit.specs.Signs.{Seen, pieces_at, bytes_of, aig_causes, is_digit, is_inner, take_byte, byte, number}
+use Rattle.ps_circuit.specs.Signs.{Seen, pieces_at, bytes_of, aig_causes, is_digit, is_inner, take_byte, byte}
 use Rattle.ps_circuit.specs.Signs.{rest_of_line, newline}
-use Rattle.ps_circuit.specs.Cursors.{next_byte, place_of, found_of, Passes, IsAhead, NumberIs, TellsNumber}
-use Rattle.ps_circuit.specs.Texts.{AnyNumber, Kind, OfInput, OfLatch, OfOutput, NamesData, names_of, put_names}
-use Rattle.ps_circuit.specs.Texts.{add_name, take_kind, IsBadSymbol, symbol_line, anything, comment}
+use Rattle.ps_circuit.specs.Cursors.{next_byte, place_of, found_of, Passes, IsAhead, NumberIs}
+use Rattle.ps_circuit.specs.Texts.{Kind, OfInput, OfLatch, OfOutput, NamesData, names_of, put_names, add_name}
+use Rattle.ps_circuit.specs.Texts.{take_kind, IsBadSymbol, symbol_line, anything, comment}
 use Rattle.ps_circuit.specs.Names.{is_kind}
 use Rattle.ps_circuit.proofs.Runs.{Odd, syntax_least, stops_here}
-use Rattle.ps_circuit.proofs.TextLaws.{letter, joint_letter, symbol_number, symbol_space, laws_symbol_space}
-use Rattle.ps_circuit.proofs.TextLaws.{laws_symbol_name, laws_symbol_end, laws_symbol_line, laws_c_line, laws_anything}
-use Rattle.ps_circuit.proofs.TextLaws.{c_line, any_sign}
-use Rattle.ps_circuit.proofs.SignLaws.{At, byte_taken, AtKind, laws_number, laws_byte, laws_rest, digit_space}
-use Rattle.ps_circuit.proofs.SignLaws.{inner_newline}
+use Rattle.ps_circuit.proofs.Exits.{Left, unread, past, stops_at, reads_last}
+use Rattle.ps_circuit.proofs.Judges.{Digits, bad_symbol}
+use Rattle.ps_circuit.proofs.TextLaws.{letter, symbol_number, symbol_space, symbol_name, symbol_end, chain_letter}
+use Rattle.ps_circuit.proofs.TextLaws.{chain_number, chain_space, chain_name, laws_symbol_line, chain_c_line, any_sign}
+use Rattle.ps_circuit.proofs.SignLaws.{byte_taken, AtKind}
 use Rattle.ps_circuit.proofs.CursorLemmas.{next_is, byte_reads}
-use Rattle.ps_circuit.proofs.NumberLemmas.{number_none, number_any}
-use Rattle.ps_circuit.proofs.LineLemmas.{value_is}
+use Rattle.ps_circuit.proofs.NumberLemmas.{number_any}
 
 bytes_at : (at : ℕ) (bytes : List ℕ) → bytes_of (signs (pieces_at at bytes)) ≡ bytes
 bytes_at at [] = refl
@@ -64,225 +62,156 @@ behind_is {old} {t} at {bytes} x n e k = go x.1 x.2
         ∙ sym (ap (λ (s : Stream Seen). s.pieces) e) ∙ k in
         sym seen ∙ sym (bytes_at (x.0 + 1) rest) ∙ ap (λ ps. bytes_of (signs ps)) left ∙ bytes_at at bytes
 
--- ## The letter
+-- ## A line
 
-module _ (all : NamesData) (kind : Kind) (t : Seen) (old s1 : Stream Seen) (ahead : IsAhead old)
-    (next : next_of old ≡ Some t) (is : take_kind t ≡ Some kind) (moved : s1 ≡ tail old) where
-  letter_reads : ((f : AigCause) → IsBadSymbol all t f → ⊥) → Reads (letter all) old kind s1
-  letter_reads good = reads_next take_kind (IsBadSymbol all) old s1 t kind next moved is good
+pub record AtLetter (all : NamesData) (kind : Kind) (names : List (Option (Vec ℕ Global))) (t : Seen)
+    (old s1 : Stream Seen) : Type 0 where
+  pub same : names_of all kind ≡ map name_bytes names
+  pub next : next_of old ≡ Some t
+  pub is : take_kind t ≡ Some kind
+  pub ahead : IsAhead old
+  pub moved : s1 ≡ tail old
 
-  -- no number comes
-  no_number : (s2 : Stream Seen) → Passes is_digit s1 s2 [] → (f : AigCause) → IsBadSymbol all t f → ⊥
-  no_number s2 x f b =
-      go b.digits b.number.some b.number.all b.number.split x.rest x.longest (behind_is x.at ahead next moved x.old_is)
-    where
-      go : (digits : List ℕ) → 0 < length digits → AllOf is_digit digits → t.behind ≡ digits ++ b.number.rest →
-          (rest : List ℕ) → StopsBefore is_digit rest → t.behind ≡ rest → ⊥
-      go [] l h e rest s k = absurd (omega arith)
-      go (d ∷ digits) l h e [] s k = nil_is_cons d (digits ++ b.number.rest) (sym k ∙ e)
-      go (d ∷ digits) l h e (c ∷ rest) s k =
-          let same : c ≡ d = same_head c d rest (digits ++ b.number.rest) (sym k ∙ e) in
-          let y : is_digit c ≡ true = ap is_digit same ∙ h.0 in
-          cc
+pub at_letter : (all : NamesData) (kind : Kind) (names : List (Option (Vec ℕ Global))) (t : Seen)
+    {old s1 : Stream Seen} → names_of all kind ≡ map name_bytes names → next_of old ≡ Some t →
+    take_kind t ≡ Some kind → IsAhead old → s1 ≡ tail old → AtLetter all kind names t old s1
+at_letter all kind names t same next is ahead moved =
+    record { same = same; next = next; is = is; ahead = ahead; moved = moved }
 
-  same_digits : {s2 : Stream Seen} {n : Number} (x : NumberIs s1 s2 n) {f : AigCause} (b : IsBadSymbol all t f) →
-      b.digits ≡ x.run
-  same_digits x b =
-      let whole = behind_is x.passes.at ahead next moved x.passes.old_is in
-      same_run is_digit b.digits x.run b.number.rest x.passes.rest (sym b.number.split ∙ whole) b.number.all
-      x.passes.all b.number.longest x.passes.longest
+module _ {all : NamesData} {kind : Kind} {names : List (Option (Vec ℕ Global))} {t : Seen} {old s1 : Stream Seen}
+    (a : AtLetter all kind names t old s1) where
+  -- the digits that were passed are those that the letter sees
+  seen_digits : {s2 : Stream Seen} {run : List ℕ} → Passes is_digit s1 s2 run → Digits t run
+  seen_digits x = record {
+    rest = x.rest;
+    split = behind_is x.at a.ahead a.next a.moved x.old_is;
+    all = x.all;
+    longest = x.longest;
+  }
 
-  value_small : {s2 : Stream Seen} {n : Number} (x : NumberIs s1 s2 n) (names : ℕ) → n.value < names → names < 2 ^ 64 →
-      decimal_value x.run ≡ n.value
-  value_small x names l m = omega (arith, x.value)
-
-  -- the number is free
-  free_good : (s2 : Stream Seen) (n : Number) → NumberIs s1 s2 n → length (names_of all kind) < 2 ^ 64 →
-      slice_get (names_of all kind) n.value ≡ Some None → (f : AigCause) → IsBadSymbol all t f → ⊥
-  free_good s2 n x small free f b =
-      let same : b.kind ≡ kind = same_some b.kind kind (sym b.letter ∙ is) in
-      let digits = same_digits x b in
-      let within : n.value < length (names_of all kind) = slice_get_within (names_of all kind) n.value None free in
-      let value = value_small x (length (names_of all kind)) within small in
-      b.not_free (ap (λ k. slice_get (names_of all k) (decimal_value b.digits)) same
-      ∙ ap (λ d. slice_get (names_of all kind) (decimal_value d)) digits
-      ∙ ap (slice_get (names_of all kind)) value ∙ free)
-
-  taken_bad : {s2 : Stream Seen} {n : Number} → NumberIs s1 s2 n → length (names_of all kind) < 2 ^ 64 →
-      (slice_get (names_of all kind) n.value ≡ Some None → ⊥) → IsBadSymbol all t Syntax
-  taken_bad {n} x small taken =
-      let whole = behind_is x.passes.at ahead next moved x.passes.old_is in
-      record {
-        kind = kind;
-        letter = is;
-        digits = x.run;
-        number =
-            record {
-              rest = x.passes.rest;
-              split = whole;
-              some = x.some;
-              all = x.passes.all;
-              longest = x.passes.longest;
-            };
-        not_free = λ e.
-            let within : decimal_value x.run < length (names_of all kind) =
-            slice_get_within (names_of all kind) (decimal_value x.run) None e in
-            let value : decimal_value x.run ≡ n.value = omega (arith, x.value) in
-            taken (ap (slice_get (names_of all kind)) (sym value) ∙ e);
-        cause = refl;
-      }
-
-  pub letter_stops : {s2 : Stream Seen} {n : Number} {e : AigFault} → NumberIs s1 s2 n →
-      length (names_of all kind) < 2 ^ 64 → (slice_get (names_of all kind) n.value ≡ Some None → ⊥) →
-      e ≡ Text Syntax (place_of old) → Stops aig_causes (symbol_line all) old (found_of e)
+  past_letter : ((f : AigCause) → IsBadSymbol all t f → ⊥) → Left (symbol_line all) old (symbol_number all kind) s1
   unfolding symbol_line
-  letter_stops {e} x small taken is =
-      stops_first aig_causes (joint_letter all) old (found_of e)
-      (stops_bad aig_causes take_kind (IsBadSymbol all) old t Syntax (found_of e) next (taken_bad x small taken)
-      (λ g b. syntax_least g) (ap found_of is))
+  past_letter good = past (chain_letter all) unread
+      (reads_next take_kind (IsBadSymbol all) old s1 t kind a.next a.moved a.is good)
 
-  pub symbol_number_fails : (s2 : Stream Seen) (e : AigFault) → TellsNumber s1 (Err e) s2 →
+  pub past_no_number : (s2 : Stream Seen) → Passes is_digit s1 s2 [] →
+      Left (symbol_line all) old (symbol_number all kind) s1
+  past_no_number s2 x = past_letter (λ f b. omega (arith, (bad_symbol a.is (seen_digits x) b).0))
+
+  pub letter_stops : {s2 : Stream Seen} {n : Number} {e : AigFault} → NumberIs s1 s2 n → length names < 2 ^ 64 →
+      (slice_get (map name_bytes names) n.value ≡ Some None → ⊥) → e ≡ Text Syntax (place_of old) →
       Stops aig_causes (symbol_line all) old (found_of e)
   unfolding symbol_line
-  symbol_number_fails s2 e m =
-      stops_behind aig_causes (joint_letter all) (letter_reads (no_number s2 m.0)) (found_of e)
-      (stops_first aig_causes (joint (laws_number AnyNumber) (λ k. laws_symbol_space all kind k) digit_space) s1
-      (found_of e) (number_none AnyNumber s2 e m))
+  letter_stops {e = e} x small taken is =
+      let d = seen_digits x.passes in
+      stops_at (chain_letter all) unread (found_of e) (stops_bad aig_causes take_kind (IsBadSymbol all) old t Syntax
+      (found_of e) a.next (record {
+        kind = kind;
+        letter = a.is;
+        digits = x.run;
+        number = record { rest = d.rest; split = d.split; some = x.some; all = d.all; longest = d.longest };
+        not_free = λ f.
+            let there : slice_get (map name_bytes names) (decimal_value x.run) ≡ Some None = rw a.same at f in
+            let value : decimal_value x.run ≡ _ = omega (arith, x.value, length-map names name_bytes,
+            slice_get_within (map name_bytes names) (decimal_value x.run) None there) in
+            taken (rw value at there);
+        cause = refl;
+      }) (λ g b. syntax_least g) (ap found_of is))
 
-  module _ (s2 : Stream Seen) (n : Number) (x : NumberIs s1 s2 n) (small : length (names_of all kind) < 2 ^ 64)
-      (free : slice_get (names_of all kind) n.value ≡ Some None) where
+  module _ {s2 : Stream Seen} {n : Number} (x : NumberIs s1 s2 n) (small : length names < 2 ^ 64)
+      (free : slice_get (map name_bytes names) n.value ≡ Some None) where
+    within : n.value < length names
+    within = omega (arith, length-map names name_bytes, slice_get_within (map name_bytes names) n.value None free)
+
     abbrev k : Number
     k = (number_any x).0
 
-    k_reads : Reads (number AnyNumber) s1 k s2
-    k_reads = (number_any x).2
+    pub past_number : Left (symbol_line all) old (symbol_space all kind k) s2
+    past_number =
+        let value : decimal_value x.run ≡ n.value = omega (arith, x.value, within) in
+        past (chain_number all kind) (past_letter (λ f b. (bad_symbol a.is (seen_digits x.passes) b).1
+        (rw (value, a.same) free))) (number_any x).2
 
-    k_value : k.value ≡ n.value
-    k_value = let within : n.value < length (names_of all kind) =
-        slice_get_within (names_of all kind) n.value None free in omega (arith, (number_any x).1)
+    module _ {s3 : Stream Seen} (m : Reads (byte 32) s2 tt s3) where
+      pub past_space : Left (symbol_line all) old (symbol_name all kind k) s3
+      past_space = past (chain_space all kind k) past_number m
 
-    good : (f : AigCause) → IsBadSymbol all t f → ⊥
-    good = free_good s2 n x small free
+      module _ {s4 : Stream Seen} {name : List ℕ} (r : Reads rest_of_line s3 name s4) where
+        pub past_name : Left (symbol_line all) old (symbol_end all kind k name) s4
+        past_name = past (chain_name all kind k) past_space r
 
-    behind : (o : Option (Found AigCause)) → Stops aig_causes (symbol_space all kind k) s2 o →
-        Stops aig_causes (symbol_line all) old o
-    unfolding symbol_line
-    behind o m =
-        stops_behind aig_causes (joint_letter all) (letter_reads good) o
-        (stops_behind aig_causes (joint (laws_number AnyNumber) (λ k. laws_symbol_space all kind k) digit_space) k_reads
-        o m)
-
-    pub space_fails : (o : Option (Found AigCause)) → Stops aig_causes (byte 32) s2 o →
-        Stops aig_causes (symbol_line all) old o
-    space_fails o m =
-        behind o (stops_first aig_causes (joint (laws_byte 32) (λ _. laws_symbol_name all kind k) (λ t x y. x)) s2 o m)
-
-    module _ (s3 : Stream Seen) (m3 : Reads (byte 32) s2 tt s3) where
-      pub name_fails : (o : Option (Found AigCause)) → Stops aig_causes rest_of_line s3 o →
-          Stops aig_causes (symbol_line all) old o
-      name_fails o m =
-          behind o (stops_behind aig_causes (joint (laws_byte 32) (λ _. laws_symbol_name all kind k) (λ t x y. x)) m3 o
-          (stops_first aig_causes (joint laws_rest (λ name. laws_symbol_end all kind k name) inner_newline) s3 o m))
-
-      module _ (s4 : Stream Seen) (name : List ℕ) (m4 : Reads rest_of_line s3 name s4) where
-        pub end_fails : (o : Option (Found AigCause)) → Stops aig_causes newline s4 o →
-            Stops aig_causes (symbol_line all) old o
-        end_fails o m =
-            behind o (stops_behind aig_causes (joint (laws_byte 32) (λ _. laws_symbol_name all kind k) (λ t x y. x)) m3
-            o (stops_behind aig_causes (joint laws_rest (λ name. laws_symbol_end all kind k name) inner_newline) m4 o
-            (stops_mapped aig_causes (λ _. add_name all kind k.value name) newline s4 o m)))
-
-        pub symbol_reads : {s5 : Stream Seen} {d : NamesData} → Reads newline s4 tt s5 →
-            d ≡ add_name all kind n.value name → Reads (symbol_line all) old d s5
-        unfolding symbol_line
-        symbol_reads m e =
-            value_is (ap (λ v. add_name all kind v name) k_value ∙ sym e)
-            (reads_then (joint_letter all) (letter_reads good) (reads_then
-            (joint (laws_number AnyNumber) (λ k. laws_symbol_space all kind k) digit_space) k_reads
-            (reads_then (joint (laws_byte 32) (λ _. laws_symbol_name all kind k) (λ t x y. x)) m3
-            (reads_then (joint laws_rest (λ name. laws_symbol_end all kind k name) inner_newline) m4
-            (reads_mapped (λ _. add_name all kind k.value name) m)))))
-
--- the list of one kind, with a name put at its place
-pub named_is : (all : NamesData) (kind : Kind) (names : List (Option (Vec ℕ Global)))
-    {after : List (Option (Vec ℕ Global))} (i : ℕ) (v : Vec ℕ Global)
-    {name : List ℕ} → names_of all kind ≡ map name_bytes names → after ≡ set names i (Some v) → v.items ≡ name
-    → put_names all kind (map name_bytes after) ≡ add_name all kind i name
-named_is all kind names i v e f g =
-    ap (put_names all kind) (ap (map name_bytes) f ∙ map-set name_bytes names i (Some v)
-    ∙ ap₂ (λ (xs : List (Option (List ℕ))) (y : List ℕ). set xs i (Some y)) (sym e) g)
-
-pub short_names : {all : List (Option (List ℕ))} (names : List (Option (Vec ℕ Global))) → all ≡ map name_bytes names →
-    length names < 2 ^ 64 → length all < 2 ^ 64
-short_names names e l = omega (arith, ap length e, length-map names name_bytes)
+        -- the list of one kind, with a name put at its place
+        pub symbol_reads : {s5 : Stream Seen} {after : List (Option (Vec ℕ Global))} (v : Vec ℕ Global) →
+            Reads newline s4 tt s5 → after ≡ set names n.value (Some v) → v.items ≡ name →
+            Reads (symbol_line all) old (put_names all kind (map name_bytes after)) s5
+        symbol_reads v l e f =
+            let value : n.value ≡ k.value = omega (arith, (number_any x).1, within) in
+            reads_last (λ _. add_name all kind k.value name) past_name l
+            (ap (put_names all kind) (ap (map name_bytes) e ∙ map-set name_bytes names n.value (Some v)
+            ∙ ap₂ (λ (xs : List (Option (List ℕ))) (y : List ℕ). set xs n.value (Some y)) (sym a.same) f)
+            ∙ ap (λ i. add_name all kind i name) value)
 
 -- ## Which line comes
 
-pub kind_of : {b : ℕ} {kind : Kind} (t : Seen) → t.byte ≡ b →
-    take_kind (record { byte = b; at = 0; behind = [] }) ≡ Some kind → take_kind t ≡ Some kind
-kind_of {kind} t e h =
-    subst (λ x. cond (eqb x 105) (Some OfInput) (cond (eqb x 108) (Some OfLatch)
-    (cond (eqb x 111) (Some OfOutput) None)) ≡ Some kind) (sym e) h
+letter_at : (t : Seen) → AtKind t → (is_kind (Some t.byte) ≡ true) × (kind : Kind) × (take_kind t ≡ Some kind)
+letter_at t (inl x) = (rw x refl, OfInput, rw x refl)
+letter_at t (inr (inl x)) = (rw x refl, OfLatch, rw x refl)
+letter_at t (inr (inr x)) = (rw x refl, OfOutput, rw x refl)
 
-pub no_kind : (s : Stream Seen) → is_kind (next_byte s) ≡ false → Avoids AtKind (next_of s)
+kind_byte : (t : Seen) → is_kind (Some t.byte) ≡ true → AtKind t
+kind_byte t e = go (or_cases ((t.byte == 105) || (t.byte == 108)) (t.byte == 111) e)
+  where
+    go : (((t.byte == 105) || (t.byte == 108)) ≡ true) ⊎ ((t.byte == 111) ≡ true) → AtKind t
+    go (inr c) = inr (inr (eqb-true t.byte 111 c))
+    go (inl b) = elim (or_cases (t.byte == 105) (t.byte == 108) b) [
+      | inl c ↦ inl (eqb-true t.byte 105 c)
+      | inr c ↦ inr (inl (eqb-true t.byte 108 c))
+    ]
+
+no_kind : (s : Stream Seen) → is_kind (next_byte s) ≡ false → Avoids AtKind (next_of s)
 no_kind s e t n h =
     let k : is_kind (Some t.byte) ≡ false = ap (λ o. is_kind (option_map (λ (x : Seen). x.byte) o)) (sym n) ∙ e in
-    go h k
-  where
-    go : AtKind t → is_kind (Some t.byte) ≡ false → ⊥
-    go (inl x) k = let y : is_kind (Some 105) ≡ false = ap (λ b. is_kind (Some b)) (sym x) ∙ k in cc
-    go (inr (inl x)) k = let y : is_kind (Some 108) ≡ false = ap (λ b. is_kind (Some b)) (sym x) ∙ k in cc
-    go (inr (inr x)) k = let y : is_kind (Some 111) ≡ false = ap (λ b. is_kind (Some b)) (sym x) ∙ k in cc
-
-is_kind_some : (s : Stream Seen) → is_kind (next_byte s) ≡ true →
-    (t : Seen) × (next_of s ≡ Some t) × (kind : Kind) × (take_kind t ≡ Some kind)
-is_kind_some s e = go (next_of s) refl e
-  where
-    go : (o : Option Seen) → next_of s ≡ o → is_kind (option_map (λ (x : Seen). x.byte) o) ≡ true →
-        (t : Seen) × (next_of s ≡ Some t) × (kind : Kind) × (take_kind t ≡ Some kind)
-    go None n h = absurd cc
-    go (Some t) n h = by (eqb t.byte 105) (eqb t.byte 108) (eqb t.byte 111) refl refl refl h
-      where
-        by : (x y z : Bool) → eqb t.byte 105 ≡ x → eqb t.byte 108 ≡ y → eqb t.byte 111 ≡ z → ((x || y) || z) ≡ true →
-            (t : Seen) × (next_of s ≡ Some t) × (kind : Kind) × (take_kind t ≡ Some kind)
-        by true y z a b c h = (t, n, OfInput, kind_of t (eqb-true t.byte 105 a) refl)
-        by false true z a b c h = (t, n, OfLatch, kind_of t (eqb-true t.byte 108 b) refl)
-        by false false true a b c h = (t, n, OfOutput, kind_of t (eqb-true t.byte 111 c) refl)
-        by false false false a b c h = absurd cc
+    let l : is_kind (Some t.byte) ≡ true = (letter_at t h).0 in
+    cc
 
 enters_symbol : (names : NamesData) (s : Stream Seen) → is_kind (next_byte s) ≡ true →
     Enters (symbol_line names) (next_of s)
 unfolding symbol_line
-enters_symbol names s e =
-    let k = is_kind_some s e in
-    enters_then (letter names) (λ kind. symbol_number names kind) (joint_letter names) (next_of s)
-    (subst (Enters (letter names)) (sym k.1) (enters_one take_kind (IsBadSymbol names) k.0 (inl (k.2, k.3))))
+enters_symbol names s e = enters_then (letter names) (symbol_number names) (chain_letter names).joint (next_of s)
+    (go (next_of s) e)
+  where
+    go : (o : Option Seen) → is_kind (option_map (λ (x : Seen). x.byte) o) ≡ true → Enters (letter names) o
+    go None h = absurd cc
+    go (Some t) h =
+        let k = letter_at t (kind_byte t h) in enters_one take_kind (IsBadSymbol names) t (inl (k.1, k.2))
+
+symbol_laws : (names : NamesData) → Laws Odd (symbol_line names) AtKind Nothing ⊥
+symbol_laws names = (laws_symbol_line names).laws
 
 pub names_fail : (names : NamesData) (s : Stream Seen) (o : Option (Found AigCause)) → is_kind (next_byte s) ≡ true →
     Stops aig_causes (symbol_line names) s o → Stops aig_causes (many symbol_line names) s o
 names_fail names s o e m =
-    many_fails symbol_line laws_symbol_line (λ t x y. x) aig_causes names s o (enters_symbol names s e) m
+    many_fails symbol_line symbol_laws (λ t x y. x) aig_causes names s o (enters_symbol names s e) m
 
 pub names_end : {names : NamesData} {s : Stream Seen} → is_kind (next_byte s) ≡ false →
     Reads (many symbol_line names) s names s
-names_end {names} {s} e = many_ends symbol_line laws_symbol_line (λ t x y. x) names s (no_kind s e)
+names_end {names} {s} e = many_ends symbol_line symbol_laws (λ t x y. x) names s (no_kind s e)
 
 pub names_next : (first names : NamesData) {after : NamesData} (start : Stream Seen) {s new : Stream Seen} →
     Carries aig_causes (many symbol_line first) start (many symbol_line names) s → Reads (symbol_line names) s after new
     → Carries aig_causes (many symbol_line first) start (many symbol_line after) new
 names_next first names {after} start c m =
-    carries_many symbol_line laws_symbol_line (λ t x y. x) aig_causes {c = names} {d = after} c m
+    carries_many symbol_line symbol_laws (λ t x y. x) aig_causes {c = names} {d = after} c m
 
 pub symbol_shrinks : (names : NamesData) {after : NamesData} {s new : Stream Seen} →
-    Reads (symbol_line names) s after new →
-    length new.pieces < length s.pieces
-symbol_shrinks names m = reads_shrinks (λ w h. (laws_symbol_line names).null w h) m
+    Reads (symbol_line names) s after new → length new.pieces < length s.pieces
+symbol_shrinks names m = reads_shrinks (λ w h. (symbol_laws names).null w h) m
 
 pub symbol_refused : (names : NamesData) (s : Stream Seen) {e : AigFault} → (next_byte s ≡ Some 105 → ⊥) →
     (next_byte s ≡ Some 108 → ⊥) → (next_byte s ≡ Some 111 → ⊥) → e ≡ Text Syntax (place_of s)
     → Stops aig_causes (symbol_line names) s (found_of e)
 symbol_refused names s i l o is =
-    subst (λ x. Stops aig_causes (symbol_line names) s (found_of x)) (sym is) (stops_here (laws_symbol_line names) none)
+    subst (λ x. Stops aig_causes (symbol_line names) s (found_of x)) (sym is) (stops_here (symbol_laws names) none)
   where
     byte_is : {b : ℕ} {t : Seen} → next_of s ≡ Some t → t.byte ≡ b → next_byte s ≡ Some b
     byte_is n h = ap (option_map (λ (x : Seen). x.byte)) n ∙ ap Some h
@@ -296,7 +225,7 @@ symbol_refused names s i l o is =
 pub letter_is : (s : Stream Seen) {b : ℕ} {kind : Kind} → next_byte s ≡ Some b →
     take_kind (record { byte = b; at = 0; behind = [] }) ≡ Some kind →
     (t : Seen) × (next_of s ≡ Some t) × (take_kind t ≡ Some kind)
-letter_is s e h = let t = next_is (next_of s) e in (t.0, t.1, kind_of t.0 t.2 h)
+letter_is s e h = let t = next_is (next_of s) e in (t.0, t.1, rw t.2 h)
 
 -- a name that was read has a byte, and no newline
 all_plain : (xs : List ℕ) → AllOf is_inner xs → All (λ b. b ≢ 10) xs
@@ -304,45 +233,29 @@ all_plain [] h k d lt = absurd (omega arith)
 all_plain (x ∷ xs) h zero d lt = λ e. let y : is_inner 10 ≡ true = ap is_inner (sym e) ∙ h.0 in cc
 all_plain (x ∷ xs) h (suc k) d lt = all_plain xs h.1 k d (omega arith)
 
-length_bytes : (signs : List Seen) → length (bytes_of signs) ≡ length signs
-length_bytes [] = refl
-length_bytes (s ∷ signs) = ap suc (length_bytes signs)
-
 pub plain_name : {old new : Stream Seen} {name : List ℕ} → Reads rest_of_line old name new →
     (0 < length name) × All (λ b. b ≢ 10) name
 unfolding rest_of_line
 plain_name m =
-    let t = m.1.is_text in (
-      omega (arith, t.some, ap length t.value, length_bytes m.1.text),
+    let t = m.1.is_text in
+    let size = length-map m.1.text (λ s. s.byte) in (
+      omega (arith, t.some, ap length t.value, size),
       subst (λ xs. All (λ b. b ≢ 10) xs) (sym t.value) (all_plain (bytes_of m.1.text) t.all),
     )
 
 -- ## The comment
 
-nothing_left : (s : Stream Seen) → next_byte s ≡ None → s.pieces ≡ []
-nothing_left s e = go s.pieces e
-  where
-    go : (ps : List (Piece Seen)) → option_map (λ (x : Seen). x.byte) (first_of (signs ps)) ≡ None → ps ≡ []
-    go [] e = refl
-    go (p ∷ ps) e = absurd cc
-
-no_comment : (s : Stream Seen) → (next_byte s ≡ Some 99 → ⊥) → Avoids (At 99) (next_of s)
-no_comment s none t n h = none (ap (option_map (λ (x : Seen). x.byte)) n ∙ ap Some h)
-
-pub comment_none : {s : Stream Seen} → next_byte s ≡ None → Reads comment s tt s × (s.pieces ≡ [])
-unfolding comment
-comment_none {s} e = (
-  reads_as {P = give tt} {Q = comment} {old = s} {new = s} {v = tt}
-      (right_otherwise laws_c_line (laws_give Odd tt) (next_of s) (no_comment s (λ h. none_is_some 99 (sym e ∙ h)))
-      (λ z. z)) (reads_give s tt),
-  nothing_left s e,
-)
-
 pub comment_other : {s : Stream Seen} → (next_byte s ≡ Some 99 → ⊥) → Reads comment s tt s
 unfolding comment
-comment_other {s} none =
-    reads_as {P = give tt} {Q = comment} {old = s} {new = s} {v = tt}
-    (right_otherwise laws_c_line (laws_give Odd tt) (next_of s) (no_comment s none) (λ z. z)) (reads_give s tt)
+comment_other {s} none = reads_as (right_otherwise chain_c_line.whole.laws (laws_give Odd tt) (next_of s)
+    (λ t n h. none (ap (option_map (λ (x : Seen). x.byte)) n ∙ ap Some h)) (λ z. z)) (reads_give s tt)
+
+pub comment_none : {s : Stream Seen} → next_byte s ≡ None → Reads comment s tt s × (s.pieces ≡ [])
+comment_none {s} e = (comment_other (λ h. none_is_some 99 (sym e ∙ h)), nothing_left s.pieces e)
+  where
+    nothing_left : (ps : List (Piece Seen)) → option_map (λ (x : Seen). x.byte) (first_of (signs ps)) ≡ None → ps ≡ []
+    nothing_left [] e = refl
+    nothing_left (p ∷ ps) e = absurd cc
 
 any_text : (all : List Seen) → (times (length all) any_sign tt).IsText all tt
 any_text [] = (refl, refl)
@@ -370,14 +283,12 @@ anything_reads {s} e end = (
 pub comment_reads : {s new : Stream Seen} → next_byte s ≡ Some 99 → new.pieces ≡ [] → new.end ≡ s.end →
     Reads comment s tt new × (new.pieces ≡ [])
 unfolding comment byte
-comment_reads {s} {new} e left end =
+comment_reads {s} e left end =
     let t = next_is (next_of s) e in
     let first : Enters (byte 99) (next_of s) =
-    subst (Enters (byte 99)) (sym t.1) (enters_one (take_byte 99) NoBad t.0 (inl (tt, byte_taken t.0 t.2))) in
-    let joint_c = joint (laws_byte 99) (λ _. laws_anything) (λ t x y. x) in (
-      reads_as {P = c_line} {Q = comment} {old = s} {new = new} {v = tt}
-          (left_entered laws_c_line (laws_give Odd tt) (next_of s) (λ t h k. k)
-          (enters_then (byte 99) (λ _. anything) joint_c (next_of s) first))
-          (reads_then joint_c (byte_reads e refl) (anything_reads left end)),
+    subst (Enters (byte 99)) (sym t.1) (enters_one (take_byte 99) NoBad t.0 (inl (tt, byte_taken t.0 t.2))) in (
+      reads_as (left_entered chain_c_line.whole.laws (laws_give Odd tt) (next_of s) (λ t h k. k)
+          (enters_then (byte 99) (λ _. anything) chain_c_line.joint (next_of s) first))
+          (reads_then chain_c_line.joint (byte_reads e refl) (anything_reads left end)),
       left,
     )

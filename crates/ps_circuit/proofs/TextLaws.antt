@@ -1,55 +1,63 @@
 -- The laws of the parts of an AIGER text: with which bytes each begins, and with which it goes on. Its signs: SignLaws.
+--     fields      the chain of a number behind a gap, and what stands behind it
+--     chain_..      a part of a production and what stands behind it
 use Rattle.std.proofs.Common.{◌≡◌, ℕ, zero, suc, Bool, true, false, cond, eqb, List, None, Some, refl, inl, inr}
 use Rattle.std.specs.Prelude.{codes}
 use Rattle.std.proofs.lemmas.Bool.{eqb-true}
 use Rattle.ps_text.specs.Parts.{NoBad, one, then_by, times, many, mapped}
-use Rattle.ps_text.proofs.Laws.{Laws, Joint, Nothing, Or, When, weaker}
-use Rattle.ps_text.proofs.Joined.{joint}
-use Rattle.ps_text.proofs.Simple.{Taken, BadSign, laws_give, laws_one, laws_mapped, laws_then}
-use Rattle.ps_text.proofs.Following.{laws_next, laws_tight}
-use Rattle.ps_text.proofs.Covered.{laws_either}
-use Rattle.ps_text.proofs.Repeated.{laws_many}
+use Rattle.ps_text.proofs.Decisions.{judge_none}
+use Rattle.ps_text.proofs.Laws.{Nothing}
 use Rattle.ps_circuit.specs.declared.cursor.Number.{Number}
 use Rattle.ps_circuit.specs.declared.fault.AigCause.{AigCause}
 use Rattle.ps_circuit.specs.declared.parts.Latch.{Latch}
 use Rattle.ps_circuit.specs.declared.parts.Gate.{Gate}
-use Rattle.ps_circuit.specs.Signs.{Seen, Field, byte, word, number, gap, rest_of_line, newline, line_end}
+use Rattle.ps_circuit.specs.Causes.{cause_number}
+use Rattle.ps_circuit.specs.Signs.{Seen, Field, byte, word, number, gap, rest_of_line, newline, line_end, more, by_more}
 use Rattle.ps_circuit.specs.Texts.{HeaderData, AnyNumber, WrongMost, WrongCount, WrongLiteral, WrongDefinition}
 use Rattle.ps_circuit.specs.Texts.{WrongReset, sections, field, header, Lines, no_lines, next_lines, add_input}
 use Rattle.ps_circuit.specs.Texts.{add_latch, add_output, add_gate, input_line, reset, latch_line, output_line}
 use Rattle.ps_circuit.specs.Texts.{gate_line, Kind, OfInput, OfLatch, OfOutput, NamesData, no_names, add_name}
 use Rattle.ps_circuit.specs.Texts.{take_kind, IsBadSymbol, symbol_line, anything, comment, DraftData, draft_of, symbols}
 use Rattle.ps_circuit.specs.Texts.{body, circuit_text}
-use Rattle.ps_circuit.proofs.Runs.{Odd}
+use Rattle.ps_text.specs.Parts.{give}
+use Rattle.ps_circuit.proofs.Judges.{judge_any, judge_most, judge_count, judge_literal, judge_definition, judge_reset}
+use Rattle.ps_circuit.proofs.Judges.{judge_symbol}
+use Rattle.ps_circuit.proofs.Lawful.{Lawful, Chain, Judges, larger, chained, next, tight, given, mapped_by, or_nothing}
+use Rattle.ps_circuit.proofs.Lawful.{many_of, one_sign}
 use Rattle.ps_circuit.proofs.SignLaws.{At, Any, AtDigit, AtInner, Separates, AtKind, AtTail, AtBody, inner_newline}
 use Rattle.ps_circuit.proofs.SignLaws.{blank_digit, digit_separates, separates_digit, digit_space, separates_body}
-use Rattle.ps_circuit.proofs.SignLaws.{kind_comment, not_odd, seen, laws_byte, laws_word, laws_number, laws_gap}
-use Rattle.ps_circuit.proofs.SignLaws.{laws_rest, laws_newline, laws_line_end, laws_ended, laws_optional}
+use Rattle.ps_circuit.proofs.SignLaws.{kind_comment, seen, laws_byte, laws_word, laws_number, laws_gap, laws_rest}
+use Rattle.ps_circuit.proofs.SignLaws.{laws_newline, laws_line_end, numbers, optional}
 
 -- ## The first line
 
-pub laws_counted : (n : ℕ) → Laws Odd (sections n) Separates Separates ⊥ →
-    Laws Odd (then_by (number WrongCount) (λ _. sections n)) AtDigit Separates ⊥
-laws_counted n l = laws_next (laws_number WrongCount) (λ _. l) digit_separates
+pub chain_counted : (n : ℕ) → Lawful (sections n) Separates Separates ⊥ →
+    Chain (number WrongCount) (λ _. sections n) AtDigit Separates ⊥
+chain_counted n l = numbers judge_count (λ _. l)
 
-pub laws_sections : (n : ℕ) → Laws Odd (sections n) Separates Separates ⊥
+pub laws_sections : (n : ℕ) → Lawful (sections n) Separates Separates ⊥
 unfolding sections
-laws_sections zero = weaker laws_line_end (λ t h. h) (λ t h. absurd h) (λ n. n)
-laws_sections (suc n) = laws_optional (laws_counted n (laws_sections n)) tt
+laws_sections zero = laws_line_end
+laws_sections (suc n) = (optional (chain_counted n (laws_sections n)).whole tt).whole
 
-pub joint_field : (Wrong : ℕ → AigCause → Type 0) → Joint gap (λ _. number Wrong)
-joint_field Wrong = joint laws_gap (λ _. laws_number Wrong) blank_digit
+pub chain_sections : (n : ℕ) → Chain more (by_more (then_by (number WrongCount) (λ _. sections n)) (give tt)) Separates
+    Separates ⊥
+chain_sections n = optional (chain_counted n (laws_sections n)).whole tt
 
-pub laws_field : (Wrong : ℕ → AigCause → Type 0) → Laws Odd (field Wrong) Separates AtDigit ⊥
+pub chain_field : {Wrong : ℕ → AigCause → Type 0} → Judges Wrong →
+    Chain gap (λ _. number Wrong) Separates AtDigit ⊥
+chain_field judge = chained laws_gap (λ _. laws_number judge) blank_digit (λ t h. inl h) (λ t h. absurd h.0) (λ t h. h)
+    (λ t h. absurd h.0) (λ n. n.0)
+
+-- a number behind a gap, and what stands behind it
+pub fields : {B : Type 0} {Q : Number → Field B} {Wrong : ℕ → AigCause → Type 0} {More : Seen → Type 0} →
+    Judges Wrong → ((n : Number) → Lawful (Q n) Separates More ⊥) → Chain (field Wrong) Q Separates More ⊥
 unfolding field
-laws_field Wrong = weaker (laws_next laws_gap (λ _. laws_number Wrong) blank_digit) (λ t h. inl h) (λ t h. h) (λ n. n)
+fields judge q = next (chain_field judge).whole q digit_separates
 
-module _ (m i l o a : Number) where
-  abbrev pub header_of : Unit {0} → HeaderData
-  header_of u = record { most = m.value; inputs = i.value; latches = l.value; outputs = o.value; gates = a.value }
-
-  pub laws_header_5 : Laws Odd (mapped (header_of) (sections 4)) Separates Separates ⊥
-  laws_header_5 = laws_mapped (header_of) (sections 4) (laws_sections 4)
+abbrev pub header_of : (m i l o a : Number) → Unit {0} → HeaderData
+header_of m i l o a u =
+    record { most = m.value; inputs = i.value; latches = l.value; outputs = o.value; gates = a.value }
 
 abbrev pub header_5 : (m i l o a : Number) → Field HeaderData
 header_5 m i l o a = mapped (header_of m i l o a) (sections 4)
@@ -69,111 +77,115 @@ header_1 m = then_by (field AnyNumber) (header_2 m)
 abbrev pub header_0 : Field HeaderData
 header_0 = then_by (field WrongMost) header_1
 
-pub laws_header_4 : (m i l o : Number) → Laws Odd (header_4 m i l o) Separates Separates ⊥
-laws_header_4 m i l o = laws_next (laws_field AnyNumber) (λ a. laws_header_5 m i l o a) digit_separates
+pub chain_4 : (m i l o : Number) → Chain (field AnyNumber) (header_5 m i l o) Separates Separates ⊥
+chain_4 m i l o = fields judge_any (λ a. mapped_by (header_of m i l o a) (laws_sections 4))
 
-pub laws_header_3 : (m i l : Number) → Laws Odd (header_3 m i l) Separates Separates ⊥
-laws_header_3 m i l = laws_next (laws_field AnyNumber) (λ o. laws_header_4 m i l o) digit_separates
+pub chain_3 : (m i l : Number) → Chain (field AnyNumber) (header_4 m i l) Separates Separates ⊥
+chain_3 m i l = fields judge_any (λ o. (chain_4 m i l o).whole)
 
-pub laws_header_2 : (m i : Number) → Laws Odd (header_2 m i) Separates Separates ⊥
-laws_header_2 m i = laws_next (laws_field AnyNumber) (λ l. laws_header_3 m i l) digit_separates
+pub chain_2 : (m i : Number) → Chain (field AnyNumber) (header_3 m i) Separates Separates ⊥
+chain_2 m i = fields judge_any (λ l. (chain_3 m i l).whole)
 
-pub laws_header_1 : (m : Number) → Laws Odd (header_1 m) Separates Separates ⊥
-laws_header_1 m = laws_next (laws_field AnyNumber) (λ i. laws_header_2 m i) digit_separates
+pub chain_1 : (m : Number) → Chain (field AnyNumber) (header_2 m) Separates Separates ⊥
+chain_1 m = fields judge_any (λ i. (chain_2 m i).whole)
 
-pub laws_header_0 : Laws Odd header_0 Separates Separates ⊥
-laws_header_0 = laws_next (laws_field WrongMost) (λ m. laws_header_1 m) digit_separates
+pub chain_0 : Chain (field WrongMost) header_1 Separates Separates ⊥
+chain_0 = fields judge_most (λ m. (chain_1 m).whole)
 
-pub joint_header : Joint (word (codes "aag")) (λ _. header_0)
-joint_header = joint (laws_word (codes "aag")) (λ _. laws_header_0) (λ t x y. x)
-
-pub laws_header : Laws Odd header Any Separates ⊥
-unfolding header
-laws_header = weaker (laws_then (laws_word (codes "aag")) (λ _. laws_header_0) (λ t x y. x)) (λ t h. tt) next (λ n. n.1)
-  where
-    next : (t : Seen) → Or Separates (When ⊥ Nothing) t → Separates t
-    next t (inl x) = x
-    next t (inr x) = absurd x.0
+pub chain_header : Chain (word (codes "aag")) (λ _. header_0) Any Separates ⊥
+chain_header = chained (laws_word (codes "aag")) (λ _. chain_0.whole) (λ t h k. h) (λ t h. tt) (λ t h. tt) (λ t h. h)
+    (λ t h. absurd h.0) (λ n. n.1)
 
 -- ## Number lines
 
-pub laws_input_line : (most : ℕ) (c : Lines ℕ) → Laws Odd (input_line most c) AtDigit Separates ⊥
-unfolding input_line
-laws_input_line most c =
-    weaker (laws_next (laws_number (WrongDefinition most c.defined)) (λ l. laws_ended (add_input c l)) digit_separates)
-    (λ t h. h) (λ t h. absurd h) (λ n. n)
+pub laws_ended : {V : Type 0} (v : V) → Lawful (mapped (λ _. v) line_end) Separates Separates ⊥
+laws_ended v = mapped_by (λ _. v) laws_line_end
 
-pub laws_output_line : (most : ℕ) (c : Lines ℕ) → Laws Odd (output_line most c) AtDigit Separates ⊥
+pub chain_input : (most : ℕ) (c : Lines ℕ) →
+    Chain (number (WrongDefinition most c.defined)) (λ l. mapped (λ _. add_input c l) line_end) AtDigit Separates ⊥
+chain_input most c = numbers (judge_definition most c.defined) (λ l. laws_ended (add_input c l))
+
+pub laws_input_line : (most : ℕ) (c : Lines ℕ) → Lawful (input_line most c) AtDigit Separates ⊥
+unfolding input_line
+laws_input_line most c = (chain_input most c).whole
+
+pub chain_output : (most : ℕ) (c : Lines ℕ) →
+    Chain (number (WrongLiteral most)) (λ l. mapped (λ _. add_output c l) line_end) AtDigit Separates ⊥
+chain_output most c = numbers (judge_literal most) (λ l. laws_ended (add_output c l))
+
+pub laws_output_line : (most : ℕ) (c : Lines ℕ) → Lawful (output_line most c) AtDigit Separates ⊥
 unfolding output_line
-laws_output_line most c =
-    weaker (laws_next (laws_number (WrongLiteral most)) (λ l. laws_ended (add_output c l)) digit_separates) (λ t h. h)
-    (λ t h. absurd h) (λ n. n)
+laws_output_line most c = (chain_output most c).whole
 
 abbrev pub is_one : Number → Unit {0} → Bool
 is_one n u = eqb n.value 1
 
-pub laws_reset_value : (latch : ℕ) → Laws Odd (then_by (number (WrongReset latch)) (λ n. mapped (is_one n) line_end))
-    AtDigit Separates ⊥
-laws_reset_value latch =
-    weaker (laws_next (laws_number (WrongReset latch)) (λ n. laws_mapped (is_one n) line_end laws_line_end)
-    digit_separates) (λ t h. h) (λ t h. absurd h) (λ n. n)
+pub chain_value : (latch : ℕ) → Chain (number (WrongReset latch)) (λ n. mapped (is_one n) line_end) AtDigit Separates ⊥
+chain_value latch = numbers (judge_reset latch) (λ n. mapped_by (is_one n) laws_line_end)
 
-pub laws_reset : (latch : ℕ) → Laws Odd (reset latch) Separates Separates ⊥
+pub chain_reset : (latch : ℕ) → Chain more (by_more (then_by (number (WrongReset latch))
+    (λ n. mapped (is_one n) line_end)) (give false)) Separates Separates ⊥
+chain_reset latch = optional (chain_value latch).whole false
+
+pub laws_reset : (latch : ℕ) → Lawful (reset latch) Separates Separates ⊥
 unfolding reset
-laws_reset latch = laws_optional (laws_reset_value latch) false
+laws_reset latch = (chain_reset latch).whole
 
 abbrev pub latch_end : Lines Latch → Number → Number → Field (Lines Latch)
 latch_end c l next = mapped (λ r. add_latch c l next r) (reset l.value)
 
-pub laws_latch_end : (c : Lines Latch) (l next : Number) → Laws Odd (latch_end c l next) Separates Separates ⊥
-laws_latch_end c l next = laws_mapped (λ r. add_latch c l next r) (reset l.value) (laws_reset l.value)
-
 abbrev pub latch_next : ℕ → Lines Latch → Number → Field (Lines Latch)
-latch_next most c l = then_by (field (WrongLiteral most)) (λ next. latch_end c l next)
+latch_next most c l = then_by (field (WrongLiteral most)) (latch_end c l)
 
-pub laws_latch_next : (most : ℕ) (c : Lines Latch) (l : Number) → Laws Odd (latch_next most c l) Separates Separates ⊥
-laws_latch_next most c l = laws_next (laws_field (WrongLiteral most)) (λ next. laws_latch_end c l next) digit_separates
+pub chain_next : (most : ℕ) (c : Lines Latch) (l : Number) →
+    Chain (field (WrongLiteral most)) (latch_end c l) Separates Separates ⊥
+chain_next most c l = fields (judge_literal most) (λ n. mapped_by (λ r. add_latch c l n r) (laws_reset l.value))
 
-pub laws_latch_line : (most : ℕ) (c : Lines Latch) → Laws Odd (latch_line most c) AtDigit Separates ⊥
+pub chain_latch : (most : ℕ) (c : Lines Latch) →
+    Chain (number (WrongDefinition most c.defined)) (latch_next most c) AtDigit Separates ⊥
+chain_latch most c = numbers (judge_definition most c.defined) (λ l. (chain_next most c l).whole)
+
+pub laws_latch_line : (most : ℕ) (c : Lines Latch) → Lawful (latch_line most c) AtDigit Separates ⊥
 unfolding latch_line
-laws_latch_line most c =
-    laws_next (laws_number (WrongDefinition most c.defined)) (λ l. laws_latch_next most c l) digit_separates
+laws_latch_line most c = (chain_latch most c).whole
+
+abbrev pub gate_end : Lines Gate → Number → Number → Number → Field (Lines Gate)
+gate_end c l first second = mapped (λ _. add_gate c l first second) line_end
 
 abbrev pub gate_second : ℕ → Lines Gate → Number → Number → Field (Lines Gate)
-gate_second most c l first =
-    then_by (field (WrongLiteral most)) (λ second. mapped (λ _. add_gate c l first second) line_end)
-
-pub laws_gate_second : (most : ℕ) (c : Lines Gate) (l first : Number) →
-    Laws Odd (gate_second most c l first) Separates Nothing ⊥
-laws_gate_second most c l first =
-    laws_next (laws_field (WrongLiteral most)) (λ second. laws_ended (add_gate c l first second)) digit_separates
+gate_second most c l first = then_by (field (WrongLiteral most)) (gate_end c l first)
 
 abbrev pub gate_first : ℕ → Lines Gate → Number → Field (Lines Gate)
-gate_first most c l = then_by (field (WrongLiteral most)) (λ first. gate_second most c l first)
+gate_first most c l = then_by (field (WrongLiteral most)) (gate_second most c l)
 
-pub laws_gate_first : (most : ℕ) (c : Lines Gate) (l : Number) → Laws Odd (gate_first most c l) Separates Nothing ⊥
-laws_gate_first most c l =
-    laws_next (laws_field (WrongLiteral most)) (λ first. laws_gate_second most c l first) digit_separates
+pub chain_second : (most : ℕ) (c : Lines Gate) (l first : Number) →
+    Chain (field (WrongLiteral most)) (gate_end c l first) Separates Separates ⊥
+chain_second most c l first = fields (judge_literal most) (λ second. laws_ended (add_gate c l first second))
 
-pub laws_gate_line : (most : ℕ) (c : Lines Gate) → Laws Odd (gate_line most c) AtDigit Separates ⊥
+pub chain_first : (most : ℕ) (c : Lines Gate) (l : Number) →
+    Chain (field (WrongLiteral most)) (gate_second most c l) Separates Separates ⊥
+chain_first most c l = fields (judge_literal most) (λ first. (chain_second most c l first).whole)
+
+pub chain_gate : (most : ℕ) (c : Lines Gate) →
+    Chain (number (WrongDefinition most c.defined)) (gate_first most c) AtDigit Separates ⊥
+chain_gate most c = numbers (judge_definition most c.defined) (λ l. (chain_first most c l).whole)
+
+pub laws_gate_line : (most : ℕ) (c : Lines Gate) → Lawful (gate_line most c) AtDigit Separates ⊥
 unfolding gate_line
-laws_gate_line most c =
-    weaker (laws_next (laws_number (WrongDefinition most c.defined)) (λ l. laws_gate_first most c l) digit_separates)
-    (λ t h. h) (λ t h. absurd h) (λ n. n)
+laws_gate_line most c = (chain_gate most c).whole
 
 -- so many lines of one kind
-pub laws_lines : {C : Type 0} (item : C → Field C) → ((c : C) → Laws Odd (item c) AtDigit Separates ⊥) →
-    (n : ℕ) (c : C) → Laws Odd (times n item c) AtDigit Separates (Unit {0})
-laws_lines item l zero c = weaker (laws_give Odd c) (λ t h. absurd h) (λ t h. absurd h) (λ n. n)
-laws_lines item l (suc n) c = weaker (laws_then (l c) (λ d. laws_lines item l n d) separates_digit) first next (λ n. tt)
-  where
-    first : (t : Seen) → Or AtDigit (When ⊥ AtDigit) t → AtDigit t
-    first t (inl x) = x
-    first t (inr x) = absurd x.0
+module _ {C : Type 0} (item : C → Field C) (l : (c : C) → Lawful (item c) AtDigit Separates ⊥) where
+  behind_line : (n : ℕ) (c : C) → ((d : C) → Lawful (times n item d) AtDigit Separates (Unit {0})) →
+      Chain (item c) (times n item) AtDigit Separates (Unit {0})
+  behind_line n c q = chained (l c) q separates_digit (λ t h. h) (λ t h. absurd h.0) (λ t h. h) (λ t h. h.1) (λ n. tt)
 
-    next : (t : Seen) → Or Separates (When (Unit {0}) Separates) t → Separates t
-    next t (inl x) = x
-    next t (inr x) = x.1
+  laws_lines : (n : ℕ) (c : C) → Lawful (times n item c) AtDigit Separates (Unit {0})
+  laws_lines zero c = larger (given c) (λ t h. absurd h) (λ t h. absurd h) (λ n. n)
+  laws_lines (suc n) c = (behind_line n c (laws_lines n)).whole
+
+  pub chain_lines : (n : ℕ) (c : C) → Chain (item c) (times n item) AtDigit Separates (Unit {0})
+  chain_lines n c = behind_line n c (laws_lines n)
 
 -- ## Names
 
@@ -190,149 +202,107 @@ kind_at s {k} e = go (eqb s.byte 105) (eqb s.byte 108) (eqb s.byte 111) refl ref
 abbrev pub letter : NamesData → Field Kind
 letter names = one take_kind (IsBadSymbol names)
 
-pub laws_letter : (names : NamesData) → Laws Odd (letter names) AtKind Nothing ⊥
-laws_letter names =
-    weaker (laws_one take_kind (IsBadSymbol names) Odd (seen 105) OfInput refl (not_odd (Taken take_kind))
-    (not_odd (BadSign (IsBadSymbol names)))) first (λ t h. h) (λ n. n)
-  where
-    first : (t : Seen) → Or (Taken take_kind) (BadSign (IsBadSymbol names)) t → AtKind t
-    first t (inl x) = kind_at t x.1
-    first t (inr x) = kind_at t x.1.letter
-
 abbrev pub symbol_end : NamesData → Kind → Number → List ℕ → Field NamesData
 symbol_end names kind k name = mapped (λ _. add_name names kind k.value name) newline
 
 abbrev pub symbol_name : NamesData → Kind → Number → Field NamesData
-symbol_name names kind k = then_by rest_of_line (λ name. symbol_end names kind k name)
+symbol_name names kind k = then_by rest_of_line (symbol_end names kind k)
 
 abbrev pub symbol_space : NamesData → Kind → Number → Field NamesData
 symbol_space names kind k = then_by (byte 32) (λ _. symbol_name names kind k)
 
 abbrev pub symbol_number : NamesData → Kind → Field NamesData
-symbol_number names kind = then_by (number AnyNumber) (λ k. symbol_space names kind k)
+symbol_number names kind = then_by (number AnyNumber) (symbol_space names kind)
 
-pub laws_symbol_end : (names : NamesData) (kind : Kind) (k : Number) (name : List ℕ) →
-    Laws Odd (symbol_end names kind k name) (At 10) Nothing ⊥
-laws_symbol_end names kind k name = laws_mapped (λ _. add_name names kind k.value name) newline laws_newline
+module _ (names : NamesData) where
+  pub chain_name : (kind : Kind) (k : Number) → Chain rest_of_line (symbol_end names kind k) AtInner Nothing ⊥
+  chain_name kind k = next laws_rest (λ name. mapped_by (λ _. add_name names kind k.value name) laws_newline)
+      inner_newline
 
-pub laws_symbol_name : (names : NamesData) (kind : Kind) (k : Number) →
-    Laws Odd (symbol_name names kind k) AtInner Nothing ⊥
-laws_symbol_name names kind k = laws_next laws_rest (λ name. laws_symbol_end names kind k name) inner_newline
+  pub chain_space : (kind : Kind) (k : Number) → Chain (byte 32) (λ _. symbol_name names kind k) (At 32) Nothing ⊥
+  chain_space kind k = tight (laws_byte 32) (λ _. (chain_name kind k).whole)
 
-pub laws_symbol_space : (names : NamesData) (kind : Kind) (k : Number) →
-    Laws Odd (symbol_space names kind k) (At 32) Nothing ⊥
-laws_symbol_space names kind k = laws_tight (laws_byte 32) (λ _. laws_symbol_name names kind k)
+  pub chain_number : (kind : Kind) → Chain (number AnyNumber) (symbol_space names kind) AtDigit Nothing ⊥
+  chain_number kind = next (laws_number judge_any) (λ k. (chain_space kind k).whole) digit_space
 
-pub laws_symbol_number : (names : NamesData) (kind : Kind) → Laws Odd (symbol_number names kind) AtDigit Nothing ⊥
-laws_symbol_number names kind = laws_next (laws_number AnyNumber) (λ k. laws_symbol_space names kind k) digit_space
+  pub chain_letter : Chain (letter names) (symbol_number names) AtKind Nothing ⊥
+  chain_letter = tight (one_sign take_kind (IsBadSymbol names) (seen 105) {v = OfInput} refl (judge_symbol names)
+      (λ t h. kind_at t h.1) (λ t h. kind_at t h.1.letter)) (λ kind. (chain_number kind).whole)
 
-pub joint_letter : (names : NamesData) → Joint (letter names) (λ kind. symbol_number names kind)
-joint_letter names = joint (laws_letter names) (λ kind. laws_symbol_number names kind) (λ t x y. x)
-
-pub laws_symbol_line : (names : NamesData) → Laws Odd (symbol_line names) AtKind Nothing ⊥
-unfolding symbol_line
-laws_symbol_line names = laws_tight (laws_letter names) (λ kind. laws_symbol_number names kind)
+  pub laws_symbol_line : Lawful (symbol_line names) AtKind Nothing ⊥
+  unfolding symbol_line
+  laws_symbol_line = chain_letter.whole
 
 abbrev pub any_sign : Unit {0} → Field (Unit {0})
 any_sign u = one (λ s. Some tt) NoBad
 
-pub laws_any_sign : (u : Unit {0}) → Laws Odd (any_sign u) Any Nothing ⊥
-laws_any_sign u =
-    weaker (laws_one {F = AigCause} (λ (s : Seen). Some tt) NoBad Odd (seen 0) tt refl
-    (not_odd (Taken (λ (s : Seen). Some tt))) (not_odd (BadSign NoBad))) (λ t h. tt) (λ t h. h) (λ n. n)
-
-pub laws_anything : Laws Odd anything Any Any (Unit {0})
+laws_anything : Lawful anything Any Any (Unit {0})
 unfolding anything
-laws_anything = weaker (laws_many any_sign laws_any_sign (λ t x y. x) tt) (λ t h. h) (λ t h. tt) (λ n. n)
+laws_anything = many_of any_sign (λ u. one_sign (λ s. Some tt) NoBad (seen 0) {v = tt} refl
+    (λ t. judge_none cause_number) (λ t h. tt) (λ t h. tt)) tt
 
-abbrev pub c_line : Field (Unit {0})
-c_line = then_by (byte 99) (λ _. anything)
+pub chain_c_line : Chain (byte 99) (λ _. anything) (At 99) Any ⊥
+chain_c_line = tight (laws_byte 99) (λ _. laws_anything)
 
-pub laws_c_line : Laws Odd c_line (At 99) Any ⊥
-laws_c_line = laws_tight (laws_byte 99) (λ _. laws_anything)
-
-pub laws_comment : Laws Odd comment (At 99) Any (Unit {0})
+laws_comment : Lawful comment (At 99) Any (Unit {0})
 unfolding comment
-laws_comment = weaker (laws_either laws_c_line (laws_give Odd tt) (λ t x y. y) (λ x y. x)) first (λ t h. tt) (λ n. tt)
-  where
-    first : (t : Seen) → Or (At 99) Nothing t → At 99 t
-    first t (inl x) = x
-    first t (inr x) = absurd x
+laws_comment = or_nothing tt chain_c_line.whole (λ t h. tt) (λ t h. tt)
 
 -- ## The text
-
-more_kind : (t : Seen) → Or Nothing AtKind t → AtKind t
-more_kind t (inl x) = absurd x
-more_kind t (inr x) = x
-
-pub laws_names : (names : NamesData) → Laws Odd (many symbol_line names) AtKind AtKind (Unit {0})
-laws_names names = weaker (laws_many symbol_line laws_symbol_line (λ t x y. x) names) (λ t h. h) more_kind (λ n. n)
 
 module _ (most : ℕ) (i : Lines ℕ) (l : Lines Latch) (o : Lines ℕ) (a : Lines Gate) where
   abbrev pub closing : NamesData → Field DraftData
   closing names = mapped (λ _. draft_of most i l o a names) comment
 
-  pub laws_closing : (names : NamesData) → Laws Odd (closing names) (At 99) Any (Unit {0})
-  laws_closing names = laws_mapped (λ _. draft_of most i l o a names) comment laws_comment
-
   abbrev pub first_names : NamesData
   first_names = record { inputs = no_names i.items; latches = no_names l.items; outputs = no_names o.items }
 
-  pub joint_symbols : Joint (many symbol_line first_names) (λ names. closing names)
-  joint_symbols = joint (laws_names first_names) (λ names. laws_closing names) kind_comment
+  pub chain_symbols : Chain (many symbol_line first_names) closing AtTail Any (Unit {0})
+  chain_symbols = chained (many_of symbol_line laws_symbol_line first_names)
+      (λ names. mapped_by (λ _. draft_of most i l o a names) laws_comment) kind_comment (λ t h. inl h)
+      (λ t h. inr h.1) (λ t h. tt) (λ t h. tt) (λ n. tt)
 
-  pub laws_symbols : Laws Odd (symbols most i l o a) AtTail Any (Unit {0})
+  laws_symbols : Lawful (symbols most i l o a) AtBody Any (Unit {0})
   unfolding symbols
-  laws_symbols =
-      weaker (laws_then (laws_names first_names) (λ names. laws_closing names) kind_comment) first (λ t h. tt) (λ n. tt)
-    where
-      first : (t : Seen) → Or AtKind (When (Unit {0}) (At 99)) t → AtTail t
-      first t (inl x) = inl x
-      first t (inr x) = inr x.1
+  laws_symbols = larger chain_symbols.whole (λ t h. inr h) (λ t h. h) (λ n. n)
 
-module _ {C : Type 0} {item : C → Field C} (l : (c : C) → Laws Odd (item c) AtDigit Separates ⊥) (n : ℕ) (c : C)
-    {Q : C → Field DraftData} {Null : Type 0} (r : (d : C) → Laws Odd (Q d) AtBody Any Null) where
-  pub joint_lines : Joint (times n item c) (λ d. Q d)
-  joint_lines = joint (laws_lines item l n c) r separates_body
-
-  pub laws_with_lines : Laws Odd (then_by (times n item c) (λ d. Q d)) AtBody Any (Unit {0})
-  laws_with_lines = weaker (laws_then (laws_lines item l n c) r separates_body) first (λ t h. tt) (λ n. tt)
-    where
-      first : (t : Seen) → Or AtDigit (When (Unit {0}) AtBody) t → AtBody t
-      first t (inl x) = inl x
-      first t (inr x) = x.1
+with_lines : {C : Type 0} {item : C → Field C} → ((c : C) → Lawful (item c) AtDigit Separates ⊥) → (n : ℕ) (c : C)
+    {Q : C → Field DraftData} {Null : Type 0} → ((d : C) → Lawful (Q d) AtBody Any Null) →
+    Chain (times n item c) Q AtBody Any (Unit {0})
+with_lines {item = item} l n c r = chained (laws_lines item l n c) r separates_body (λ t h. inl h) (λ t h. h.1)
+    (λ t h. tt) (λ t h. tt) (λ n. tt)
 
 module _ (h : HeaderData) where
   abbrev pub body_gates : Lines ℕ → Lines Latch → Lines ℕ → Field DraftData
-  body_gates i l o = then_by (times h.gates (gate_line h.most) (next_lines o)) (λ a. symbols h.most i l o a)
+  body_gates i l o = then_by (times h.gates (gate_line h.most) (next_lines o)) (symbols h.most i l o)
 
   abbrev pub body_outputs : Lines ℕ → Lines Latch → Field DraftData
-  body_outputs i l = then_by (times h.outputs (output_line h.most) (next_lines l)) (λ o. body_gates i l o)
+  body_outputs i l = then_by (times h.outputs (output_line h.most) (next_lines l)) (body_gates i l)
 
   abbrev pub body_latches : Lines ℕ → Field DraftData
-  body_latches i = then_by (times h.latches (latch_line h.most) (next_lines i)) (λ l. body_outputs i l)
+  body_latches i = then_by (times h.latches (latch_line h.most) (next_lines i)) (body_outputs i)
 
-  pub laws_behind_gates : (i : Lines ℕ) (l : Lines Latch) (o : Lines ℕ) (a : Lines Gate) →
-      Laws Odd (symbols h.most i l o a) AtBody Any (Unit {0})
-  laws_behind_gates i l o a = weaker (laws_symbols h.most i l o a) (λ t h. inr h) (λ t h. h) (λ n. n)
+  pub chain_gates : (i : Lines ℕ) (l : Lines Latch) (o : Lines ℕ) →
+      Chain (times h.gates (gate_line h.most) (next_lines o)) (symbols h.most i l o) AtBody Any (Unit {0})
+  chain_gates i l o = with_lines (laws_gate_line h.most) h.gates (next_lines o) (laws_symbols h.most i l o)
 
-  pub laws_body_gates : (i : Lines ℕ) (l : Lines Latch) (o : Lines ℕ) →
-      Laws Odd (body_gates i l o) AtBody Any (Unit {0})
-  laws_body_gates i l o = laws_with_lines (laws_gate_line h.most) h.gates (next_lines o) (laws_behind_gates i l o)
+  pub chain_outputs : (i : Lines ℕ) (l : Lines Latch) →
+      Chain (times h.outputs (output_line h.most) (next_lines l)) (body_gates i l) AtBody Any (Unit {0})
+  chain_outputs i l =
+      with_lines (laws_output_line h.most) h.outputs (next_lines l) (λ o. (chain_gates i l o).whole)
 
-  pub laws_body_outputs : (i : Lines ℕ) (l : Lines Latch) → Laws Odd (body_outputs i l) AtBody Any (Unit {0})
-  laws_body_outputs i l = laws_with_lines (laws_output_line h.most) h.outputs (next_lines l) (laws_body_gates i l)
+  pub chain_latches : (i : Lines ℕ) →
+      Chain (times h.latches (latch_line h.most) (next_lines i)) (body_outputs i) AtBody Any (Unit {0})
+  chain_latches i = with_lines (laws_latch_line h.most) h.latches (next_lines i) (λ l. (chain_outputs i l).whole)
 
-  pub laws_body_latches : (i : Lines ℕ) → Laws Odd (body_latches i) AtBody Any (Unit {0})
-  laws_body_latches i = laws_with_lines (laws_latch_line h.most) h.latches (next_lines i) (laws_body_outputs i)
+  pub chain_inputs : (c : Lines ℕ) → Chain (times h.inputs (input_line h.most) c) body_latches AtBody Any (Unit {0})
+  chain_inputs c = with_lines (laws_input_line h.most) h.inputs c (λ i. (chain_latches i).whole)
 
-  pub laws_body : Laws Odd (body h) AtBody Any (Unit {0})
-  unfolding body
-  laws_body = laws_with_lines (laws_input_line h.most) h.inputs no_lines laws_body_latches
+pub chain_text : Chain header body Any Any ⊥
+unfolding header body
+chain_text = chained chain_header.whole (λ h. (chain_inputs h no_lines).whole) separates_body (λ t h. tt) (λ t h. tt)
+    (λ t h. tt) (λ t h. tt) (λ n. n.0)
 
-pub joint_text : Joint header (λ h. body h)
-joint_text = joint laws_header laws_body separates_body
-
-pub laws_text : Laws Odd circuit_text Any Any ⊥
+pub laws_text : Lawful circuit_text Any Any ⊥
 unfolding circuit_text
-laws_text = weaker (laws_then laws_header laws_body separates_body) (λ t h. tt) (λ t h. tt) (λ n. n.0)
+laws_text = chain_text.whole

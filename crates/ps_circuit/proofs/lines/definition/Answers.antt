@@ -1,9 +1,9 @@
-use Rattle.std.proofs.Common.{◌≡◌, ◌∙◌, true, false, Ok, sym, ap}
+use Rattle.std.proofs.Common.{◌∙◌, Ok, ap}
 use Rattle.ps_circuit.specs.Literals.{variable}
 use Rattle.ps_circuit.specs.Signs.{number}
 use Rattle.ps_circuit.specs.Texts.{WrongDefinition}
 use Rattle.ps_circuit.specs.Reading.{AddsVariable}
-use Rattle.ps_circuit.proofs.CursorLemmas.{exit, memory_exit}
+use Rattle.ps_circuit.proofs.Exits.{exit, memory_exit, refuted}
 use Rattle.ps_circuit.proofs.NumberLemmas.{number_none}
 use Rattle.ps_circuit.proofs.LineLemmas.{definition_reads, definition_wrong, definition_twice}
 use Rattle.ps_circuit.proofs.ReadingLemmas.{defines_one, at_true}
@@ -18,7 +18,7 @@ returns-in_err-number-clause-exact c =
 pub returns-then-not-can_define-clause-exact : goal.returns-then-not-can_define-clause-exact
 returns-then-not-can_define-clause-exact c =
     definition_wrong c.args.most c.args.variables.now c.requires c.in_ok-number.ensures
-    (λ d. let y : true ≡ false = sym (c.can_define.ensures.1 d) ∙ c.if-not-can_define.true in cc) c.refused.ensures
+    (refuted c.can_define.ensures.1 c.if-not-can_define.true) c.refused.ensures
 
 pub returns-in_err-adds-clause-exact : goal.returns-in_err-adds-clause-exact
 returns-in_err-adds-clause-exact c =

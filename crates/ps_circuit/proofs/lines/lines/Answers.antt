@@ -1,7 +1,7 @@
 use Rattle.std.proofs.Common.{[], sym, ap}
 use Rattle.ps_text.specs.Parts.{times}
 use Rattle.ps_circuit.specs.Reading.{lines_of}
-use Rattle.ps_circuit.proofs.CursorLemmas.{exit}
+use Rattle.ps_circuit.proofs.Exits.{exit}
 use Rattle.ps_circuit.proofs.LineLemmas.{lining_from, lining_next, lining_fails, lining_ends}
 use Rattle.ps_circuit.proofs.lines.lines.Goals as goal
 

@@ -1,6 +1,7 @@
-use Rattle.std.proofs.Common.{◌≡◌, ◌∙◌, true, false, refl, sym}
+use Rattle.std.proofs.Common.{refl}
 use Rattle.ps_circuit.specs.Texts.{OfInput, OfLatch, OfOutput}
 use Rattle.ps_circuit.specs.Names.{names_data}
+use Rattle.ps_circuit.proofs.Exits.{refuted}
 use Rattle.ps_circuit.proofs.SymbolLemmas.{letter_is, symbol_refused}
 use Rattle.ps_circuit.proofs.names.symbol_line.Goals as goal
 
@@ -22,6 +23,6 @@ returns-then-comes-3-clause-exact c =
 pub returns-clause-exact : goal.returns-clause-exact
 returns-clause-exact c =
     symbol_refused (names_data c.args.names.now) c.args.cursor.now
-    (λ e. let y : true ≡ false = sym (c.comes.ensures.1 e) ∙ c.if-comes.false in cc)
-    (λ e. let y : true ≡ false = sym (c.comes-2.ensures.1 e) ∙ c.if-comes-2.false in cc)
-    (λ e. let y : true ≡ false = sym (c.comes-3.ensures.1 e) ∙ c.if-comes-3.false in cc) c.refusal.ensures
+    (refuted c.comes.ensures.1 c.if-comes.false)
+    (refuted c.comes-2.ensures.1 c.if-comes-2.false)
+    (refuted c.comes-3.ensures.1 c.if-comes-3.false) c.refusal.ensures

@@ -2,7 +2,7 @@ use Rattle.std.proofs.Common.{◌∙◌, Ok, Err, sym, ap}
 use Rattle.ps_text.specs.Parts.{many}
 use Rattle.ps_circuit.specs.Texts.{symbol_line}
 use Rattle.ps_circuit.specs.Names.{is_kind, names_data}
-use Rattle.ps_circuit.proofs.CursorLemmas.{exit}
+use Rattle.ps_circuit.proofs.Exits.{exit}
 use Rattle.ps_circuit.proofs.SymbolLemmas.{symbol_shrinks, names_next, names_fail, names_end}
 use Rattle.ps_circuit.proofs.names.symbols.Goals as goal
 

@@ -1,17 +1,18 @@
-use Rattle.std.proofs.Common.{◌≡◌, ℕ, refl, subst, arith}
+use Rattle.std.proofs.Common.{◌≡◌, ℕ, [], subst, arith}
 use Rattle.ps_circuit.specs.declared.parts.Gate.{Gate}
 use Rattle.ps_circuit.specs.declared.parts.Latch.{Latch}
 use Rattle.ps_circuit.specs.Names.{names_data}
 use Rattle.ps_circuit.specs.Reading.{lines_of, AddsInput, Grown}
 use Rattle.ps_circuit.specs.Texts.{Lines, input_line, latch_line, output_line, gate_line, symbols, HeaderData}
+use Rattle.ps_circuit.proofs.Exits.{stops_at}
 use Rattle.ps_circuit.proofs.TextLaws.{laws_input_line, laws_latch_line, laws_output_line, laws_gate_line, body_latches}
-use Rattle.ps_circuit.proofs.TextLaws.{body_outputs, body_gates, first_names}
+use Rattle.ps_circuit.proofs.TextLaws.{body_outputs, body_gates, first_names, chain_text, chain_inputs, chain_latches}
+use Rattle.ps_circuit.proofs.TextLaws.{chain_outputs, chain_gates}
 use Rattle.ps_circuit.proofs.LineLemmas.{is_row}
-use Rattle.ps_circuit.proofs.DraftReading.{Reached, numbers, past_header, past_lines, joint_inputs, joint_latches}
-use Rattle.ps_circuit.proofs.DraftReading.{joint_outputs, joint_gates, header_fails, lines_exit, symbols_fail}
-use Rattle.ps_circuit.proofs.DraftReading.{all_reads, draft_fails, draft_memory, draft_trails, draft_reads, none_named}
-use Rattle.ps_circuit.proofs.DraftReading.{body_inputs}
-use Rattle.ps_circuit.proofs.DraftLemmas.{each_named, sound_draft}
+use Rattle.ps_circuit.proofs.DraftReading.{Reached, Ahead, numbers, past_header, past_lines, lines_fail, text_unread}
+use Rattle.ps_circuit.proofs.DraftReading.{symbols_fail, all_reads, draft_fails, draft_memory, draft_trails}
+use Rattle.ps_circuit.proofs.DraftReading.{draft_reads, none_named}
+use Rattle.ps_circuit.proofs.DraftLemmas.{each_named, gates_placed, sound_draft}
 use Rattle.ps_circuit.proofs.reader.read_draft.Goals as goal
 use Rattle.ps_circuit.proofs.reader.read_draft.Goals.{After-lines, After-lines-2, After-lines-3, After-lines-4}
 use Rattle.ps_circuit.proofs.reader.read_draft.Goals.{After-symbols}
@@ -45,38 +46,52 @@ outputs_of c = lines_of c.in_ok-outputs.outputs.items c.lines-3.new.noted
 abbrev gates_of : After-symbols → Lines Gate
 gates_of c = lines_of c.in_ok-gates.gates.items c.lines-4.new.noted
 
-behind_header : (c : After-lines) → Reached c.new-cursor.result c.read_header.new.cursor (body_inputs (header_of c))
-behind_header c =
-    past_header c.in_ok-header.ensures.exact.1.most c.new-cursor.ensures.small c.in_ok-header.ensures.exact.2
+inputs_ahead : (c : After-lines) → Ahead (input_line c.in_ok-header.header.most) (body_latches (header_of c))
+    c.new-cursor.result c.read_header.new.cursor c.in_ok-header.header.inputs (lines_of [] c.nothing-noted.result)
+inputs_ahead c = record {
+  n = (header_of c).inputs;
+  counted = c.in_ok-header.ensures.exact.1.inputs;
+  chain = chain_inputs (header_of c) _;
+  reached =
+      past_header c.in_ok-header.ensures.exact.1.most c.new-cursor.ensures.small c.in_ok-header.ensures.exact.2
+      c.nothing-noted.ensures;
+}
 
-behind_inputs : (c : After-lines-2) →
-    Reached c.new-cursor.result c.lines.new.cursor (body_latches (header_of (one c)) (inputs_of c))
-behind_inputs c =
-    let h = header_of (one c) in
-    past_lines (input_line h.most) h.inputs (joint_inputs h) c.in_ok-header.ensures.exact.1.inputs
-    c.nothing-noted.ensures (behind_header (one c)) (inputs_of c) c.in_ok-inputs.ensures.exact
+latches_ahead : (c : After-lines-2) →
+    Ahead (latch_line c.in_ok-header.header.most) (body_outputs (header_of (one c)) (inputs_of c))
+    c.new-cursor.result c.lines.new.cursor c.in_ok-header.header.latches (lines_of [] c.lines.new.noted)
+latches_ahead c = record {
+  n = (header_of (one c)).latches;
+  counted = c.in_ok-header.ensures.exact.1.latches;
+  chain = chain_latches (header_of (one c)) (inputs_of c);
+  reached = past_lines (inputs_ahead (one c)) (inputs_of c) c.in_ok-inputs.ensures.exact;
+}
 
-behind_latches : (c : After-lines-3) → Reached c.new-cursor.result c.lines-2.new.cursor
-    (body_outputs (header_of (one (two c))) (inputs_of (two c)) (latches_of c))
-behind_latches c =
-    let h = header_of (one (two c)) in
-    past_lines (latch_line h.most) h.latches (joint_latches h (inputs_of (two c)))
-    c.in_ok-header.ensures.exact.1.latches refl (behind_inputs (two c)) (latches_of c) c.in_ok-latches.ensures.exact
+outputs_ahead : (c : After-lines-3) →
+    Ahead (output_line c.in_ok-header.header.most)
+    (body_gates (header_of (one (two c))) (inputs_of (two c)) (latches_of c))
+    c.new-cursor.result c.lines-2.new.cursor c.in_ok-header.header.outputs (lines_of [] c.lines-2.new.noted)
+outputs_ahead c = record {
+  n = (header_of (one (two c))).outputs;
+  counted = c.in_ok-header.ensures.exact.1.outputs;
+  chain = chain_outputs (header_of (one (two c))) (inputs_of (two c)) (latches_of c);
+  reached = past_lines (latches_ahead (two c)) (latches_of c) c.in_ok-latches.ensures.exact;
+}
 
-behind_outputs : (c : After-lines-4) → let b = two (three c) in Reached c.new-cursor.result c.lines-3.new.cursor
-    (body_gates (header_of (one b)) (inputs_of b) (latches_of (three c)) (outputs_of c))
-behind_outputs c =
-    let b = two (three c) in let h = header_of (one b) in
-    past_lines (output_line h.most) h.outputs (joint_outputs h (inputs_of b) (latches_of (three c)))
-    c.in_ok-header.ensures.exact.1.outputs refl (behind_latches (three c)) (outputs_of c) c.in_ok-outputs.ensures.exact
+gates_ahead : (c : After-lines-4) → let b = two (three c) in
+    Ahead (gate_line c.in_ok-header.header.most)
+    (symbols c.in_ok-header.header.most (inputs_of b) (latches_of (three c)) (outputs_of c))
+    c.new-cursor.result c.lines-3.new.cursor c.in_ok-header.header.gates (lines_of [] c.lines-3.new.noted)
+gates_ahead c = let b = two (three c) in record {
+  n = (header_of (one b)).gates;
+  counted = c.in_ok-header.ensures.exact.1.gates;
+  chain = chain_gates (header_of (one b)) (inputs_of b) (latches_of (three c)) (outputs_of c);
+  reached = past_lines (outputs_ahead (three c)) (outputs_of c) c.in_ok-outputs.ensures.exact;
+}
 
 behind_gates : (c : After-symbols) → let b = two (three (four c)) in Reached c.new-cursor.result c.lines-4.new.cursor
     (symbols (header_of (one b)).most (inputs_of b) (latches_of (three (four c))) (outputs_of (four c)) (gates_of c))
-behind_gates c =
-    let b = two (three (four c)) in let h = header_of (one b) in
-    past_lines (gate_line h.most) h.gates (joint_gates h (inputs_of b) (latches_of (three (four c))) (outputs_of
-    (four c))) c.in_ok-header.ensures.exact.1.gates refl (behind_outputs (four c)) (gates_of c)
-    c.in_ok-gates.ensures.exact
+behind_gates c = past_lines (gates_ahead (four c)) (gates_of c) c.in_ok-gates.ensures.exact
 
 none_yet : (c : After-symbols) → let b = two (three (four c)) in names_data c.in_ok-names.names ≡ first_names
     c.in_ok-header.header.most (inputs_of b) (latches_of (three (four c))) (outputs_of (four c)) (gates_of c)
@@ -93,36 +108,31 @@ none_yet c =
 pub returns-in_err-header-clause-exact : goal.returns-in_err-header-clause-exact
 returns-in_err-header-clause-exact c =
     draft_fails c.args.text.now _ _ c.new-cursor.ensures.stream
-    (header_fails c.new-cursor.result _ c.in_err-header.ensures.exact) c.from_residual.ensures.1
+    (stops_at chain_text text_unread _ c.in_err-header.ensures.exact) c.from_residual.ensures.1
 
 pub returns-in_err-inputs-clause-exact : goal.returns-in_err-inputs-clause-exact
 returns-in_err-inputs-clause-exact c =
-    let b = (goal.at.returns-in_err-inputs-clause-exact c).After-lines in let h = header_of b in
-    lines_exit (input_line h.most) h.inputs (joint_inputs h) c.in_ok-header.ensures.exact.1.inputs
-    c.nothing-noted.ensures (behind_header b) c.args.text.now _ _ c.new-cursor.ensures.stream
-    c.in_err-inputs.ensures.exact c.from_residual-in_err-inputs.ensures.1
+    draft_fails c.args.text.now _ _ c.new-cursor.ensures.stream
+    (lines_fail (inputs_ahead (goal.at.returns-in_err-inputs-clause-exact c).After-lines) _
+    c.in_err-inputs.ensures.exact) c.from_residual-in_err-inputs.ensures.1
 
 pub returns-in_err-latches-clause-exact : goal.returns-in_err-latches-clause-exact
 returns-in_err-latches-clause-exact c =
-    let b = (goal.at.returns-in_err-latches-clause-exact c).After-lines-2 in let h = header_of (one b) in
-    lines_exit (latch_line h.most) h.latches (joint_latches h (inputs_of b)) c.in_ok-header.ensures.exact.1.latches
-    refl (behind_inputs b) c.args.text.now _ _ c.new-cursor.ensures.stream
-    c.in_err-latches.ensures.exact c.from_residual-in_err-latches.ensures.1
+    draft_fails c.args.text.now _ _ c.new-cursor.ensures.stream
+    (lines_fail (latches_ahead (goal.at.returns-in_err-latches-clause-exact c).After-lines-2) _
+    c.in_err-latches.ensures.exact) c.from_residual-in_err-latches.ensures.1
 
 pub returns-in_err-outputs-clause-exact : goal.returns-in_err-outputs-clause-exact
 returns-in_err-outputs-clause-exact c =
-    let b = (goal.at.returns-in_err-outputs-clause-exact c).After-lines-3 in let h = header_of (one (two b)) in
-    lines_exit (output_line h.most) h.outputs (joint_outputs h (inputs_of (two b)) (latches_of b))
-    c.in_ok-header.ensures.exact.1.outputs refl (behind_latches b) c.args.text.now _ _ c.new-cursor.ensures.stream
-    c.in_err-outputs.ensures.exact c.from_residual-in_err-outputs.ensures.1
+    draft_fails c.args.text.now _ _ c.new-cursor.ensures.stream
+    (lines_fail (outputs_ahead (goal.at.returns-in_err-outputs-clause-exact c).After-lines-3) _
+    c.in_err-outputs.ensures.exact) c.from_residual-in_err-outputs.ensures.1
 
 pub returns-in_err-gates-clause-exact : goal.returns-in_err-gates-clause-exact
 returns-in_err-gates-clause-exact c =
-    let b = (goal.at.returns-in_err-gates-clause-exact c).After-lines-4 in let h = header_of (one (two (three b))) in
-    lines_exit (gate_line h.most) h.gates (joint_gates h (inputs_of (two (three b))) (latches_of (three b))
-    (outputs_of b)) c.in_ok-header.ensures.exact.1.gates
-    refl (behind_outputs b) c.args.text.now _ _ c.new-cursor.ensures.stream
-    c.in_err-gates.ensures.exact c.from_residual-in_err-gates.ensures.1
+    draft_fails c.args.text.now _ _ c.new-cursor.ensures.stream
+    (lines_fail (gates_ahead (goal.at.returns-in_err-gates-clause-exact c).After-lines-4) _
+    c.in_err-gates.ensures.exact) c.from_residual-in_err-gates.ensures.1
 
 pub returns-in_err-names-clause-exact : goal.returns-in_err-names-clause-exact
 returns-in_err-names-clause-exact c =
@@ -154,7 +164,9 @@ returns-clause-sound c =
     let most = c.in_ok-header.header.most in
     let n = c.in_ok-symbols.ensures.named in
     let k = c.in_ok-names.ensures.names in
-    sound_draft most (names_data c.symbols.new.names) c.in_ok-header.ensures.small
+    let read = draft_reads c.args.text.now c.new-cursor.ensures.stream c.in_ok-comment.ensures.1
+    (all_reads _ _ _ _ _ (behind_gates b) (none_yet b) c.in_ok-symbols.ensures.exact c.in_ok-comment.ensures.0) in
+    sound_draft most (names_data c.symbols.new.names) c.in_ok-header.ensures.small (gates_placed _ _ read.0)
     (subst (λ (x : Lines ℕ). Grown (AddsInput most) x (inputs_of d)) c.nothing-noted.ensures
     c.in_ok-inputs.ensures.grown)
     c.in_ok-latches.ensures.grown c.in_ok-outputs.ensures.grown c.in_ok-gates.ensures.grown

@@ -1,19 +1,15 @@
-use Rattle.std.proofs.Common.{◌∙◌, ap, Err}
 use Rattle.std.proofs.lemmas.Result.{IfOk-weaker}
-use Rattle.ps_circuit.proofs.GateLemmas.{chosen_bits, meets-extends, passed}
+use Rattle.ps_circuit.proofs.GateLemmas.{chosen_bits, meets-extends, passed_on}
 use Rattle.ps_circuit.proofs.MadeLemmas.{above-first, above-second}
 use Rattle.ps_circuit.proofs.builder.Builder.chosen.Goals as goal
 
 pub returns-in_err-where_true-clause-too_large : goal.returns-in_err-where_true-clause-too_large
 returns-in_err-where_true-clause-too_large c e =
-    c.and.ensures.too_large (c.in_err-where_true.was ∙ ap (λ f. Err f)
-    (passed c.from_residual.result c.in_err-where_true.field-0.0 _ c.from_residual.ensures.1 e))
+    c.and.ensures.too_large (passed_on c.in_err-where_true.was c.from_residual.ensures.1 e)
 
 pub returns-in_err-where_false-clause-too_large : goal.returns-in_err-where_false-clause-too_large
 returns-in_err-where_false-clause-too_large c e =
-    c.and-2.ensures.too_large (c.in_err-where_false.was ∙ ap (λ f. Err f)
-    (passed c.from_residual-in_err-where_false.result c.in_err-where_false.field-0.0 _
-    c.from_residual-in_err-where_false.ensures.1 e))
+    c.and-2.ensures.too_large (passed_on c.in_err-where_false.was c.from_residual-in_err-where_false.ensures.1 e)
 
 pub returns-clause-bit : goal.returns-clause-bit
 returns-clause-bit c =
@@ -30,13 +26,10 @@ returns-clause-too_large c = c.or.ensures.too_large
 pub returns-in_err-where_true-clause-above : goal.returns-in_err-where_true-clause-above
 returns-in_err-where_true-clause-above c e =
     above-first c.args.self.now c.args.s c.args.high c.args.low
-    (c.and.ensures.above (c.in_err-where_true.was ∙ ap (λ f. Err f)
-    (passed c.from_residual.result c.in_err-where_true.field-0.0 _ c.from_residual.ensures.1 e)))
+    (c.and.ensures.above (passed_on c.in_err-where_true.was c.from_residual.ensures.1 e))
 
 pub returns-in_err-where_false-clause-above : goal.returns-in_err-where_false-clause-above
 returns-in_err-where_false-clause-above c e =
     above-second c.args.self.now c.and.new.self c.args.s c.args.high c.args.low c.in_ok-where_true.where_true
     c.in_ok-where_true.ensures.made c.negated.ensures
-    (c.and-2.ensures.above (c.in_err-where_false.was ∙ ap (λ f. Err f)
-    (passed c.from_residual-in_err-where_false.result c.in_err-where_false.field-0.0 _
-    c.from_residual-in_err-where_false.ensures.1 e)))
+    (c.and-2.ensures.above (passed_on c.in_err-where_false.was c.from_residual-in_err-where_false.ensures.1 e))

@@ -1,4 +1,4 @@
-use Rattle.std.proofs.Common.{◌≡◌, ◌∙◌, true, false, sym}
+use Rattle.ps_circuit.proofs.Exits.{refuted}
 use Rattle.ps_circuit.proofs.CursorLemmas.{byte_reads, byte_stops}
 use Rattle.ps_circuit.proofs.cursor.Cursor.byte.Goals as goal
 
@@ -7,5 +7,4 @@ returns-then-comes c = byte_reads (c.comes.ensures.0 c.if-comes.true) c.step.ens
 
 pub returns : goal.returns
 returns c =
-    byte_stops c.args.byte c.args.self.now (λ e. let y : true ≡ false = sym (c.comes.ensures.1 e)
-    ∙ c.if-comes.false in cc) c.refusal.ensures
+    byte_stops c.args.byte c.args.self.now (refuted c.comes.ensures.1 c.if-comes.false) c.refusal.ensures

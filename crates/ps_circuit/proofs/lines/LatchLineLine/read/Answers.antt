@@ -1,35 +1,35 @@
 use Rattle.ps_circuit.specs.Reading.{lines_of}
-use Rattle.ps_circuit.specs.Texts as parts
-use Rattle.ps_circuit.proofs.CursorLemmas.{exit}
-use Rattle.ps_circuit.proofs.LineLemmas.{latch_fails, latch_next_fails, latch_reset_fails, latch_reads, latch_is}
+use Rattle.ps_circuit.specs.Texts.{add_latch, latch_line}
+use Rattle.ps_circuit.proofs.Exits.{unread, exits_at, exits_last, reads_last}
+use Rattle.ps_circuit.proofs.TextLaws.{chain_latch, chain_next}
+use Rattle.ps_circuit.proofs.LineLemmas.{past_latch, past_next, latch_is}
 use Rattle.ps_circuit.proofs.lines.LatchLineLine.read.Goals as goal
 
 pub returns-in_err-own-clause-exact : goal.returns-in_err-own-clause-exact
+unfolding latch_line
 returns-in_err-own-clause-exact c =
-    let before = lines_of c.args.items.now.items c.args.noted.now in
-    exit _ (parts.latch_line c.args.most before) c.args.cursor.now _ _ _
-    (latch_fails c.args.most before c.args.cursor.now _ c.in_err-own.ensures.exact) c.from_residual.ensures.1
+    exits_at (chain_latch c.args.most (lines_of c.args.items.now.items c.args.noted.now)) unread _ _ _ _
+    c.in_err-own.ensures.exact c.from_residual.ensures.1
 
 pub returns-in_err-next-clause-exact : goal.returns-in_err-next-clause-exact
 returns-in_err-next-clause-exact c =
     let before = lines_of c.args.items.now.items c.args.noted.now in
-    exit _ (parts.latch_line c.args.most before) c.args.cursor.now _ _ _
-    (latch_next_fails c.args.most before c.args.cursor.now c.definition.new.cursor c.in_ok-own.own
-    c.in_ok-own.ensures.exact _ c.in_err-next.ensures.exact) c.from_residual-in_err-next.ensures.1
+    exits_at (chain_next c.args.most before c.in_ok-own.own)
+    (past_latch c.args.most before c.in_ok-own.ensures.exact) _ _ _ _ c.in_err-next.ensures.exact
+    c.from_residual-in_err-next.ensures.1
 
 pub returns-in_err-reset-clause-exact : goal.returns-in_err-reset-clause-exact
 returns-in_err-reset-clause-exact c =
     let before = lines_of c.args.items.now.items c.args.noted.now in
-    exit _ (parts.latch_line c.args.most before) c.args.cursor.now _ _ _
-    (latch_reset_fails c.args.most before c.args.cursor.now c.definition.new.cursor c.in_ok-own.own
-    c.in_ok-own.ensures.exact c.reading.new.cursor c.in_ok-next.next c.in_ok-next.ensures.exact _
-    c.in_err-reset.ensures) c.from_residual-in_err-reset.ensures.1
+    exits_last (λ r. add_latch before c.in_ok-own.own c.in_ok-next.next r)
+    (past_next c.args.most before c.in_ok-own.ensures.exact c.in_ok-next.ensures.exact) _ _ _ _ c.in_err-reset.ensures
+    c.from_residual-in_err-reset.ensures.1
 
 pub returns-clause-exact : goal.returns-clause-exact
 returns-clause-exact c =
     let before = lines_of c.args.items.now.items c.args.noted.now in
-    latch_reads c.args.most before c.args.cursor.now c.definition.new.cursor c.in_ok-own.own c.in_ok-own.ensures.exact
-    c.reading.new.cursor c.in_ok-next.next c.in_ok-next.ensures.exact c.in_ok-reset.ensures
+    reads_last (λ r. add_latch before c.in_ok-own.own c.in_ok-next.next r)
+    (past_next c.args.most before c.in_ok-own.ensures.exact c.in_ok-next.ensures.exact) c.in_ok-reset.ensures
     (latch_is before c.in_ok-own.own c.in_ok-next.next c.in_ok-reset.reset
     (rw (c.literal.ensures, c.literal-2.ensures) at c.in_ok-push.ensures.items)
     c.in_ok-own.ensures.defined.variables c.in_ok-next.ensures.noted)

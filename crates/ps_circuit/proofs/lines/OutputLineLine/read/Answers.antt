@@ -1,38 +1,35 @@
 use Rattle.std.proofs.Common.{arith}
 use Rattle.ps_circuit.specs.Reading.{lines_of}
-use Rattle.ps_circuit.specs.Texts as parts
-use Rattle.ps_circuit.specs.Texts.{WrongLiteral}
-use Rattle.ps_circuit.proofs.CursorLemmas.{exit}
+use Rattle.ps_circuit.specs.Texts.{WrongLiteral, add_output, output_line}
+use Rattle.ps_circuit.proofs.Exits.{unread, stops_at, exits_at, exits_last, reads_last}
 use Rattle.ps_circuit.proofs.NumberLemmas.{number_none}
-use Rattle.ps_circuit.proofs.LineLemmas.{literal_reads, literal_wrong, output_fails, output_end_fails, output_reads}
-use Rattle.ps_circuit.proofs.LineLemmas.{output_is}
+use Rattle.ps_circuit.proofs.TextLaws.{chain_output}
+use Rattle.ps_circuit.proofs.LineLemmas.{literal_reads, literal_wrong, past_output, output_is}
 use Rattle.ps_circuit.proofs.lines.OutputLineLine.read.Goals as goal
 
 pub returns-in_err-output-clause-exact : goal.returns-in_err-output-clause-exact
+unfolding output_line
 returns-in_err-output-clause-exact c =
-    let before = lines_of c.args.items.now.items c.args.noted.now in
-    exit _ (parts.output_line c.args.most before) c.args.cursor.now _ _ _
-    (output_fails c.args.most before c.args.cursor.now _ (number_none (WrongLiteral c.args.most)
-    c.number.new.self _ c.in_err-output.ensures)) c.from_residual.ensures.1
+    exits_at (chain_output c.args.most (lines_of c.args.items.now.items c.args.noted.now)) unread _ _ _ _
+    (number_none (WrongLiteral c.args.most) c.number.new.self _ c.in_err-output.ensures) c.from_residual.ensures.1
 
 pub returns-then-output-from-clause-exact : goal.returns-then-output-from-clause-exact
+unfolding output_line
 returns-then-output-from-clause-exact c =
-    let before = lines_of c.args.items.now.items c.args.noted.now in
-    output_fails c.args.most before c.args.cursor.now _ (literal_wrong c.args.most c.requires
-    c.in_ok-output.ensures (omega (arith, c.from.ensures)) c.refused.ensures)
+    stops_at (chain_output c.args.most (lines_of c.args.items.now.items c.args.noted.now)) unread _
+    (literal_wrong c.args.most c.requires c.in_ok-output.ensures (omega (arith, c.from.ensures)) c.refused.ensures)
 
 pub returns-in_err-line_end-clause-exact : goal.returns-in_err-line_end-clause-exact
 returns-in_err-line_end-clause-exact c =
     let before = lines_of c.args.items.now.items c.args.noted.now in
-    exit _ (parts.output_line c.args.most before) c.args.cursor.now _ _ _ (output_end_fails c.args.most before _
-    (literal_reads c.args.most c.requires
-    c.in_ok-output.ensures (omega (arith, c.from.ensures))) c.in_err-line_end.ensures)
-    c.from_residual-in_err-line_end.ensures.1
+    exits_last (λ _. add_output before c.in_ok-output.output) (past_output c.args.most before
+    (literal_reads c.args.most c.requires c.in_ok-output.ensures (omega (arith, c.from.ensures)))) _ _ _ _
+    c.in_err-line_end.ensures c.from_residual-in_err-line_end.ensures.1
 
 pub returns-clause-exact : goal.returns-clause-exact
 returns-clause-exact c =
     let before = lines_of c.args.items.now.items c.args.noted.now in
-    output_reads c.args.most before (literal_reads c.args.most c.requires
-    c.in_ok-output.ensures (omega (arith, c.from.ensures))) c.in_ok-line_end.ensures
-    (output_is before c.in_ok-output.output (rw c.literal.ensures at c.in_ok-push-2.ensures.items)
-    c.in_ok-push.ensures.items)
+    reads_last (λ _. add_output before c.in_ok-output.output) (past_output c.args.most before
+    (literal_reads c.args.most c.requires c.in_ok-output.ensures (omega (arith, c.from.ensures))))
+    c.in_ok-line_end.ensures (output_is before c.in_ok-output.output
+    (rw c.literal.ensures at c.in_ok-push-2.ensures.items) c.in_ok-push.ensures.items)

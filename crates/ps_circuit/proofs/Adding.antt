@@ -1,0 +1,142 @@
+-- What the lines of one kind add to what was read before them.
+--     LineKind X      the literals that items define, and those that they read
+--     AddsItem kind c d x      d has the item x more than c
+--     Added kind before read d      behind what was defined and read before, d has what its items define and read
+--     input_kind, latch_kind, output_kind, gate_kind      the four kinds of lines
+use Rattle.std.proofs.Common.{◌≡◌, ℕ, List, [], ◌∷◌, ◌++◌, map, flat_map, refl, sym, ap, ap₂, ◌∙◌, append-nil}
+use Rattle.std.proofs.Common.{append_assoc}
+use Rattle.std.proofs.lemmas.List.{map-append}
+use Rattle.std.proofs.lemmas.List.Concat.{flat_map-append}
+use Rattle.ps_circuit.specs.declared.cursor.Number.{Number}
+use Rattle.ps_circuit.specs.declared.parts.Latch.{Latch}
+use Rattle.ps_circuit.specs.declared.parts.Gate.{Gate}
+use Rattle.ps_circuit.specs.Literals.{variable}
+use Rattle.ps_circuit.specs.Texts.{Lines, add_input, add_latch, add_output, add_gate}
+
+abbrev pub values : List Number → List ℕ
+values ls = map (λ l. l.value) ls
+
+pub record LineKind (X : Type 0) : Type 0 where
+  pub defines : List X → List ℕ
+  pub reads : List X → List ℕ
+  pub defines_none : defines [] ≡ []
+  pub reads_none : reads [] ≡ []
+  pub defines_both : (xs ys : List X) → defines (xs ++ ys) ≡ defines xs ++ defines ys
+  pub reads_both : (xs ys : List X) → reads (xs ++ ys) ≡ reads xs ++ reads ys
+
+pub record AddsItem {X : Type 0} (kind : LineKind X) (c d : Lines X) (x : X) : Type 0 where
+  pub items : d.items ≡ c.items ++ x ∷ []
+  pub defined : d.defined ≡ c.defined ++ map variable (kind.defines (x ∷ []))
+  pub readings : values d.readings ≡ values c.readings ++ kind.reads (x ∷ [])
+
+pub record Added {X : Type 0} (kind : LineKind X) (before read : List ℕ) (d : Lines X) : Type 0 where
+  pub defined : d.defined ≡ map variable (before ++ kind.defines d.items)
+  pub readings : values d.readings ≡ read ++ kind.reads d.items
+
+-- nothing is added yet
+pub none_more : {X : Type 0} (of : List X → List ℕ) → of [] ≡ [] → (front : List ℕ) {items : List X} → items ≡ [] →
+    front ≡ front ++ of items
+none_more of none front e =
+    sym (append-nil front) ∙ ap (λ z. front ++ z) (sym none ∙ ap of (sym e))
+
+-- one item more
+pub one_more : {X : Type 0} (of : List X → List ℕ) → ((xs ys : List X) → of (xs ++ ys) ≡ of xs ++ of ys) →
+    (front : List ℕ) (old : List X) {new : List X} (x : X) → new ≡ old ++ x ∷ [] →
+    (front ++ of old) ++ of (x ∷ []) ≡ front ++ of new
+one_more of both front old x e =
+    append_assoc front (of old) (of (x ∷ [])) ∙ ap (λ z. front ++ z) (sym (both old (x ∷ [])) ∙ ap of (sym e))
+
+pub added_none : {X : Type 0} {kind : LineKind X} {before read : List ℕ} {d : Lines X} → d.items ≡ [] →
+    d.defined ≡ map variable before → values d.readings ≡ read → Added kind before read d
+added_none {kind = kind} {before} {read} e f g = record {
+  defined = f ∙ ap (map variable) (none_more kind.defines kind.defines_none before e);
+  readings = g ∙ none_more kind.reads kind.reads_none read e;
+}
+
+pub added_more : {X : Type 0} {kind : LineKind X} {before read : List ℕ} {c d : Lines X} {x : X} →
+    Added kind before read c → AddsItem kind c d x → Added kind before read d
+added_more {kind = kind} {before} {read} {c} {d} {x} a i = record {
+  defined = i.defined ∙ ap (λ z. z ++ map variable (kind.defines (x ∷ []))) a.defined
+      ∙ sym (map-append variable (before ++ kind.defines c.items) (kind.defines (x ∷ [])))
+      ∙ ap (map variable) (one_more kind.defines kind.defines_both before c.items x i.items);
+  readings = i.readings ∙ ap (λ z. z ++ kind.reads (x ∷ [])) a.readings
+      ∙ one_more kind.reads kind.reads_both read c.items x i.items;
+}
+
+-- ## The kinds
+
+abbrev pub input_kind : LineKind ℕ
+input_kind = record {
+  defines = λ xs. xs;
+  reads = λ xs. [];
+  defines_none = refl;
+  reads_none = refl;
+  defines_both = λ xs ys. refl;
+  reads_both = λ xs ys. refl;
+}
+
+abbrev pub latch_kind : LineKind Latch
+latch_kind = record {
+  defines = map (λ l. l.literal);
+  reads = map (λ l. l.next);
+  defines_none = refl;
+  reads_none = refl;
+  defines_both = map-append (λ l. l.literal);
+  reads_both = map-append (λ l. l.next);
+}
+
+abbrev pub output_kind : LineKind ℕ
+output_kind = record {
+  defines = λ xs. [];
+  reads = λ xs. xs;
+  defines_none = refl;
+  reads_none = refl;
+  defines_both = λ xs ys. refl;
+  reads_both = λ xs ys. refl;
+}
+
+abbrev pub gate_kind : LineKind Gate
+gate_kind = record {
+  defines = map (λ g. g.literal);
+  reads = flat_map (λ g. g.first ∷ g.second ∷ []);
+  defines_none = refl;
+  reads_none = refl;
+  defines_both = map-append (λ g. g.literal);
+  reads_both = flat_map-append (λ g. g.first ∷ g.second ∷ []);
+}
+
+-- ## One line more
+
+pub adds_input : (c : Lines ℕ) (l : Number) {x : ℕ} → l.value ≡ x → AddsItem input_kind c (add_input c l) x
+adds_input c l g = record {
+  items = ap (λ z. c.items ++ z ∷ []) g;
+  defined = ap (λ z. c.defined ++ variable z ∷ []) g;
+  readings = sym (append-nil (values c.readings));
+}
+
+pub adds_latch : (c : Lines Latch) (l n : Number) {x : Latch} → l.value ≡ x.literal → n.value ≡ x.next →
+    AddsItem latch_kind c (add_latch c l n x.reset) x
+adds_latch c l n {x} g h = record {
+  items = ap₂ (λ a b. c.items ++ record { literal = a; next = b; reset = x.reset } ∷ []) g h;
+  defined = ap (λ z. c.defined ++ variable z ∷ []) g;
+  readings = map-append (λ k. k.value) c.readings (n ∷ []) ∙ ap (λ z. values c.readings ++ z ∷ []) h;
+}
+
+pub adds_output : (c : Lines ℕ) (l : Number) {x : ℕ} → l.value ≡ x → AddsItem output_kind c (add_output c l) x
+adds_output c l g = record {
+  items = ap (λ z. c.items ++ z ∷ []) g;
+  defined = sym (append-nil c.defined);
+  readings = map-append (λ k. k.value) c.readings (l ∷ []) ∙ ap (λ z. values c.readings ++ z ∷ []) g;
+}
+
+pub adds_gate : (c : Lines Gate) (l m n : Number) {x : Gate} → l.value ≡ x.literal → m.value ≡ x.first →
+    n.value ≡ x.second → AddsItem gate_kind c (add_gate c l m n) x
+adds_gate c l m n {x} g h i = record {
+  items = ap (λ a. c.items ++ record { literal = a; first = m.value; second = n.value } ∷ []) g
+      ∙ ap₂ (λ a b. c.items ++ record { literal = x.literal; first = a; second = b } ∷ []) h i;
+  defined = ap (λ z. c.defined ++ variable z ∷ []) g;
+  readings = map-append (λ k. k.value) (c.readings ++ m ∷ []) (n ∷ [])
+      ∙ ap (λ z. z ++ n.value ∷ []) (map-append (λ k. k.value) c.readings (m ∷ []))
+      ∙ append_assoc (values c.readings) (m.value ∷ []) (n.value ∷ [])
+      ∙ ap₂ (λ a b. values c.readings ++ a ∷ b ∷ []) h i;
+}

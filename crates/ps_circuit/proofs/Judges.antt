@@ -1,0 +1,92 @@
+-- What may be wrong with the numbers and the symbols of an AIGER text is decided.
+use Rattle.std.proofs.Common.{◌≡◌, ℕ, suc, ◌+◌, ◌*◌, ◌%◌, ◌^◌, ◌<◌, List, ◌++◌, length, slice_get, Option, None, Some}
+use Rattle.std.proofs.Common.{refl, sym, inl, inr, ◌∙◌}
+use Rattle.std.proofs.lemmas.Bool.{cases_eq}
+use Rattle.ps_text.specs.Digits.{decimal_value}
+use Rattle.ps_text.specs.Runs.{AllOf, StopsBefore}
+use Rattle.ps_text.proofs.Outcomes.{Judged, good}
+use Rattle.ps_text.proofs.Decisions.{Decided, decide_as, decide_not, decide_both, decide_below, decide_in, judge_none}
+use Rattle.ps_text.proofs.Decisions.{judge_cause, judge_one, judge_as}
+use Rattle.ps_text.proofs.ByteRuns.{same_run}
+use Rattle.ps_text.proofs.Simple.{none_is_some, same_some}
+use Rattle.ps_circuit.specs.declared.fault.AigCause.{AigCause}
+use Rattle.ps_circuit.specs.declared.fault.AigCause.TheVariants.{Syntax, Literal, DefinedTwice, UnsetLatch, Sections}
+use Rattle.ps_circuit.specs.Causes.{cause_number}
+use Rattle.ps_circuit.specs.Circuits.{IsDefinition}
+use Rattle.ps_circuit.specs.Literals.{variable}
+use Rattle.ps_circuit.specs.Signs.{Seen, is_digit}
+use Rattle.ps_circuit.specs.Texts.{AnyNumber, WrongMost, WrongCount, WrongLiteral, WrongDefinition, WrongReset, Kind}
+use Rattle.ps_circuit.specs.Texts.{NamesData, names_of, take_kind, IsBadSymbol}
+use Rattle.ps_circuit.proofs.RunOutcomes.{Spanned, run_of, stops_bytes}
+use Rattle.ps_circuit.proofs.Lawful.{Judges}
+
+pub judge_any : Judges AnyNumber
+judge_any n = judge_none cause_number
+
+pub judge_most : Judges WrongMost
+judge_most n = judge_cause cause_number Literal (decide_below (2 ^ 31) n)
+
+pub judge_count : Judges WrongCount
+judge_count n = judge_cause cause_number Sections (decide_not (cases_eq n 0))
+
+pub judge_literal : (most : ℕ) → Judges (WrongLiteral most)
+judge_literal most n = judge_cause cause_number Literal (decide_below (suc (2 * most + 1)) n)
+
+decide_definition : (most n : ℕ) → Decided (IsDefinition most n)
+decide_definition most n = decide_as (λ h. (h.0, h.1.0, h.1.1)) (λ h. (h.0, (h.1, h.2)))
+    (decide_both (cases_eq (n % 2) 0) (decide_both (decide_below 2 n) (decide_below n (2 * most + 1))))
+
+pub judge_definition : (most : ℕ) (defined : List ℕ) → Judges (WrongDefinition most defined)
+judge_definition most defined n = judge_one cause_number
+    (judge_cause cause_number Literal (decide_not (decide_definition most n)))
+    (judge_cause cause_number DefinedTwice (decide_in defined (variable n)))
+
+pub judge_reset : (latch : ℕ) → Judges (WrongReset latch)
+judge_reset latch n = judge_one cause_number (judge_cause cause_number UnsetLatch (cases_eq n latch))
+    (judge_as cause_number (λ f h. (h.0.0, h.0.1, h.1)) (λ f h. ((h.0, h.1), h.2))
+    (judge_cause cause_number Literal (decide_both (decide_below 2 n) (decide_not (cases_eq n latch)))))
+
+-- ## Symbols
+
+-- the bytes behind a sign begin with these digits, or with none
+pub record Digits (s : Seen) (digits : List ℕ) : Type 0 where
+  pub rest : List ℕ
+  pub split : s.behind ≡ digits ++ rest
+  pub all : AllOf is_digit digits
+  pub longest : StopsBefore is_digit rest
+
+-- which symbol is bad
+pub bad_symbol : {names : NamesData} {s : Seen} {kind : Kind} {digits : List ℕ} {f : AigCause} →
+    take_kind s ≡ Some kind → Digits s digits → IsBadSymbol names s f →
+    (0 < length digits) × (slice_get (names_of names kind) (decimal_value digits) ≡ Some None → ⊥)
+bad_symbol {names} {s} {kind} {digits} letter d b =
+    let of_kind : b.kind ≡ kind = same_some b.kind kind (sym b.letter ∙ letter) in
+    let same : b.digits ≡ digits = same_run is_digit b.digits digits b.number.rest d.rest
+    (sym b.number.split ∙ d.split) b.number.all d.all b.number.longest d.longest in
+    (rw same at b.number.some, rw (of_kind, same) at b.not_free)
+
+module _ (names : NamesData) where
+  -- no place of that kind has the number, or it has a name
+  decide_free : (place : Option (Option (List ℕ))) → Decided (place ≡ Some None → ⊥)
+  decide_free None = inl (λ e. none_is_some None e)
+  decide_free (Some None) = inr (λ n. n refl)
+  decide_free (Some (Some name)) = inl (λ e. none_is_some name (sym (same_some (Some name) None e)))
+
+  pub judge_symbol : (s : Seen) → Judged cause_number (IsBadSymbol names s)
+  judge_symbol s = by (take_kind s) refl (run_of s.behind)
+    where
+      by : (o : Option Kind) → take_kind s ≡ o → Spanned is_digit s.behind → Judged cause_number (IsBadSymbol names s)
+      by None e d = good (λ f b. none_is_some b.kind (sym e ∙ b.letter))
+      by (Some kind) e d =
+          let longest = stops_bytes is_digit d.rest d.longest in
+          judge_as cause_number (λ f h. record {
+            kind = kind;
+            letter = e;
+            digits = d.text;
+            number = record { rest = d.rest; split = d.split; some = h.0.0; all = d.all; longest = longest };
+            not_free = h.0.1;
+            cause = h.1;
+          }) (λ f b.
+          (bad_symbol e (record { rest = d.rest; split = d.split; all = d.all; longest = longest }) b, b.cause))
+          (judge_cause cause_number Syntax (decide_both (decide_below 1 (length d.text))
+          (decide_free (slice_get (names_of names kind) (decimal_value d.text)))))

@@ -1,0 +1,191 @@
+-- How the names of a circuit that is written are read again.
+--     reread_names      the lines of the names of one kind, and what stands behind them
+--     reread_no_names, reread_no_comment      the end of the text, where no name and no comment comes
+use Rattle.std.proofs.Common.{◌≡◌, ◌≢◌, ℕ, ◌+◌, ◌^◌, ◌<◌, Bool, true, false, eqb, not, List, [], ◌∷◌, ◌++◌, length}
+use Rattle.std.proofs.Common.{Option, None, Some, All, slice_get, refl, sym, ap, subst, ◌∙◌, arith, append_assoc}
+use Rattle.std.proofs.Common.{length-append}
+use Rattle.std.specs.Prelude.{decimal, slice_set}
+use Rattle.std.proofs.Math.Seq.{set-append_seam}
+use Rattle.std.proofs.lemmas.Bool.{eqb-true}
+use Rattle.std.proofs.lemmas.List.Elements.{All-head, All-tail}
+use Rattle.ps_text.specs.Parts.{many}
+use Rattle.ps_text.specs.Runs.{AllOf}
+use Rattle.ps_text.proofs.Decimals.{number_text}
+use Rattle.ps_text.proofs.Laws.{Laws, Nothing}
+use Rattle.ps_text.proofs.Simple.{none_is_some, laws_give}
+use Rattle.ps_text.proofs.Exits.{reads_next}
+use Rattle.ps_text.proofs.Branches.{right_otherwise, many_reads, many_ends}
+use Rattle.ps_circuit.specs.Circuits.{IsName}
+use Rattle.ps_circuit.specs.Signs.{Seen, is_inner, NoBadRun, rest_of_line}
+use Rattle.ps_circuit.specs.Texts.{Kind, OfInput, OfLatch, OfOutput, NamesData, no_names, names_of, put_names, add_name}
+use Rattle.ps_circuit.specs.Texts.{take_kind, IsBadSymbol, symbol_line, comment}
+use Rattle.ps_circuit.specs.Written as written
+use Rattle.ps_circuit.specs.Written.{symbol_lines}
+use Rattle.ps_circuit.proofs.Runs.{Odd}
+use Rattle.ps_circuit.proofs.Judges.{bad_symbol}
+use Rattle.ps_circuit.proofs.TextLaws.{letter, symbol_number, chain_letter, chain_number, chain_space, chain_name}
+use Rattle.ps_circuit.proofs.TextLaws.{laws_symbol_line, chain_c_line}
+use Rattle.ps_circuit.proofs.SignLaws.{AtKind}
+use Rattle.ps_circuit.proofs.RereadFields.{from, Reread, Rereads, reread_then, reread_mapped, reread_as, reread_branch}
+use Rattle.ps_circuit.proofs.RereadFields.{reread_give, reread_run, number_then, AnyValue, reread_byte, reread_newline}
+
+abbrev pub letter_of : Kind → ℕ
+letter_of OfInput = 105
+letter_of OfLatch = 108
+letter_of OfOutput = 111
+
+kind_taken : (kind : Kind) (at : ℕ) (behind : List ℕ) →
+    take_kind (record { byte = letter_of kind; at = at; behind = behind }) ≡ Some kind
+kind_taken OfInput at behind = refl
+kind_taken OfLatch at behind = refl
+kind_taken OfOutput at behind = refl
+
+name_inner : (name : List ℕ) → All (λ b. b ≢ 10) name → AllOf is_inner name
+name_inner [] h = tt
+name_inner (b ∷ name) h = (inner b (All-head (λ b. b ≢ 10) b name h), name_inner name (All-tail (λ b. b ≢ 10) b name h))
+  where
+    inner : (b : ℕ) → b ≢ 10 → is_inner b ≡ true
+    inner b n = go (eqb b 10) refl
+      where
+        go : (x : Bool) → eqb b 10 ≡ x → not x ≡ true
+        go true e = absurd (n (eqb-true b 10 e))
+        go false e = refl
+
+-- ## One name
+
+module _ (names : NamesData) (kind : Kind) (k : ℕ) (small : k < 2 ^ 64)
+    (free : slice_get (names_of names kind) k ≡ Some None) (name : List ℕ) (full : 0 < length name)
+    (plain : All (λ b. b ≢ 10) name) (rest : List ℕ) where
+  abbrev behind_letter : List ℕ
+  behind_letter = decimal k ++ 32 ∷ (name ++ 10 ∷ rest)
+
+  reread_letter : Rereads (letter names) (λ v. v ≡ kind) (letter_of kind ∷ behind_letter) behind_letter
+  reread_letter = record {
+    there = λ e at.
+        let t = number_text k small in
+        let s : Seen = record { byte = letter_of kind; at = at; behind = behind_letter } in
+        record {
+          value = kind;
+          good = refl;
+          to = at + 1;
+          reads = reads_next take_kind (IsBadSymbol names) (from e at (letter_of kind ∷ behind_letter))
+              (from e (at + 1) behind_letter) s kind refl refl (kind_taken kind at behind_letter) (λ f b.
+              (bad_symbol (kind_taken kind at behind_letter) (record {
+                rest = 32 ∷ (name ++ 10 ∷ rest);
+                split = refl;
+                all = t.pass;
+                longest = refl;
+              }) b).1 (rw t.value free));
+        };
+  }
+
+  reread_name : Rereads rest_of_line (λ v. v ≡ name) (name ++ 10 ∷ rest) (10 ∷ rest)
+  unfolding rest_of_line
+  reread_name = reread_run is_inner (λ at bytes. bytes) NoBadRun name full (name_inner name plain) refl (λ f x. x)
+      (λ at. refl)
+
+  reread_symbol : Rereads (symbol_line names) (λ d. d ≡ add_name names kind k name) (letter_of kind ∷ behind_letter)
+      rest
+  unfolding symbol_line
+  reread_symbol = reread_then (chain_letter names) reread_letter (λ v h.
+      subst (λ z. Rereads (symbol_number names z) (λ d. d ≡ add_name names kind k name) behind_letter rest) (sym h)
+      (number_then (chain_number names kind) k (record { small = small; right = λ f x. x }) refl (λ n g.
+      reread_then (chain_space names kind n) (reread_byte 32) (λ _ _.
+      reread_then (chain_name names kind n) reread_name (λ m i.
+      reread_mapped (λ _. add_name names kind n.value m) reread_newline
+      (λ _ _. ap (λ z. add_name names kind z m) g ∙ ap (λ z. add_name names kind k z) i))))))
+
+-- ## Names of one kind
+
+symbol_is : (kind : Kind) (k : ℕ) (name rest : List ℕ) → written.symbol_line (letter_of kind) k (Some name) ++
+    rest ≡ letter_of kind ∷ (decimal k ++ 32 ∷ (name ++ 10 ∷ rest))
+symbol_is kind k name rest = append_assoc ((letter_of kind ∷ decimal k) ++ (32 ∷ name)) (10 ∷ []) rest
+    ∙ append_assoc (letter_of kind ∷ decimal k) (32 ∷ name) (10 ∷ rest)
+
+symbol_laws : (names : NamesData) → Laws Odd (symbol_line names) AtKind Nothing ⊥
+symbol_laws names = (laws_symbol_line names).laws
+
+reread_many : {names names' : NamesData} {text mid rest : List ℕ} {Good : NamesData → Type 0} →
+    Rereads (symbol_line names) (λ d. d ≡ names') text mid → Rereads (many symbol_line names') Good mid rest →
+    Rereads (many symbol_line names) Good text rest
+reread_many {names' = names'} {mid = mid} {rest} {Good} w next = record {
+  there = λ e at.
+      let a = w.there e at in
+      let b = subst (λ z. Reread (many symbol_line z) Good mid rest e a.to) (sym a.good) (next.there e a.to) in
+      record {
+        value = b.value;
+        good = b.good;
+        to = b.to;
+        reads = many_reads symbol_line symbol_laws (λ t x y. x) a.reads b.reads;
+      };
+}
+
+seam_get : (xs ys : List (Option (List ℕ))) {y : Option (List ℕ)} → slice_get (xs ++ y ∷ ys) (length xs) ≡ Some y
+seam_get [] ys = refl
+seam_get (x ∷ xs) ys {y} = seam_get xs ys
+
+put_same : {names : NamesData} (kind : Kind) {list : List (Option (List ℕ))} → names_of names kind ≡ list →
+    put_names names kind list ≡ names
+put_same {names} OfInput e = ap (λ z. put_names names OfInput z) (sym e)
+put_same {names} OfLatch e = ap (λ z. put_names names OfLatch z) (sym e)
+put_same {names} OfOutput e = ap (λ z. put_names names OfOutput z) (sym e)
+
+put_again : (names : NamesData) (kind : Kind) (one two : List (Option (List ℕ))) →
+    put_names (put_names names kind one) kind two ≡ put_names names kind two
+put_again names OfInput one two = refl
+put_again names OfLatch one two = refl
+put_again names OfOutput one two = refl
+
+put_there : (names : NamesData) (kind : Kind) {list : List (Option (List ℕ))} →
+    names_of (put_names names kind list) kind ≡ list
+put_there names OfInput = refl
+put_there names OfLatch = refl
+put_there names OfOutput = refl
+
+pub reread_names : (kind : Kind) (Good : NamesData → Type 0) (text rest : List ℕ) (ns before : List (Option (List ℕ)))
+    (k : ℕ) (names : NamesData) → names_of names kind ≡ before ++ no_names ns → length before ≡ k → All IsName ns →
+    k + length ns < 2 ^ 64 → Rereads (many symbol_line (put_names names kind (before ++ ns))) Good text rest →
+    Rereads (many symbol_line names) Good (symbol_lines (letter_of kind) k ns ++ text) rest
+reread_names kind Good text rest [] before k names free size named small next =
+    subst (λ z. Rereads (many symbol_line z) Good text rest) (put_same kind free) next
+reread_names kind Good text rest (None ∷ ns) before k names free size named small next =
+    reread_names kind Good text rest ns (before ++ None ∷ []) (k + 1) names
+    (free ∙ sym (append_assoc before (None ∷ []) (no_names ns))) (omega (arith, size, length-append before (None ∷ [])))
+    (All-tail IsName None ns named) (omega arith)
+    (subst (λ z. Rereads (many symbol_line (put_names names kind z)) Good text rest)
+    (sym (append_assoc before (None ∷ []) ns)) next)
+reread_names kind Good text rest (Some name ∷ ns) before k names free size named small next =
+    let is_name : IsName (Some name) = All-head IsName (Some name) ns named in
+    let there : slice_get (names_of names kind) k ≡ Some None = ap (λ z. slice_get z k) free
+    ∙ ap (slice_get (before ++ None ∷ no_names ns)) (sym size) ∙ seam_get before (no_names ns) in
+    let put : names_of (add_name names kind k name) kind ≡ (before ++ Some name ∷ []) ++ no_names ns =
+    put_there names kind ∙ ap (λ z. slice_set z k (Some name)) free
+    ∙ ap (λ z. slice_set (before ++ None ∷ no_names ns) z (Some name)) (sym size)
+    ∙ set-append_seam before None (no_names ns) (Some name) ∙ sym
+    (append_assoc before (Some name ∷ []) (no_names ns)) in
+    let behind : List ℕ = symbol_lines (letter_of kind) (k + 1) ns in
+    reread_as (append_assoc (written.symbol_line (letter_of kind) k (Some name)) behind text
+    ∙ symbol_is kind k name (behind ++ text))
+    (reread_many (reread_symbol names kind k (omega arith) there name is_name.0 is_name.1 (behind ++ text))
+    (reread_names kind Good text rest ns (before ++ Some name ∷ []) (k + 1) (add_name names kind k name) put
+    (omega (arith, size, length-append before (Some name ∷ []))) (All-tail IsName (Some name) ns named) (omega arith)
+    (subst (λ z. Rereads (many symbol_line z) Good text rest)
+    (sym (put_again names kind (slice_set (names_of names kind) k (Some name)) ((before ++ Some name ∷ []) ++ ns)
+    ∙ ap (put_names names kind) (append_assoc before (Some name ∷ []) ns))) next)))
+
+-- ## The end
+
+pub reread_no_names : (names : NamesData) → Rereads (many symbol_line names) (λ d. d ≡ names) [] []
+reread_no_names names = record {
+  there = λ e at. record {
+    value = names;
+    good = refl;
+    to = at;
+    reads = many_ends symbol_line symbol_laws (λ t x y. x) names (from e at []) (λ t x a. none_is_some t x);
+  };
+}
+
+pub reread_no_comment : Rereads comment AnyValue [] []
+unfolding comment
+reread_no_comment = reread_branch (λ at. right_otherwise chain_c_line.whole.laws (laws_give Odd tt) _
+    (λ t x a. none_is_some t x) (λ n. n)) (reread_give tt tt)
