@@ -6,9 +6,8 @@ use Rattle.std.specs.Option.{IsSomeAnd, unwrap_or}
 use Rattle.std.proofs.Math.Nat.{eq-or-lt_of_le}
 use Rattle.std.proofs.lemmas.Option.{slice_get_within, slice_get-get_or, get_or_from_slice_get}
 use Rattle.ps_diagram.specs.Table.{Table, IsNode, leaf_of}
-use Rattle.ps_hoa.specs.Edges.{Goes}
 use Rattle.ps_hoa.specs.Files.{FileData}
-use Rattle.ps_hoa.specs.Sound.{AreBelow, AreNames, IsSoundFile}
+use Rattle.ps_hoa.specs.Sound.{AreBelow, IsSoundFile}
 use Rattle.ps_hoa.proofs.Soundness.SoundLaws.{row_of_state}
 use Rattle.ps_automaton.specs.Answers.{IsDeterministic, IsRefused}
 use Rattle.ps_automaton.specs.Automata.{AutomatonData, IsWhole, auto_of, node_of, pair_of, step_of}
@@ -31,7 +30,7 @@ pub draft_is_deterministic : {file : FileData} {chain : Chain} {steps : List Ste
     IsSoundFile file → IsDraft file chain steps t nodes → IsDeterministic file
 draft_is_deterministic {file} sound d q first second k =
     let row = row_of_state file sound q k.row k.of_state in
-    let low : q < file.states = (let s = row.0.state in let e = row.1 in omega (arith, s, e)) in
+    let low : q < file.states = omega arith in
     (d.states q low).clear first second k
 
 module _ {file : FileData} (sound : IsSoundFile file) {chain : Chain} (a : AutomatonData)
@@ -74,7 +73,7 @@ module _ {file : FileData} (sound : IsSoundFile file) {chain : Chain} (a : Autom
     takes q letter low small = elim ((draft.states q low).steps_of letter small) [
       | inl m ↦ (let is = named_step q letter _ m.named in inl (record {
         sets = m.sets;
-        goes = subst (Goes file q letter m.sets) (sym (ap (λ (s : Step). s.state) is)) m.goes;
+        goes = rw (ap (λ (s : Step). s.state) is) m.goes;
         priority = ap (λ (s : Step). s.priority) is;
       }))
       | inr m ↦ (let is = named_step q letter _ m.named in inr (record {
@@ -87,12 +86,12 @@ module _ {file : FileData} (sound : IsSoundFile file) {chain : Chain} (a : Autom
     pub auto_built : IsAutoOf file chain (auto_of a)
     auto_built = record {
       start = start;
-      start_within = (let s = sound.start in omega (arith, start, s));
+      start_within = omega (arith, start);
       within = λ q letter low small. state_within q low letter small;
       steps = takes;
       by_edge = λ q letter sets next g.
           let row = row_of_state file sound q g.row g.of_state in
-          let low : q < file.states = (let s = row.0.state in let e = row.1 in omega (arith, s, e)) in
+          let low : q < file.states = omega arith in
           let is = named_step q letter (record { state = next; priority = level chain sets })
           ((draft.states q low).by_edge letter sets next g) in
           (ap (λ (s : Step). s.state) is, ap (λ (s : Step). s.priority) is);
@@ -114,11 +113,11 @@ module _ {file : FileData} (sound : IsSoundFile file) {chain : Chain} (a : Autom
     whole_built distinct = record {
       few_names =
           (let n = ap (λ (ns : List (List ℕ)). length ns) names in let s = sound.few_names in omega (arith, n, s));
-      are_names = subst AreNames (sym names) sound.names;
-      owned = subst (λ n. AreBelow n a.controllable) (sym (ap (λ (ns : List (List ℕ)). length ns) names))
-          (subst (AreBelow (length file.names)) (sym controllable) sound.controllable);
+      are_names = rw names sound.names;
+      owned = rw (ap (λ (ns : List (List ℕ)). length ns) names) (subst (AreBelow (length file.names)) (sym controllable)
+          sound.controllable);
       letters = draft.letters ∙ sym (ap (λ (ns : List (List ℕ)). length ns) names);
-      start = (let s = sound.start in omega (arith, start, states, s));
+      start = omega (arith, start, states);
       nodes = draft.one_each ∙ sym (ap (λ n. n + 1) states);
       held = λ q low. held_within q (omega (arith, low, states));
       leaves = λ q letter low. leaves_within q (omega (arith, low, states)) letter;

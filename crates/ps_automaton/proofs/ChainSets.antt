@@ -1,5 +1,5 @@
 -- The links of a chain are to sets of its condition.
-use Rattle.std.proofs.Common.{◌≡◌, ℕ, ◌<◌, ◌≤◌, Bool, true, false, List, [], ◌∷◌, ◌++◌, Option, Some, None, subst}
+use Rattle.std.proofs.Common.{◌≡◌, ℕ, ◌<◌, ◌≤◌, Bool, true, false, List, [], ◌∷◌, ◌++◌, Option, Some, None}
 use Rattle.std.proofs.Common.{arith}
 use Rattle.std.specs.List.{AllByRecursion}
 use Rattle.ps_hoa.specs.Conditions.{SetData, Condition, Conditions, constant, infinitely, finitely, all_hold, any_holds}
@@ -82,7 +82,7 @@ module _ (n : ℕ) where
         (link_under accepts c i.0) (links_under accepts cs i.1) (chains_under accepts cs i.1) (chain_under c i.0)
 
   under_some : {o : Option Chain} {chain : Chain} → o ≡ Some chain → ChainUnder o → AllByRecursion LinkUnder chain.links
-  under_some e h = subst ChainUnder e h
+  under_some e h = rw e at h
 
 pub chain_sets_below : (sets : ℕ) (c : Condition) {chain : Chain} → sets ≤ 64 → IsCondition sets c →
     chain_of c ≡ Some chain → AreSetsBelow 64 chain.links

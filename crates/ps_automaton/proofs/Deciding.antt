@@ -1,6 +1,6 @@
 -- A file is admitted or refused: each cause can be told, and of the edges that clash the first ones are found.
 use Rattle.std.proofs.Common.{◌≡◌, ◌≢◌, ◌∙◌, ℕ, zero, suc, ◌+◌, ◌^◌, ◌<◌, ◌≤◌, ◌⊎◌, inl, inr, Bool, true, false}
-use Rattle.std.proofs.Common.{List, [], ◌∷◌, length, Option, Some, None, slice_get, refl, sym, subst, arith}
+use Rattle.std.proofs.Common.{List, [], ◌∷◌, length, Option, Some, None, slice_get, refl, sym, arith}
 use Rattle.std.proofs.lemmas.Bool.{cases_eq, cases_lt}
 use Rattle.std.proofs.lemmas.Option.{slice_get_within}
 use Rattle.ps_text.proofs.Decisions.{Decided, decide_as, decide_below, decide_both, decide_not, decide_true}
@@ -26,7 +26,7 @@ least_below P tell (suc n) = elim (least_below P tell n) [
     | inl here ↦ inl (n, here, λ k h. elim (cases_lt k n) [ inl lt ↦ absurd (none k lt h) | inr le ↦ le ])
     | inr never ↦ inr (λ k lt h. elim (cases_lt k n) [
       | inl less ↦ none k less h
-      | inr le ↦ (let e : k ≡ n = omega arith in never (subst P e h))
+      | inr le ↦ (let e : k ≡ n = omega arith in never (rw e at h))
     ])
   ]
 ]
@@ -45,7 +45,7 @@ least_of P tell k h = elim (least_below P tell (suc k)) [ inl m ↦ m | inr none
 pub decide_some : {X : Type 0} (o : Option X) (P : X → Type 0) → ((x : X) → Decided (P x)) →
     Decided ((x : X) × (o ≡ Some x) × P x)
 decide_some None P tell = inr (λ h. (let e = h.1 in cc))
-decide_some (Some x) P tell = decide_as (λ p. (x, refl, p)) (λ h. subst P (sym (same_some x h.0 h.1)) h.2) (tell x)
+decide_some (Some x) P tell = decide_as (λ p. (x, refl, p)) (λ h. rw (same_some x h.0 h.1) h.2) (tell x)
 
 same_or_not : (a b : Bool) → Decided (a ≡ b)
 same_or_not a b = grind arith
@@ -133,8 +133,7 @@ module _ (file : FileData) where
 
   with_second_or_not : (q : ℕ) → Decided (WithSecond q)
   with_second_or_not q = some_or_none (WithFirst q) (with_first_or_not q) (edges_in (row_of file q)) (λ second f.
-      let c = f.1 in subst (λ o. second < edges_in o) (sym c.of_state)
-      (slice_get_within c.row.edges second c.clashing.other c.clashing.at_second))
+      let c = f.1 in rw c.of_state (slice_get_within c.row.edges second c.clashing.other c.clashing.at_second))
 
   abbrev states_bound : List RowData → ℕ
   states_bound [] = 0

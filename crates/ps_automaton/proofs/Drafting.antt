@@ -38,8 +38,7 @@ pub steps_kept : {file : FileData} {chain : Chain} {q : ℕ} {old new : List Ste
     Extends old new → Keeps t u → IsStepsOf file chain q old t node → IsStepsOf file chain q new u node
 steps_kept {file} {chain} {q} {old} {new} {t} {u} {node} extends keeps s = record {
   held = keeps.held node s.held;
-  leaves = λ letter. subst (λ o. IsSomeAnd o (λ k. k < length new)) (sym (leaf letter))
-      (within_kept old new extends (leaf_of t node letter) (s.leaves letter));
+  leaves = λ letter. rw (leaf letter) (within_kept old new extends (leaf_of t node letter) (s.leaves letter));
   steps_of = λ letter small. by_kind letter (s.steps_of letter small);
   by_edge = λ letter sets next g. names letter _ (s.by_edge letter sets next g);
   clear = s.clear;
@@ -71,13 +70,12 @@ module _ (file : FileData) (chain : Chain) (steps : List Step) (t : Table) (node
     | inl low ↦ (
         let same : get_or more q 0 ≡ get_or nodes q 0 = ap (λ (ns : List ℕ). get_or ns q 0) is
         ∙ get_or_append_left nodes (node ∷ []) 0 q (omega (arith, low, size)) in
-        subst (IsStepsOf file chain q steps t) (sym same) (each q low))
+        rw same (each q low))
     | inr high ↦ (
         let here : count ≡ q = omega arith in
         let same : get_or more q 0 ≡ node = ap (λ (ns : List ℕ). get_or ns q 0) is
         ∙ get_or_push nodes node 0 q (size ∙ here) in
-        subst (λ p. IsStepsOf file chain p steps t (get_or more q 0)) here
-        (subst (IsStepsOf file chain count steps t) (sym same) last))
+        rw here at (subst (IsStepsOf file chain count steps t) (sym same) last))
   ]
 
   -- the first fault of a state is that of the file, where no earlier state has a clash
@@ -86,10 +84,10 @@ module _ (file : FileData) (chain : Chain) (steps : List Step) (t : Table) (node
   first_fault count each ComplementedSet h = h
   first_fault count each NonParity h = h
   first_fault count each (Nondeterministic p first second) h = record {
-    clash = subst (λ q. Clash file q first second) (sym h.0) h.1;
+    clash = rw h.0 h.1;
     least_state = λ q a b k. by_size q a b k (cases_lt q count);
-    least_second = λ a b k. h.2 a b (subst (λ q. Clash file q a b) h.0 k);
-    least_first = λ a k. h.3 a (subst (λ q. Clash file q a second) h.0 k);
+    least_second = λ a b k. h.2 a b (rw h.0 at k);
+    least_first = λ a k. h.3 a (rw h.0 at k);
   }
     where
       by_size : (q a b : ℕ) → Clash file q a b → (q < count) ⊎ (count ≤ q) → p ≤ q
@@ -104,4 +102,4 @@ steps_stay file chain {old} {new} {t} {u} nodes count extends keeps each =
 
 pub err_told : {T E : Type 0} (P : E → Type 0) (r : Result T E) (e : E) → IsErrAnd r (λ y. y ≡ e) → P e → IfErr r P
 err_told P (Ok x) e h p = tt
-err_told P (Err y) e h p = subst P (sym h) p
+err_told P (Err y) e h p = rw h p

@@ -98,7 +98,7 @@ module _ (file : FileData) (sound : IsSoundFile file) (chain : Chain) (determini
   unfolding auto
   is_auto = record {
     start = refl;
-    start_within = (let below = sound.start in omega arith);
+    start_within = omega arith;
     within = λ q letter le lt. elim (choice q letter).2 [
       | inl e ↦ (let below = target_within e.1 in omega arith)
       | inr n ↦ omega (arith, n.1)

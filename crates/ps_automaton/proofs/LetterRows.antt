@@ -1,13 +1,13 @@
 -- Rows whose edges are taken at a letter each.
 use Rattle.std.proofs.Common.{◌≡◌, ℕ, ◌+◌, ◌%◌, ◌^◌, ◌<◌, ◌≤◌, ◌⊎◌, inl, inr, List, [], ◌∷◌, ◌++◌, length, get_or, Some}
-use Rattle.std.proofs.Common.{refl, sym, ap, subst, ◌∙◌, arith}
+use Rattle.std.proofs.Common.{refl, sym, ap, ◌∙◌, arith}
 use Rattle.std.specs.List.{slice_get}
 use Rattle.std.proofs.lemmas.Bool.{cases_lt}
 use Rattle.std.proofs.lemmas.Option.{slice_get_within, slice_get-get_or}
 use Rattle.std.proofs.Math.Nat.{mod-eq_of_lt}
 use Rattle.ps_text.proofs.Simple.{same_some}
 use Rattle.ps_hoa.specs.Edges.{IsOpen}
-use Rattle.ps_hoa.specs.Files.{EdgeData, GuardData, RowData, FileData, of_state, at_letter}
+use Rattle.ps_hoa.specs.Files.{EdgeData, RowData, FileData, of_state, at_letter}
 use Rattle.ps_hoa.specs.Sound.{IsSoundRow}
 use Rattle.ps_hoa.proofs.Soundness.SoundLaws.{sound_edge}
 use Rattle.ps_automaton.specs.Drafts.{AreJoined, AreTargets, IsByLetters, IsTargetAt}
@@ -27,35 +27,29 @@ pub targets_more : {row : RowData} (targets : List Target) {more : List Target} 
     {target : Target} → length targets ≡ count → more ≡ targets ++ target ∷ [] → slice_get row.edges count ≡ Some edge →
     IsTargetOf row edge target → HaveTargets row count targets → HaveTargets row (count + 1) more
 targets_more {row} targets {more} {count} {edge} {target} size is at is_target have k e within there =
-    by_size (cases_lt k count)
-  where
-    by_size : (k < count) ⊎ (count ≤ k) → IsTargetAt row e more k
-    by_size (inl low) =
-        let old = have k e low there in
-        (old.0, ap (λ (ts : List Target). slice_get ts k) is ∙ at_left targets (target ∷ []) k old.1, old.2)
-    by_size (inr high) =
-        let here : count ≡ k = omega (arith, within, high) in
-        let same : edge ≡ e = same_some edge e (sym at ∙ ap (slice_get row.edges) here ∙ there) in
-        let last : slice_get more k ≡ Some target = ap (λ (ts : List Target). slice_get ts k) is
-        ∙ ap (slice_get (targets ++ target ∷ [])) (sym here ∙ sym size) ∙ at_end targets target in
-        (target, last, subst (λ d. IsTargetOf row d target) same is_target)
+    elim (cases_lt k count) [
+      | inl low ↦ (let old = have k e low there in
+          (old.0, rw is (at_left targets (target ∷ []) k old.1), old.2))
+      | inr high ↦ (let here : count ≡ k = omega (arith, within, high) in
+          let same : edge ≡ e = same_some edge e (sym at ∙ ap (slice_get row.edges) here ∙ there) in
+          let last : slice_get more k ≡ Some target = ap (λ (ts : List Target). slice_get ts k) is
+          ∙ ap (slice_get (targets ++ target ∷ [])) (sym here ∙ sym size) ∙ at_end targets target in
+          (target, last, rw same at is_target))
+    ]
 
 -- ## The row
 
 module _ {file : FileData} {row : RowData} (row_sound : IsSoundRow file row) (by : IsByLetters file row) where
+  guard_at : (place : ℕ) {edge : EdgeData} → slice_get row.edges place ≡ Some edge → edge.guard ≡ at_letter place
+  guard_at place at = by_letter 0 row.edges by.0 place at ∙ ap at_letter (omega arith)
+
   letter_of_place : (place : ℕ) {letter : ℕ} {edge : EdgeData} → slice_get row.edges place ≡ Some edge →
       IsOpen file.aliases row.label edge.guard letter → letter ≡ place
-  letter_of_place place {letter} {edge} at open_at =
-      let n : 0 + place ≡ place = omega arith in
-      subst (λ (g : GuardData). IsOpen file.aliases row.label g letter)
-      (by_letter 0 row.edges by.0 place at ∙ ap at_letter n) open_at
+  letter_of_place place at open_at = rw (guard_at place at) at open_at
 
   open_at_place : (place : ℕ) {edge : EdgeData} → slice_get row.edges place ≡ Some edge →
       IsOpen file.aliases row.label edge.guard place
-  open_at_place place {edge} at =
-      let n : 0 + place ≡ place = omega arith in
-      subst (λ (g : GuardData). IsOpen file.aliases row.label g place)
-      (sym (by_letter 0 row.edges by.0 place at ∙ ap at_letter n)) refl
+  open_at_place place at = rw (guard_at place at) refl
 
   -- the edge at a place
   edge_there : (place : ℕ) → place < length row.edges → (edge : EdgeData) × (slice_get row.edges place ≡ Some edge)
@@ -69,7 +63,7 @@ module _ {file : FileData} {row : RowData} (row_sound : IsSoundRow file row) (by
     there = λ letter small e.
         let here : e.place ≡ letter % 2 ^ length file.names =
         sym (letter_of_place e.place e.at_place e.taken) ∙ sym (mod-eq_of_lt small) in
-        subst (IsTargetAt row e.edge targets) here (a.each e.place e.edge e.at_place);
+        rw here at (a.each e.place e.edge e.at_place);
     from = λ letter place small _.
         let size = by.1 in
         let edge = edge_there letter (omega (arith, small, size)) in

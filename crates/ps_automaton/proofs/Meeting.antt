@@ -1,6 +1,6 @@
 -- Diagrams that have leaves at a common letter.
 use Rattle.std.proofs.Common.{◌≡◌, ℕ, ◌^◌, ◌<◌, inl, inr, Bool, true, false, length, Option, Some, None, IsTrue, refl}
-use Rattle.std.proofs.Common.{sym, ap, subst, ◌∙◌}
+use Rattle.std.proofs.Common.{sym, ap, ◌∙◌}
 use Rattle.std.specs.List.{slice_get}
 use Rattle.std.specs.Option.{option_map}
 use Rattle.ps_text.proofs.Simple.{none_is_some}
@@ -10,7 +10,7 @@ use Rattle.ps_diagram.specs.Labels.{one_where}
 use Rattle.ps_diagram.specs.Letters.{assignment}
 use Rattle.ps_diagram.specs.Tree.{Tree, leaf_at}
 use Rattle.ps_diagram.specs.Table.{Table, IsNode, Keeps, leaf_of}
-use Rattle.ps_hoa.specs.Edges.{IsOpen, IsTaken}
+use Rattle.ps_hoa.specs.Edges.{IsOpen}
 use Rattle.ps_hoa.specs.Files.{EdgeData, RowData, FileData, of_state}
 use Rattle.ps_automaton.specs.Answers.{AreAlike, AreClashing}
 use Rattle.ps_automaton.specs.Drafts.{IsLabelNode, IsWhere, Meet, ShowsEdge}
@@ -44,7 +44,7 @@ guarded_meet {t} {u} {v} {one} {other} {zero_node} one_node {x} {y} letter tu uv
     ∙ sym (kept_leaf uv letter zero_held) ∙ first) in
     let b = mapped_some (λ _. 1) (leaf_of u other letter) (sym (one_is letter) ∙ second) in (
       letter,
-      subst (λ n. letter < 2 ^ n) (uv.propositions ∙ tu.propositions) small,
+      rw (uv.propositions ∙ tu.propositions) at small,
       a.0,
       b.0,
       a.1,
@@ -94,5 +94,4 @@ module _ {file : FileData} {row : RowData} {first second : ℕ} {one other : Edg
 pub kept_shows : (file : FileData) (row : RowData) (edge : EdgeData) {t u : Table} {node : ℕ} (value : ℕ) → Keeps t u →
     IsNode t node → ShowsEdge file row edge t node value → ShowsEdge file row edge u node value
 kept_shows file row edge {t} {u} {node} value keeps held shows letter small =
-    subst (λ leaf. IsWhere leaf value (IsTaken file row edge letter)) (sym (kept_leaf keeps letter held))
-    (shows letter small)
+    rw (kept_leaf keeps letter held) (shows letter small)

@@ -1,7 +1,7 @@
 -- The number of an edge is the greatest of those of its sets in the table, or the base's.
 use Rattle.std.proofs.Common.{◌≡◌, ℕ, ◌+◌, ◌-◌, ◌<◌, ◌≤◌, ◌⊎◌, inl, inr, max, suc, zero, Bool, true, false, cond, List}
 use Rattle.std.proofs.Common.{[], ◌∷◌, length, map, drop, set, drop-cons, get_or, get_or-set_same, get_or-set_other}
-use Rattle.std.proofs.Common.{refl, ap, sym, ◌∙◌, subst, arith}
+use Rattle.std.proofs.Common.{refl, ap, sym, ◌∙◌, arith}
 use Rattle.std.specs.Prelude.{nat_eq}
 use Rattle.std.proofs.Math.Nat.{le_antisymm}
 use Rattle.std.proofs.lemmas.List.{length-map, drop-map, drop_all}
@@ -124,7 +124,7 @@ pub set_of_link : (links : List code.Link) (k : ℕ) {link : code.Link} → AreS
 set_of_link links k {link} small within is =
     let there : get_or (map link_data links) k (link_data link) ≡ link_data link = get_or-map link_data links k link
     ∙ ap link_data (sym is) in
-    subst (λ (l : Link). l.colour < 64) there (small k (link_data link)
+    rw there at (small k (link_data link)
     (let len = length-map links link_data in omega (arith, len)))
 
 pub table_step : (base : Bool) (link : Link) (rest : List Link) (numbers : List ℕ) {number : ℕ} (s : ℕ) →

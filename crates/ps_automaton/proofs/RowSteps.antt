@@ -106,8 +106,7 @@ module _ {file : FileData} (sound : IsSoundFile file) {row : RowData} (row_sound
     by_edge_of letter sets next g =
         let e = edge_of of_state g in
         let step = edge_step e.0 (place_at letter) (joined.there letter g.is_letter e.0) sets e.1 in
-        subst (λ n. Names steps (leaf_of after made letter) (record { state = n; priority = level chain sets })) e.2
-        (names_at letter step)
+        rw e.2 at (names_at letter step)
 
     moves_or_stops : (letter : ℕ) → letter < 2 ^ length file.names →
         Moves file chain q letter steps (leaf_of after made letter) ⊎
@@ -119,7 +118,7 @@ module _ {file : FileData} (sound : IsSoundFile file) {row : RowData} (row_sound
         by_leaf None e = inr (record {
           none = λ sets next g.
               let taken = edge_of of_state g in
-              subst (λ o. IsSomeAnd o (IsTargetAt row taken.0.edge targets)) e (joined.there letter small taken.0);
+              rw e at (joined.there letter small taken.0);
           named = names_at letter (ap (λ o. slice_get steps (made_of o)) e ∙ all_steps.sink);
         })
         by_leaf (Some k) e =
@@ -135,8 +134,7 @@ module _ {file : FileData} (sound : IsSoundFile file) {row : RowData} (row_sound
     pub steps_of_row : IsStepsOf file chain q steps after made
     steps_of_row = record {
       held = held;
-      leaves = λ letter. subst (λ o. IsSomeAnd o (λ l. l < length steps)) (sym (leaf letter))
-          (made_within (place_at letter));
+      leaves = λ letter. rw (leaf letter) (made_within (place_at letter));
       steps_of = moves_or_stops;
       by_edge = by_edge_of;
       clear = λ first second k.

@@ -1,5 +1,5 @@
 -- From rows to states.
-use Rattle.std.proofs.Common.{◌≡◌, ℕ, Some, sym, subst, ◌∙◌}
+use Rattle.std.proofs.Common.{◌≡◌, ℕ, Some, sym, ◌∙◌}
 use Rattle.ps_text.proofs.Simple.{same_some}
 use Rattle.ps_hoa.specs.Edges.{row_of}
 use Rattle.ps_hoa.specs.Files.{RowData, FileData}
@@ -11,8 +11,7 @@ use Rattle.ps_automaton.specs.declared.fault.AutomatonFault.TheVariants.{OutOfMe
 
 pub clash_in_row : {file : FileData} {q : ℕ} {row : RowData} → row_of file q ≡ Some row → {a b : ℕ} → Clash file q a b →
     AreClashing file row a b
-clash_in_row {file} {row} of_state {a} {b} k =
-    subst (λ r. AreClashing file r a b) (same_some k.row row (sym k.of_state ∙ of_state)) k.clashing
+clash_in_row {file} {row} of_state {a} {b} k = rw (same_some k.row row (sym k.of_state ∙ of_state)) at k.clashing
 
 pub fault_of_state : (file : FileData) {q : ℕ} {row : RowData} → row_of file q ≡ Some row → row.state ≡ q →
     (f : AutomatonFault) → IsRowFault file row f → IsStateFault file q f

@@ -1,6 +1,6 @@
 -- Steps that are put behind others, each once.
 use Rattle.std.proofs.Common.{◌≡◌, ℕ, ◌≤◌, ◌⊎◌, inl, inr, Bool, List, [], ◌∷◌, ◌++◌, length}
-use Rattle.std.proofs.Common.{Some, sym, ap, subst, ◌∙◌, arith, eqb, ◌&&◌}
+use Rattle.std.proofs.Common.{Some, sym, ap, ◌∙◌, arith, eqb, ◌&&◌}
 use Rattle.std.specs.List.{slice_get}
 use Rattle.std.specs.Bool.{Decides}
 use Rattle.ps_text.proofs.Simple.{same_some}
@@ -28,19 +28,16 @@ extends_same a = λ place step e. e
 module _ (steps : List Step) {new : List Step} (step : Step) (keys : new ≡ insert_key step_eq steps step) where
   pub step_extends : Extends steps new
   step_extends =
-      λ place s e. subst (λ ks. slice_get ks place ≡ Some s) (sym keys) (inserted_keeps step_eq steps step place e)
+      λ place s e. rw keys (inserted_keeps step_eq steps step place e)
 
   pub step_within : {states : ℕ} → step.state ≤ states → AreSteps states steps → AreSteps states new
   step_within {states} low a = record {
     sink = step_extends 0 (record { state = states; priority = 1 }) a.sink;
-    within = λ place s e. by_place place s (inserted_is step_eq steps step place
-        (subst (λ ks. slice_get ks place ≡ Some s) keys e));
+    within = λ place s e. elim (inserted_is step_eq steps step place (rw keys at e)) [
+      | inl h ↦ a.within place s h
+      | inr h ↦ omega (arith, ap (λ (z : Step). z.state) h, low)
+    ];
   }
-    where
-      by_place : (place : ℕ) (s : Step) → (slice_get steps place ≡ Some s) ⊎ (s ≡ step) → s.state ≤ states
-      by_place place s (inl e) = a.within place s e
-      by_place place s (inr e) =
-          let same : s.state ≡ step.state = ap (λ (z : Step). z.state) e in omega (arith, same, low)
 
 abbrev pub AreNamed : Chain → List Target → List Step → List ℕ → Type 0
 AreNamed chain targets steps places = (k place : ℕ) (target : Target) → slice_get targets k ≡ Some target →
@@ -52,12 +49,10 @@ pub named_more : (chain : Chain) (targets : List Target) (steps new : List Step)
     AreNamed chain targets steps places → AreNamed chain targets new more
 named_more chain targets steps new places p {x} extends stored is at size pushed each k place target
     at_k at_place =
-    by_end (at_last places p k (sym (ap (λ (ns : List ℕ). slice_get ns k) pushed) ∙ at_place))
-  where
-    by_end : (slice_get places k ≡ Some place) ⊎ ((place ≡ p) × (k ≡ length places)) →
-        slice_get new place ≡ Some (step_of_target chain target)
-    by_end (inl e) = extends place (step_of_target chain target) (each k place target at_k e)
-    by_end (inr e) =
-        let same : x ≡ target = same_some x target (sym at ∙ ap (slice_get targets) (sym (e.1 ∙ size)) ∙ at_k) in
-        ap (slice_get new) e.0 ∙ stored ∙ ap (λ (s : Step). Some s) is
-        ∙ ap (λ (t : Target). Some (step_of_target chain t)) same
+    elim (at_last places p k (rw pushed at at_place)) [
+      | inl e ↦ extends place (step_of_target chain target) (each k place target at_k e)
+      | inr e ↦ (let same : x ≡ target =
+          same_some x target (sym at ∙ ap (slice_get targets) (sym (e.1 ∙ size)) ∙ at_k) in
+          ap (slice_get new) e.0 ∙ stored ∙ ap (λ (s : Step). Some s) is
+          ∙ ap (λ (t : Target). Some (step_of_target chain t)) same)
+    ]

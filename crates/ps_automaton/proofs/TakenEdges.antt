@@ -1,7 +1,7 @@
 -- Edges that are taken at a letter: those of a row, the edges by which a state goes, and two that clash.
 --     clash_of, clash_at      two edges that are taken and not alike clash, and the other way round
 --     edge_of, goes_of      what goes is an edge that is taken, and the other way round
-use Rattle.std.proofs.Common.{◌≡◌, ◌∙◌, ℕ, ◌^◌, ◌<◌, Bool, length, Some, slice_get, refl, ap, subst}
+use Rattle.std.proofs.Common.{◌≡◌, ◌∙◌, ℕ, ◌^◌, ◌<◌, Bool, length, Some, slice_get, refl, ap}
 use Rattle.std.proofs.lemmas.Option.{slice_get_within}
 use Rattle.ps_hoa.specs.Files.{EdgeData, RowData, FileData}
 use Rattle.ps_hoa.specs.Edges.{row_of, IsTaken, is_marked, Goes}
@@ -42,13 +42,13 @@ module _ {file : FileData} {row : RowData} where
         (e.edge.target ≡ next)
     edge_of g =
         let same : g.row ≡ row = cc in
-        let at = subst (λ r. slice_get r.edges g.place ≡ Some g.edge) same g.at_place in (
+        let at = rw same at g.at_place in (
           record {
             place = g.place;
             within = slice_get_within row.edges g.place g.edge at;
             edge = g.edge;
             at_place = at;
-            taken = subst (λ r. IsTaken file r g.edge letter) same g.taken;
+            taken = rw same at g.taken;
           },
           λ set. g.marked set ∙ ap (λ r. is_marked r g.edge set) same,
           g.target,

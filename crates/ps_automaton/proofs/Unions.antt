@@ -39,7 +39,7 @@ joined_first P Q (Some x) m h f = f x h
 joined_second : (Q : ℕ → Type 0) (o : Option ℕ) (p : ℕ) → AgreeingLeaves o (Some p) → Q p →
     IsSomeAnd (joined o (Some p)) Q
 joined_second Q None p a q = q
-joined_second Q (Some x) p a q = subst Q (sym a) q
+joined_second Q (Some x) p a q = rw a q
 
 joined_from : (o m : Option ℕ) {x : ℕ} → joined o m ≡ Some x → (o ≡ Some x) ⊎ (m ≡ Some x)
 joined_from None m e = inr e
@@ -52,7 +52,7 @@ pub wider : {file : FileData} {row : RowData} {count letter : ℕ} → TakenEdge
     TakenEdge file row (count + 1) letter
 wider e = record {
   place = e.place;
-  within = (let h = e.within in omega (arith, h));
+  within = omega arith;
   edge = e.edge;
   at_place = e.at_place;
   taken = e.taken;
@@ -63,7 +63,7 @@ module _ {file : FileData} (sound : IsSoundFile file) {row : RowData} (row_sound
   pub union_clear : {count : ℕ} {targets : List Target} {place_at : ℕ → Option ℕ} →
       AreJoined file row count targets place_at → {a b : ℕ} → b < count → AreClashing file row a b → ⊥
   union_clear {count} {targets} {place_at} u {a} {b} within k =
-      let before : a < count = (let e = k.earlier in omega (arith, e, within)) in
+      let before : a < count = omega (arith, within) in
       let one : TakenEdge file row count k.letter =
       record { place = a; within = before; edge = k.one; at_place = k.at_first; taken = k.one_taken } in
       let other : TakenEdge file row count k.letter =
@@ -75,7 +75,7 @@ module _ {file : FileData} (sound : IsSoundFile file) {row : RowData} (row_sound
       by_leaf None h g = absurd h
       by_leaf (Some p) h g =
           let same : g.0 ≡ h.0 = same_some g.0 h.0 (sym g.1 ∙ h.1) in
-          alike_of_target sound row_sound a b k.at_first k.at_second h.2 (subst (IsTargetOf row k.other) same g.2)
+          alike_of_target sound row_sound a b k.at_first k.at_second h.2 (rw same at g.2)
 
   -- one edge more
   module _ {count : ℕ} {edge : EdgeData} (at : slice_get row.edges count ≡ Some edge) {target : Target}
@@ -94,8 +94,7 @@ module _ {file : FileData} (sound : IsSoundFile file) {row : RowData} (row_sound
     union_grown held leaf agree = record {
       held = held;
       joined = record {
-        there = λ letter small e. subst (λ o. IsSomeAnd o (IsTargetAt row e.edge new)) (sym (leaf letter))
-            (by_place letter small e (cases_lt e.place count));
+        there = λ letter small e. rw (leaf letter) (by_place letter small e (cases_lt e.place count));
         from = λ letter x small is_leaf. by_side letter x small (joined_from (leaf_of t node letter)
             (leaf_of t marked letter) (sym (leaf letter) ∙ is_leaf));
         within = λ i x e. by_target i x (back i x e);
@@ -120,7 +119,7 @@ module _ {file : FileData} (sound : IsSoundFile file) {row : RowData} (row_sound
             joined_first (IsTargetAt row e.edge old) (IsTargetAt row e.edge new) (leaf_of t node letter)
             (leaf_of t marked letter) was (λ x h. (h.0, grows x h.0 h.1, h.2))
         by_place letter small e (inr high) =
-            let here : e.place ≡ count = (let h = e.within in omega (arith, h, high)) in
+            let here : e.place ≡ count = omega (arith, high) in
             let same : edge ≡ e.edge =
             same_some edge e.edge (sym at ∙ ap (slice_get row.edges) (sym here) ∙ e.at_place) in
             let taken = subst (λ d. IsTaken file row d letter) (sym same) e.taken in
@@ -128,7 +127,7 @@ module _ {file : FileData} (sound : IsSoundFile file) {row : RowData} (row_sound
             taken_is_shown (leaf_of t marked letter) place (shows letter small) taken in
             let agrees = subst (AgreeingLeaves (leaf_of t node letter)) shown (agree letter) in
             let target_at : IsTargetAt row e.edge new place =
-            (target, stored, subst (λ d. IsTargetOf row d target) same is) in
+            (target, stored, rw same at is) in
             subst (λ o. IsSomeAnd (joined (leaf_of t node letter) o) (IsTargetAt row e.edge new)) (sym shown)
             (joined_second (IsTargetAt row e.edge new) (leaf_of t node letter) place agrees target_at)
 

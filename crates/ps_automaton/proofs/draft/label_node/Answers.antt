@@ -15,5 +15,4 @@ of_label_by-requires-clause-within c =
     let is : (row_data c.args.row.now).label ≡ Some e = ap (option_map expression) c.in-Some.is in
     let label = subst (λ o. IfSome o (IsLabelOf file)) is c.requires.row.label in
     let over = label_over (length file.aliases) (length file.names) e label in
-    subst (λ n. IsOver n c.args.store.now.propositions e) (sym c.requires.aliases.one_each)
-    (subst (λ n. IsOver (length file.aliases) n e) (sym c.requires.letters) over)
+    rw c.requires.aliases.one_each (subst (λ n. IsOver (length file.aliases) n e) (sym c.requires.letters) over)

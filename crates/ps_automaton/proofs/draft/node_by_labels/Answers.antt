@@ -14,7 +14,7 @@ all_steps c = c.in_ok-node_of_union.ensures.within c.args.guards.now.file.now.st
 pub node_of_union-requires-clause-within : goal.node_of_union-requires-clause-within
 node_of_union-requires-clause-within c = λ letter small.
     let letters = c.in_ok-union.ensures.keeps.propositions ∙ c.requires.ready.letters in
-    leaf_within c.in_ok-union.ensures.union letter (subst (λ n. letter < 2 ^ n) letters small)
+    leaf_within c.in_ok-union.ensures.union letter (rw letters at small)
 
 pub returns-clause-grows : goal.returns-clause-grows
 returns-clause-grows c = record {

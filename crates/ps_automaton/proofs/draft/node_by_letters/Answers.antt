@@ -16,7 +16,7 @@ all_steps : (c : In_ok-places) → AreSteps c.args.guards.now.file.now.states c.
 all_steps c =
     let joined = joined_by_letters c.requires.ready.row c.requires.by_letters c.in_ok-targets.ensures in
     c.in_ok-places.ensures.within c.args.guards.now.file.now.states (λ k target e. let h = joined.within k target
-    (subst (λ (ts : List Target). slice_get ts k ≡ Some target) c.deref.ensures.value e) in omega (arith, h))
+    (rw c.deref.ensures.value at e) in omega (arith, h))
     c.requires.steps
 
 pub returns-clause-grows : goal.returns-clause-grows

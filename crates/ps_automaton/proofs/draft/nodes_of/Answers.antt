@@ -13,8 +13,7 @@ pub of_aliases-requires : goal.of_aliases-requires
 of_aliases-requires c =
     let file = c.args.file.now in
     record {
-      aliases = subst (AreOverFrom 0 c.args.pairs.now.store.propositions) (sym c.aliases.ensures.value)
-          (subst (λ n. AreOverFrom 0 n file.aliases) (sym c.requires.letters)
+      aliases = rw c.aliases.ensures.value (subst (λ n. AreOverFrom 0 n file.aliases) (sym c.requires.letters)
           (aliases_over 0 (length file.names) file.aliases c.aliases.ensures.well_formed.aliases));
     }
 
@@ -33,7 +32,7 @@ returns-clause-draft c =
     record {
       letters = keeps.propositions ∙ made.letters;
       all_steps = made.steps;
-      one_each = (let n = c.in_ok-push.ensures.len in omega (arith, n, size));
+      one_each = omega (arith, c.in_ok-push.ensures.len, size);
       states = λ q within.
           let same =
           ap (λ (ns : List ℕ). get_or ns q 0) is ∙ get_or_append_left nodes _ 0 q (omega (arith, within, size)) in

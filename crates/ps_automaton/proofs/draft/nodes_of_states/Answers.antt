@@ -27,7 +27,7 @@ loop-state-preserved c =
       letters = g.keeps.propositions ∙ inv.letters;
       nodes_of = kept_nodes g.keeps inv.nodes_of;
       all_steps = g.steps;
-      count = (let n = c.in_ok-push.ensures.len in let m = inv.count in omega (arith, n, m));
+      count = omega (arith, c.in_ok-push.ensures.len, inv.count);
       each = one_more file chain new.steps.keys new.store c.loop-state.nodes.items inv.count c.in_ok-push.ensures.items
           kept c.in_ok-state_node.ensures.node;
     }

@@ -19,7 +19,7 @@ loop-target-preserved c =
       within = λ states low a. step_within old step c.in_ok-place.ensures.keys
           (let h = low c.loop-target.target-index _ at in let is : step.state ≡ _ = ap (λ s. s.state) c.step_to.ensures
           in omega (arith, h, is)) (inv.within states low a);
-      so_far = (let n = c.in_ok-push.ensures.len in let m = inv.so_far in omega (arith, n, m));
+      so_far = omega (arith, c.in_ok-push.ensures.len, inv.so_far);
       each = named_more (chain_data c.args.levels.now.chain) c.args.targets.now old new c.loop-target.places.items
           c.in_ok-place.place more (stored_is step_eq step_decides new c.in_ok-place.place step
           c.in_ok-place.ensures.stored) c.step_to.ensures at inv.so_far c.in_ok-push.ensures.items inv.each;

@@ -13,7 +13,7 @@ target_of-requires-clause-edge c =
     let l = c.loop-edge in
     edge_marks_few c.requires.file c.requires.row l.edge-index
     (edge_at c.args.guards.now.row.now.edges.items l.edge-index
-    (let n = c.deref-edge-items.ensures.len in omega (arith, n))
+    omega arith
     (x.is ∙ ap (λ (es : List Edge). get_or es l.edge-index x.result) c.deref-edge-items.ensures.value))
 
 pub loop-edge-preserved : goal.loop-edge-preserved
@@ -21,10 +21,10 @@ loop-edge-preserved c =
     let x = c.edge-item in
     let l = c.loop-edge in
     let at = edge_at c.args.guards.now.row.now.edges.items l.edge-index
-    (let n = c.deref-edge-items.ensures.len in omega (arith, n))
+    omega arith
     (x.is ∙ ap (λ (es : List Edge). get_or es l.edge-index x.result) c.deref-edge-items.ensures.value) in
     record {
-      so_far = (let n = c.in_ok-push.ensures.len in let m = l.invariant.so_far in omega (arith, n, m));
+      so_far = omega (arith, c.in_ok-push.ensures.len, l.invariant.so_far);
       each = targets_more l.targets.items
           l.invariant.so_far c.in_ok-push.ensures.items at c.target_of.ensures l.invariant.each;
     }

@@ -8,14 +8,14 @@ use Rattle.ps_automaton.proofs.numbers.table_of.Goals as goal
 
 pub loop-k-init : goal.loop-k-init
 loop-k-init c =
-    let none = none_behind c.args.chain.now.links.items c.len-k.result (let e = c.len-k.ensures in omega (arith, e)) in
+    let none = none_behind c.args.chain.now.links.items c.len-k.result omega arith in
     let base = c.args.chain.now.base in
     let low : base_number base ≤ 1 = base_at_most base in
     record {
-      within = (let e = c.len-k.ensures in omega (arith, e));
+      within = omega arith;
       size = refl;
       base = c.base_number-base.ensures;
-      room = (let e = c.len-k.ensures in let b = c.base_number-base.ensures in omega (arith, e, b, low));
+      room = omega (arith, low);
       number = c.base_number-base.ensures ∙ ap (first_number base) (sym none);
       by_set = λ set small. get_or-replicate 64 set c.base_number-base.result 0 small ∙ c.base_number-base.ensures
           ∙ ap (λ (ls : List Link). level_by base ls (λ s. nat_eq s set)) (sym none);
@@ -23,7 +23,7 @@ loop-k-init c =
 
 pub bounds-by_set-link : goal.bounds-by_set-link
 bounds-by_set-link c = set_of_link c.args.chain.now.links.items (c.loop-k.k - 1) c.requires
-    (let w = c.loop-k.invariant.within in let t = c.loop-k-test.true in omega (arith, w, t)) c.index-link.ensures
+    omega arith c.index-link.ensures
 
 pub loop-k-preserved : goal.loop-k-preserved
 loop-k-preserved c =
@@ -36,11 +36,10 @@ loop-k-preserved c =
     let number = c.raised_number-number.ensures ∙ ap (raised link.accepts) c.loop-k.invariant.number in
     let at_most = raised_at_most link.accepts c.loop-k.number in
     record {
-      within = (let w = c.loop-k.invariant.within in omega (arith, w));
+      within = omega arith;
       size = length-set c.loop-k.by_set link.set c.raised_number-number.result ∙ c.loop-k.invariant.size;
       base = c.loop-k.invariant.base;
-      room = (let r = c.loop-k.invariant.room in let e = c.raised_number-number.ensures in let t = c.loop-k-test.true in
-          omega (arith, r, e, at_most, t));
+      room = omega (arith, at_most);
       number = number ∙ ap (first_number base) (sym here);
       by_set = λ set below. table_step base (link_data link) (drop k (map link_data links)) c.loop-k.by_set set
           c.loop-k.invariant.size small number (c.loop-k.invariant.by_set set below)

@@ -1,9 +1,7 @@
-use Rattle.std.proofs.Common.{◌≡◌, inl, inr, subst, sym, ◌∙◌, arith, below_more}
+use Rattle.std.proofs.Common.{◌≡◌, inl, inr, sym, ◌∙◌, arith, below_more}
 use Rattle.std.proofs.lemmas.Bool.{cases_lt}
 use Rattle.ps_text.proofs.Simple.{same_some}
-use Rattle.ps_hoa.specs.Files.{EdgeData}
 use Rattle.ps_hoa.specs.Views.{edge_data, row_data}
-use Rattle.ps_automaton.specs.Drafts.{ShowsEdge}
 use Rattle.ps_automaton.proofs.Fitting.{fits, edge_at}
 use Rattle.ps_automaton.proofs.Meeting.{keeps_both, kept_shows}
 use Rattle.ps_automaton.proofs.Ready.{kept_ready}
@@ -27,8 +25,7 @@ clashes-requires-clause-shows c = λ edge at.
     let here = edge_at c.args.guards.now.row.now.edges.items c.args.second (omega arith) c.index.ensures in
     let same : edge_data c.index.result.now ≡ edge = same_some (edge_data c.index.result.now) edge (sym here ∙ at) in
     kept_shows file row edge 1 c.loop-first.invariant.keeps c.in_ok-later.ensures.held
-    (subst (λ (e : EdgeData). ShowsEdge file row e c.taken.new.store c.in_ok-later.later 1) same
-    c.in_ok-later.ensures.shows)
+    (rw (← same) c.in_ok-later.ensures.shows)
 
 pub returns-then-branch-clause-clashing : goal.returns-then-branch-clause-clashing
 returns-then-branch-clause-clashing c = c.in_ok-clashes.ensures.clashing.0 c.if-branch.true

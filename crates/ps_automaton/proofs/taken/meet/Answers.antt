@@ -1,12 +1,10 @@
-use Rattle.std.proofs.Common.{subst, refl}
-use Rattle.ps_diagram.specs.Clashes.{TellsClash}
+use Rattle.std.proofs.Common.{refl}
 use Rattle.ps_automaton.proofs.Meeting.{guarded_meet}
 use Rattle.ps_automaton.proofs.taken.meet.Goals as goal
 
 pub returns-in-Err-Clash-clause-meet : goal.returns-in-Err-Clash-clause-meet
 returns-in-Err-Clash-clause-meet c =
-    let told = subst (TellsClash c.guard-2.new.self c.in_ok-zero.zero c.in_ok-one.one) c.in-Err-Clash.field-0-is
-    c.in-Err-Clash.ensures.clash in (
+    let told = rw c.in-Err-Clash.field-0-is at c.in-Err-Clash.ensures.clash in (
       (λ _. guarded_meet c.in_ok-one.one told.0 c.guard.ensures.keeps c.guard-2.ensures.keeps c.requires.one
           c.requires.other c.in_ok-zero.ensures.held c.in_ok-zero.ensures.leaf c.in_ok-one.ensures.leaf told.1
           told.2 told.3),

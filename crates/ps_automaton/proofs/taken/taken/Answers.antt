@@ -1,9 +1,9 @@
-use Rattle.std.proofs.Common.{◌≡◌, subst, ℕ, sym, ap}
+use Rattle.std.proofs.Common.{◌≡◌, ℕ, sym, ap}
 use Rattle.ps_hoa.specs.Edges.{IsOpen}
 use Rattle.ps_hoa.specs.Files.{of_state}
 use Rattle.ps_hoa.specs.Views.{guard_data, row_data}
 use Rattle.ps_diagram.specs.Table.{IsNode, leaf_of}
-use Rattle.ps_automaton.specs.Drafts.{IsLabelNode, IsWhere}
+use Rattle.ps_automaton.specs.Drafts.{IsWhere}
 use Rattle.ps_automaton.proofs.Meeting.{label_shows}
 use Rattle.ps_automaton.proofs.taken.taken.Goals as goal
 
@@ -12,8 +12,7 @@ shown : (c : goal.In-Some) → IsNode c.args.store.now c.in-Some.node ×
     (IsOpen c.args.guards.now.file.now.aliases (row_data c.args.guards.now.row.now).label of_state letter))
 shown c =
     label_shows c.args.store.now c.args.guards.now.file.now (row_data c.args.guards.now.row.now).label c.in-Some.node
-    (subst (IsLabelNode c.args.store.now c.args.guards.now.file.now (row_data c.args.guards.now.row.now).label)
-    c.in-Some.is c.requires.ready.label)
+    (rw c.in-Some.is at c.requires.ready.label)
 
 pub returns-in-Some-clause-held : goal.returns-in-Some-clause-held
 returns-in-Some-clause-held c = (shown c).0
@@ -21,6 +20,4 @@ returns-in-Some-clause-held c = (shown c).0
 pub returns-in-Some-clause-shows : goal.returns-in-Some-clause-shows
 returns-in-Some-clause-shows c = λ letter small.
     let guard : of_state ≡ guard_data c.args.edge.now.guard = sym (ap guard_data c.in-OfState.is) in
-    subst (λ g. IsWhere (leaf_of c.args.store.now c.in-Some.node letter) 1
-    (IsOpen c.args.guards.now.file.now.aliases (row_data c.args.guards.now.row.now).label g letter)) guard
-    ((shown c).1 letter)
+    rw guard at ((shown c).1 letter)

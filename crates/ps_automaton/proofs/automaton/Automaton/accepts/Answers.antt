@@ -1,6 +1,5 @@
-use Rattle.std.proofs.Common.{◌≡◌, ℕ, ◌%◌, ◌^◌, ◌<◌, List, length, nat_eq, subst, sym, ◌∙◌, ap}
-use Rattle.std.specs.Prelude.{◌↔◌, All, IsTrue}
-use Rattle.ps_automaton.specs.Acceptance.{IsAccepted}
+use Rattle.std.proofs.Common.{◌≡◌, ℕ, ◌%◌, ◌^◌, ◌<◌, List, length, subst, ◌∙◌, ap}
+use Rattle.std.specs.Prelude.{◌↔◌, All}
 use Rattle.ps_automaton.specs.Automata.{auto_of}
 use Rattle.ps_automaton.specs.Autos.{state_behind}
 use Rattle.ps_automaton.specs.Returning.{Returns}
@@ -20,8 +19,7 @@ returns c = λ file chain built.
     c.in_ok-orbit.orbit.laps =
     subst (λ q. Returns a q c.args.lap.now c.in_ok-orbit.orbit.state c.in_ok-orbit.orbit.laps) first
     c.in_ok-orbit.ensures.returns in
-    subst (λ n. (IsTrue (nat_eq (n % 2) 0)) ↔ IsAccepted file c.args.stem.now c.args.lap.now)
-    (sym c.greatest_of_laps.ensures) (laps_decide file chain a c.args.stem.now c.args.lap.now orbit.before
+    rw c.greatest_of_laps.ensures (laps_decide file chain a c.args.stem.now c.args.lap.now orbit.before
     c.in_ok-orbit.orbit.laps c.in_ok-orbit.orbit.state built.is_chain built.auto c.requires.some
-    (letters c.args.stem.now c.requires.stem) (letters c.args.lap.now c.requires.lap) orbit.some
-    orbit.begins orbit.returns)
+    (letters c.args.stem.now c.requires.stem) (letters c.args.lap.now c.requires.lap) orbit.some orbit.begins
+    orbit.returns)

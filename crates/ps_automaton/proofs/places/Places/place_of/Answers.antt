@@ -1,7 +1,6 @@
-use Rattle.std.proofs.Common.{◌≡◌, ◌++◌, ◌∷◌, [], inl, inr, List, Some, length, arith, cond, refl, sym, ap, subst, ◌∙◌}
+use Rattle.std.proofs.Common.{◌≡◌, ◌++◌, ◌∷◌, [], inl, inr, List, length, arith, cond, refl, sym, ap, ◌∙◌}
 use Rattle.std.specs.List.{slice_get}
 use Rattle.std.specs.Result.{is_ok}
-use Rattle.ps_automaton.specs.Places.{AreDistinct}
 use Rattle.ps_automaton.specs.declared.targets.Target.{Target}
 use Rattle.ps_automaton.proofs.Distinct.{at_end}
 use Rattle.ps_automaton.proofs.PlaceTables.{distinct_by_table, table_push, table_same}
@@ -10,13 +9,12 @@ use Rattle.ps_automaton.proofs.places.Places.place_of.Goals as goal
 pub returns-in-Some-clause-placed : goal.returns-in-Some-clause-placed
 returns-in-Some-clause-placed c = record {
   list = inl refl;
-  stored = subst (λ (ts : List Target). slice_get ts c.in-Some.place ≡ Some c.args.target) c.self.view_is
-      (c.self.invariant.sound c.args.target c.in-Some.place
+  stored = rw c.self.view_is at (c.self.invariant.sound c.args.target c.in-Some.place
       (sym c.get.ensures.value ∙ sym c.copied.ensures ∙ c.in-Some.is));
 }
 
 pub returns-in-Some-clause-distinct : goal.returns-in-Some-clause-distinct
-returns-in-Some-clause-distinct c = subst AreDistinct c.self.view_is (distinct_by_table c.self.invariant)
+returns-in-Some-clause-distinct c = rw c.self.view_is at (distinct_by_table c.self.invariant)
 
 pub invariant_of-self-2 : goal.invariant_of-self-2
 invariant_of-self-2 c =
