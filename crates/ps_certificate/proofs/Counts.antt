@@ -47,9 +47,8 @@ pub record Compared (game : ParityGame) (certificate : CertificateData) (v w : �
 
 -- the count falls where the first of these is the vertex's own priority
 abbrev pub FallsAtStart : ParityGame → ℕ → List ℕ → List ℕ → List ℕ → ℕ → Type 0
-FallsAtStart game v priorities before after start =
-    start < length priorities → slice_index priorities start ≡ priority_of game v →
-    slice_index after start < slice_index before start
+FallsAtStart game v priorities before after start = start < length priorities →
+    slice_index priorities start ≡ priority_of game v → slice_index after start < slice_index before start
 
 -- below the start there is nothing to keep
 KeepsCount-lower : {game : ParityGame} {certificate : CertificateData} {v w : ℕ} {priorities before after : List ℕ}
@@ -64,11 +63,10 @@ KeepsCount-lower {game} {certificate} {v} {w} {priorities} {top} k compared earl
       falls = λ own_is other_at. absurd (omega arith);
     }
 
-pub KeepsCount-compared : {game : ParityGame} {certificate : CertificateData} {v w : ℕ}
-    {priorities before after : List ℕ} {top start : ℕ} (k : ℕ) →
-    Compared game certificate v w priorities before after top
-    start → FallsAtStart game v priorities before after start → k < length priorities →
-    (start ≤ k → slice_index after k ≤ slice_index before k) → KeepsCount game certificate v w k
+pub KeepsCount-compared : {game : ParityGame}
+    {certificate : CertificateData} {v w : ℕ} {priorities before after : List ℕ} {top start : ℕ} (k : ℕ) → Compared
+    game certificate v w priorities before after top start → FallsAtStart game v priorities before after start →
+    k < length priorities → (start ≤ k → slice_index after k ≤ slice_index before k) → KeepsCount game certificate v w k
 KeepsCount-compared {game} {certificate} {v} {w} {priorities} {before} {after} {top} {start} k compared strict
     within at_most =
     elim (cases_lt k start) [
@@ -103,12 +101,10 @@ KeepsCount-compared {game} {certificate} {v} {w} {priorities} {before} {after} {
 
 -- a count that rises
 pub IsFirstBroken-behind : {game : ParityGame} {certificate : CertificateData} {v w : ℕ}
-    {priorities before after : List ℕ} {top start : ℕ} (place : ℕ) →
-    Compared game certificate v w priorities before after top start →
-    FallsAtStart game v priorities before after start → start ≤ place → place < length priorities →
-    ((k : ℕ) → start ≤ k → k < place → slice_index after k ≤ slice_index before k) →
-    slice_index before place < slice_index after place → IsFirstBroken game certificate v w
-    (slice_index priorities place)
+    {priorities before after : List ℕ} {top start : ℕ} (place : ℕ) → Compared game certificate v w priorities before
+    after top start → FallsAtStart game v priorities before after start → start ≤ place → place < length priorities →
+    ((k : ℕ) → start ≤ k → k < place → slice_index after k ≤ slice_index before k) → slice_index
+    before place < slice_index after place → IsFirstBroken game certificate v w (slice_index priorities place)
 IsFirstBroken-behind {game} {certificate} {v} {w} {priorities} {before} {after} {top} place compared strict late within
     not_before rises =
     let is : slice_index priorities place ≡ opposing_at certificate v place =
@@ -124,9 +120,8 @@ IsFirstBroken-behind {game} {certificate} {v} {w} {priorities} {before} {after} 
       place = place;
       within = omega arith;
       priority = sym is;
-      broken =
-          λ keeps. (let at_most : slice_index (counts_of certificate w) place ≤ slice_index (counts_of certificate v)
-          place = keeps.never_rises (omega arith) (omega arith) in omega arith);
+      broken = λ keeps. (let at_most : slice_index (counts_of certificate w) place ≤ slice_index
+          (counts_of certificate v) place = keeps.never_rises (omega arith) (omega arith) in omega arith);
       earlier =
           λ k early. KeepsCount-compared k compared strict (omega arith) (λ from_start. not_before k from_start early);
     }
@@ -147,11 +142,10 @@ same_edge {certificate} {v} {w} fits first other = elim (cases_order other.place
 ]
 
 -- the first broken priority of the first edge that breaks the rule is the first flaw of the vertex
-pub IsFirstFlawAt-rank : {game : ParityGame} {certificate : CertificateData} {v w p : ℕ} → Fits game certificate →
-    Remains game certificate v w → winner_of certificate w ≡ winner_of certificate v →
-    IsFirstBroken game certificate v w p → ((w' : ℕ) → Remains game certificate v w' →
-    (w' ≡ w) ⊎ (KeepsCounts game certificate v w' ⊎ StandsBefore (successors_of game v) w w')) →
-    IsFirstFlawAt game certificate 1 v (Rank v w p)
+pub IsFirstFlawAt-rank : {game : ParityGame} {certificate : CertificateData} {v w p : ℕ} →
+    Fits game certificate → Remains game certificate v w → winner_of certificate w ≡ winner_of certificate v →
+    IsFirstBroken game certificate v w p → ((w' : ℕ) → Remains game certificate v w' → (w' ≡ w) ⊎ (KeepsCounts
+    game certificate v w' ⊎ StandsBefore (successors_of game v) w w')) → IsFirstFlawAt game certificate 1 v (Rank v w p)
 IsFirstFlawAt-rank {game} {certificate} {v} {w} {p} fits remains same_winner broken edges = record {
   is_flaw =
       record {
@@ -182,8 +176,7 @@ IsFirstFlawAt-rank {game} {certificate} {v} {w} {p} fits remains same_winner bro
         (Rank v w p ≡ other) ⊎ Precedes game (Rank v w p) other
     others (Move _ _) is_flaw early _ = absurd (omega arith)
     others (Escape _ _) is_flaw early _ = absurd (omega arith)
-    others (Rank u w' p') is_flaw _ same =
-        let P : ℕ → Type 0 = λ n. BreaksCount game certificate n w' p' in
+    others (Rank u w' p') is_flaw _ same = let P : ℕ → Type 0 = λ n. BreaksCount game certificate n w' p' in
         let Q : ℕ → Type 0 = λ n. (Rank v w p ≡ Rank n w' p') ⊎ Precedes game (Rank v w p) (Rank n w' p') in
         subst Q (sym same) (here w' p' (subst P same is_flaw))
 
@@ -194,18 +187,16 @@ own_edge {game} {certificate} {v} {w} right own is =
     Remains-own game certificate v is (IsSomeAnd-at (HasEdge game v) is (right.own own))
 
 -- a vertex that its winner owns has one edge that remains
-pub own_edges : (game : ParityGame) (certificate : CertificateData) (v : ℕ) {w : ℕ} →
-    owner_of game v ≡ winner_of certificate v → choice_of certificate v ≡ Some w → {w' : ℕ} →
-    Remains game certificate v w' → w' ≡ w
+pub own_edges : (game : ParityGame) (certificate : CertificateData) (v : ℕ) {w : ℕ} → owner_of game
+    v ≡ winner_of certificate v → choice_of certificate v ≡ Some w → {w' : ℕ} → Remains game certificate v w' → w' ≡ w
 own_edges game certificate v own is {w'} remains =
     let other : choice_of certificate v ≡ Some w' = remains.chosen own in cc
 
 -- behind edges that keep the rule, in the order of successors
 pub other_edges : (game : ParityGame) (certificate : CertificateData) (v w number : ℕ) →
     number < length (successors_of game v) → w ≡ slice_index (successors_of game v) number →
-    ((k : ℕ) → k < number → KeepsCounts game certificate v (get_or (successors_of game v) k 0)) → (w' : ℕ) →
-    Remains game certificate v w' → (w' ≡ w) ⊎ (KeepsCounts game certificate v w' ⊎
-    StandsBefore (successors_of game v) w w')
+    ((k : ℕ) → k < number → KeepsCounts game certificate v (get_or (successors_of game v) k 0)) → (w' : ℕ) → Remains
+    game certificate v w' → (w' ≡ w) ⊎ (KeepsCounts game certificate v w' ⊎ StandsBefore (successors_of game v) w w')
 other_edges game certificate v w number within is before w' remains =
     let (j, j_within, j_is) = place_of (successors_of game v) remains.edge.1 in
     elim (cases_order j number) [
@@ -263,9 +254,8 @@ valid_has_no_flaw (Rank v w p) valid is_flaw =
 
 -- a certificate whose vertices are all sound, with no flaw found in counts
 pub valid_in_the_end : {game : ParityGame} {certificate : CertificateData} (n : ℕ) {found : Option Flaw} →
-    vertex_count game ≤ n
-    → ((v : ℕ) → v < n → IsSoundAt game certificate v) → IfNone found (KeepCountsBefore game certificate n) →
-    found ≡ None → IsValid game certificate
+    vertex_count game ≤ n → ((v : ℕ) → v < n → IsSoundAt game certificate v) →
+    IfNone found (KeepCountsBefore game certificate n) → found ≡ None → IsValid game certificate
 valid_in_the_end {game} {certificate} n all sound kept none =
     let closed : IsClosed game certificate = IsClosed-from_sound (λ v below. sound v (omega (arith, below, all))) in
     let keeps : KeepCountsBefore game certificate n = rw none at kept in

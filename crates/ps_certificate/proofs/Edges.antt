@@ -22,13 +22,11 @@ pub HasEdge-at : (game : ParityGame) (v k : ℕ) {w : ℕ} → v < vertex_count 
 HasEdge-at game v k in_range within is = (in_range, Contains-at (successors_of game v) k within is)
 
 -- a successor is a vertex that has an entry
-pub has_entry : {game : ParityGame} {certificate : CertificateData} → IsGame game → Fits game certificate →
-    (v k : ℕ) {w : ℕ} → v < vertex_count game → k < length (successors_of game v) →
-    w ≡ slice_index (successors_of game v) k →
-    w < length certificate.entries
-has_entry {game} well fits v k {w} in_range within is =
-    let below : w < vertex_count game = well.within v w (HasEdge-at game v k in_range within is) in
-    omega (arith, fits.entry_each)
+pub has_entry : {game : ParityGame} {certificate : CertificateData} →
+    IsGame game → Fits game certificate → (v k : ℕ) {w : ℕ} → v < vertex_count game →
+    k < length (successors_of game v) → w ≡ slice_index (successors_of game v) k → w < length certificate.entries
+has_entry {game} well fits v k {w} in_range within is = let below : w < vertex_count game =
+    well.within v w (HasEdge-at game v k in_range within is) in omega (arith, fits.entry_each)
 
 -- each edge of a vertex of the loser remains
 pub Remains-other : (game : ParityGame) (certificate : CertificateData) (v w : ℕ) →
@@ -37,8 +35,7 @@ Remains-other game certificate v w other edge = record { edge = edge; chosen = �
 
 -- the winner's move remains
 pub Remains-own : (game : ParityGame) (certificate : CertificateData) (v : ℕ) {w : ℕ} →
-    choice_of certificate v ≡ Some w →
-    HasEdge game v w → Remains game certificate v w
+    choice_of certificate v ≡ Some w → HasEdge game v w → Remains game certificate v w
 Remains-own game certificate v is edge = record { edge = edge; chosen = λ _. is }
 
 pub IsSomeAnd-at : {A : Type 0} {o : Option A} (P : A → Type 0) {x : A} → o ≡ Some x → IsSomeAnd o P → P x
@@ -77,12 +74,10 @@ not_wrong_when_right right (inl (own, not_move)) = not_move (right.own own)
 not_wrong_when_right right (inr (other, is_some)) = absurd (cc (right.other other, is_some))
 
 -- the first successor with the other winner is the first escape
-pub IsFirstEscape-at : {game : ParityGame} {certificate : CertificateData} {v : ℕ} (k : ℕ) {w : ℕ} →
-    v < vertex_count game →
-    owner_of game v ≢ winner_of certificate v → k < length (successors_of game v) →
-    w ≡ slice_index (successors_of game v) k → ((j : ℕ) → j < k →
-    winner_of certificate (get_or (successors_of game v) j 0) ≡ winner_of certificate v) →
-    winner_of certificate w ≢ winner_of certificate v → IsFirstEscape game certificate v w
+pub IsFirstEscape-at : {game : ParityGame} {certificate : CertificateData} {v : ℕ} (k : ℕ) {w : ℕ} → v <
+    vertex_count game → owner_of game v ≢ winner_of certificate v → k < length (successors_of game v) → w ≡ slice_index
+    (successors_of game v) k → ((j : ℕ) → j < k → winner_of certificate (get_or (successors_of game v) j 0)
+    ≡ winner_of certificate v) → winner_of certificate w ≢ winner_of certificate v → IsFirstEscape game certificate v w
 IsFirstEscape-at {game} {certificate} {v} k {w} in_range other_owner within is before leaves = record {
   leaves =
       record {
@@ -103,6 +98,5 @@ IsFirstEscape-at {game} {certificate} {v} k {w} in_range other_owner within is b
 pub StaysInside-from_all : (game : ParityGame) (certificate : CertificateData) (v : ℕ) →
     ((j : ℕ) → j < length (successors_of game v) → winner_of certificate (get_or (successors_of game v) j 0) ≡ winner_of
     certificate v) → StaysInside game certificate v
-StaysInside-from_all game certificate v each w remains =
-    let (j, j_within, j_is) = place_of (successors_of game v) remains.edge.1 in
-    ap (λ n. winner_of certificate n) (sym j_is) ∙ each j j_within
+StaysInside-from_all game certificate v each w remains = let (j, j_within, j_is) =
+    place_of (successors_of game v) remains.edge.1 in ap (λ n. winner_of certificate n) (sym j_is) ∙ each j j_within

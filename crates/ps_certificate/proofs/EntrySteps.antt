@@ -48,9 +48,8 @@ avoids_digit place e = go place.rest e
   where
     go : (bytes : List ℕ) → comes 45 bytes ≡ true → Avoids AtDigit (first_of (signs (pieces_at place.at bytes)))
     go [] e t s h = none_is_some t s
-    go (c ∷ bytes) e t s h =
-        let same : c ≡ t.byte = ap (λ (x : Seen). x.byte) (same_some (record { byte = c; behind = bytes }) t s) in
-        omega (arith, eqb-true c 45 e, same, h.0)
+    go (c ∷ bytes) e t s h = let same : c ≡ t.byte = ap (λ (x : Seen). x.byte)
+        (same_some (record { byte = c; behind = bytes }) t s) in omega (arith, eqb-true c 45 e, same, h.0)
 
 module _ (ids : List ℕ) (old : Place) where
   abbrev unknown : ℕ → Type 0
@@ -58,8 +57,7 @@ module _ (ids : List ℕ) (old : Place) where
 
   pub choice_dash : comes 45 old.rest ≡ true → {new : Place} → new ≡ step_of old
       → Reads (choice ids) (at_place old) None (at_place new)
-  choice_dash h {new} next =
-      reads_as {P = dash} {Q = choice ids} {old = at_place old} {new = at_place new} {v = None}
+  choice_dash h {new} next = reads_as {P = dash} {Q = choice ids} {old = at_place old} {new = at_place new} {v = None}
       (left_otherwise laws_dash (laws_chosen ids) (next_of (at_place old)) (avoids_digit old h) (λ z. z))
       (reads_mapped (λ _. None) (byte_reads 45 old h next))
 
@@ -153,9 +151,8 @@ module _ (compact : Bool) (odd even ids : List ℕ) where
           at_second_space o m = to3 o (stops_first causes (joint_second w) s3 o m)
 
           module _ (s4 : Stream Seen) (m4 : Reads (byte 32) s3 tt s4) where
-            to4 : (o : Option (Found CertCause)) → Stops causes
-                (then_by (choice ids) (entry_counts compact odd even ids w)) s4 o
-                → Stops causes (entry compact odd even ids id) old o
+            to4 : (o : Option (Found CertCause)) → Stops causes (then_by (choice ids)
+                (entry_counts compact odd even ids w)) s4 o → Stops causes (entry compact odd even ids id) old o
             to4 o m = to3 o (stops_behind causes (joint_second w) m4 o m)
 
             pub at_choice : (o : Option (Found CertCause)) → Stops causes (choice ids) s4 o
@@ -167,15 +164,15 @@ module _ (compact : Bool) (odd even ids : List ℕ) where
                 pub at_counts : (o : Option (Found CertCause)) → Stops causes (counts_in compact ps) s5 o
                     → Stops causes (entry compact odd even ids id) old o
                 at_counts o m =
-                    to4 o (stops_behind causes (joint_choice w) m5 o
-                    (stops_mapped causes (made w c) (counts_in compact (lost_by odd even w)) s5 o
-                    (subst (λ xs. Stops causes (counts_in compact xs) s5 o) lost m)))
+                    to4 o (stops_behind causes (joint_choice w) m5 o (stops_mapped causes (made w c) (counts_in compact
+                    (lost_by odd even w)) s5 o (subst (λ xs. Stops causes (counts_in compact xs) s5 o) lost m)))
 
                 pub entry_reads : {cs : List ℕ} {new : Stream Seen} → Reads (counts_in compact ps) s5 cs new
                     → Reads (entry compact odd even ids id) old (made w c cs) new
                 entry_reads {cs} {new} m =
-                    reads_then (joint_id id) m1 (reads_then joint_space m2
-                    (reads_then joint_winner m3 (reads_then (joint_second w) m4 (reads_then (joint_choice w) m5
+                    reads_then (joint_id id) m1 (reads_then joint_space m2 (reads_then joint_winner m3
+                    (reads_then (joint_second w) m4
+                    (reads_then (joint_choice w) m5
                     (reads_mapped (made w c) (subst (λ xs. Reads (counts_in compact xs) s5 cs new) lost m))))))
 
 -- ## What stands before the lines of the vertices
@@ -345,7 +342,6 @@ module _ (odd even ids : List ℕ) where
           go : (rest : List ℕ) → end.rest ≡ rest → PartAnswers causes whole (stream_at 0 text)
               (Err (record { cause = Syntax; offset = end.at }))
           go [] h = absurd (more (ap length h))
-          go (b ∷ rest) h =
-              answers_trailing (laws_certificate odd even ids) (stream_at 0 text) (at_place end) c
-              (record { sign = record { byte = b; behind = rest }; start = end.at })
+          go (b ∷ rest) h = answers_trailing (laws_certificate odd even ids)
+              (stream_at 0 text) (at_place end) c (record { sign = record { byte = b; behind = rest }; start = end.at })
               (pieces_at (end.at + 1) rest) m.0 m.1 (ap (pieces_at end.at) h)

@@ -60,9 +60,8 @@ sound_has_no_flaw sound (Escape u w) is_flaw at_stage same =
 sound_has_no_flaw sound (Rank _ _ _) is_flaw at_stage same = omega arith
 
 -- the first flaw at a vertex behind sound ones is the first of all
-pub first_unsound : {game : ParityGame} {certificate : CertificateData} {v : ℕ} {flaw : Flaw} →
-    ((u : ℕ) → u < v → IsSoundAt game certificate u) → IsFirstFlawAt game certificate 0 v flaw →
-    IsFirstFlaw game certificate flaw
+pub first_unsound : {game : ParityGame} {certificate : CertificateData} {v : ℕ} {flaw : Flaw} → ((u : ℕ) →
+    u < v → IsSoundAt game certificate u) → IsFirstFlawAt game certificate 0 v flaw → IsFirstFlaw game certificate flaw
 first_unsound {game} {flaw} sound at = record {
   is_flaw = at.is_flaw;
   first = λ other is_flaw. elim (stage_cases other) [

@@ -58,9 +58,8 @@ module _ (compact : Bool) (odd even all : List ℕ) where
         counts = counts_in_long compact (lost_by odd even line.value) moved.right counted.0 counted.1;
       })
 
-  entries_fit : (ids : List ℕ) (text : List Seen) (es : List EntryData)
-      → (entries compact odd even all ids).IsText text es
-      → (length es ≡ length ids) × All (EntryFits odd even (length all)) es
+  entries_fit : (ids : List ℕ) (text : List Seen) (es : List EntryData) → (entries compact odd even all ids).IsText
+      text es → (length es ≡ length ids) × All (EntryFits odd even (length all)) es
   entries_fit [] text es h = (
     ap length h.1,
     subst (All (EntryFits odd even (length all))) (sym h.1) (All-nil (EntryFits odd even (length all))),

@@ -66,9 +66,8 @@ bounded game certificate player path i j place lost k after before = elim (cases
 winner_along : {game : ParityGame} {certificate : CertificateData} {player : ℕ} {path : List ℕ} {i j place : ℕ} →
     LostLoop game certificate player path i j place → (k : ℕ) → k ≤ j →
     winner_of certificate (slice_index path k) ≡ player
-winner_along {game} {certificate} {player} {path} lost k before =
-    path_stays game certificate player path lost.valid.closed lost.is_path lost.follows lost.begins k
-    (omega (arith, lost.loop.within))
+winner_along {game} {certificate} {player} {path} lost k before = path_stays game
+    certificate player path lost.valid.closed lost.is_path lost.follows lost.begins k (omega (arith, lost.loop.within))
 
 -- the opposing priority at the place, at each vertex of the loop
 at_place : {game : ParityGame} {certificate : CertificateData} {player : ℕ} {path : List ℕ} {i j place : ℕ} →
@@ -86,14 +85,12 @@ step_keeps {game} {certificate} {player} {path} {place} lost k after below =
     let next : winner_of certificate (slice_index path (k + 1)) ≡ player = winner_along lost (k + 1) (omega arith) in
     let long : length (opposing certificate (winner_of certificate (slice_index path k))) ≡ length
     (opposing certificate player) = ap (λ q. length (opposing certificate q)) here in
-    lost.valid.counts (slice_index path k) (slice_index path (k + 1)) place
-    (path_remains certificate k lost.is_path lost.follows (omega (arith, lost.loop.within)) here)
-    (next ∙ sym here) (omega (arith, lost.within))
+    lost.valid.counts (slice_index path k) (slice_index path (k + 1)) place (path_remains certificate
+    k lost.is_path lost.follows (omega (arith, lost.loop.within)) here) (next ∙ sym here) (omega (arith, lost.within))
 
 step_at_most : {game : ParityGame} {certificate : CertificateData} {player : ℕ} {path : List ℕ} {i j place : ℕ} →
-    LostLoop game certificate player path i j place → (k : ℕ) → i ≤ k → k < j →
-    slice_index (counts_of certificate (slice_index path (k + 1))) place ≤ slice_index
-    (counts_of certificate (slice_index path k)) place
+    LostLoop game certificate player path i j place → (k : ℕ) → i ≤ k → k < j → slice_index (counts_of certificate
+    (slice_index path (k + 1))) place ≤ slice_index (counts_of certificate (slice_index path k)) place
 step_at_most {game} {certificate} {player} {path} {i} {j} {place} lost k after below =
     let is : opposing_at certificate (slice_index path k) place ≡ loop_priority game path i j =
     at_place lost k (omega arith) in
@@ -113,21 +110,17 @@ no_lost_loop {game} {certificate} {player} {path} {i} {j} {place} lost =
     at_place lost m (omega arith) in
     let next : priority_of game (slice_index path (m + 1)) ≤ loop_priority game path i j =
     bounded game certificate player path i j place lost (m + 1) (omega arith) (omega arith) in
-    let falls : slice_index (counts_of certificate (slice_index path (m + 1))) place < slice_index
-    (counts_of certificate (slice_index path m)) place =
-    (step_keeps lost m after below).falls (has ∙ sym is) (omega arith) in
-    let lower : slice_index (counts_of certificate (slice_index path j)) place < slice_index
-    (counts_of certificate (slice_index path i)) place =
-    falls_in_the_end count i j m after below (step_at_most lost) falls in
-    let same : slice_index (counts_of certificate (slice_index path i)) place ≡ slice_index
-    (counts_of certificate (slice_index path j)) place =
-    ap (λ v. slice_index (counts_of certificate v) place) lost.loop.same in
+    let falls : slice_index (counts_of certificate (slice_index path (m + 1))) place < slice_index (counts_of
+    certificate (slice_index path m)) place = (step_keeps lost m after below).falls (has ∙ sym is) (omega arith) in
+    let lower : slice_index (counts_of certificate (slice_index path j)) place < slice_index (counts_of certificate
+    (slice_index path i)) place = falls_in_the_end count i j m after below (step_at_most lost) falls in
+    let same : slice_index (counts_of certificate (slice_index path i)) place ≡ slice_index (counts_of certificate
+    (slice_index path j)) place = ap (λ v. slice_index (counts_of certificate v) place) lost.loop.same in
     omega arith
 
 wins_each_loop : {game : ParityGame} {certificate : CertificateData} {player : ℕ} → player < 2 → Fits game certificate →
-    IsValid game certificate → {path : List ℕ} {i j : ℕ} → IsPath game path →
-    winner_of certificate (slice_index path 0) ≡ player → Follows game player (choice_of certificate) path →
-    IsLoop path i j → WinsLoop game player path i j
+    IsValid game certificate → {path : List ℕ} {i j : ℕ} → IsPath game path → winner_of certificate (slice_index path 0)
+    ≡ player → Follows game player (choice_of certificate) path → IsLoop path i j → WinsLoop game player path i j
 wins_each_loop {game} {certificate} {player} is_player fits valid {path} {i} {j} is_path begins follows loop =
     elim (cases_eq (loop_priority game path i j % 2) player) [
       | inl wins ↦ wins
@@ -153,9 +146,8 @@ pub BothHold-from_valid : (game : ParityGame) (certificate : CertificateData) �
     IsValid game certificate → BothHold game certificate
 BothHold-from_valid game certificate fits valid player is_player = record {
   keeps = BothKeep-from_closed game certificate valid.closed player is_player;
-  wins =
-      λ path i j is_path begins follows loop. wins_each_loop is_player fits valid
-      is_path (eqb-true (winner_of certificate (slice_index path 0)) player begins) follows loop;
+  wins = λ path i j is_path begins follows loop. wins_each_loop is_player fits valid is_path
+      (eqb-true (winner_of certificate (slice_index path 0)) player begins) follows loop;
 }
 
 pub NoneWinsOutside-from_valid : (game : ParityGame) (certificate : CertificateData) → IsGame game →
@@ -166,7 +158,6 @@ NoneWinsOutside-from_valid game certificate is_game fits valid player is_player 
     let holds = BothHold-from_valid game certificate fits valid (other_player player) (omega arith) in
     let inside : IsTrue (region_of certificate (other_player player) v) =
     eq-eqb (winner_of certificate v) (other_player player) is_other in
-    let beaten =
-    histories_beaten game player (region_of certificate (other_player player)) (choice_of certificate) is_game
-    is_player holds v below inside in
+    let beaten = histories_beaten game player
+    (region_of certificate (other_player player)) (choice_of certificate) is_game is_player holds v below inside in
     record { by_memory = WinsByNoMemory-AllHistoriesBeaten game player v is_player beaten; by_histories = beaten }

@@ -9,19 +9,17 @@ use Rattle.ps_certificate.specs.Regions.{BothKeep}
 
 -- a step of a path from a player's region, by the player's moves, goes along an edge that remains
 pub path_remains : {game : ParityGame} (certificate : CertificateData) {player : ℕ} {path : List ℕ} (k : ℕ) →
-    IsPath game path → Follows game player (choice_of certificate) path → k + 1 < length path →
-    winner_of certificate (slice_index path k) ≡ player → Remains game certificate (slice_index path k)
-    (slice_index path (k + 1))
+    IsPath game path → Follows game player (choice_of certificate) path → k + 1 < length path → winner_of certificate
+    (slice_index path k) ≡ player → Remains game certificate (slice_index path k) (slice_index path (k + 1))
 path_remains certificate k is_path follows within is = record {
   edge = is_path.edges k within;
   chosen = λ own. follows k within (own ∙ is);
 }
 
 -- each vertex of such a path has the same winner
-pub path_stays : (game : ParityGame) (certificate : CertificateData) (player : ℕ) (path : List ℕ) →
-    IsClosed game certificate → IsPath game path → Follows game player (choice_of certificate) path →
-    winner_of certificate (slice_index path 0) ≡ player → (k : ℕ) → k < length path →
-    winner_of certificate (slice_index path k) ≡ player
+pub path_stays : (game : ParityGame) (certificate : CertificateData) (player : ℕ) (path : List ℕ) → IsClosed
+    game certificate → IsPath game path → Follows game player (choice_of certificate) path → winner_of certificate
+    (slice_index path 0) ≡ player → (k : ℕ) → k < length path → winner_of certificate (slice_index path k) ≡ player
 path_stays game certificate player path closed is_path follows begins zero within = begins
 path_stays game certificate player path closed is_path follows begins (suc k) within =
     let before : winner_of certificate (slice_index path k) ≡ player =
@@ -32,11 +30,9 @@ path_stays game certificate player path closed is_path follows begins (suc k) wi
 pub BothKeep-from_closed : (game : ParityGame) (certificate : CertificateData) → IsClosed game certificate →
     BothKeep game certificate
 BothKeep-from_closed game certificate closed player player_below = record {
-  moves =
-      λ v below in_region own. (closed.moves v below).own (own ∙ sym
-      (eqb-true (winner_of certificate v) player in_region));
-  stays =
-      λ path is_path begins follows k within. eq-eqb (winner_of certificate (slice_index path k)) player
+  moves = λ v below in_region own. (closed.moves v below).own
+      (own ∙ sym (eqb-true (winner_of certificate v) player in_region));
+  stays = λ path is_path begins follows k within. eq-eqb (winner_of certificate (slice_index path k)) player
       (path_stays game certificate player path closed is_path follows
       (eqb-true (winner_of certificate (slice_index path 0)) player begins) k within);
 }

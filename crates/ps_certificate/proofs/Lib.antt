@@ -22,5 +22,7 @@ pub mod Rows
 pub mod Sparse
 pub mod Windows
 pub mod Writing
+pub mod WritingSteps
+pub mod CountsOfPairs
 pub mod ZeroRuns
 mod OneWinner

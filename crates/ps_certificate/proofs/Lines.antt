@@ -28,12 +28,10 @@ entries_kept : (ws : List ℕ) (ls : List Line) {cs : List PlacedCount} (more : 
     → entries_in ws ls (cs ++ more) ≡ entries_in ws ls cs
 entries_kept [] ls more h = refl
 entries_kept (a ∷ ws) [] more h = refl
-entries_kept (a ∷ ws) (b ∷ ls) {cs} more h =
-    let same : part_of (cs ++ more) b ≡ part_of cs b =
-    range_kept cs more b.start b.end (All-head (IsWithin cs) b ls h).ends in
-    ap (λ (part : List PlacedCount). record { winner = a; choice = b.choice; counts = row_of b.width part } ∷
-    entries_in ws ls (cs ++ more)) same ∙ ap (λ (rest : List EntryData). entry_in cs (a, b) ∷ rest)
-    (entries_kept ws ls more (All-tail (IsWithin cs) b ls h))
+entries_kept (a ∷ ws) (b ∷ ls) {cs} more h = let same : part_of (cs ++ more) b ≡ part_of cs b =
+    range_kept cs more b.start b.end (All-head (IsWithin cs) b ls h).ends in ap (λ (part : List PlacedCount). record
+    { winner = a; choice = b.choice; counts = row_of b.width part } ∷ entries_in ws ls (cs ++ more)) same ∙ ap
+    (λ (rest : List EntryData). entry_in cs (a, b) ∷ rest) (entries_kept ws ls more (All-tail (IsWithin cs) b ls h))
 
 within_kept : {cs : List PlacedCount} (more : List PlacedCount) {l : Line} → IsWithin cs l → IsWithin (cs ++ more) l
 within_kept {cs} more {l} h = record {
@@ -45,9 +43,8 @@ within_kept {cs} more {l} h = record {
 all_kept : (ls : List Line) {cs : List PlacedCount} (more : List PlacedCount) → All (IsWithin cs) ls →
     All (IsWithin (cs ++ more)) ls
 all_kept [] {cs} more h = All-nil (IsWithin (cs ++ more))
-all_kept (a ∷ ls) {cs} more h =
-    All-cons (IsWithin (cs ++ more)) a ls (within_kept more (All-head (IsWithin cs) a ls h))
-    (all_kept ls more (All-tail (IsWithin cs) a ls h))
+all_kept (a ∷ ls) {cs} more h = All-cons (IsWithin (cs ++ more)) a ls
+    (within_kept more (All-head (IsWithin cs) a ls h)) (all_kept ls more (All-tail (IsWithin cs) a ls h))
 
 -- one list begins with another
 begins : {X : Type 0} (xs ys : List X) → take (length xs) ys ≡ xs → (more : List X) × (ys ≡ xs ++ more)
@@ -57,28 +54,23 @@ module _ (ws : List ℕ) (ls : List Line) (cs new : List PlacedCount) (are : Are
     (kept : take (length cs) new ≡ cs) where
   -- what is not named by a line changes no entry
   pub entries_same : entries_in ws ls new ≡ entries_in ws ls cs
-  entries_same =
-      let more = begins cs new kept in
+  entries_same = let more = begins cs new kept in
       ap (λ (all : List PlacedCount). entries_in ws ls all) more.1 ∙ entries_kept ws ls more.0 are.within
 
   pub lines_same : AreLines ws ls new
   lines_same = record {
     each = are.each;
-    within =
-        let more = begins cs new kept in
-        subst (λ all. All (IsWithin all) ls) (sym more.1) (all_kept ls more.0 are.within);
+    within = let more =
+        begins cs new kept in subst (λ all. All (IsWithin all) ls) (sym more.1) (all_kept ls more.0 are.within);
   }
 
   module _ (w : ℕ) (line : Line) where
-    pub entries_push : {row : List ℕ} → row_of line.width (part_of new line) ≡ row
-        → entries_in (ws ++ w ∷ []) (ls ++ line ∷ []) new
-        ≡ entries_in ws ls cs ++ record { winner = w; choice = line.choice; counts = row } ∷ []
-    entries_push is =
-        ap (map (entry_in new)) (zip_push ws ls w line are.each)
-        ∙ map-append (entry_in new) (zip ws ls) ((w, line) ∷ [])
-        ∙ ap (λ (earlier : List EntryData). earlier ++ entry_in new (w, line) ∷ []) entries_same
-        ∙ ap (λ (counts : List ℕ). entries_in ws ls cs ++
-        record { winner = w; choice = line.choice; counts = counts } ∷ []) is
+    pub entries_push : {row : List ℕ} → row_of line.width (part_of new line) ≡ row → entries_in (ws ++ w ∷ [])
+        (ls ++ line ∷ []) new ≡ entries_in ws ls cs ++ record { winner = w; choice = line.choice; counts = row } ∷ []
+    entries_push is = ap (map (entry_in new)) (zip_push ws ls w line are.each) ∙ map-append (entry_in new) (zip ws ls)
+        ((w, line) ∷ []) ∙ ap (λ (earlier : List EntryData). earlier ++ entry_in new (w, line) ∷ []) entries_same ∙ ap
+        (λ (counts : List ℕ). entries_in ws ls cs ++ record { winner = w; choice = line.choice; counts = counts } ∷ [])
+        is
 
     -- one line more, whose counts are there
     pub lines_push : IsWithin new line → AreLines (ws ++ w ∷ []) (ls ++ line ∷ []) new
@@ -105,9 +97,12 @@ module _ (ws : List ℕ) (ls : List Line) (cs : List PlacedCount) (v : ℕ) (are
   has_winner = omega (arith, length-entries are, are.each)
 
   at : (w : ℕ) (line : Line) → get_or (entries_in ws ls cs) v no_entry ≡ entry_in cs (get_or ws v w, get_or ls v line)
-  at w line =
-      get_or-map (entry_in cs) (zip ws ls) v (w, line) no_entry (omega (arith, length-zip ws ls, has_winner, has_line))
-      ∙ ap (entry_in cs) (get_or-zip ws ls v (w, line) has_winner has_line)
+  at w line = get_or-map (entry_in cs) (zip ws ls) v (w, line) no_entry (omega (
+    arith,
+    length-zip ws ls,
+    has_winner,
+    has_line,
+  )) ∙ ap (entry_in cs) (get_or-zip ws ls v (w, line) has_winner has_line)
 
   pub winner_at : {w : ℕ} → w ≡ get_or ws v w → w ≡ (get_or (entries_in ws ls cs) v no_entry).winner
   winner_at {w} is =

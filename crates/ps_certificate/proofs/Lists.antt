@@ -26,9 +26,8 @@ rising_near xs rising i j at_most within = elim (cases_eq i j) [
 
 -- what a binary search of a rising list answers
 pub search_result : (xs : List ℕ) (x : ℕ) (r : Result ℕ ℕ) → IsStrictlyIncreasing xs →
-    IsBinarySearchResult (λ y. nat_cmp y x) xs r → MatchResult r (λ i. (i < length xs) × (get_or xs i 0 ≡ x))
-    (λ i. (i ≤ length xs) × ((k : ℕ) → k < i → get_or xs k 0 < x) ×
-    ((k : ℕ) → i ≤ k → k < length xs → x < get_or xs k 0))
+    IsBinarySearchResult (λ y. nat_cmp y x) xs r → MatchResult r (λ i. (i < length xs) × (get_or xs i 0 ≡ x)) (λ i.
+    (i ≤ length xs) × ((k : ℕ) → k < i → get_or xs k 0 < x) × ((k : ℕ) → i ≤ k → k < length xs → x < get_or xs k 0))
 search_result xs x r rising answer = searched xs x r answer (rising_near xs rising)
 
 -- where a search ends between smaller and greater numbers, the number is not in the list

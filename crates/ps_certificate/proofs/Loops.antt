@@ -88,8 +88,12 @@ module _ (ps : List ℕ) where
     where
       go : (o : Option ℕ) → o ≡ Some n → true ≡ not (option_eq eqb o (Some n)) → ⊥
       go None e h = cc
-      go (Some m) e h = let same : m ≡ n = cc in let t : eqb m n ≡ true = eq-eqb m n same in
-          let f : true ≡ not (eqb m n) = h in let g : true ≡ false = f ∙ ap not t in cc
+      go (Some m) e h =
+          let same : m ≡ n = cc in
+          let t : eqb m n ≡ true = eq-eqb m n same in
+          let f : true ≡ not (eqb m n) = h in
+          let g : true ≡ false = f ∙ ap not t in
+          cc
 
   pub is_next : {n : ℕ} {o : Option ℕ} → o ≡ slice_get ps 0 → false ≡ not (option_eq eqb o (Some n))
       → slice_get ps 0 ≡ Some n
@@ -107,12 +111,10 @@ module _ (ps left : List ℕ) (start : Stream Seen) (now : Place)
     (k : Carries causes (many priority ps) start (many priority left) (at_place now)) where
   pub priorities_fail : comes 32 now.rest ≡ true → (o : Option (Found CertCause))
       → Stops causes (priority left) (at_place now) o → Stops causes (priorities ps) start o
-  priorities_fail h o m =
-      stops_first causes (joint_priorities ps) start o
+  priorities_fail h o m = stops_first causes (joint_priorities ps) start o
       (carries_stops causes (many priority ps) (many priority left) start (at_place now) o k
-      (many_fails priority laws_priority digit_no_space causes left (at_place now) o
-      (enters_then (byte 32) (λ _. mapped (λ _. drop 1 left) (number (NotNext left))) (joint_listed left) _
-      (enters_byte 32 now h)) m))
+      (many_fails priority laws_priority digit_no_space causes left (at_place now) o (enters_then (byte 32)
+      (λ _. mapped (λ _. drop 1 left) (number (NotNext left))) (joint_listed left) _ (enters_byte 32 now h)) m))
 
   pub priorities_end : comes 32 now.rest ≡ false → Reads (many priority ps) start left (at_place now)
   priorities_end h = k (Ok left) (at_place now)
@@ -178,8 +180,7 @@ module _ (n i : ℕ) (start now : Stream Seen) (front : List ℕ)
 
   pub count_fails : i < n → {mid : Stream Seen} → Reads (byte 32) now tt mid → (o : Option (Found CertCause))
       → Stops causes (number Never) mid o → Stops causes (counts n) start o
-  count_fails lt {mid} m o k =
-      listing_fails (counts n) start (counts (suc (n - (i + 1)))) now front (some_left lt) o
+  count_fails lt {mid} m o k = listing_fails (counts n) start (counts (suc (n - (i + 1)))) now front (some_left lt) o
       (stops_behind causes (joint_counts (n - (i + 1))) m o (stops_first causes (joint_count (n - (i + 1))) mid o k))
 
   pub count_next : i < n → {mid next : Stream Seen} {count : ℕ} → Reads (byte 32) now tt mid
@@ -222,24 +223,20 @@ module _ (compact : Bool) (odd even all ids : List ℕ) (i : ℕ) (start now : S
 
   pub entry_fails : i < length ids → {id : ℕ} → id ≡ get_or ids i 0 → (o : Option (Found CertCause))
       → Stops causes (entry compact odd even all id) now o → Stops causes (entries compact odd even all ids) start o
-  entry_fails lt is o m =
-      listing_fails (entries compact odd even all ids) start
+  entry_fails lt is o m = listing_fails (entries compact odd even all ids) start
       (entries compact odd even all (get_or ids i 0 ∷ drop (i + 1) ids)) now front (entry_left lt) o
       (stops_first causes joint_entries now o (subst (λ k. Stops causes (entry compact odd even all k) now o) is m))
 
   pub entry_next : i < length ids → {id : ℕ} → id ≡ get_or ids i 0 → {next : Stream Seen} {e : EntryData}
       → Reads (entry compact odd even all id) now e next → {longer : List EntryData} → longer ≡ front ++ e ∷ []
       → Listing (entries compact odd even all ids) start rest_of next longer
-  entry_next lt same {next} {e} m is =
-      let this : Reads (entry compact odd even all (get_or ids i 0)) now e next = subst
-      (λ k. Reads (entry compact odd even all k) now e next) same m in
-      listing_next (entries compact odd even all ids) start
-      (entries compact odd even all (get_or ids i 0 ∷ drop (i + 1) ids)) now front (entry_left lt) e
-      (λ others new x. reads_then joint_entries this (reads_mapped (λ others. e ∷ others) x))
+  entry_next lt same {next} {e} m is = let this : Reads (entry compact odd even all (get_or ids i 0)) now e next =
+      subst (λ k. Reads (entry compact odd even all k) now e next) same m in listing_next
+      (entries compact odd even all ids) start (entries compact odd even all (get_or ids i 0 ∷ drop (i + 1) ids)) now
+      front (entry_left lt) e (λ others new x. reads_then joint_entries this (reads_mapped (λ others. e ∷ others) x))
       (λ o x. stops_behind causes joint_entries this o (stops_mapped causes (λ others. e ∷ others) rest_of next o x)) is
 
   pub entries_end : length ids ≤ i → Reads (entries compact odd even all ids) start front now
-  entries_end le =
-      listing_ends (entries compact odd even all ids) start (entries compact odd even all []) now front
+  entries_end le = listing_ends (entries compact odd even all ids) start (entries compact odd even all []) now front
       (subst (λ z. Listing (entries compact odd even all ids) start (entries compact odd even all z) now front)
       (drop_all i ids le) l) (reads_give now [])

@@ -22,7 +22,5 @@ long (d ∷ digits) large = omega arith
 
 pub too_large_ahead : (bytes : List ℕ) → comes 48 bytes ≡ false
     → 2 ^ 64 ≤ decimal_value (take_while is_ascii_digit bytes) → HasNoNumber bytes
-too_large_ahead bytes no_zero large =
-    let run : 2 ^ 64 ≤ decimal_value (numeral bytes) = omega
-    (arith, large, ap decimal_value (numeral_is bytes no_zero)) in
-    inr (long (numeral bytes) run, run)
+too_large_ahead bytes no_zero large = let run : 2 ^ 64 ≤ decimal_value (numeral bytes) =
+    omega (arith, large, ap decimal_value (numeral_is bytes no_zero)) in inr (long (numeral bytes) run, run)

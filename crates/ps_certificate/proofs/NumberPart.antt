@@ -2,8 +2,9 @@
 use Rattle.std.proofs.Common.{◌≡◌, ℕ, zero, suc, ◌+◌, ◌^◌, ◌<◌, ◌≤◌, ◌⊎◌, List, [], ◌∷◌, ◌++◌, length, take, drop, Err}
 use Rattle.std.proofs.Common.{refl, sym, ap, subst, inl, inr, ◌∙◌, append_assoc, arith, length-append, length-drop}
 use Rattle.std.proofs.Math.Seq.{take-append_seam, drop-append_seam}
-use Rattle.ps_text.specs.Answers.{Begins, signs, first_of}
-use Rattle.ps_text.specs.Parts.{IsRead, IsFaultAt, is_cause, is_refusal, StopsAt, CleanUpTo}
+use Rattle.std.proofs.lemmas.List.{take-map, take-append-drop}
+use Rattle.ps_text.specs.Answers.{Begins, signs, first_of, offset_of}
+use Rattle.ps_text.specs.Parts.{IsRead, IsFault, IsFaultAt, is_cause, is_refusal, StopsAt, CleanUpTo}
 use Rattle.ps_text.specs.Readers.{IsSuffix, StopsWith, Reads, Stops}
 use Rattle.ps_text.specs.Faults.{found_of}
 use Rattle.ps_text.specs.Digits.{IsDigit, IsPlainNumber, decimal_value}
@@ -14,14 +15,14 @@ use Rattle.ps_text.proofs.Splits.{same_head}
 use Rattle.ps_text.proofs.Laws.{Laws}
 use Rattle.ps_text.proofs.Simple.{none_is_some}
 use Rattle.ps_text.proofs.Whole.{Own}
-use Rattle.ps_text.proofs.OneAnswer.{signs_split}
 use Rattle.ps_certificate.specs.declared.fault.CertCause.{CertCause}
 use Rattle.ps_certificate.specs.declared.fault.CertCause.TheVariants.{Syntax, OtherGame}
 use Rattle.ps_certificate.specs.Faults.{CertFault, cause_number}
 use Rattle.ps_certificate.specs.Places.{Place}
 use Rattle.ps_certificate.specs.Reading.{at_place, numeral, HasNoNumber, IsNumberRead, TellsNumber}
 use Rattle.ps_certificate.specs.Texts.{Seen, pieces_at, stream_at, bytes_of, causes, EndsField, Verdict, IsBadNumber}
-use Rattle.ps_certificate.specs.Texts.{judged, OfOtherGame, number}
+use Rattle.ps_certificate.specs.Texts.{Field, judged, OfOtherGame, number, IsZero, WrongPriority}
+use Rattle.ps_certificate.specs.Pairs.{Pairs}
 use Rattle.ps_text.proofs.Decimals.{value_grows}
 use Rattle.ps_certificate.proofs.Numerals.{numeral_split, numeral_plain, numeral_longest, plain_front, numeral_ended}
 use Rattle.ps_certificate.proofs.Numerals.{numeral_zero}
@@ -35,25 +36,31 @@ pieces_split (suc n) at [] l = absurd (omega arith)
 pieces_split (suc n) at (b ∷ bytes) l =
     let e : (at + 1) + n ≡ at + suc n = omega arith in
     let rest : pieces_at (at + 1) bytes ≡ take n (pieces_at (at + 1) bytes) ++ pieces_at (at + suc n) (drop n bytes) =
-    pieces_split n (at + 1) bytes (omega arith) ∙ ap
-    (λ a. take n (pieces_at (at + 1) bytes) ++ pieces_at a (drop n bytes)) e in
+    pieces_split n
+    (at + 1) bytes (omega arith) ∙ ap (λ a. take n (pieces_at (at + 1) bytes) ++ pieces_at a (drop n bytes)) e in
     ap (λ ps. record { sign = record { byte = b; behind = bytes }; start = at } ∷ ps) rest
-
-pub bytes_taken : (n at : ℕ) (bytes : List ℕ) → bytes_of (signs (take n (pieces_at at bytes))) ≡ take n bytes
-bytes_taken zero at bytes = refl
-bytes_taken (suc n) at [] = refl
-bytes_taken (suc n) at (b ∷ bytes) = ap (λ xs. b ∷ xs) (bytes_taken n (at + 1) bytes)
 
 pub bytes_append : (a b : List Seen) → bytes_of (a ++ b) ≡ bytes_of a ++ bytes_of b
 bytes_append [] b = refl
 bytes_append (s ∷ a) b = ap (λ xs. s.byte ∷ xs) (bytes_append a b)
 
--- the first sign sees the whole text
-pub first_sees : (at : ℕ) (bytes : List ℕ) (t : Seen) (rest : List Seen) → signs (pieces_at at bytes) ≡ t ∷ rest
-    → bytes ≡ t.byte ∷ t.behind
-first_sees at [] t rest e = absurd (let l : 0 ≡ suc (length rest) = ap length e in omega (arith, l))
-first_sees at (b ∷ bytes) t rest e = ap (λ (s : Seen). s.byte ∷ s.behind)
-    (same_head _ t (signs (pieces_at (at + 1) bytes)) rest e)
+-- the signs of a text
+abbrev pub seen : List ℕ → List Seen
+seen [] = []
+seen (b ∷ bytes) = record { byte = b; behind = bytes } ∷ seen bytes
+
+pub signs_seen : (at : ℕ) (bytes : List ℕ) → signs (pieces_at at bytes) ≡ seen bytes
+signs_seen at [] = refl
+signs_seen at (b ∷ bytes) = ap (λ ss. record { byte = b; behind = bytes } ∷ ss) (signs_seen (at + 1) bytes)
+
+bytes_seen : (bytes : List ℕ) → bytes_of (seen bytes) ≡ bytes
+bytes_seen [] = refl
+bytes_seen (b ∷ bytes) = ap (λ xs. b ∷ xs) (bytes_seen bytes)
+
+seen_dropped : (n : ℕ) (bytes : List ℕ) → drop n (seen bytes) ≡ seen (drop n bytes)
+seen_dropped zero bytes = refl
+seen_dropped (suc n) [] = refl
+seen_dropped (suc n) (b ∷ bytes) = seen_dropped n bytes
 
 -- ## What is wrong with the number that bytes begin with
 
@@ -67,17 +74,22 @@ Settled Wrong = (more : List ℕ) (n : ℕ) (f : CertCause) → Wrong more n f �
 pub settled_other : (Wrong : ℕ → Type 0) → Settled (OfOtherGame Wrong)
 settled_other Wrong more n f w = inl w.1
 
+pub settled_zero : Settled IsZero
+settled_zero more n f w = inr w.1
+
+pub settled_priority : (ps : List ℕ) (pairs : Pairs) → Settled (WrongPriority ps pairs)
+settled_priority ps pairs more n f w = inl w.0
+
 abbrev pub IsWrongRun : Verdict → List ℕ → CertCause → Type 0
-IsWrongRun Wrong bytes f =
-    ((f ≡ Syntax) × (2 ^ 64 ≤ decimal_value (numeral bytes)))
-    ⊎ Wrong (drop (run_length bytes) bytes) (decimal_value (numeral bytes)) f
+IsWrongRun Wrong bytes f = ((f ≡ Syntax) × (2 ^ 64 ≤ decimal_value (numeral bytes))) ⊎ Wrong
+    (drop (run_length bytes) bytes) (decimal_value (numeral bytes)) f
 
 pub run_long : {bytes : List ℕ} (digits more : List ℕ) → bytes ≡ digits ++ more → IsPlainNumber digits →
     0 < run_length bytes
 run_long {bytes} digits more e h =
     let long = numeral_longest digits more h in
-    let l : run_length bytes ≡ length digits + length long.0 = ap run_length e ∙ ap length long.1 ∙ length-append
-    digits long.0 in
+    let l : run_length bytes ≡ length digits + length long.0 =
+    ap run_length e ∙ ap length long.1 ∙ length-append digits long.0 in
     omega (arith, l, h.0.0)
 
 pub run_is_wrong : {Wrong : Verdict} → Settled Wrong → {bytes : List ℕ} {t : Seen} {f : CertCause}
@@ -95,16 +107,13 @@ run_is_wrong {Wrong} settled {bytes} {f} e b = (run_long b.digits b.more whole b
         → IsWrongRun Wrong bytes f
     go (inl x) =
         let long = numeral_longest b.digits b.more b.number in
-        let same : decimal_value (numeral bytes) ≡ decimal_value (b.digits ++ long.0) = ap
-        (λ r. decimal_value (numeral r)) whole ∙ ap decimal_value long.1 in
+        let same : decimal_value (numeral bytes) ≡ decimal_value (b.digits ++ long.0) =
+        ap (λ r. decimal_value (numeral r)) whole ∙ ap decimal_value long.1 in
         inl (x.0, omega (arith, x.1, same, value_grows b.digits long.0))
-    go (inr x) =
-        let run : numeral bytes ≡ b.digits = run_is (settled b.more (decimal_value b.digits) f x) in
-        let rest : b.more ≡ drop (run_length bytes) bytes =
-        sym (ap (λ r. drop (length r) bytes) run ∙ ap (λ r. drop (length b.digits) r) whole ∙ drop-append_seam
-        b.digits b.more) in
-        inr (subst (λ more. Wrong more (decimal_value (numeral bytes)) f) rest
-        (subst (λ r. Wrong b.more (decimal_value r) f) (sym run) x))
+    go (inr x) = let run : numeral bytes ≡ b.digits = run_is (settled b.more (decimal_value b.digits) f x) in
+        let rest : b.more ≡ drop (run_length bytes) bytes = sym (ap (λ r. drop (length r) bytes) run
+        ∙ ap (λ r. drop (length b.digits) r) whole ∙ drop-append_seam b.digits b.more) in inr (subst (λ more. Wrong more
+        (decimal_value (numeral bytes)) f) rest (subst (λ r. Wrong b.more (decimal_value r) f) (sym run) x))
 
 pub wrong_run_is : {Wrong : Verdict} {bytes : List ℕ} {t : Seen} {f : CertCause} → bytes ≡ t.byte ∷ t.behind
     → 0 < run_length bytes → IsWrongRun Wrong bytes f → IsBadNumber Wrong t f
@@ -125,12 +134,6 @@ run_within bytes = omega (
   length-append (numeral bytes) (drop (run_length bytes) bytes),
 )
 
-taken_is_run : (at : ℕ) (bytes : List ℕ) → bytes_of (signs (take (run_length bytes) (pieces_at at bytes))) ≡ numeral
-    bytes
-taken_is_run at bytes =
-    bytes_taken (run_length bytes) at bytes ∙ ap (take (run_length bytes)) (numeral_split bytes) ∙ take-append_seam
-    (numeral bytes) (drop (run_length bytes) bytes)
-
 pub suffix_behind : (n at : ℕ) (bytes : List ℕ) → n ≤ length bytes
     → IsSuffix (stream_at at bytes) (stream_at (at + n) (drop n bytes))
 suffix_behind n at bytes l = record {
@@ -142,81 +145,95 @@ suffix_behind n at bytes l = record {
 one_byte : (b : ℕ) (more : List ℕ) → IsPlainNumber (b ∷ more) → IsPlainNumber (b ∷ [])
 one_byte b more h = plain_front (b ∷ []) more (omega arith) h
 
-read_run : {Wrong : Verdict} → Settled Wrong → (at : ℕ) (bytes : List ℕ) → 0 < run_length bytes
-    → decimal_value (numeral bytes) < 2 ^ 64
-    → ((f : CertCause) → Wrong (drop (run_length bytes) bytes) (decimal_value (numeral bytes)) f → ⊥)
-    → IsRead (judged Wrong) (signs (pieces_at at bytes)) (decimal_value (numeral bytes))
-    (signs (pieces_at (at + run_length bytes) (drop (run_length bytes) bytes)))
-read_run {Wrong} settled at bytes long small right = record {
-  text = text;
-  split = signs_split (pieces_at at bytes) (take (run_length bytes) (pieces_at at bytes))
-      (pieces_at (at + run_length bytes) rest) (pieces_split (run_length bytes) at bytes (run_within bytes));
-  is_text = (subst IsPlainNumber (sym same) (numeral_plain bytes long), ap decimal_value (sym same));
-  stops = stops rest refl;
-  clean = clean;
-}
+-- the first sign is a digit, and no cause stands there
+module _ (Wrong : Verdict) (settled : Settled Wrong) (t : Seen) (after : List Seen)
+    (long : 0 < run_length (t.byte ∷ t.behind))
+    (right : (f : CertCause) → IsWrongRun Wrong (t.byte ∷ t.behind) f → ⊥) where
+  abbrev all : List Seen
+  all = t ∷ after
+
+  abbrev bytes : List ℕ
+  bytes = bytes_of all
+
+  abbrev text : List Seen
+  text = take (run_length bytes) all
+
+  abbrev rest : List Seen
+  rest = drop (run_length bytes) all
+
+  one_plain : (digits more : List ℕ) → t.byte ∷ t.behind ≡ digits ++ more → 0 < length digits → IsPlainNumber digits →
+      IsPlainNumber (t.byte ∷ [])
+  one_plain [] more e l h = absurd (omega (arith, l))
+  one_plain (d ∷ digits) more e l h = subst (λ b. IsPlainNumber (b ∷ []))
+      (sym (same_head t.byte d t.behind (digits ++ more) e)) (plain_front (d ∷ []) digits (omega arith) h)
+
+  begins : 0 < run_length bytes
+  begins = run_long (t.byte ∷ []) (bytes_of after) refl (one_plain
+      (numeral (t.byte ∷ t.behind)) _ (numeral_split (t.byte ∷ t.behind)) long (numeral_plain (t.byte ∷ t.behind) long))
+
+  same : bytes_of text ≡ numeral bytes
+  same = sym (take-map (λ (s : Seen). s.byte) (run_length bytes) all) ∙ ap (take (run_length bytes))
+      (numeral_split bytes) ∙ take-append_seam (numeral bytes) (drop (run_length bytes) bytes)
+
+  split : all ≡ text ++ rest
+  split = sym (take-append-drop (run_length bytes) all)
+
+  stops : (r : List Seen) → rest ≡ r → StopsAt (judged Wrong) text (first_of r)
+  stops [] e = tt
+  stops (c ∷ r) e = λ b.
+      let whole : bytes_of ((text ++ c ∷ []) ++ b.more) ≡ (numeral bytes ++ c.byte ∷ []) ++ bytes_of b.more =
+      bytes_append (text ++ c ∷ []) b.more ∙ ap (λ x. x ++ bytes_of b.more)
+      (bytes_append text (c ∷ []) ∙ ap (λ x. x ++ c.byte ∷ []) same) in
+      let plain : IsPlainNumber (numeral bytes ++ c.byte ∷ []) = plain_front (numeral bytes ++ c.byte ∷ [])
+      (bytes_of b.more) (omega (arith, length-append (numeral bytes) (c.byte ∷ [])))
+      (subst IsPlainNumber whole b.is_text.0) in
+      let parts : bytes ≡ (numeral bytes ++ c.byte ∷ []) ++ bytes_of r =
+      ap bytes_of (split ∙ ap (λ z. text ++ z) e) ∙ bytes_append text (c ∷ r)
+      ∙ ap (λ x. x ++ c.byte ∷ bytes_of r) same ∙ sym (append_assoc (numeral bytes) (c.byte ∷ []) (bytes_of r)) in
+      let longest = numeral_longest (numeral bytes ++ c.byte ∷ []) (bytes_of r) plain in
+      omega (
+        arith,
+        ap run_length parts,
+        ap length longest.1,
+        length-append (numeral bytes ++ c.byte ∷ []) longest.0,
+        length-append (numeral bytes) (c.byte ∷ []),
+      )
+
+  clean : CleanUpTo (judged Wrong) all (length text + 1)
+  clean front more u f e l c = right f (subst (λ s. IsWrongRun Wrong (s.byte ∷ s.behind) f)
+      (sym (same_head t u after more (e ∙ ap (λ x. x ++ u ∷ more) c.0))) (run_is_wrong settled refl c.1).1)
+
+  pub number_read : IsRead (judged Wrong) all (decimal_value (numeral bytes)) rest
+  number_read = record {
+    text = text;
+    split = split;
+    is_text = (subst IsPlainNumber (sym same) (numeral_plain bytes begins), ap decimal_value (sym same));
+    stops = stops rest refl;
+    clean = clean;
+  }
+
+pub read_run : {Wrong : Verdict} → Settled Wrong → (bytes : List ℕ) {n : ℕ} {rest : List ℕ} → 0 < run_length bytes →
+    decimal_value (numeral bytes) ≡ n → n < 2 ^ 64 → drop (run_length bytes) bytes ≡ rest →
+    ((f : CertCause) → Wrong rest n f → ⊥) → IsRead (judged Wrong) (seen bytes) n (seen rest)
+read_run settled [] long value small behind right = absurd (omega arith)
+read_run {Wrong} settled (b ∷ more) {n} {rest} long value small behind right =
+    let bytes = b ∷ more in
+    subst (IsRead (judged Wrong) (seen bytes) n) (seen_dropped (run_length bytes) bytes ∙ ap seen behind)
+    (subst (λ v. IsRead (judged Wrong) (seen bytes) v (drop (run_length bytes) (seen bytes))) value
+    (subst (λ xs. IsRead (judged Wrong) (seen bytes) (decimal_value (numeral xs)) (drop (run_length xs) (seen bytes)))
+    (bytes_seen bytes)
+    (number_read Wrong settled (record { byte = b; behind = more }) (seen more) long none)))
   where
-    text : List Seen
-    text = signs (take (run_length bytes) (pieces_at at bytes))
+    none : (f : CertCause) → IsWrongRun Wrong (b ∷ more) f → ⊥
+    none f (inl x) = omega (arith, x.1, value, small)
+    none f (inr x) = right f (rw (value, behind) at x)
 
-    rest : List ℕ
-    rest = drop (run_length bytes) bytes
-
-    same : bytes_of text ≡ numeral bytes
-    same = taken_is_run at bytes
-
-    stops : (r : List ℕ) → drop (run_length bytes) bytes ≡ r
-        → StopsAt (judged Wrong) text (first_of (signs (pieces_at (at + run_length bytes) r)))
-    stops [] e = tt
-    stops (c ∷ r) e = λ b.
-        let sign : Seen = record { byte = c; behind = r } in
-        let whole : bytes_of ((text ++ sign ∷ []) ++ b.more) ≡ (numeral bytes ++ c ∷ []) ++ bytes_of b.more =
-        bytes_append (text ++ sign ∷ []) b.more ∙ ap (λ x. x ++ bytes_of b.more)
-        (bytes_append text (sign ∷ []) ∙ ap (λ x. x ++ c ∷ []) same) in
-        let plain : IsPlainNumber (numeral bytes ++ c ∷ []) = plain_front (numeral bytes ++ c ∷ []) (bytes_of b.more)
-        (omega (arith, length-append (numeral bytes) (c ∷ []))) (subst IsPlainNumber whole b.is_text.0) in
-        let split : bytes ≡ (numeral bytes ++ c ∷ []) ++ r = numeral_split bytes ∙ ap
-        (λ x. numeral bytes ++ x) e ∙ sym (append_assoc (numeral bytes) (c ∷ []) r) in
-        let long = numeral_longest (numeral bytes ++ c ∷ []) r plain in
-        let l : run_length bytes ≡ length (numeral bytes ++ c ∷ []) + length long.0 = ap run_length split ∙ ap length
-        long.1 ∙ length-append (numeral bytes ++ c ∷ []) long.0 in
-        omega (arith, l, length-append (numeral bytes) (c ∷ []))
-
-    clean : CleanUpTo (judged Wrong) (signs (pieces_at at bytes)) (length text + 1)
-    clean front more t f e l c =
-        let w = run_is_wrong settled (first_sees at bytes t more (e ∙ ap (λ x. x ++ t ∷ more) c.0)) c.1 in
-        go w.1
-      where
-        go : IsWrongRun Wrong bytes f → ⊥
-        go (inl x) = omega (arith, x.1, small)
-        go (inr x) = right f x
-
-module _ (Wrong : Verdict) (settled : Settled Wrong) (old new : Place) (n : ℕ) (r : IsNumberRead old new n) where
-  abbrev run_behind : List ℕ
-  run_behind = drop (run_length old.rest) old.rest
-
-  small : decimal_value (numeral old.rest) < 2 ^ 64
-  small = omega (arith, r.small, r.value)
-
-  -- the verdict on what was read, and on the run
-  said : (f : CertCause) → Wrong new.rest n f → Wrong run_behind (decimal_value (numeral old.rest)) f
-  said f w = subst (λ v. Wrong run_behind v f) r.value (subst (λ bytes. Wrong bytes n f) r.rest w)
-
-  said_back : (f : CertCause) → Wrong run_behind (decimal_value (numeral old.rest)) f → Wrong new.rest n f
-  said_back f w = subst (λ v. Wrong new.rest v f) (sym r.value)
-      (subst (λ bytes. Wrong bytes (decimal_value (numeral old.rest)) f) (sym r.rest) w)
-
-  pub judged_reads : ((f : CertCause) → Wrong new.rest n f → ⊥) → Reads (judged Wrong) (at_place old) n (at_place new)
-  judged_reads right =
-      let m : Reads (judged Wrong) (at_place old) (decimal_value (numeral old.rest))
-      (stream_at (old.at + run_length old.rest) run_behind) = (
-        suffix_behind (run_length old.rest) old.at old.rest (run_within old.rest),
-        read_run settled old.at old.rest r.long small (λ f w. right f (said_back f w)),
-      ) in
-      subst (λ v. Reads (judged Wrong) (at_place old) v (at_place new)) (sym r.value)
-      (subst (λ at. Reads (judged Wrong) (at_place old) (decimal_value (numeral old.rest)) (stream_at at new.rest))
-      (sym r.at) (subst (λ bytes. Reads (judged Wrong) (at_place old) (decimal_value (numeral old.rest))
-      (stream_at (old.at + run_length old.rest) bytes)) (sym r.rest) m))
+pub judged_reads : (Wrong : Verdict) → Settled Wrong → (old new : Place) (n : ℕ) → IsNumberRead old new n →
+    ((f : CertCause) → Wrong new.rest n f → ⊥) → Reads (judged Wrong) (at_place old) n (at_place new)
+judged_reads Wrong settled old new n r right = (
+  rw (r.at, r.rest) (suffix_behind (run_length old.rest) old.at old.rest (run_within old.rest)),
+  simp signs_seen (read_run settled old.rest r.long (sym r.value) r.small (sym r.rest) right),
+)
 
 pub judged_begins : (Wrong : Verdict) → Begins (judged Wrong).IsText []
 judged_begins Wrong = record {
@@ -226,23 +243,19 @@ judged_begins Wrong = record {
 }
 
 -- the cause or the refusal at the first sign
-fault_here : (Wrong : Verdict) (at : ℕ) (bytes : List ℕ) {f : CertCause}
-    → IsFaultAt causes (judged Wrong) [] (first_of (signs (pieces_at at bytes))) f
-    → StopsWith causes (judged Wrong) (stream_at at bytes) (record { cause = f; offset = at })
-fault_here Wrong at [] h = record {
-  front = [];
-  rest = [];
-  split = refl;
-  fault = record { front = []; split = refl; clean = λ front more t g e l c. absurd (omega (arith, l)); fault = h };
-  offset = omega arith;
-}
-fault_here Wrong at (b ∷ bytes) h = record {
-  front = [];
-  rest = pieces_at at (b ∷ bytes);
-  split = refl;
-  fault = record { front = []; split = refl; clean = λ front more t g e l c. absurd (omega (arith, l)); fault = h };
-  offset = refl;
-}
+pub at_front : {V : Type 0} {P : Field V} {all : List Seen} {f : CertCause} →
+    IsFaultAt causes P [] (first_of all) f → IsFault causes P all f all
+at_front h = record { front = []; split = refl; clean = λ front more t g e l c. absurd (omega (arith, l)); fault = h }
+
+pub stops_here : {V : Type 0} {P : Field V} (at : ℕ) (bytes : List ℕ) {f : CertCause} →
+    IsFault causes P (signs (pieces_at at bytes)) f (signs (pieces_at at bytes)) →
+    StopsWith causes P (stream_at at bytes) (record { cause = f; offset = at })
+stops_here at bytes h =
+    record { front = []; rest = pieces_at at bytes; split = refl; fault = h; offset = offset bytes }
+  where
+    offset : (bytes : List ℕ) → at ≡ offset_of (pieces_at at bytes) (at + length bytes)
+    offset [] = omega arith
+    offset (b ∷ bytes) = refl
 
 -- no number begins there
 pub nothing_there : (Wrong : Verdict) (at : ℕ) (bytes : List ℕ) → numeral bytes ≡ []
@@ -258,53 +271,48 @@ nothing_there Wrong at (b ∷ bytes) e = is_refusal (record {
   no_text = λ v h. absurd (omega (arith, h.0.0.0));
   stops = λ x. let l = run_long (b ∷ []) bytes refl (one_byte b (bytes_of x.more) x.is_text.0) in
       omega (arith, l, ap length e);
-  no_cause = λ f c. let l = run_long c.1.digits c.1.more c.1.split c.1.number in
-      omega (arith, l, ap length e);
+  no_cause = λ f c. let l = run_long c.1.digits c.1.more c.1.split c.1.number in omega (arith, l, ap length e);
 }) refl
 
 pub syntax_least : (g : CertCause) → cause_number Syntax ≤ cause_number g
 syntax_least Syntax = omega arith
 syntax_least OtherGame = omega arith
 
-pub too_large : (Wrong : Verdict) (at : ℕ) (bytes : List ℕ) → 0 < run_length bytes
-    → 2 ^ 64 ≤ decimal_value (numeral bytes) → IsFaultAt causes (judged Wrong) []
-    (first_of (signs (pieces_at at bytes))) Syntax
+pub too_large : (Wrong : Verdict) (at : ℕ) (bytes : List ℕ) → 0 < run_length bytes → 2 ^ 64 ≤ decimal_value
+    (numeral bytes) → IsFaultAt causes (judged Wrong) [] (first_of (signs (pieces_at at bytes))) Syntax
 too_large Wrong at [] l h = absurd (omega arith)
-too_large Wrong at (b ∷ bytes) l h =
-    let sign : Seen = record { byte = b; behind = bytes } in
+too_large Wrong at (b ∷ bytes) l h = let sign : Seen = record { byte = b; behind = bytes } in
     is_cause sign refl (refl, wrong_run_is refl l (inl (refl, h))) (λ g c. syntax_least g)
 
 -- a number of which the verdict speaks
-pub wrong_number : {Wrong : Verdict} → Settled Wrong → (at : ℕ) (bytes : List ℕ) {f : CertCause} → 0 < run_length bytes
-    → decimal_value (numeral bytes) < 2 ^ 64 → Wrong (drop (run_length bytes) bytes) (decimal_value (numeral bytes)) f
-    → ((g : CertCause) → Wrong (drop (run_length bytes) bytes) (decimal_value (numeral bytes)) g
-    → cause_number f ≤ cause_number g) → IsFaultAt causes (judged Wrong) [] (first_of (signs (pieces_at at bytes))) f
-wrong_number settled at [] l small wrong first = absurd (omega arith)
-wrong_number {Wrong} settled at (b ∷ bytes) {f} l small wrong first =
-    let sign : Seen = record { byte = b; behind = bytes } in
-    is_cause sign refl (refl, wrong_run_is refl l (inr wrong)) (λ g c. least g (run_is_wrong settled refl c.1).1)
+pub wrong_number : {Wrong : Verdict} → Settled Wrong → (at : ℕ) (bytes : List ℕ) {n : ℕ} {rest : List ℕ}
+    {f : CertCause} → 0 < run_length bytes → decimal_value (numeral bytes) ≡ n → n < 2 ^ 64 → drop (run_length bytes)
+    bytes ≡ rest → Wrong rest n f → ((g : CertCause) → Wrong rest n g → cause_number f ≤ cause_number g) →
+    IsFaultAt causes (judged Wrong) [] (first_of (signs (pieces_at at bytes))) f
+wrong_number settled at [] l value small behind wrong first = absurd (omega arith)
+wrong_number {Wrong} settled at (b ∷ bytes) {f = f} l value small behind wrong first =
+    is_cause (record { byte = b; behind = bytes }) refl
+    (refl, wrong_run_is refl l (inr (rw (value, behind) wrong))) (λ g c. least g (run_is_wrong settled refl c.1).1)
   where
     least : (g : CertCause) → IsWrongRun Wrong (b ∷ bytes) g → cause_number f ≤ cause_number g
-    least g (inl x) = absurd (omega (arith, x.1, small))
-    least g (inr x) = first g x
+    least g (inl x) = absurd (omega (arith, x.1, value, small))
+    least g (inr x) = first g (rw (value, behind) at x)
 
 pub judged_fails : (Wrong : Verdict) (old new : Place) (e : CertFault) → TellsNumber old (Err e) new
     → Stops causes (judged Wrong) (at_place old) (found_of e)
 judged_fails Wrong old new e h = subst (λ x. Stops causes (judged Wrong) (at_place old) (found_of x)) (sym h.0)
-    (fault_here Wrong old.at old.rest (go h.1))
+    (stops_here old.at old.rest (at_front (go h.1)))
   where
     go : HasNoNumber old.rest → IsFaultAt causes (judged Wrong) [] (first_of (signs (pieces_at old.at old.rest))) Syntax
     go (inl none) = nothing_there Wrong old.at old.rest none
     go (inr large) = too_large Wrong old.at old.rest large.0 large.1
 
-pub judged_wrong : {Wrong : Verdict} → Settled Wrong → {old new : Place} {n : ℕ} (f : CertCause) {e : CertFault}
-    → IsNumberRead old new n → Wrong new.rest n f
-    → ((g : CertCause) → Wrong new.rest n g → cause_number f ≤ cause_number g) → e ≡ Text f old.at
-    → Stops causes (judged Wrong) (at_place old) (found_of e)
-judged_wrong {Wrong} settled {old} {new} {n} f r wrong first is =
-    subst (λ x. Stops causes (judged Wrong) (at_place old) (found_of x)) (sym is) (fault_here Wrong old.at old.rest
-    (wrong_number settled old.at old.rest r.long (small Wrong settled old new n r)
-    (said Wrong settled old new n r f wrong) (λ g w. first g (said_back Wrong settled old new n r g w))))
+pub judged_wrong : {Wrong : Verdict} → Settled Wrong → {old new : Place} {n : ℕ} (f : CertCause) {e : CertFault} →
+    IsNumberRead old new n → Wrong new.rest n f → ((g : CertCause) → Wrong new.rest n g →
+    cause_number f ≤ cause_number g) → e ≡ Text f old.at → Stops causes (judged Wrong) (at_place old) (found_of e)
+judged_wrong {Wrong} settled {old} f r wrong first is =
+    subst (λ x. Stops causes (judged Wrong) (at_place old) (found_of x)) (sym is) (stops_here old.at old.rest
+    (at_front (wrong_number settled old.at old.rest r.long (sym r.value) r.small (sym r.rest) wrong first)))
 
 -- a number that is not the game's, where it is ended
 module _ (Wrong : ℕ → Type 0) (old new : Place) (n : ℕ) (r : IsNumberRead old new n) where
@@ -345,11 +353,9 @@ laws_judged Wrong = record {
 }
   where
     later : (text more : List Seen) (t : Seen) → IsPlainNumber (bytes_of (text ++ t ∷ more)) → IsDigit t.byte
-    later text more t h =
-        let all : All IsDigit (bytes_of text ++ t.byte ∷ bytes_of more) = subst (All IsDigit)
-        (bytes_append text (t ∷ more)) h.0.1 in
-        All-head IsDigit t.byte (bytes_of more) (subst (All IsDigit)
-        (drop-append_seam (bytes_of text) (t.byte ∷ bytes_of more))
+    later text more t h = let all : All IsDigit (bytes_of text ++ t.byte ∷ bytes_of more) =
+        subst (All IsDigit) (bytes_append text (t ∷ more)) h.0.1 in All-head IsDigit t.byte
+        (bytes_of more) (subst (All IsDigit) (drop-append_seam (bytes_of text) (t.byte ∷ bytes_of more))
         (All-drop IsDigit (length (bytes_of text)) (bytes_of text ++ t.byte ∷ bytes_of more) all))
 
 pub laws_number : (Wrong : ℕ → Type 0) → Laws Odd (number Wrong) AtDigit AtDigit ⊥

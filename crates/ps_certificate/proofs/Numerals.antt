@@ -26,9 +26,8 @@ taken_digits (b ∷ bytes) = rw take_while-cons (elim (cases_Bool (is_ascii_digi
 
 taken_split : {bytes : List ℕ} → bytes ≡ take_while is_ascii_digit bytes ++ drop
     (length (take_while is_ascii_digit bytes)) bytes
-taken_split {bytes} =
-    sym (ap (λ n. take_while is_ascii_digit bytes ++ drop n bytes) (length-prefix_len is_ascii_digit bytes)
-    ∙ take-append-drop (prefix_len is_ascii_digit bytes) bytes)
+taken_split {bytes} = sym (ap (λ n. take_while is_ascii_digit bytes ++ drop n bytes)
+    (length-prefix_len is_ascii_digit bytes) ∙ take-append-drop (prefix_len is_ascii_digit bytes) bytes)
 
 taken_over : (digits more : List ℕ) → All IsDigit digits
     → take_while is_ascii_digit (digits ++ more) ≡ digits ++ take_while is_ascii_digit more
@@ -106,15 +105,15 @@ numeral_ended {digits} more h ends = go long.0 long.1
     go [] e = e ∙ append-nil digits
     go (x ∷ m) e =
         let rest = drop (length (numeral (digits ++ more))) (digits ++ more) in
-        let whole : digits ++ more ≡ (digits ++ x ∷ m) ++ rest = numeral_split (digits ++ more) ∙ ap
-        (λ r. r ++ rest) e in
-        let tail : more ≡ (x ∷ m) ++ rest = append_cancel_left digits more ((x ∷ m) ++ rest)
-        (whole ∙ append_assoc digits (x ∷ m) rest) in
+        let whole : digits ++ more ≡ (digits ++ x ∷ m) ++ rest =
+        numeral_split (digits ++ more) ∙ ap (λ r. r ++ rest) e in
+        let tail : more ≡ (x ∷ m) ++ rest =
+        append_cancel_left digits more ((x ∷ m) ++ rest) (whole ∙ append_assoc digits (x ∷ m) rest) in
         let plain : IsPlainNumber (digits ++ x ∷ m) = subst IsPlainNumber e
-        (numeral_plain (digits ++ more) (let l : length (numeral (digits ++ more)) ≡ length digits + suc
-        (length m) = ap length e ∙ length-append digits (x ∷ m) in omega (arith, l))) in
-        let digit : IsDigit x = All-head IsDigit x m (subst (All IsDigit) (drop-append_seam digits (x ∷ m))
-        (All-drop IsDigit (length digits) (digits ++ x ∷ m) plain.0.1)) in
+        (numeral_plain (digits ++ more) (let l : length (numeral (digits ++ more)) ≡ length digits + suc (length m) =
+        ap length e ∙ length-append digits (x ∷ m) in omega (arith, l))) in
+        let digit : IsDigit x = All-head IsDigit x m (subst (All IsDigit)
+        (drop-append_seam digits (x ∷ m)) (All-drop IsDigit (length digits) (digits ++ x ∷ m) plain.0.1)) in
         absurd (no_end x (m ++ rest) (subst EndsField tail ends) digit)
 
 -- a number without leading zeros that writes 0 is the byte `0`, and then it is the whole run
@@ -123,9 +122,7 @@ zero_is [] h e = absurd (omega (arith, h.0.0))
 zero_is (d ∷ digits) h e = go digits refl
   where
     lead : d ≡ 48
-    lead =
-        let low = All-head IsDigit d digits h.0.1 in
-        omega (arith, low.0, e, value_grows (d ∷ []) digits)
+    lead = let low = All-head IsDigit d digits h.0.1 in omega (arith, low.0, e, value_grows (d ∷ []) digits)
 
     go : (rest : List ℕ) → digits ≡ rest → d ∷ digits ≡ 48 ∷ []
     go [] s = ap₂ (λ (x : ℕ) (xs : List ℕ). x ∷ xs) lead s

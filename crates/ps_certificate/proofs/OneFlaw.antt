@@ -25,8 +25,7 @@ not_before_itself xs different same (i, j, below, within, at_i, at_j) =
 not_both_before : (xs : List ℕ) → AllPairs (λ x y. x ≢ y) xs → {x y : ℕ} → StandsBefore xs x y → StandsBefore xs y x → ⊥
 not_both_before xs different (i, j, below, within, at_i, at_j) (k, l, below', within', at_k, at_l) =
     let x_is : i ≡ l = one_place xs different (omega arith) within' (at_i ∙ sym at_l) in
-    let y_is : j ≡ k = one_place xs different within (omega arith) (at_j ∙ sym at_k) in
-    omega arith
+    let y_is : j ≡ k = one_place xs different within (omega arith) (at_j ∙ sym at_k) in omega arith
 
 edges_not_both : {game : ParityGame} → IsGame game → (v w v' w' : ℕ) → v < vertex_count game →
     EdgePrecedes game v w v' w' → EdgePrecedes game v' w' v w → ⊥
@@ -43,9 +42,8 @@ edge_not_itself is_game in_range (inl below) same same_end = omega arith
 edge_not_itself {game} is_game {v} in_range (inr (_, before)) same same_end =
     not_before_itself (successors_of game v) (is_game.different v in_range) same_end before
 
-not_both_precede : {game : ParityGame} (certificate : CertificateData) → IsGame game → (flaw other : Flaw) →
-    IsFlaw game certificate flaw → IsFlaw game certificate other → Precedes game flaw other →
-    Precedes game other flaw → ⊥
+not_both_precede : {game : ParityGame} (certificate : CertificateData) → IsGame game → (flaw other : Flaw) → IsFlaw
+    game certificate flaw → IsFlaw game certificate other → Precedes game flaw other → Precedes game other flaw → ⊥
 not_both_precede certificate is_game (Move v _) (Move v' _) is_flaw is_other before behind = omega arith
 not_both_precede certificate is_game (Move v _) (Escape v' _) is_flaw is_other before behind = omega arith
 not_both_precede certificate is_game (Escape v _) (Move v' _) is_flaw is_other before behind = omega arith

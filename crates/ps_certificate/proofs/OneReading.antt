@@ -73,9 +73,8 @@ within game parity xs ys l m p c =
 
 one_list : {game : ParityGame} {parity : ℕ} {xs ys : List ℕ} → ListsPriorities game parity xs →
     ListsPriorities game parity ys → xs ≡ ys
-one_list {game} {parity} {xs} {ys} l m =
-    same_list xs ys (rises xs (AllPairs-from_increasing xs l.rising)) (rises ys (AllPairs-from_increasing ys m.rising))
-    (within game parity xs ys l m) (within game parity ys xs m l)
+one_list {game} {parity} {xs} {ys} l m = same_list xs ys (rises xs (AllPairs-from_increasing xs l.rising))
+    (rises ys (AllPairs-from_increasing ys m.rising)) (within game parity xs ys l m) (within game parity ys xs m l)
 
 numbered : AreNumbered cause_number
 numbered Syntax Syntax e = refl
@@ -85,10 +84,8 @@ numbered OtherGame OtherGame e = refl
 
 pub one_reading : (game : NamedGameData) (text : List ℕ) (answer other : Result CertificateData (Found CertCause)) →
     ReadsCertificate game text answer → ReadsCertificate game text other → answer ≡ other
-one_reading game text answer other a b =
-    has_one_answer (certificate a.odd a.even game.ids).IsText (IsWrong causes (certificate a.odd a.even game.ids))
-    cause_number (laws_certificate a.odd a.even game.ids).one_value numbered (stream_at 0 text) answer other a.answers
-    (subst (λ odd. PartAnswers causes (certificate odd a.even game.ids) (stream_at 0 text) other)
-    (one_list b.odd_listed a.odd_listed)
-    (subst (λ even. PartAnswers causes (certificate b.odd even game.ids) (stream_at 0 text) other)
-    (one_list b.even_listed a.even_listed) b.answers))
+one_reading game text answer other a b = has_one_answer (certificate a.odd a.even game.ids).IsText (IsWrong causes
+    (certificate a.odd a.even game.ids)) cause_number (laws_certificate a.odd a.even game.ids).one_value numbered
+    (stream_at 0 text) answer other a.answers (subst (λ odd. PartAnswers causes (certificate odd a.even game.ids)
+    (stream_at 0 text) other) (one_list b.odd_listed a.odd_listed) (subst (λ even. PartAnswers causes
+    (certificate b.odd even game.ids) (stream_at 0 text) other) (one_list b.even_listed a.even_listed) b.answers))

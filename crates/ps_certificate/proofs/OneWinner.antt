@@ -18,9 +18,8 @@ some_and P Q (Some w) h k = (w, refl, h, k)
 given : (game : ParityGame) (certificate : CertificateData) → Fits game certificate → IsValid game certificate →
     (v : ℕ) → v < vertex_count game → owner_of game v ≡ winner_of certificate v
     → (w : ℕ) × (choice_of certificate v ≡ Some w) × HasEdge game v w × (w < vertex_count game)
-given game certificate fits valid v within own =
-    some_and (HasEdge game v) (λ w. w < vertex_count game) (choice_of certificate v)
-    ((valid.closed.moves v within).own own) (fits.choices v within)
+given game certificate fits valid v within own = some_and (HasEdge game v) (λ w. w < vertex_count game)
+    (choice_of certificate v) ((valid.closed.moves v within).own own) (fits.choices v within)
 
 -- steps from a vertex
 steps : (ℕ → ℕ) → ℕ → ℕ → List ℕ
@@ -110,12 +109,10 @@ module _ (game : ParityGame) (one other : CertificateData) (owners : (v : ℕ) �
       let s = step v b in
       record {
         within = s.within;
-        by_one =
-            valid.closed.stays v (next v) (record { edge = s.edge; chosen = λ own. s.of_one (own ∙ b.by_one) })
-            ∙ b.by_one;
-        by_other =
-            valid'.closed.stays v (next v) (record { edge = s.edge; chosen = λ own. s.of_other (own ∙ b.by_other) })
-            ∙ b.by_other;
+        by_one = valid.closed.stays v
+            (next v) (record { edge = s.edge; chosen = λ own. s.of_one (own ∙ b.by_one) }) ∙ b.by_one;
+        by_other = valid'.closed.stays v
+            (next v) (record { edge = s.edge; chosen = λ own. s.of_other (own ∙ b.by_other) }) ∙ b.by_other;
       }
 
   module _ (v : ℕ) (b : IsBoth v) where

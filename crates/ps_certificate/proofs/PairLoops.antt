@@ -38,18 +38,15 @@ abbrev pub put : (ℕ → ℕ) → ℕ → ℕ → ℕ → ℕ
 put f p m q = cond (eqb q p) m (f q)
 
 pub put_above : (f : ℕ → ℕ) (p m : ℕ) (ps : List ℕ) → All (λ q. p < q) ps → map (put f p m) ps ≡ map f ps
-put_above f p m ps above = same_map (put f p m) f ps
-    (λ k d lt. let q = get_or ps k d in ap (λ (b : Bool). cond b m (f q))
-    (ne_eqb q p (λ e. omega (arith, above k d lt, e))))
+put_above f p m ps above = same_map (put f p m) f ps (λ k d lt. let q =
+    get_or ps k d in ap (λ (b : Bool). cond b m (f q)) (ne_eqb q p (λ e. omega (arith, above k d lt, e))))
 
 set_is_put : (f : ℕ → ℕ) (m : ℕ) (ps : List ℕ) (k : ℕ) → Rises ps → k < length ps
     → set (map f ps) k m ≡ map (put f (get_or ps k 0) m) ps
 set_is_put f m [] k r lt = absurd (omega (arith, lt))
 set_is_put f m (q ∷ ps) zero r lt = ap₂ (λ (x : ℕ) (xs : List ℕ). x ∷ xs)
     (sym (ap (λ (b : Bool). cond b m (f q)) (eq-eqb q q refl))) (sym (put_above f q m ps r.0))
-set_is_put f m (q ∷ ps) (suc k) r lt =
-    let p = get_or ps k 0 in
-    ap₂ (λ (x : ℕ) (xs : List ℕ). x ∷ xs)
+set_is_put f m (q ∷ ps) (suc k) r lt = let p = get_or ps k 0 in ap₂ (λ (x : ℕ) (xs : List ℕ). x ∷ xs)
     (sym (ap (λ (b : Bool). cond b m (f q)) (ne_eqb q p (λ e. omega (arith, r.0 k 0 (omega (arith, lt)), e)))))
     (set_is_put f m ps k r.1 (omega (arith, lt)))
 
@@ -80,15 +77,13 @@ ReadsPair ps last old p m new = (pairs : Pairs) → pairs.last ≡ last
 -- a pair leaves fewer bytes
 pub pair_shrinks : (ps : List ℕ) (last : Option ℕ) (now next : Place) (p m : ℕ) → ReadsPair ps last now p m next
     → length next.rest < length now.rest
-pair_shrinks ps last now next p m read =
-    let pairs : Pairs = record { last = last; count = λ _. 0 } in
+pair_shrinks ps last now next p m read = let pairs : Pairs = record { last = last; count = λ _. 0 } in
     fewer (pair ps pairs) now next (with_pair pairs p m) (laws_pair ps pairs).null (read pairs refl)
 
 module _ (ps : List ℕ) (start : Stream Seen) (now : Place) (last : Option ℕ) (counts : List ℕ)
     (so_far : PairsSoFar ps start now last counts) where
-  pub pair_more : IsStrictlyIncreasing ps → {next : Place} (k m : ℕ) → k < length ps
-      → ReadsPair ps last now (slice_index ps k) m next
-      → PairsSoFar ps start next (Some (slice_index ps k)) (set counts k m)
+  pub pair_more : IsStrictlyIncreasing ps → {next : Place} (k m : ℕ) → k < length ps → ReadsPair ps last now
+      (slice_index ps k) m next → PairsSoFar ps start next (Some (slice_index ps k)) (set counts k m)
   pair_more rising k m lt read = record {
     pairs = with_pair so_far.pairs (slice_index ps k) m;
     last_is = refl;
@@ -98,17 +93,13 @@ module _ (ps : List ℕ) (start : Stream Seen) (now : Place) (last : Option ℕ)
         (read so_far.pairs so_far.last_is);
   }
 
-  pub pair_fails : comes 32 now.rest ≡ true → (o : Option (Found CertCause))
-      → ((pairs : Pairs) → pairs.last ≡ last → Stops causes (pair ps pairs) (at_place now) o)
-      → Stops causes (counts_in true ps) start o
-  pair_fails h o m =
-      stops_first causes (joint_pairs ps) start o
-      (carries_stops causes (many (pair ps) no_pairs) (many (pair ps) so_far.pairs) start
-      (at_place now) o so_far.carries
-      (many_fails (pair ps) (laws_pair ps) digit_no_space causes so_far.pairs (at_place now) o
-      (enters_then (byte 32) (λ _. behind_space ps so_far.pairs)
-      (tight_joint (laws_byte 32) (λ _. laws_behind_space ps so_far.pairs)) _ (enters_byte 32 now h))
-      (m so_far.pairs so_far.last_is)))
+  pub pair_fails : comes 32 now.rest ≡ true → (o : Option (Found CertCause)) → ((pairs : Pairs) →
+      pairs.last ≡ last → Stops causes (pair ps pairs) (at_place now) o) → Stops causes (counts_in true ps) start o
+  pair_fails h o m = stops_first causes
+      (joint_pairs ps) start o (carries_stops causes (many (pair ps) no_pairs) (many (pair ps) so_far.pairs) start
+      (at_place now) o so_far.carries (many_fails (pair ps) (laws_pair ps) digit_no_space causes so_far.pairs
+      (at_place now) o (enters_then (byte 32) (λ _. behind_space ps so_far.pairs) (tight_joint (laws_byte 32)
+      (λ _. laws_behind_space ps so_far.pairs)) _ (enters_byte 32 now h)) (m so_far.pairs so_far.last_is)))
 
   pairs_read : comes 32 now.rest ≡ false → Reads (many (pair ps) no_pairs) start so_far.pairs (at_place now)
   pairs_read h = so_far.carries (Ok so_far.pairs) (at_place now)
@@ -121,6 +112,5 @@ module _ (ps : List ℕ) (start : Stream Seen) (now : Place) (last : Option ℕ)
 
   pub pairs_done : comes 32 now.rest ≡ false → (new : Place) → Reads (byte 10) (at_place now) tt (at_place new)
       → Reads (counts_in true ps) start counts (at_place new)
-  pairs_done h new m =
-      subst (λ cs. Reads (counts_in true ps) start cs (at_place new)) (sym so_far.counts_are)
+  pairs_done h new m = subst (λ cs. Reads (counts_in true ps) start cs (at_place new)) (sym so_far.counts_are)
       (reads_then (joint_pairs ps) (pairs_read h) (reads_mapped (λ _. map so_far.pairs.count ps) m))

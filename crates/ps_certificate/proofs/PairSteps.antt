@@ -15,8 +15,6 @@ use Rattle.ps_text.specs.Readers.{Reads, Stops}
 use Rattle.ps_text.specs.Faults.{found_of}
 use Rattle.ps_text.specs.Digits.{decimal_value}
 use Rattle.ps_text.specs.declared.faults.Fault.TheVariants.{Text}
-use Rattle.ps_text.proofs.Laws.{Joint}
-use Rattle.ps_text.proofs.Simple.{laws_mapped}
 use Rattle.ps_text.proofs.Exits.{reads_mapped, reads_then, stops_mapped, stops_first, stops_behind}
 use Rattle.ps_certificate.specs.declared.fault.CertCause.{CertCause}
 use Rattle.ps_certificate.specs.declared.fault.CertCause.TheVariants.{Syntax, OtherGame}
@@ -28,18 +26,12 @@ use Rattle.ps_certificate.specs.Reading.{at_place, comes, ends, numeral, rises, 
 use Rattle.ps_certificate.specs.Reading.{TellsPriority}
 use Rattle.ps_certificate.specs.Texts.{causes, byte, judged, WrongPriority, IsZero, pair}
 use Rattle.ps_certificate.proofs.Numerals.{zero_is, numeral_split, numeral_plain}
-use Rattle.ps_certificate.proofs.NumberPart.{Settled, judged_reads, judged_fails, judged_wrong, laws_judged}
-use Rattle.ps_certificate.proofs.TextLaws.{tight_joint, laws_byte, behind_space, laws_behind_space, joint_priority}
+use Rattle.ps_certificate.proofs.NumberPart.{settled_zero, settled_priority, syntax_least, judged_reads, judged_fails}
+use Rattle.ps_certificate.proofs.NumberPart.{judged_wrong}
+use Rattle.ps_certificate.proofs.TextLaws.{joint_pair, joint_priority, joint_colon}
 use Rattle.ps_certificate.proofs.Steps.{byte_fails, ends_true, ends_false}
 
-syntax_least : (g : CertCause) → cause_number Syntax ≤ cause_number g
-syntax_least Syntax = omega arith
-syntax_least OtherGame = omega arith
-
 -- ## A count that is not 0
-
-settled_zero : Settled IsZero
-settled_zero more n f w = inr w.1
 
 pub zero_fails : (old : Place) {e : CertFault} → comes 48 old.rest ≡ true → e ≡ Text Syntax old.at
     → Stops causes (judged IsZero) (at_place old) (found_of e)
@@ -67,8 +59,8 @@ positive_reads {old} {new} {n} h r = judged_reads IsZero settled_zero old new n 
   where
     begins : n ≡ 0 → comes 48 old.rest ≡ true
     begins null =
-        let z : numeral old.rest ≡ 48 ∷ [] = zero_is (numeral old.rest) (numeral_plain old.rest r.long)
-        (sym r.value ∙ null) in
+        let z : numeral old.rest ≡ 48 ∷ [] =
+        zero_is (numeral old.rest) (numeral_plain old.rest r.long) (sym r.value ∙ null) in
         let more = drop (length (numeral old.rest)) old.rest in
         ap (comes 48) (numeral_split old.rest) ∙ ap (λ run. comes 48 (run ++ more)) z
 
@@ -101,9 +93,6 @@ module _ (ps : List ℕ) (last : Option ℕ) (pairs : Pairs) (same : pairs.last 
   abbrev Wrong : List ℕ → ℕ → CertCause → Type 0
   Wrong = WrongPriority ps pairs
 
-  settled : Settled (WrongPriority ps pairs)
-  settled more n f w = inl w.0
-
   pub priority_fails : (new : Place) (e : CertFault) → TellsNumber old (Err e) new
       → TellsPriority ps pairs old (Err e) new
   priority_fails new e h = inl (judged_fails (WrongPriority ps pairs) old new e h)
@@ -115,20 +104,21 @@ module _ (ps : List ℕ) (last : Option ℕ) (pairs : Pairs) (same : pairs.last 
         inr (
           n,
           mid,
-          judged_reads (WrongPriority ps pairs) settled old mid n r (λ f w. ends_false mid.rest h w.0),
+          judged_reads (WrongPriority ps pairs) (settled_priority ps pairs) old mid n r
+              (λ f w. ends_false mid.rest h w.0),
           byte_fails 58 mid (no_colon mid.rest h) is,
         )
 
     pub priority_low : (new : Place) {e : CertFault} → ends mid.rest ≡ true → rises last n ≡ false
         → e ≡ Text Syntax old.at → TellsPriority ps pairs old (Err e) new
-    priority_low new h low is =
-        inl (judged_wrong settled Syntax r
+    priority_low new h low is = inl (judged_wrong (settled_priority ps pairs) Syntax r
         (ends_true mid.rest h, inl (refl, stays_below pairs n same low)) (λ g w. syntax_least g) is)
 
     pub priority_unknown : (new : Place) {e : CertFault} → ends mid.rest ≡ true → rises last n ≡ true
         → (Contains ps n → ⊥) → e ≡ Text OtherGame old.at → TellsPriority ps pairs old (Err e) new
     priority_unknown new h up none is =
-        inl (judged_wrong settled OtherGame r (ends_true mid.rest h, inr (refl, none)) (λ g w. least g w.1) is)
+        inl (judged_wrong (settled_priority ps pairs) OtherGame r (ends_true mid.rest h, inr (refl, none))
+        (λ g w. least g w.1) is)
       where
         least : (g : CertCause) → ((g ≡ Syntax) × DoesNotRise pairs n) ⊎ ((g ≡ OtherGame) × ¬ Contains ps n)
             → cause_number OtherGame ≤ cause_number g
@@ -139,7 +129,7 @@ module _ (ps : List ℕ) (last : Option ℕ) (pairs : Pairs) (same : pairs.last 
         → Reads (judged (WrongPriority ps pairs)) (at_place old) (slice_index ps place) (at_place mid)
     priority_reads {place} up at =
         subst (λ v. Reads (judged (WrongPriority ps pairs)) (at_place old) v (at_place mid)) (sym at.is)
-        (judged_reads (WrongPriority ps pairs) settled old mid n r (λ f w. right f w.1))
+        (judged_reads (WrongPriority ps pairs) (settled_priority ps pairs) old mid n r (λ f w. right f w.1))
       where
         right : (f : CertCause) → ((f ≡ Syntax) × DoesNotRise pairs n) ⊎ ((f ≡ OtherGame) × ¬ Contains ps n) → ⊥
         right f (inl x) = rises_not pairs n same up x.1
@@ -153,47 +143,37 @@ priority_exits ps pairs old new e r m i = let y = err_from_is_err_and r i in
 -- ## The pair
 
 module _ (ps : List ℕ) (pairs : Pairs) (old : Place) where
-  joint_pair : Joint (byte 32) (λ _. behind_space ps pairs)
-  joint_pair = tight_joint (laws_byte 32) (λ _. laws_behind_space ps pairs)
-
   pub pair_space : (o : Option (Found CertCause)) → Stops causes (byte 32) (at_place old) o
       → Stops causes (pair ps pairs) (at_place old) o
-  pair_space o m = stops_first causes joint_pair (at_place old) o m
+  pair_space o m = stops_first causes (joint_pair ps pairs) (at_place old) o m
 
   module _ (mid : Place) (m : Reads (byte 32) (at_place old) tt (at_place mid)) where
     pub pair_priority : (e : CertFault) (new : Place) → TellsPriority ps pairs mid (Err e) new
         → Stops causes (pair ps pairs) (at_place old) (found_of e)
-    pair_priority e new (inl s) = stops_behind causes joint_pair m (found_of e)
+    pair_priority e new (inl s) = stops_behind causes (joint_pair ps pairs) m (found_of e)
         (stops_first causes (joint_priority ps pairs) (at_place mid) (found_of e) s)
     pair_priority e new (inr s) =
-        stops_behind causes joint_pair m (found_of e) (stops_behind causes (joint_priority ps pairs) s.2 (found_of e)
-        (stops_first causes (joint_colon s.0) (at_place s.1) (found_of e) s.3))
-      where
-        joint_colon : (p : ℕ) → Joint (byte 58) (λ _. mapped (λ m. with_pair pairs p m) (judged IsZero))
-        joint_colon p = tight_joint (laws_byte 58)
-            (λ _. laws_mapped (λ m. with_pair pairs p m) (judged IsZero) (laws_judged IsZero))
+        stops_behind causes (joint_pair ps pairs) m (found_of e) (stops_behind causes (joint_priority ps pairs) s.2
+        (found_of e) (stops_first causes (joint_colon pairs s.0) (at_place s.1) (found_of e) s.3))
 
     module _ (p : ℕ) (next : Place) (k : Reads (judged (WrongPriority ps pairs)) (at_place mid) p (at_place next)) where
-      joint_count : Joint (byte 58) (λ _. mapped (λ m. with_pair pairs p m) (judged IsZero))
-      joint_count = tight_joint (laws_byte 58) (λ _. laws_mapped (λ m. with_pair pairs p m) (judged IsZero)
-          (laws_judged IsZero))
-
-      behind_priority : (o : Option (Found CertCause))
-          → Stops causes (then_by (byte 58) (λ _. mapped (λ m. with_pair pairs p m) (judged IsZero)))
-          (at_place next) o → Stops causes (pair ps pairs) (at_place old) o
-      behind_priority o s = stops_behind causes joint_pair m o (stops_behind causes (joint_priority ps pairs) k o s)
+      behind_priority : (o : Option (Found CertCause)) → Stops causes (then_by (byte 58) (λ _. mapped
+          (λ m. with_pair pairs p m) (judged IsZero))) (at_place next) o → Stops causes (pair ps pairs) (at_place old) o
+      behind_priority o s =
+          stops_behind causes (joint_pair ps pairs) m o (stops_behind causes (joint_priority ps pairs) k o s)
 
       pub pair_colon : (o : Option (Found CertCause)) → Stops causes (byte 58) (at_place next) o
           → Stops causes (pair ps pairs) (at_place old) o
-      pair_colon o s = behind_priority o (stops_first causes joint_count (at_place next) o s)
+      pair_colon o s = behind_priority o (stops_first causes (joint_colon pairs p) (at_place next) o s)
 
       module _ (last : Place) (c : Reads (byte 58) (at_place next) tt (at_place last)) where
         pub pair_count : (o : Option (Found CertCause)) → Stops causes (judged IsZero) (at_place last) o
             → Stops causes (pair ps pairs) (at_place old) o
-        pair_count o s = behind_priority o (stops_behind causes joint_count c o
+        pair_count o s = behind_priority o (stops_behind causes (joint_colon pairs p) c o
             (stops_mapped causes (λ m. with_pair pairs p m) (judged IsZero) (at_place last) o s))
 
         pub pair_reads : {count : ℕ} (new : Place) → Reads (judged IsZero) (at_place last) count (at_place new)
             → Reads (pair ps pairs) (at_place old) (with_pair pairs p count) (at_place new)
-        pair_reads new s = reads_then joint_pair m (reads_then (joint_priority ps pairs) k (reads_then joint_count c
-            (reads_mapped (λ m. with_pair pairs p m) s)))
+        pair_reads new s = reads_then (joint_pair ps pairs) m
+            (reads_then (joint_priority ps pairs) k
+            (reads_then (joint_colon pairs p) c (reads_mapped (λ m. with_pair pairs p m) s)))

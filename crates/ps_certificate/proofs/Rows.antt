@@ -33,8 +33,7 @@ module _ (own other : List PlacedCount) (from number : ℕ) where
 
   module _ (so_far : AreNotAbove own other from number) where
     pub not_above_end : (width : ℕ) → length own ≤ number → AreAtMost (row_of width own) (row_of width other) from width
-    not_above_end width all k late within =
-        let at_most : count_at own k ≤ count_at other k =
+    not_above_end width all k late within = let at_most : count_at own k ≤ count_at other k =
         so_far.below k late (λ j behind below. omega (arith, behind, below, all)) in
         omega (arith, at_most, row_at own width k within, row_at other width k within)
 
@@ -125,9 +124,8 @@ module _ (width : ℕ) (placed : List PlacedCount) (list : List ℕ) (number : �
         | inr (inr more) ↦ omega (arith, rising 0 width placed is_row number i more i_within)
       ])
 
-  pub filled_next : IsRow width placed → number < length placed →
-      IsFilled width placed ((list ++ replicate (place_at placed number - length list) 0) ++
-      number_at placed number ∷ []) (number + 1)
+  pub filled_next : IsRow width placed → number < length placed → IsFilled width placed
+      ((list ++ replicate (place_at placed number - length list) 0) ++ number_at placed number ∷ []) (number + 1)
   filled_next is_row within =
       let place = place_at placed number in
       let rises : AreRising placed = rising 0 width placed is_row in
@@ -142,8 +140,7 @@ module _ (width : ℕ) (placed : List PlacedCount) (list : List ℕ) (number : �
         length-replicate {A = ℕ} (place - length list) 0,
       ) in
       record {
-        list_is =
-            ap (λ xs. xs ++ number_at placed number ∷ []) (zeros_next is_row within)
+        list_is = ap (λ xs. xs ++ number_at placed number ∷ []) (zeros_next is_row within)
             ∙ ap (λ c. row_of place placed ++ c ∷ []) (sym (count_here placed number rises within))
             ∙ sym (row_next placed place) ∙ ap (λ n. row_of n placed) (sym long);
         long = omega (arith, long, below);

@@ -17,17 +17,12 @@ length-counts_from ps (suc n) k = ap suc (length-counts_from ps n (suc k))
 
 counts_from_at : (ps : List PlacedCount) (n k i : ℕ) → i < n → slice_index (counts_from ps n k) i ≡ count_at ps (k + i)
 counts_from_at ps zero k i h = absurd (omega (arith, h))
-counts_from_at ps (suc n) k zero h =
-    let here : k ≡ k + 0 = omega arith in
-    ap (count_at ps) here
-counts_from_at ps (suc n) k (suc i) h =
-    let behind : suc k + i ≡ k + suc i = omega arith in
-    counts_from_at ps n (suc k) i (omega (arith, h)) ∙ ap (count_at ps) behind
+counts_from_at ps (suc n) k zero h = let here : k ≡ k + 0 = omega arith in ap (count_at ps) here
+counts_from_at ps (suc n) k (suc i) h = let behind : suc k + i ≡ k + suc i =
+    omega arith in counts_from_at ps n (suc k) i (omega (arith, h)) ∙ ap (count_at ps) behind
 
 pub row_at : (ps : List PlacedCount) (n i : ℕ) → i < n → slice_index (row_of n ps) i ≡ count_at ps i
-row_at ps n i h =
-    let same : 0 + i ≡ i = omega arith in
-    counts_from_at ps n 0 i h ∙ ap (count_at ps) same
+row_at ps n i h = let same : 0 + i ≡ i = omega arith in counts_from_at ps n 0 i h ∙ ap (count_at ps) same
 
 counts_from_more : (ps : List PlacedCount) (n m k : ℕ) →
     counts_from ps (n + m) k ≡ counts_from ps n k ++ counts_from ps m (k + n)
@@ -47,9 +42,8 @@ pub place_within : (from width : ℕ) (ps : List PlacedCount) (i : ℕ) → Rise
     (from ≤ place_at ps i) × (place_at ps i < width)
 place_within from width [] i h within = absurd (omega (arith, within))
 place_within from width (p ∷ ps) zero h within = (h.0, h.1)
-place_within from width (p ∷ ps) (suc i) h within =
-    let later = place_within (suc p.place) width ps i h.2 (omega (arith, within)) in
-    (omega (arith, later.0, h.0), later.1)
+place_within from width (p ∷ ps) (suc i) h within = let later =
+    place_within (suc p.place) width ps i h.2 (omega (arith, within)) in (omega (arith, later.0, h.0), later.1)
 
 pub rising : (from width : ℕ) (ps : List PlacedCount) → Rises from width ps → AreRising ps
 rising from width [] h i j less within = absurd (omega (arith, within))
@@ -81,11 +75,9 @@ pub count_here : (ps : List PlacedCount) (i : ℕ) → AreRising ps → i < leng
     count_at ps (place_at ps i) ≡ number_at ps i
 count_here [] i h within = absurd (omega (arith, within))
 count_here (p ∷ ps) zero h within = same_place p ps refl
-count_here (p ∷ ps) (suc i) h within =
-    let less : p.place < place_at ps i = h 0 (suc i) (omega arith) within in
-    other_place p ps (place_at ps i) (λ same. omega (arith, less, same))
-    ∙ count_here ps i (λ a b ab below. h (suc a) (suc b) (omega (arith, ab)) (omega (arith, below)))
-    (omega (arith, within))
+count_here (p ∷ ps) (suc i) h within = let less : p.place < place_at ps i = h 0 (suc i) (omega arith) within in
+    other_place p ps (place_at ps i) (λ same. omega (arith, less, same)) ∙ count_here ps i
+    (λ a b ab below. h (suc a) (suc b) (omega (arith, ab)) (omega (arith, below))) (omega (arith, within))
 
 module _ (ps : List PlacedCount) (k n : ℕ) (rises : AreRising ps) (first : IsFirstFrom ps k n) where
   pub count_first : n < length ps → place_at ps n ≡ k → count_at ps k ≡ number_at ps n
@@ -105,28 +97,22 @@ module _ (ps : List PlacedCount) (k n : ℕ) (rises : AreRising ps) (first : IsF
 
 pub row_next : (ps : List PlacedCount) (n : ℕ) → row_of (n + 1) ps ≡ row_of n ps ++ count_at ps n ∷ []
 row_next ps n =
-    let same : 0 + n ≡ n = omega arith in
-    counts_from_more ps n 1 0 ∙ ap (λ k. row_of n ps ++ count_at ps k ∷ []) same
+    let same : 0 + n ≡ n = omega arith in counts_from_more ps n 1 0 ∙ ap (λ k. row_of n ps ++ count_at ps k ∷ []) same
 
 zeros_from : (ps : List PlacedCount) (n k : ℕ) → ((i : ℕ) → i < length ps → k ≤ place_at ps i → k + n ≤ place_at ps i) →
     counts_from ps n k ≡ replicate n 0
 zeros_from ps zero k h = refl
-zeros_from ps (suc n) k h =
-    ap (λ c. c ∷ counts_from ps n (suc k)) (count_missing ps k (λ i within same.
-    omega (arith, same, h i within (omega (arith, same)))))
+zeros_from ps (suc n) k h = ap (λ c. c ∷ counts_from ps n (suc k))
+    (count_missing ps k (λ i within same. omega (arith, same, h i within (omega (arith, same)))))
     ∙ ap (λ rest. 0 ∷ rest) (zeros_from ps n (suc k) (λ i within late. omega (arith, h i within (omega (arith, late)))))
 
 -- zeros up to the next place
-pub row_to : (ps : List PlacedCount) (from to : ℕ) → from ≤ to →
-    ((i : ℕ) → i < length ps → from ≤ place_at ps i → to ≤ place_at ps i) →
-    row_of to ps ≡ row_of from ps ++ replicate (to - from) 0
-row_to ps from to h next =
-    let long : to ≡ from + (to - from) = omega (arith, h) in
-    let start : 0 + from ≡ from = omega arith in
-    ap (λ n. row_of n ps) long ∙ counts_from_more ps from (to - from) 0
-    ∙ ap (λ k. row_of from ps ++ counts_from ps (to - from) k) start
-    ∙ ap (λ rest. row_of from ps ++ rest) (zeros_from ps (to - from) from (λ i within late.
-    omega (arith, h, next i within late)))
+pub row_to : (ps : List PlacedCount) (from to : ℕ) → from ≤ to → ((i : ℕ) → i < length ps →
+    from ≤ place_at ps i → to ≤ place_at ps i) → row_of to ps ≡ row_of from ps ++ replicate (to - from) 0
+row_to ps from to h next = let long : to ≡ from + (to - from) = omega (arith, h) in
+    let start : 0 + from ≡ from = omega arith in ap (λ n. row_of n ps) long ∙ counts_from_more ps from
+    (to - from) 0 ∙ ap (λ k. row_of from ps ++ counts_from ps (to - from) k) start ∙ ap (λ rest. row_of from ps ++ rest)
+    (zeros_from ps (to - from) from (λ i within late. omega (arith, h, next i within late)))
 
 -- ## Counts that are gathered from a list
 
@@ -140,26 +126,22 @@ gathered_other k c cs h =
     ap (λ b. cond b (gathered (suc k) cs) (record { place = k; count = c } ∷ gathered (suc k) cs)) (ne_eqb c 0 h)
 
 pub gathered_zeros : (n k : ℕ) (cs : List ℕ) → gathered k (replicate n 0 ++ cs) ≡ gathered (k + n) cs
-gathered_zeros zero k cs =
-    let same : k ≡ k + 0 = omega arith in
-    ap (λ j. gathered j cs) same
-gathered_zeros (suc n) k cs =
-    let behind : suc k + n ≡ k + suc n = omega arith in
+gathered_zeros zero k cs = let same : k ≡ k + 0 = omega arith in ap (λ j. gathered j cs) same
+gathered_zeros (suc n) k cs = let behind : suc k + n ≡ k + suc n = omega arith in
     gathered_zero k (replicate n 0 ++ cs) refl ∙ gathered_zeros n (suc k) cs ∙ ap (λ j. gathered j cs) behind
 
 -- the rest of a list, by its first number
 rest_at : (cs : List ℕ) (k : ℕ) → k < length cs → drop k cs ≡ get_or cs k 0 ∷ drop (k + 1) cs
 rest_at cs k within =
-    let next : suc k ≡ k + 1 = omega arith in
-    drop-cons cs k 0 within ∙ ap (λ j. get_or cs k 0 ∷ drop j cs) next
+    let next : suc k ≡ k + 1 = omega arith in drop-cons cs k 0 within ∙ ap (λ j. get_or cs k 0 ∷ drop j cs) next
 
 pub gathered_run : (cs : List ℕ) (k n : ℕ) → k < length cs → get_or cs k 0 ≡ 0 →
     take n (drop (k + 1) cs) ≡ replicate n 0 → gathered k (drop k cs) ≡ gathered (k + n + 1) (drop (k + n + 1) cs)
 gathered_run cs k n within is_zero run =
     let next : suc k + n ≡ k + n + 1 = omega arith in
     let same : k + 1 + n ≡ k + n + 1 = omega arith in
-    let parts : drop (k + 1) cs ≡ replicate n 0 ++ drop (k + n + 1) cs = sym (take-append-drop n (drop (k + 1) cs))
-    ∙ ap (λ front. front ++ drop n (drop (k + 1) cs)) run
+    let parts : drop (k + 1) cs ≡ replicate n 0 ++ drop (k + n + 1) cs =
+    sym (take-append-drop n (drop (k + 1) cs)) ∙ ap (λ front. front ++ drop n (drop (k + 1) cs)) run
     ∙ ap (λ rest. replicate n 0 ++ rest) (drop-drop n (k + 1) cs ∙ ap (λ j. drop j cs) same) in
     ap (gathered k) (rest_at cs k within) ∙ gathered_zero k (drop (k + 1) cs) is_zero ∙ ap (gathered (suc k)) parts
     ∙ gathered_zeros n (suc k) (drop (k + n + 1) cs) ∙ ap (λ j. gathered j (drop (k + n + 1) cs)) next
@@ -167,9 +149,8 @@ gathered_run cs k n within is_zero run =
 pub gathered_one : (cs : List ℕ) (k : ℕ) → k < length cs → get_or cs k 0 ≢ 0 →
     gathered k (drop k cs) ≡ record { place = k; count = get_or cs k 0 } ∷ gathered (k + 1) (drop (k + 1) cs)
 gathered_one cs k within other =
-    let next : suc k ≡ k + 1 = omega arith in
-    ap (gathered k) (rest_at cs k within) ∙ gathered_other k (get_or cs k 0) (drop (k + 1) cs) other
-    ∙ ap (λ j. record { place = k; count = get_or cs k 0 } ∷ gathered j (drop (k + 1) cs)) next
+    let next : suc k ≡ k + 1 = omega arith in ap (gathered k) (rest_at cs k within) ∙ gathered_other k (get_or cs k 0)
+    (drop (k + 1) cs) other ∙ ap (λ j. record { place = k; count = get_or cs k 0 } ∷ gathered j (drop (k + 1) cs)) next
 
 gathered_rises : (k : ℕ) {w : ℕ} (cs : List ℕ) → k + length cs ≤ w → Rises k w (gathered k cs)
 gathered_rises k [] h = tt
@@ -191,9 +172,8 @@ gathered_is_row cs = gathered_rises 0 cs (omega arith)
 counts_behind : (p : PlacedCount) (ps : List PlacedCount) (n k : ℕ) → p.place < k →
     counts_from (p ∷ ps) n k ≡ counts_from ps n k
 counts_behind p ps zero k h = refl
-counts_behind p ps (suc n) k h =
-    ap (λ c. c ∷ counts_from (p ∷ ps) n (suc k)) (other_place p ps k (λ same. omega (arith, h, same)))
-    ∙ ap (λ rest. count_at ps k ∷ rest) (counts_behind p ps n (suc k) (omega (arith, h)))
+counts_behind p ps (suc n) k h = ap (λ c. c ∷ counts_from (p ∷ ps) n (suc k)) (other_place p ps k (λ same. omega
+    (arith, h, same))) ∙ ap (λ rest. count_at ps k ∷ rest) (counts_behind p ps n (suc k) (omega (arith, h)))
 
 gathered_counts : (k : ℕ) (cs : List ℕ) → counts_from (gathered k cs) (length cs) k ≡ cs
 gathered_counts k [] = refl

@@ -4,16 +4,16 @@
 --     byte_reads, byte_fails, two_first, two_second, two_fails      one byte
 --     end_reads, end_missing, end_fails      the end of a line of priorities, where some of these are left
 --     ends_true, ends_false      what the test of a field's end says
-use Rattle.std.proofs.Common.{◌≡◌, ℕ, ◌+◌, ◌<◌, ◌≤◌, Bool, true, false, cond, eqb, ◌||◌, List, [], ◌∷◌, length, Option}
-use Rattle.std.proofs.Common.{Some, None, refl, sym, ap, subst, inl, inr, ◌∙◌, arith}
+use Rattle.std.proofs.Common.{◌≡◌, ℕ, ◌<◌, ◌≤◌, Bool, true, false, cond, eqb, ◌||◌, List, [], ◌∷◌, length, Option, Some}
+use Rattle.std.proofs.Common.{None, refl, sym, ap, subst, inl, inr, ◌∙◌, arith}
 use Rattle.std.proofs.lemmas.Bool.{eq-eqb, ne_eqb, eqb-true, eqb-false}
 use Rattle.ps_text.specs.Answers.{signs, first_of, next_of}
-use Rattle.ps_text.specs.Parts.{NoBad, one, is_cause, is_refusal}
+use Rattle.ps_text.specs.Parts.{NoBad, IsFault, one, refusal_of}
 use Rattle.ps_text.specs.Readers.{StopsWith, Reads, Stops}
 use Rattle.ps_text.specs.Faults.{found_of}
 use Rattle.ps_text.specs.declared.faults.Fault.TheVariants.{Text}
 use Rattle.ps_text.proofs.Laws.{Laws, Or, Nothing}
-use Rattle.ps_text.proofs.Simple.{none_is_some, same_some, Taken, BadSign, laws_one, read_one}
+use Rattle.ps_text.proofs.Simple.{none_is_some, same_some, Taken, BadSign, laws_one, read_one, bad_one, refused}
 use Rattle.ps_text.proofs.Covered.{Enters, Avoids, enters_one}
 use Rattle.ps_certificate.specs.declared.fault.CertCause.{CertCause}
 use Rattle.ps_certificate.specs.declared.fault.CertCause.TheVariants.{Syntax, OtherGame}
@@ -22,7 +22,7 @@ use Rattle.ps_certificate.specs.Places.{Place}
 use Rattle.ps_certificate.specs.Reading.{at_place, comes, ends, step_on, step_of}
 use Rattle.ps_certificate.specs.Texts.{Seen, Field, pieces_at, stream_at, causes, EndsField, take_byte, take_two, byte}
 use Rattle.ps_certificate.specs.Texts.{two, IsMissing}
-use Rattle.ps_certificate.proofs.NumberPart.{Odd}
+use Rattle.ps_certificate.proofs.NumberPart.{Odd, stops_here}
 use Rattle.ps_certificate.proofs.TextLaws.{At, byte_taken, laws_byte, laws_newline, first_taken}
 
 abbrev sees : ℕ → List ℕ → Seen
@@ -30,47 +30,26 @@ sees b bytes = record { byte = b; behind = bytes }
 
 -- ## Faults
 
-pub stops_at : {V : Type 0} {P : Field V} (old : Place) (f : CertCause) {e : CertFault}
-    → StopsWith causes P (at_place old) (record { cause = f; offset = old.at }) → e ≡ Text f old.at
-    → Stops causes P (at_place old) (found_of e)
+pub stops_at : {V : Type 0} {P : Field V} (old : Place) (f : CertCause) {e : CertFault} → StopsWith causes P (at_place
+    old) (record { cause = f; offset = old.at }) → e ≡ Text f old.at → Stops causes P (at_place old) (found_of e)
 stops_at {P} old f s is = subst (λ x. Stops causes P (at_place old) (found_of x)) (sym is) s
 
 pub refused_here : {V : Type 0} {P : Field V} {First More : Seen → Type 0} → Laws Odd P First More ⊥ → (place : Place)
     → ((b : ℕ) (bytes : List ℕ) → place.rest ≡ b ∷ bytes → First (sees b bytes) → ⊥)
     → StopsWith causes P (at_place place) (record { cause = Syntax; offset = place.at })
-refused_here {V} {P = P} {First = First} l place none = go place.rest refl
+refused_here {P = P} {First = First} l place none =
+    let all = signs (pieces_at place.at place.rest) in
+    stops_here place.at place.rest (subst (λ f. IsFault causes P all f all) (syntax (first_of all))
+    (refused l causes all (avoided place.rest refl)))
   where
-    go : (bytes : List ℕ) → place.rest ≡ bytes → StopsWith causes P (stream_at place.at bytes)
-        (record { cause = Syntax; offset = place.at })
-    go [] e = record {
-      front = [];
-      rest = [];
-      split = refl;
-      fault = record {
-        front = [];
-        split = refl;
-        clean = λ front more t g e l c. absurd (omega (arith, l));
-        fault = is_refusal (record { before = l.some; no_text = l.null; stops = tt; no_cause = tt }) refl;
-      };
-      offset = omega arith;
-    }
-    go (b ∷ bytes) e = record {
-      front = [];
-      rest = pieces_at place.at (b ∷ bytes);
-      split = refl;
-      fault = record {
-        front = [];
-        split = refl;
-        clean = λ front more t g e l c. absurd (omega (arith, l));
-        fault = is_refusal (record {
-          before = l.some;
-          no_text = l.null;
-          stops = λ x. none b bytes e (l.first_text (sees b bytes) x.more x.value x.is_text);
-          no_cause = λ f c. none b bytes e (l.first_cause (sees b bytes) f c);
-        }) refl;
-      };
-      offset = refl;
-    }
+    syntax : (there : Option Seen) → refusal_of causes there ≡ Syntax
+    syntax None = refl
+    syntax (Some s) = refl
+
+    avoided : (bytes : List ℕ) →
+        place.rest ≡ bytes → (t : Seen) → first_of (signs (pieces_at place.at bytes)) ≡ Some t → First t → ⊥
+    avoided [] e t s h = none_is_some t s
+    avoided (b ∷ bytes) e t s h = none b bytes e (subst First (sym (same_some (sees b bytes) t s)) h)
 
 -- ## The next byte
 
@@ -79,9 +58,8 @@ comes_not {b} {c} bytes e h = eqb-false c b (subst (λ r. comes b r ≡ false) e
 
 module _ {V : Type 0} (take : Seen → Option V) (Bad : Seen → CertCause → Type 0) (old new : Place) (b : ℕ) (v : V) where
   -- the byte that comes is taken
-  pub taken : comes b old.rest ≡ true → new ≡ step_of old → ((bytes : List ℕ) → take (sees b bytes) ≡ Some v)
-      → ((bytes : List ℕ) (f : CertCause) → Bad (sees b bytes) f → ⊥)
-      → Reads (one take Bad) (at_place old) v (at_place new)
+  pub taken : comes b old.rest ≡ true → new ≡ step_of old → ((bytes : List ℕ) → take (sees b bytes) ≡ Some v) → ((bytes
+      : List ℕ) (f : CertCause) → Bad (sees b bytes) f → ⊥) → Reads (one take Bad) (at_place old) v (at_place new)
   taken h next takes good = subst (λ q. Reads (one take Bad) (at_place old) v (at_place q)) (sym next) (go old.rest h)
     where
       go : (rest : List ℕ) → comes b rest ≡ true → Reads (one take Bad) (stream_at old.at rest) v
@@ -90,9 +68,8 @@ module _ {V : Type 0} (take : Seen → Option V) (Bad : Seen → CertCause → T
       go (c ∷ bytes) h =
           let same : b ≡ c = sym (eqb-true c b h) in (
             record { taken = record { sign = sees c bytes; start = old.at } ∷ []; split = refl; end = omega arith },
-            read_one take Bad
-                (subst (λ x. take (sees x bytes) ≡ Some v) same (takes bytes)) (subst (λ x. (f : CertCause)
-                → Bad (sees x bytes) f → ⊥) same (good bytes)),
+            read_one take Bad (subst (λ x. take (sees x bytes) ≡ Some v) same (takes bytes))
+                (subst (λ x. (f : CertCause) → Bad (sees x bytes) f → ⊥) same (good bytes)),
           )
 
 pub byte_reads : (b : ℕ) (old : Place) {new : Place} → comes b old.rest ≡ true → new ≡ step_of old
@@ -130,11 +107,9 @@ module _ {V : Type 0} (a b : ℕ) (v w : V) (old new : Place) where
       none : (c : ℕ) (bytes : List ℕ) → old.rest ≡ c ∷ bytes
           → Or (Taken (take_two a b v w)) (BadSign {F = CertCause} NoBad) (sees c bytes) → ⊥
       none c bytes s (inr x) = x.1
-      none c bytes s (inl x) =
-          let not_taken : take_two a b v w (sees c bytes) ≡ None =
-          ap (λ z. cond z (Some v) (cond (eqb c b) (Some w) None))
-          (ne_eqb c a (comes_not bytes s h)) ∙ ap (λ z. cond z (Some w) None) (ne_eqb c b (comes_not bytes s k)) in
-          none_is_some x.0 (sym not_taken ∙ x.1)
+      none c bytes s (inl x) = let not_taken : take_two a b v w (sees c bytes) ≡ None =
+          ap (λ z. cond z (Some v) (cond (eqb c b) (Some w) None)) (ne_eqb c a (comes_not bytes s h))
+          ∙ ap (λ z. cond z (Some w) None) (ne_eqb c b (comes_not bytes s k)) in none_is_some x.0 (sym not_taken ∙ x.1)
 
 -- ## The end of a line of priorities
 
@@ -158,19 +133,8 @@ module _ (left : List ℕ) (old new : Place) where
       go : (rest : List ℕ) → comes 10 rest ≡ true → StopsWith causes (one (take_byte 10) (IsMissing left))
           (stream_at old.at rest) (record { cause = OtherGame; offset = old.at })
       go [] h = absurd cc
-      go (c ∷ bytes) h = record {
-        front = [];
-        rest = pieces_at old.at (c ∷ bytes);
-        split = refl;
-        fault = record {
-          front = [];
-          split = refl;
-          clean = λ front more t g e l c. absurd (omega (arith, l));
-          fault = is_cause (sees c bytes) refl (refl, (eqb-true c 10 h, some, refl))
-              (λ g k. least (sees c bytes) g k.1);
-        };
-        offset = refl;
-      }
+      go (c ∷ bytes) h = stops_here old.at (c ∷ bytes) (bad_one (take_byte 10) (IsMissing left) causes _
+          (sees c bytes) OtherGame refl (eqb-true c 10 h, some, refl) (least (sees c bytes)))
 
 -- ## Where a part begins, and where none does
 

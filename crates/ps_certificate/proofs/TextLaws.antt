@@ -2,7 +2,7 @@
 -- Only numbers and moves go on with anything, which are digits, and what stands behind them begins with a space or a
 -- newline.
 use Rattle.std.proofs.Common.{◌≡◌, ℕ, zero, suc, ◌⊎◌, Bool, true, false, cond, eqb, List, [], ◌∷◌, length, drop, Option}
-use Rattle.std.proofs.Common.{Some, None, refl, ap, inl, inr, arith}
+use Rattle.std.proofs.Common.{Some, None, refl, ap, inl, inr, ⊎_elim, arith}
 use Rattle.std.specs.Prelude.{codes, map}
 use Rattle.std.specs.List.{Contains}
 use Rattle.std.proofs.lemmas.Bool.{eqb-true, eq-eqb}
@@ -87,9 +87,8 @@ pub first_taken : {V : Type 0} {a : ℕ} (b : ℕ) {v : V} (w : V) (s : Seen) �
 first_taken {a} b {v} w s e = ap (λ x. cond x (Some v) (cond (eqb s.byte b) (Some w) None)) (eq-eqb s.byte a e)
 
 pub laws_two : {V : Type 0} (a b : ℕ) (v w : V) → Laws Odd (two a b v w) Any Nothing ⊥
-laws_two a b v w =
-    let sign : Seen = record { byte = a; behind = [] } in
-    weaker (laws_one (take_two a b v w) NoBad Odd sign v (first_taken b w sign refl)
+laws_two a b v w = let sign : Seen =
+    record { byte = a; behind = [] } in weaker (laws_one (take_two a b v w) NoBad Odd sign v (first_taken b w sign refl)
     (not_odd (Taken (take_two a b v w))) (not_odd (BadSign NoBad))) (λ t h. tt) (λ t h. h) (λ n. n)
 
 pub laws_word : (bytes : List ℕ) → Laws Odd (word bytes) Any Nothing (Unit {0})
@@ -129,18 +128,14 @@ numbers_end t (inr s) e = omega (arith, e, s)
 pub joint_priorities : (ps : List ℕ) → Joint (many priority ps) (λ left. one (take_byte 10) (IsMissing left))
 joint_priorities ps = joint (laws_many priority laws_priority digit_no_space ps) laws_newline numbers_end
 
-pub laws_priorities : (ps : List ℕ) → Laws Odd (priorities ps) Separates Nothing ⊥
-laws_priorities ps =
-    weaker (laws_then (laws_many priority laws_priority digit_no_space ps) laws_newline numbers_end) first
-    more (λ n. n.1)
-  where
-    first : (t : Seen) → Or (At 32) (When (Unit {0}) (At 10)) t → Separates t
-    first t (inl x) = inl x
-    first t (inr x) = inr x.1
+-- items behind spaces, and a newline
+laws_line : {A B : Type 0} {P : Field A} {Q : A → Field B} → Laws Odd P (At 32) (Or AtDigit (At 32)) (Unit {0}) →
+    ((a : A) → Laws Odd (Q a) (At 10) Nothing ⊥) → Laws Odd (then_by P Q) Separates Nothing ⊥
+laws_line l r = weaker (laws_then l r numbers_end) (λ t. ⊎_elim (λ x. inl x) (λ x. inr x.1))
+    (λ t. ⊎_elim (λ x. x) (λ x. x.0)) (λ n. n.1)
 
-    more : (t : Seen) → Or Nothing (When ⊥ (Or AtDigit (At 32))) t → Nothing t
-    more t (inl x) = x
-    more t (inr x) = x.0
+pub laws_priorities : (ps : List ℕ) → Laws Odd (priorities ps) Separates Nothing ⊥
+laws_priorities ps = laws_line (laws_many priority laws_priority digit_no_space ps) laws_newline
 
 -- ## Lines of vertices
 
@@ -177,9 +172,8 @@ laws_choice ids = weaker (laws_either laws_dash (laws_chosen ids) dash_no_digit 
 
 pub laws_counts : (n : ℕ) → Laws Odd (counts n) Separates Nothing ⊥
 laws_counts zero = weaker (laws_mapped (λ _. []) (byte 10) (laws_byte 10)) (λ t h. inr h) (λ t h. h) (λ n. n)
-laws_counts (suc n) =
-    laws_space (λ _. loose_then (laws_number Never) (λ count. laws_mapped (λ others. count ∷ others) (counts n)
-    (laws_counts n)))
+laws_counts (suc n) = laws_space
+    (λ _. loose_then (laws_number Never) (λ count. laws_mapped (λ others. count ∷ others) (counts n) (laws_counts n)))
 
 -- a pair begins with a space, and goes on with digits
 pub laws_colon : (ps : List ℕ) (pairs : Pairs) (p : ℕ) → Laws Odd
@@ -191,26 +185,23 @@ pub digit_no_colon : Apart AtDigit (At 58)
 digit_no_colon t d e = omega (arith, e, d.1)
 
 abbrev pub behind_space : List ℕ → Pairs → Field Pairs
-behind_space ps pairs =
-    then_by (judged (WrongPriority ps pairs)) (λ p. then_by (byte 58)
-    (λ _. mapped (λ m. with_pair pairs p m) (judged IsZero)))
+behind_space ps pairs = then_by
+    (judged (WrongPriority ps pairs)) (λ p. then_by (byte 58) (λ _. mapped (λ m. with_pair pairs p m) (judged IsZero)))
 
 pub joint_priority : (ps : List ℕ) (pairs : Pairs) → Joint (judged (WrongPriority ps pairs))
     (λ p. then_by (byte 58) (λ _. mapped (λ m. with_pair pairs p m) (judged IsZero)))
 joint_priority ps pairs = joint (laws_judged (WrongPriority ps pairs)) (λ p. laws_colon ps pairs p) digit_no_colon
 
+pub joint_colon : (pairs : Pairs) (p : ℕ) → Joint (byte 58) (λ _. mapped (λ m. with_pair pairs p m) (judged IsZero))
+joint_colon pairs p =
+    tight_joint (laws_byte 58) (λ _. laws_mapped (λ m. with_pair pairs p m) (judged IsZero) (laws_judged IsZero))
+
 pub laws_behind_space : (ps : List ℕ) (pairs : Pairs) → Laws Odd (behind_space ps pairs) AtDigit AtDigit ⊥
 laws_behind_space ps pairs =
-    weaker (laws_then (laws_judged (WrongPriority ps pairs)) (λ p. laws_colon ps pairs p) digit_no_colon) first
-    more (λ n. n.0)
-  where
-    first : (t : Seen) → Or AtDigit (When ⊥ (At 58)) t → AtDigit t
-    first t (inl x) = x
-    first t (inr x) = absurd x.0
+    laws_next (laws_judged (WrongPriority ps pairs)) (λ p. laws_colon ps pairs p) digit_no_colon
 
-    more : (t : Seen) → Or AtDigit (When ⊥ AtDigit) t → AtDigit t
-    more t (inl x) = x
-    more t (inr x) = absurd x.0
+pub joint_pair : (ps : List ℕ) (pairs : Pairs) → Joint (byte 32) (λ _. behind_space ps pairs)
+joint_pair ps pairs = tight_joint (laws_byte 32) (λ _. laws_behind_space ps pairs)
 
 pub laws_pair : (ps : List ℕ) (pairs : Pairs) → Laws Odd (pair ps pairs) (At 32) AtDigit ⊥
 laws_pair ps pairs = tight_then (laws_byte 32) (λ _. laws_behind_space ps pairs)
@@ -225,17 +216,7 @@ pub joint_pairs : (ps : List ℕ) → Joint (many (pair ps) no_pairs) (pairs_end
 joint_pairs ps = joint (laws_many (pair ps) (laws_pair ps) digit_no_space no_pairs) (laws_pairs_end ps) numbers_end
 
 pub laws_pairs : (ps : List ℕ) → Laws Odd (counts_in true ps) Separates Nothing ⊥
-laws_pairs ps =
-    weaker (laws_then (laws_many (pair ps) (laws_pair ps) digit_no_space no_pairs) (laws_pairs_end ps) numbers_end)
-    first more (λ n. n.1)
-  where
-    first : (t : Seen) → Or (At 32) (When (Unit {0}) (At 10)) t → Separates t
-    first t (inl x) = inl x
-    first t (inr x) = inr x.1
-
-    more : (t : Seen) → Or Nothing (When ⊥ (Or AtDigit (At 32))) t → Nothing t
-    more t (inl x) = x
-    more t (inr x) = x.0
+laws_pairs ps = laws_line (laws_many (pair ps) (laws_pair ps) digit_no_space no_pairs) (laws_pairs_end ps)
 
 pub laws_counts_in : (compact : Bool) (ps : List ℕ) → Laws Odd (counts_in compact ps) Separates Nothing ⊥
 laws_counts_in false ps = laws_counts (length ps)
@@ -247,9 +228,8 @@ module _ (compact : Bool) (odd even ids : List ℕ) where
       mapped (λ cs. record { winner = w; choice = c; counts = cs }) (counts_in compact (lost_by odd even w))
 
   pub laws_entry_counts : (w : ℕ) (c : Option ℕ) → Laws Odd (entry_counts w c) Separates Nothing ⊥
-  laws_entry_counts w c =
-      laws_mapped (λ cs. record { winner = w; choice = c; counts = cs }) (counts_in compact (lost_by odd even w))
-      (laws_counts_in compact (lost_by odd even w))
+  laws_entry_counts w c = laws_mapped (λ cs. record { winner = w; choice = c; counts = cs })
+      (counts_in compact (lost_by odd even w)) (laws_counts_in compact (lost_by odd even w))
 
   pub laws_entry_choice : (w : ℕ) → Laws Odd (then_by (choice ids) (entry_counts w)) Any Nothing ⊥
   laws_entry_choice w = loose_then (laws_choice ids) (laws_entry_counts w)
@@ -268,16 +248,14 @@ module _ (compact : Bool) (odd even ids : List ℕ) where
 
   pub laws_entries : (rest : List ℕ) → Laws Odd (entries compact odd even ids rest) Any Nothing (Unit {0})
   laws_entries [] = weaker (laws_give Odd []) (λ t h. absurd h) (λ t h. h) (λ n. n)
-  laws_entries (id ∷ rest) =
-      weaker (tight_then (laws_entry id) (λ first. laws_mapped (λ others. first ∷ others)
+  laws_entries (id ∷ rest) = weaker (tight_then (laws_entry id) (λ first. laws_mapped (λ others. first ∷ others)
       (entries compact odd even ids rest) (laws_entries rest))) (λ t h. h) (λ t h. h) (λ n. tt)
 
   -- ## The text
 
   pub laws_all_entries : Laws Odd (all_entries compact odd even ids) Any Nothing (Unit {0})
-  laws_all_entries =
-      laws_mapped (λ es. record { odd = odd; even = even; entries = es }) (entries compact odd even ids ids)
-      (laws_entries ids)
+  laws_all_entries = laws_mapped
+      (λ es. record { odd = odd; even = even; entries = es }) (entries compact odd even ids ids) (laws_entries ids)
 
   pub laws_even : Laws Odd (then_by (priorities even) (λ _. all_entries compact odd even ids)) Separates Nothing ⊥
   laws_even = tight_then (laws_priorities even) (λ _. laws_all_entries)
@@ -291,9 +269,8 @@ module _ (compact : Bool) (odd even ids : List ℕ) where
   laws_odd = tight_then (laws_priorities odd) (λ _. laws_even_word)
 
   abbrev pub behind_count : Field CertificateData
-  behind_count =
-      then_by (word odd_word) (λ _. then_by (priorities odd) (λ _.
-      then_by (word even_word) (λ _. then_by (priorities even) (λ _. all_entries compact odd even ids))))
+  behind_count = then_by (word odd_word) (λ _. then_by (priorities odd)
+      (λ _. then_by (word even_word) (λ _. then_by (priorities even) (λ _. all_entries compact odd even ids))))
 
   pub laws_behind_count : Laws Odd behind_count Separates Nothing ⊥
   laws_behind_count =
@@ -310,9 +287,8 @@ pub laws_version : Laws Odd version Any Nothing ⊥
 laws_version = laws_two 49 50 false true
 
 abbrev pub behind_version : List ℕ → List ℕ → List ℕ → Bool → Field CertificateData
-behind_version odd even ids compact =
-    then_by (word vertices_word) (λ _. then_by (number (λ n. n ≡ length ids → ⊥))
-    (λ _. behind_count compact odd even ids))
+behind_version odd even ids compact = then_by
+    (word vertices_word) (λ _. then_by (number (λ n. n ≡ length ids → ⊥)) (λ _. behind_count compact odd even ids))
 
 pub laws_from_version : (odd even ids : List ℕ) → Laws Odd (then_by version (behind_version odd even ids)) Any Nothing ⊥
 laws_from_version odd even ids = tight_then laws_version (λ compact. laws_vertices_word compact odd even ids)

@@ -40,9 +40,8 @@ pub record AreMarks (game : ParityGame) (window : List ℕ) (seen : List Bool) (
 
 -- one more vertex whose priority is in the window
 pub AreMarks-found : {game : ParityGame} {window : List ℕ} {seen : List Bool} {vertex place priority : ℕ} →
-    IsStrictlyIncreasing window → vertex < vertex_count game → priority ≡ priority_of game vertex →
-    IsAt window priority place → AreMarks game window seen vertex →
-    AreMarks game window (set seen place true) (vertex + 1)
+    IsStrictlyIncreasing window → vertex < vertex_count game → priority ≡ priority_of game vertex → IsAt
+    window priority place → AreMarks game window seen vertex → AreMarks game window (set seen place true) (vertex + 1)
 AreMarks-found {game} {window} {seen} {vertex} {place} rising in_range is at marks = record {
   room = simp length-set marks.room;
   marked = λ k within mark. elim (cases_eq k place) [
@@ -74,19 +73,15 @@ AreMarks-missing {game} {window} {vertex} is missing marks = record {
 }
 
 -- all are priorities where all are marked
-pub All-from_marks : {game : ParityGame} {window : List ℕ} {seen : List Bool} {vertex : ℕ} →
-    AreMarks game window seen vertex → ((k : ℕ) → k < length window → get_or seen k false ≡ true) →
-    All (HasPriority game) window
+pub All-from_marks : {game : ParityGame} {window : List ℕ} {seen : List Bool} {vertex : ℕ} → AreMarks
+    game window seen vertex → ((k : ℕ) → k < length window → get_or seen k false ≡ true) → All (HasPriority game) window
 All-from_marks {game} {window} marks each =
     All-from_get_or (HasPriority game) window 0 (λ k within. marks.marked k within (each k within))
 
 -- a number that is a priority is marked in the end
-pub marked_in_the_end : {game : ParityGame} {window : List ℕ} {seen : List Bool} (k : ℕ) →
-    AreMarks game window seen (vertex_count game) → All (HasPriority game) window → k < length window →
-    get_or seen k false ≡ true
-marked_in_the_end k marks all within =
-    let (v, below, has) = all k 0 within in
-    marks.passed k v within below has
+pub marked_in_the_end : {game : ParityGame} {window : List ℕ} {seen : List Bool} (k : ℕ) → AreMarks game window seen
+    (vertex_count game) → All (HasPriority game) window → k < length window → get_or seen k false ≡ true
+marked_in_the_end k marks all within = let (v, below, has) = all k 0 within in marks.passed k v within below has
 
 -- a part of a list
 pub part-at : (list : List ℕ) (start end k : ℕ) → k < end - start →
@@ -94,10 +89,9 @@ pub part-at : (list : List ℕ) (start end k : ℕ) → k < end - start →
 part-at list start end k below = get_or-take (end - start) (drop start list) k 0 below ∙ get_or-drop start list k 0
 
 -- one more part of a list, of which each number is a priority
-pub present_more : (game : ParityGame) (list : List ℕ) (start end : ℕ) → end ≤ length list →
-    ((k : ℕ) → k < start → HasPriority game (get_or list k 0)) →
-    All (HasPriority game) (take (end - start) (drop start list)) → (k : ℕ) → k < end →
-    HasPriority game (get_or list k 0)
+pub present_more : (game : ParityGame) (list : List ℕ) (start end : ℕ) →
+    end ≤ length list → ((k : ℕ) → k < start → HasPriority game (get_or list k 0)) → All
+    (HasPriority game) (take (end - start) (drop start list)) → (k : ℕ) → k < end → HasPriority game (get_or list k 0)
 present_more game list start end within before part k below = elim (cases_lt k start) [
   | inl earlier ↦ before k earlier
   | inr later ↦
@@ -118,9 +112,8 @@ pub record AreJust (game : ParityGame) (parity : ℕ) (list : List ℕ) (seen : 
 
 -- one more vertex whose priority is listed
 pub AreJust-found : {game : ParityGame} {parity : ℕ} {list : List ℕ} {seen : List Bool} {vertex place priority : ℕ} →
-    IsStrictlyIncreasing list
-    → vertex < vertex_count game → priority ≡ priority_of game vertex → IsAt list priority place
-    → AreJust game parity list seen vertex → AreJust game parity list (set seen place true) (vertex + 1)
+    IsStrictlyIncreasing list → vertex < vertex_count game → priority ≡ priority_of game vertex → IsAt list
+    priority place → AreJust game parity list seen vertex → AreJust game parity list (set seen place true) (vertex + 1)
 AreJust-found {list} {place} rising in_range is at just = record {
   marks = AreMarks-found rising in_range is at just.marks;
   complete = below_more _ _ just.complete (λ same. Contains-at list place at.within (sym is ∙ sym at.is));

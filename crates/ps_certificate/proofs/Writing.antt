@@ -1,28 +1,30 @@
 -- A certificate that is written is read again.
 --     writable      the entries of a certificate that fits can be written
---     Went P v at text rest      the part P is read from text with the value v, and rest is left
---     went_then      one part and then the next one
---     went_byte, went_word, went_number, went_fields, went_version, went_winner, went_choice, went_counts, went_pairs,
---     went_entry, went_entries, went_text      each part of the text
+--     IsReadFrom P text v rest      the part P is read from these bytes with the value v, and rest is left
+--     then, with_value      one part and then the next one; its value is seen by another function
+--     read_byte, read_word, read_number, read_fields, read_version, read_winner, read_choice, read_counts, read_pairs,
+--     read_entry, read_entries, read_text      each part of the text
 --     reads_again      the whole text
-use Rattle.std.proofs.Common.{◌≡◌, ◌≢◌, ℕ, zero, suc, ◌+◌, ◌^◌, ◌<◌, ◌≤◌, ◌⊎◌, Bool, true, false, cond, eqb, ltb, List}
-use Rattle.std.proofs.Common.{[], ◌∷◌, ◌++◌, length, get_or, map, drop, take, Option, Some, None, Ok, refl, sym, ap}
-use Rattle.std.proofs.Common.{ap₂, subst, inl, inr, ◌∙◌, append_assoc, add-zero, arith}
+use Rattle.std.proofs.Common.{◌≡◌, ◌≢◌, ℕ, zero, suc, ◌+◌, ◌^◌, ◌<◌, ◌⊎◌, Bool, true, false, cond, eqb, ltb, List, []}
+use Rattle.std.proofs.Common.{◌∷◌, ◌++◌, length, get_or, map, drop, Option, Some, None, Ok, refl, sym, ap, subst, inl}
+use Rattle.std.proofs.Common.{inr, ◌∙◌, append_assoc, add-zero, arith}
 use Rattle.std.specs.Prelude.{decimal, IfSome}
 use Rattle.std.specs.List.{All, AllPairs, Contains}
-use Rattle.std.proofs.Math.Seq.{drop-append_seam, take-suc}
-use Rattle.std.proofs.lemmas.Bool.{eq-eqb, ne_eqb, eqb-true, eqb-false, lt-ltb}
-use Rattle.std.proofs.lemmas.List.{get_or_default, take_all, drop_more}
+use Rattle.std.proofs.Math.Seq.{drop-append_seam}
+use Rattle.std.proofs.lemmas.Bool.{eq-eqb, ne_eqb, eqb-false, lt-ltb}
+use Rattle.std.proofs.lemmas.List.{get_or_default}
 use Rattle.std.proofs.lemmas.List.Sums.{position_or_len_is}
-use Rattle.std.proofs.lemmas.List.Elements.{All-nil, All-cons, All-append, All-head, All-tail, Contains-get_or}
+use Rattle.std.proofs.lemmas.List.Elements.{All-head, All-tail, Contains-get_or}
 use Rattle.std.proofs.lemmas.List.Kept.{AllPairs-from_increasing}
-use Rattle.ps_text.specs.Parts.{then_by, many, mapped}
-use Rattle.ps_text.specs.Readers.{Reads}
-use Rattle.ps_text.specs.Digits.{IsDigit, BeginsWithZero, decimal_value}
+use Rattle.ps_text.specs.Answers.{first_of}
+use Rattle.ps_text.specs.Parts.{IsRead, NoBad, then_by, many, mapped}
+use Rattle.ps_text.specs.Digits.{IsDigit, decimal_value}
+use Rattle.ps_text.proofs.InPlace.{read_as}
 use Rattle.ps_text.proofs.Laws.{Joint}
-use Rattle.ps_text.proofs.Simple.{laws_mapped}
-use Rattle.ps_text.proofs.Exits.{reads_give, reads_mapped, reads_then}
-use Rattle.ps_text.proofs.Branches.{many_ends, many_reads}
+use Rattle.ps_text.proofs.Joined.{read_then}
+use Rattle.ps_text.proofs.Simple.{laws_mapped, same_some, read_give, read_one, read_mapped}
+use Rattle.ps_text.proofs.Covered.{Avoids, covers_left, covers_right}
+use Rattle.ps_text.proofs.Repeated.{read_item, read_none}
 use Rattle.ps_text.proofs.Whole.{answers_ok}
 use Rattle.ps_text.proofs.Decimals.{number_text, plain}
 use Rattle.ps_game.specs.Games.{ParityGame, NamedGameData, IsNamedGame, vertex_count}
@@ -30,108 +32,62 @@ use Rattle.ps_certificate.specs.declared.fault.CertCause.{CertCause}
 use Rattle.ps_certificate.specs.declared.fault.CertCause.TheVariants.{Syntax, OtherGame}
 use Rattle.ps_certificate.specs.Certificates.{EntryData, CertificateData, no_entry, winner_of, choice_of, counts_of}
 use Rattle.ps_certificate.specs.Certificates.{opposing, Fits}
-use Rattle.ps_certificate.specs.Places.{Place}
 use Rattle.ps_certificate.specs.Words.{first_word, vertices_word, odd_word, even_word}
 use Rattle.ps_certificate.specs.Pairs.{Pairs, no_pairs, with_pair, DoesNotRise}
-use Rattle.ps_certificate.specs.Reading.{comes, numeral, IsNumberRead}
-use Rattle.ps_certificate.specs.Texts.{Field, stream_at, EndsField, Verdict, byte, word, judged, number, Never, NotNext}
-use Rattle.ps_certificate.specs.Texts.{priority, priorities, version, winner, vertex_of, choice, counts, pair}
-use Rattle.ps_certificate.specs.Texts.{counts_in, lost_by, entry, entries, certificate, ReadsCertificate as ReadsText}
+use Rattle.ps_certificate.specs.Reading.{numeral}
+use Rattle.ps_certificate.specs.Texts.{Seen, Field, stream_at, EndsField, Verdict, take_byte, byte, word, take_two}
+use Rattle.ps_certificate.specs.Texts.{judged, number, Never, NotNext, priority, IsMissing, priorities, version, winner}
+use Rattle.ps_certificate.specs.Texts.{vertex_of, choice, counts, pair, counts_in, lost_by, entry, entries, certificate}
+use Rattle.ps_certificate.specs.Texts.{ReadsCertificate as ReadsText}
 use Rattle.ps_certificate.specs.Written.{fields, pairs, counts_text, move_text, entry_line, entry_lines, version_digit}
 use Rattle.ps_certificate.specs.Written.{head_text, IsWord, IsWritable, HasWords, text_in}
 use Rattle.ps_certificate.proofs.OneReading.{Rises, rises as rises_of}
+use Rattle.ps_certificate.proofs.CountsOfPairs.{after, after_counts}
 use Rattle.ps_certificate.proofs.Numerals.{numeral_ended}
-use Rattle.ps_certificate.proofs.NumberPart.{Settled, settled_other, judged_reads}
-use Rattle.ps_certificate.proofs.TextLaws.{tight_joint, digit_no_space, laws_byte, laws_word, laws_priority}
-use Rattle.ps_certificate.proofs.TextLaws.{joint_priorities, laws_pair, joint_pairs, laws_entry, laws_entries}
-use Rattle.ps_certificate.proofs.TextLaws.{laws_certificate}
-use Rattle.ps_certificate.proofs.Steps.{avoids, byte_reads, two_first, two_second, end_reads}
+use Rattle.ps_certificate.proofs.NumberPart.{AtDigit, Settled, settled_other, settled_zero, settled_priority, seen}
+use Rattle.ps_certificate.proofs.NumberPart.{signs_seen, read_run}
+use Rattle.ps_certificate.proofs.TextLaws.{At, tight_joint, digit_no_space, byte_taken, laws_byte, laws_word, dash}
+use Rattle.ps_certificate.proofs.TextLaws.{chosen, laws_dash, laws_chosen, laws_priority, joint_priorities, laws_pair}
+use Rattle.ps_certificate.proofs.TextLaws.{joint_pair, joint_priority, joint_colon, joint_pairs, laws_entry}
+use Rattle.ps_certificate.proofs.TextLaws.{laws_entries, laws_certificate}
 use Rattle.ps_certificate.proofs.Loops.{joint_listed, joint_counts, joint_count}
-use Rattle.ps_certificate.proofs.PairSteps.{pair_reads, positive_reads}
-use Rattle.ps_certificate.proofs.EntrySteps.{choice_dash, choice_reads, joint_id, joint_space, joint_winner}
-use Rattle.ps_certificate.proofs.EntrySteps.{joint_second, joint_choice, joint_first, joint_version, joint_vertices}
-use Rattle.ps_certificate.proofs.EntrySteps.{joint_number, joint_odd_word, joint_odd, joint_even_word, joint_even}
+use Rattle.ps_certificate.proofs.EntrySteps.{joint_id, joint_space, joint_winner, joint_second, joint_choice}
+use Rattle.ps_certificate.proofs.EntrySteps.{joint_first, joint_version, joint_vertices, joint_number, joint_odd_word}
+use Rattle.ps_certificate.proofs.EntrySteps.{joint_odd, joint_even_word, joint_even}
 
--- ## Lists
+record IsReadFrom {V : Type 0} (P : Field V) (text : List ℕ) (v : V) (rest : List ℕ) : Type 0 where
+  read : IsRead P (seen text) v (seen rest)
 
-pub all_taken : {X : Type 0} (P : X → Type 0) (xs : List X) (v : ℕ) (d : X) → v < length xs → All P (take v xs)
-    → P (get_or xs v d) → All P (take (v + 1) xs)
-all_taken P xs v d lt h p =
-    let x = get_or xs v d in
-    let next : v + 1 ≡ suc v = omega arith in
-    subst (All P) (sym (ap (λ n. take n xs) next ∙ take-suc xs v d lt))
-    (All-append P (take v xs) (x ∷ []) h (All-cons P x [] p (All-nil P)))
+then : {A B : Type 0} {P : Field A} {Q : A → Field B} (j : Joint P Q) {a : A} {b : B} {text mid rest : List ℕ} →
+    IsReadFrom P text a mid → IsReadFrom (Q a) mid b rest → IsReadFrom (then_by P Q) text b rest
+then j p q = record { read = read_then j p.read q.read }
 
-pub all_taken_all : {X : Type 0} (P : X → Type 0) (xs : List X) (v : ℕ) → length xs ≤ v → All P (take v xs) → All P xs
-all_taken_all P xs v le h = subst (All P) (take_all v xs le) h
+with_value : {A B : Type 0} (h : A → B) {P : Field A} {a : A} {text rest : List ℕ} → IsReadFrom P text a rest →
+    IsReadFrom (mapped h P) text (h a) rest
+with_value h {P} p = record { read = read_mapped h P p.read }
 
-eight_joined : (o w a b c d e f g : List ℕ) → (((((((o ++ w) ++ a) ++ b) ++ c) ++ d) ++ e) ++ f) ++ g ≡ o ++
-    (((((((w ++ a) ++ b) ++ c) ++ d) ++ e) ++ f) ++ g)
-eight_joined o w a b c d e f g = simp (append_assoc)
-
-pub head_joined : (o w : List ℕ) (v : ℕ) (a b c d e f : List ℕ)
-    → ((((((((o ++ w) ++ v ∷ []) ++ a) ++ b) ++ c) ++ d) ++ 10 ∷ e) ++ f) ++ 10 ∷ []
-    ≡ o ++ (((((((w ++ v ∷ a) ++ b) ++ c) ++ d) ++ 10 ∷ e) ++ f) ++ 10 ∷ [])
-head_joined o w v a b c d e f =
-    ap (λ x. (((((x ++ b) ++ c) ++ d) ++ 10 ∷ e) ++ f) ++ 10 ∷ [])
-    (append_assoc (o ++ w) (v ∷ []) a) ∙ eight_joined o w (v ∷ a) b c d (10 ∷ e) f (10 ∷ [])
-
--- ## Steps
-
-abbrev place_of : ℕ → List ℕ → Place
-place_of at rest = record { at = at; rest = rest }
-
-record Went {V : Type 0} (P : Field V) (v : V) (at : ℕ) (text rest : List ℕ) : Type 0 where
-  to : ℕ
-  reads : Reads P (stream_at at text) v (stream_at to rest)
-
-went_then : {A B : Type 0} {P : Field A} {Q : A → Field B} (j : Joint P Q) {a : A} {b : B} {at : ℕ}
-    {text mid rest : List ℕ} → Went P a at text mid → ((to : ℕ) → Went (Q a) b to mid rest)
-    → Went (then_by P Q) b at text rest
-went_then j w next = let n = next w.to in record { to = n.to; reads = reads_then j w.reads n.reads }
-
-went_mapped : {A B : Type 0} (h : A → B) {P : Field A} {a : A} {at : ℕ} {text rest : List ℕ} → Went P a at text rest
-    → Went (mapped h P) (h a) at text rest
-went_mapped h w = record { to = w.to; reads = reads_mapped h w.reads }
-
-went_from : {V : Type 0} {P : Field V} {v : V} {at : ℕ} {rest : List ℕ} {text other : List ℕ} → other ≡ text
-    → Went P v at text rest → Went P v at other rest
-went_from {P} {v} {at} {rest} e w = subst (λ t. Went P v at t rest) (sym e) w
+-- the next sign is none of these
+avoids : (A : Seen → Type 0) (s : Seen) → (A s → ⊥) → Avoids A (Some s)
+avoids A s none t e h = none (subst A (sym (same_some s t e)) h)
 
 -- ## Bytes
 
-went_byte : (b : ℕ) {at : ℕ} {rest : List ℕ} → Went (byte b) tt at (b ∷ rest) rest
-went_byte b {at} {rest} = record {
-  to = at + 1;
-  reads = byte_reads b (place_of at (b ∷ rest)) (eq-eqb b b refl) refl;
-}
+read_byte : (b : ℕ) {rest : List ℕ} → IsReadFrom (byte b) (b ∷ rest) tt rest
+read_byte b {rest} = record
+    { read = read_one (take_byte b) NoBad (byte_taken (record { byte = b; behind = rest }) refl) (λ f x. x) }
 
-went_word : (text : List ℕ) {at : ℕ} {rest : List ℕ} → Went (word text) tt at (text ++ rest) rest
-went_word [] {at} {rest} = record { to = at; reads = reads_give (stream_at at rest) tt }
-went_word (b ∷ text) {rest} = went_then (tight_joint (laws_byte b) (λ _. laws_word text))
-    (went_byte b) (λ to. went_word text)
+read_word : (text : List ℕ) {rest : List ℕ} → IsReadFrom (word text) (text ++ rest) tt rest
+read_word [] {rest} = record { read = read_give (seen rest) tt }
+read_word (b ∷ text) = then (tight_joint (laws_byte b) (λ _. laws_word text)) (read_byte b) (read_word text)
 
-went_version : (compact : Bool) {at : ℕ} {rest : List ℕ} → Went version compact at (version_digit compact ∷ rest) rest
-went_version false {at} {rest} = record {
-  to = at + 1;
-  reads = two_first 49 50 false true (place_of at (49 ∷ rest)) (place_of (at + 1) rest) refl refl;
-}
-went_version true {at} {rest} = record {
-  to = at + 1;
-  reads = two_second 49 50 false true (place_of at (50 ∷ rest))
-      (place_of (at + 1) rest) (λ e. omega (arith, e)) refl refl;
-}
+read_version : (compact : Bool) {rest : List ℕ} → IsReadFrom version (version_digit compact ∷ rest) compact rest
+read_version false = record { read = read_one (take_two 49 50 false true) NoBad refl (λ f x. x) }
+read_version true = record { read = read_one (take_two 49 50 false true) NoBad refl (λ f x. x) }
 
-went_winner : (w : ℕ) {at : ℕ} {rest : List ℕ} → w < 2 → Went winner w at ((48 + w) ∷ rest) rest
-went_winner zero {at} {rest} small = record {
-  to = at + 1;
-  reads = two_first 48 49 0 1 (place_of at (48 ∷ rest)) (place_of (at + 1) rest) refl refl;
-}
-went_winner (suc zero) {at} {rest} small = record {
-  to = at + 1;
-  reads = two_second 48 49 0 1 (place_of at (49 ∷ rest)) (place_of (at + 1) rest) (λ e. omega (arith, e)) refl refl;
-}
-went_winner (suc (suc w)) small = absurd (omega (arith, small))
+read_winner : (w : ℕ) {rest : List ℕ} → w < 2 → IsReadFrom winner ((48 + w) ∷ rest) w rest
+read_winner zero small = record { read = read_one (take_two 48 49 0 1) NoBad refl (λ f x. x) }
+read_winner (suc zero) small = record { read = read_one (take_two 48 49 0 1) NoBad refl (λ f x. x) }
+read_winner (suc (suc w)) small = absurd (omega (arith, small))
 
 -- ## Numbers that are read
 
@@ -139,94 +95,74 @@ fields_end : (xs : List ℕ) (rest : List ℕ) → EndsField (fields xs ++ 10 �
 fields_end [] rest = inr (inl refl)
 fields_end (x ∷ xs) rest = inl refl
 
-abbrev behind_number : ℕ → ℕ → List ℕ → Place
-behind_number n at rest = place_of (at + length (decimal n)) rest
-
-number_there : {n : ℕ} (at : ℕ) (rest : List ℕ) → n < 2 ^ 64 → EndsField rest
-    → IsNumberRead (place_of at (decimal n ++ rest)) (behind_number n at rest) n
-number_there {n} at rest small end =
+read_judged : {Wrong : Verdict} → Settled Wrong → {n : ℕ} {rest : List ℕ} → n < 2 ^ 64 → EndsField rest →
+    ((f : CertCause) → Wrong rest n f → ⊥) → IsReadFrom (judged Wrong) (decimal n ++ rest) n rest
+read_judged {Wrong} settled {n} {rest} small end right =
+    let bytes = decimal n ++ rest in
     let t = number_text n small in
-    let run : numeral (decimal n ++ rest) ≡ decimal n = numeral_ended rest (plain n small) end in
+    let run : numeral bytes ≡ decimal n = numeral_ended rest (plain n small) end in
     record {
-      long = omega (arith, t.some, ap length run);
-      value = sym t.value ∙ ap decimal_value (sym run);
-      small = small;
-      at = ap (λ r. at + length r) (sym run);
-      rest = sym (drop-append_seam (decimal n) rest) ∙ ap (λ r. drop (length r) (decimal n ++ rest)) (sym run);
+      read = read_run settled bytes (omega (arith, t.some, ap length run)) (ap decimal_value run ∙ t.value) small
+          (ap (λ r. drop (length r) bytes) run ∙ drop-append_seam (decimal n) rest) right;
     }
 
-went_judged : {Wrong : Verdict} → Settled Wrong → {n at : ℕ} {rest : List ℕ} → n < 2 ^ 64 → EndsField rest
-    → ((f : CertCause) → Wrong rest n f → ⊥) → Went (judged Wrong) n at (decimal n ++ rest) rest
-went_judged {Wrong} settled {n} {at} {rest} small end right =
-    record {
-      to = at + length (decimal n);
-      reads = judged_reads Wrong settled (place_of at (decimal n ++ rest))
-          (behind_number n at rest) n (number_there at rest small end) right;
-    }
-
-went_number : (Wrong : ℕ → Type 0) {n at : ℕ} {rest : List ℕ} → n < 2 ^ 64 → EndsField rest → (Wrong n → ⊥)
-    → Went (number Wrong) n at (decimal n ++ rest) rest
-went_number Wrong small end right = went_judged (settled_other Wrong) small end (λ f w. right w.2)
+read_number : (Wrong : ℕ → Type 0) {n : ℕ} {rest : List ℕ} → n < 2 ^ 64 → EndsField rest → (Wrong n → ⊥) →
+    IsReadFrom (number Wrong) (decimal n ++ rest) n rest
+read_number Wrong small end right = read_judged (settled_other Wrong) small end (λ f w. right w.2)
 
 -- ## Lines of priorities
 
-went_many : (ps : List ℕ) {at : ℕ} (rest : List ℕ) → All IsWord ps
-    → Went (many priority ps) [] at (fields ps ++ 10 ∷ rest) (10 ∷ rest)
-went_many [] {at} rest small = record {
-  to = at;
-  reads = many_ends priority laws_priority digit_no_space []
-      (stream_at at (10 ∷ rest)) (avoids 32 (place_of at (10 ∷ rest)) refl);
+read_many : (ps rest : List ℕ) → All IsWord ps → IsReadFrom (many priority ps) (fields ps ++ 10 ∷ rest) [] (10 ∷ rest)
+read_many [] rest small = record {
+  read = read_none priority laws_priority digit_no_space [] _ (avoids (At 32) _ (λ e. omega (arith, e)));
 }
-went_many (p ∷ ps) {at} rest small =
+read_many (p ∷ ps) rest small =
     let more = fields ps ++ 10 ∷ rest in
-    let first : Went (priority (p ∷ ps)) ps at (32 ∷ (decimal p ++ more)) more =
-    went_then (joint_listed (p ∷ ps)) (went_byte 32) (λ to.
-    went_mapped (λ _. ps) (went_number (NotNext (p ∷ ps)) (All-head IsWord p ps small) (fields_end ps rest)
-    (λ other. other refl))) in
-    let others = went_many ps rest (All-tail IsWord p ps small) in
-    went_from (ap (λ xs. 32 ∷ xs) (append_assoc (decimal p) (fields ps) (10 ∷ rest)))
-    (record { to = others.to; reads = many_reads priority laws_priority digit_no_space first.reads others.reads })
-
-went_fields : (ps : List ℕ) {at : ℕ} {rest : List ℕ} → All IsWord ps
-    → Went (priorities ps) tt at (fields ps ++ 10 ∷ rest) rest
-went_fields ps {rest} small =
-    went_then (joint_priorities ps) (went_many ps rest small) (λ to. record {
-      to = to + 1;
-      reads = end_reads [] (place_of to (10 ∷ rest)) (place_of (to + 1) rest) refl refl refl;
+    let first : IsReadFrom (priority (p ∷ ps)) (32 ∷ (decimal p ++ more)) ps more =
+    then (joint_listed (p ∷ ps)) (read_byte 32) (with_value (λ _. ps)
+    (read_number (NotNext (p ∷ ps)) (All-head IsWord p ps small) (fields_end ps rest) (λ other. other refl))) in
+    rw append_assoc (record {
+      read = read_item priority laws_priority digit_no_space first.read
+          (read_many ps rest (All-tail IsWord p ps small)).read;
     })
+
+read_fields : (ps : List ℕ) {rest : List ℕ} → All IsWord ps →
+    IsReadFrom (priorities ps) (fields ps ++ 10 ∷ rest) tt rest
+read_fields ps {rest} small = then (joint_priorities ps) (read_many ps rest small)
+    (record { read = read_one (take_byte 10) (IsMissing []) refl (λ f x. omega (arith, x.1)) })
 
 -- ## Moves and counts
 
-no_dash : (digits rest : List ℕ) → 0 < length digits → All IsDigit digits → comes 45 (digits ++ rest) ≡ false
+no_dash : (digits rest : List ℕ) → 0 < length digits → All IsDigit digits →
+    Avoids (At 45) (first_of (seen (digits ++ rest)))
 no_dash [] rest some all = absurd (omega (arith, some))
-no_dash (d ∷ digits) rest some all = ne_eqb d 45 (λ e. let h = All-head IsDigit d digits all in omega (arith, e, h.0))
+no_dash (d ∷ digits) rest some all =
+    avoids (At 45) _ (λ e. let h = All-head IsDigit d digits all in omega (arith, e, h.0))
 
-went_choice : (ids : List ℕ) (c : Option ℕ) {at : ℕ} {rest : List ℕ} → EndsField rest
-    → IfSome c (λ v. IsWord (get_or ids v 0) × (vertex_of ids (get_or ids v 0) ≡ Some v) × Contains ids
-    (get_or ids v 0)) → Went (choice ids) c at (move_text ids c ++ rest) rest
-went_choice ids None {at} {rest} end known = record {
-  to = at + 1;
-  reads = choice_dash ids (place_of at (45 ∷ rest)) refl refl;
+read_choice : (ids : List ℕ) (c : Option ℕ) {rest : List ℕ} → EndsField rest →
+    IfSome c (λ v. IsWord (get_or ids v 0) × (vertex_of ids (get_or ids v 0) ≡ Some v) × Contains ids
+    (get_or ids v 0)) → IsReadFrom (choice ids) (move_text ids c ++ rest) c rest
+read_choice ids None end known = record {
+  read = read_as dash (choice ids) (covers_left dash (chosen ids) (laws_chosen ids) _
+      (avoids AtDigit _ (λ h. omega (arith, h.0)))) (read_mapped (λ _. None) (byte 45) (read_byte 45).read);
 }
-went_choice ids (Some v) {at} {rest} end known =
+read_choice ids (Some v) {rest} end known =
     let id = get_or ids v 0 in
     let t = number_text id known.0 in
-    let w = went_number (λ id. ¬ Contains ids id) known.0 end (λ none. none known.2) in
+    let w = read_number (λ id. ¬ Contains ids id) known.0 end (λ none. none known.2) in
     record {
-      to = w.to;
-      reads = choice_reads ids (place_of at (decimal id ++ rest))
-          (no_dash (decimal id) rest t.some t.all) (place_of w.to rest) w.reads (sym known.1);
+      read = read_as (chosen ids) (choice ids) (covers_right dash (chosen ids) laws_dash _
+          (no_dash (decimal id) rest t.some t.all)) (subst (λ o. IsRead (chosen ids) (seen (decimal id ++ rest)) o
+          (seen rest)) known.1 (read_mapped (vertex_of ids) (number (λ id. ¬ Contains ids id)) w.read));
     }
 
-went_counts : (cs : List ℕ) {at : ℕ} {rest : List ℕ} → All IsWord cs
-    → Went (counts (length cs)) cs at (fields cs ++ 10 ∷ rest) rest
-went_counts [] small = went_mapped (λ _. []) (went_byte 10)
-went_counts (c ∷ cs) {rest} small =
-    let more = fields cs ++ 10 ∷ rest in
-    went_from (ap (λ xs. 32 ∷ xs) (append_assoc (decimal c) (fields cs) (10 ∷ rest)))
-    (went_then (joint_counts (length cs)) (went_byte 32) (λ t1.
-    went_then (joint_count (length cs)) (went_number Never (All-head IsWord c cs small) (fields_end cs rest)
-    (λ w. w)) (λ t2. went_mapped (λ others. c ∷ others) (went_counts cs (All-tail IsWord c cs small)))))
+read_counts : (cs : List ℕ) {rest : List ℕ} → All IsWord cs →
+    IsReadFrom (counts (length cs)) (fields cs ++ 10 ∷ rest) cs rest
+read_counts [] small = with_value (λ _. []) (read_byte 10)
+read_counts (c ∷ cs) {rest} small = rw append_assoc
+    (then (joint_counts (length cs)) (read_byte 32)
+    (then (joint_count (length cs)) (read_number Never (All-head IsWord c cs small) (fields_end cs rest) (λ w. w))
+    (with_value (λ others. c ∷ others) (read_counts cs (All-tail IsWord c cs small)))))
 
 -- ## Counts behind their priorities
 
@@ -240,121 +176,22 @@ pairs_end (p ∷ ps) (c ∷ cs) rest = go (eqb c 0) (pairs_end ps cs rest)
     go true h = h
     go false h = inl refl
 
--- one place further
-pairs_next : (ps cs : List ℕ) (i : ℕ) → i < length cs → length cs ≡ length ps
-    → pairs (drop i ps) (drop i cs) ≡ cond (eqb (get_or cs i 0) 0) (pairs (drop (i + 1) ps) (drop (i + 1) cs))
-    (32 ∷ decimal (get_or ps i 0) ++ 58 ∷ decimal (get_or cs i 0) ++ pairs (drop (i + 1) ps) (drop (i + 1) cs))
-pairs_next ps cs i lt same = ap₂ (λ (x : List ℕ) (y : List ℕ). pairs x y) (drop_more ps i 0 (omega (arith, lt, same)))
-    (drop_more cs i 0 lt)
-
-regroup_pair : (out a b r : List ℕ) → ((out ++ a) ++ b) ++ r ≡ out ++ ((a ++ b) ++ r)
-regroup_pair out a b r = simp (append_assoc)
-
-pub pair_written : (out ps cs : List ℕ) {total : List ℕ} (i : ℕ) → i < length cs → length cs ≡ length ps
-    → (get_or cs i 0 ≡ 0 → ⊥) → out ++ pairs (drop i ps) (drop i cs) ≡ total
-    → ((out ++ 32 ∷ decimal (get_or ps i 0)) ++ 58 ∷ decimal (get_or cs i 0)) ++ pairs (drop (i + 1) ps)
-    (drop (i + 1) cs) ≡ total
-pair_written out ps cs i lt same some h =
-    let more = pairs (drop (i + 1) ps) (drop (i + 1) cs) in
-    let text = 32 ∷ decimal (get_or ps i 0) ++ 58 ∷ decimal (get_or cs i 0) ++ more in
-    let next : pairs (drop i ps) (drop i cs) ≡ text = pairs_next ps cs i lt same ∙ ap (λ (b : Bool). cond b more text)
-    (ne_eqb (get_or cs i 0) 0 some) in
-    regroup_pair out (32 ∷ decimal (get_or ps i 0)) (58 ∷ decimal (get_or cs i 0)) more ∙ ap (λ xs. out ++ xs)
-    (sym next) ∙ h
-
-pub pair_skipped : (out ps cs : List ℕ) {total : List ℕ} (i : ℕ) → i < length cs → length cs ≡ length ps →
-    get_or cs i 0 ≡ 0
-    → out ++ pairs (drop i ps) (drop i cs) ≡ total → out ++ pairs (drop (i + 1) ps) (drop (i + 1) cs) ≡ total
-pair_skipped out ps cs i lt same none h =
-    let more = pairs (drop (i + 1) ps) (drop (i + 1) cs) in
-    let text = 32 ∷ decimal (get_or ps i 0) ++ 58 ∷ decimal (get_or cs i 0) ++ more in
-    let next : pairs (drop i ps) (drop i cs) ≡ more = pairs_next ps cs i lt same ∙ ap (λ (b : Bool). cond b more text)
-    (eq-eqb (get_or cs i 0) 0 none) in
-    ap (λ xs. out ++ xs) (sym next) ∙ h
-
 counts_end : (compact : Bool) (ps cs rest : List ℕ) → EndsField (counts_text compact ps cs ++ 10 ∷ rest)
 counts_end false ps cs rest = fields_end cs rest
 counts_end true ps cs rest = pairs_end ps cs rest
 
-no_zero : (digits rest : List ℕ) → 0 < length digits → ¬ BeginsWithZero digits → comes 48 (digits ++ rest) ≡ false
-no_zero [] rest some none = absurd (omega (arith, some))
-no_zero (d ∷ digits) rest some none = ne_eqb d 48 none
-
-went_pair : (ps : List ℕ) (so_far : Pairs) (p c : ℕ) {at : ℕ} {rest : List ℕ} →
-    (DoesNotRise so_far p → ⊥) → Contains ps p
-    → IsWord p → 0 < c → IsWord c → EndsField rest
-    → Went (pair ps so_far) (with_pair so_far p c) at (32 ∷ (decimal p ++ 58 ∷ (decimal c ++ rest))) rest
-went_pair ps so_far p c {at} {rest} above there small some fits end =
-    let space = went_byte 32 in
-    let priority = went_judged (λ more n f w. inl w.0) small (inr (inr refl)) (λ f w. right f w.1) in
-    let colon = went_byte 58 in
-    let t = number_text c fits in
-    let count = positive_reads (no_zero (decimal c) rest t.some (t.lead some)) (number_there colon.to rest fits end) in
-    record {
-      to = colon.to + length (decimal c);
-      reads = pair_reads ps so_far (place_of at (32 ∷ (decimal p ++ 58 ∷ (decimal c ++ rest))))
-          (place_of space.to (decimal p ++ 58 ∷ (decimal c ++ rest))) space.reads p
-          (place_of priority.to (58 ∷ (decimal c ++ rest))) priority.reads
-          (place_of colon.to (decimal c ++ rest)) colon.reads (behind_number c colon.to rest) count;
-    }
+read_pair : (ps : List ℕ) (so_far : Pairs) (p c : ℕ) {rest : List ℕ} → (DoesNotRise so_far p → ⊥) → Contains ps p →
+    IsWord p → 0 < c → IsWord c → EndsField rest →
+    IsReadFrom (pair ps so_far) (32 ∷ (decimal p ++ 58 ∷ (decimal c ++ rest))) (with_pair so_far p c) rest
+read_pair ps so_far p c above there small some fits end = then (joint_pair ps so_far) (read_byte 32)
+    (then
+    (joint_priority ps so_far) (read_judged (settled_priority ps so_far) small (inr (inr refl)) (λ f w. right f w.1))
+    (then (joint_colon so_far p) (read_byte 58)
+    (with_value (λ m. with_pair so_far p m) (read_judged settled_zero fits end (λ f w. omega (arith, w.1, some))))))
   where
     right : (f : CertCause) → ((f ≡ Syntax) × DoesNotRise so_far p) ⊎ ((f ≡ OtherGame) × ¬ Contains ps p) → ⊥
     right f (inl w) = above w.1
     right f (inr w) = w.1 there
-
--- what is known of the counts behind pairs of these
-abbrev after : List ℕ → List ℕ → Pairs → Pairs
-after [] cs so_far = so_far
-after (p ∷ ps) [] so_far = so_far
-after (p ∷ ps) (c ∷ cs) so_far = cond (eqb c 0) (after ps cs so_far) (after ps cs (with_pair so_far p c))
-
-after_other : (ps cs : List ℕ) (so_far : Pairs) (q : ℕ) → All (λ p. q < p) ps
-    → (after ps cs so_far).count q ≡ so_far.count q
-after_other [] cs so_far q h = refl
-after_other (p ∷ ps) [] so_far q h = refl
-after_other (p ∷ ps) (c ∷ cs) so_far q h = go (eqb c 0) (after_other ps cs so_far q below)
-    (after_other ps cs (with_pair so_far p c) q below)
-  where
-    below : All (λ p. q < p) ps
-    below = All-tail (λ p. q < p) p ps h
-
-    go : (b : Bool) → (after ps cs so_far).count q ≡ so_far.count q
-        → (after ps cs (with_pair so_far p c)).count q ≡ cond (eqb q p) c (so_far.count q)
-        → (cond b (after ps cs so_far) (after ps cs (with_pair so_far p c))).count q ≡ so_far.count q
-    go true x y = x
-    go false x y = y ∙ ap (λ (b : Bool). cond b c (so_far.count q))
-        (ne_eqb q p (λ e. let l = All-head (λ p. q < p) p ps h in omega (arith, l, e)))
-
-abbrev NoneYet : Pairs → List ℕ → Type 0
-NoneYet so_far ps = All (λ p. so_far.count p ≡ 0) ps
-
-none_with : (so_far : Pairs) (p c : ℕ) (ps : List ℕ) → All (λ q. p < q) ps → NoneYet so_far ps
-    → NoneYet (with_pair so_far p c) ps
-none_with so_far p c ps above none k d lt =
-    let q = get_or ps k d in
-    ap (λ (b : Bool). cond b c (so_far.count q)) (ne_eqb q p (λ e. omega (arith, above k d lt, e))) ∙ none k d lt
-
-after_counts : (ps cs : List ℕ) (so_far : Pairs) → Rises ps → length cs ≡ length ps → NoneYet so_far ps
-    → map (after ps cs so_far).count ps ≡ cs
-after_counts [] [] so_far r same none = refl
-after_counts [] (c ∷ cs) so_far r same none = absurd (omega (arith, same))
-after_counts (p ∷ ps) [] so_far r same none = absurd (omega (arith, same))
-after_counts (p ∷ ps) (c ∷ cs) so_far r same none =
-    go (eqb c 0) refl (after_counts ps cs so_far r.1 (omega (arith, same)) rest)
-    (after_counts ps cs (with_pair so_far p c) r.1 (omega (arith, same)) (none_with so_far p c ps r.0 rest))
-  where
-    rest : NoneYet so_far ps
-    rest = All-tail (λ q. so_far.count q ≡ 0) p ps none
-
-    go : (b : Bool) → eqb c 0 ≡ b → map (after ps cs so_far).count ps ≡ cs
-        → map (after ps cs (with_pair so_far p c)).count ps ≡ cs
-        → map (cond b (after ps cs so_far) (after ps cs (with_pair so_far p c))).count (p ∷ ps) ≡ c ∷ cs
-    go true e x y =
-        ap₂ (λ (n : ℕ) (ns : List ℕ). n ∷ ns) (after_other ps cs so_far p r.0 ∙ All-head
-        (λ q. so_far.count q ≡ 0) p ps none ∙ sym (eqb-true c 0 e)) x
-    go false e x y =
-        ap₂ (λ (n : ℕ) (ns : List ℕ). n ∷ ns) (after_other ps cs (with_pair so_far p c) p r.0 ∙ ap
-        (λ (b : Bool). cond b c (so_far.count p)) (eq-eqb p p refl)) y
 
 -- none of these is at most the last one, and each of these is one of those
 abbrev AllAbove : Pairs → List ℕ → Type 0
@@ -369,58 +206,42 @@ above_last so_far p c ps h k d lt low = omega (arith, h k d lt, low)
 pair_groups : (a b c r : List ℕ) → ((a ++ b) ++ c) ++ r ≡ a ++ (b ++ (c ++ r))
 pair_groups a b c r = simp (append_assoc)
 
-no_more : (all : List ℕ) {so_far : Pairs} {at : ℕ} (rest : List ℕ)
-    → Went (many (pair all) so_far) so_far at (10 ∷ rest) (10 ∷ rest)
-no_more all {so_far} {at} rest = record {
-  to = at;
-  reads = many_ends (pair all) (laws_pair all) digit_no_space so_far
-      (stream_at at (10 ∷ rest)) (avoids 32 (place_of at (10 ∷ rest)) refl);
+no_more : (all : List ℕ) {so_far : Pairs} (rest : List ℕ) →
+    IsReadFrom (many (pair all) so_far) (10 ∷ rest) so_far (10 ∷ rest)
+no_more all {so_far} rest = record {
+  read = read_none (pair all) (laws_pair all) digit_no_space so_far _ (avoids (At 32) _ (λ e. omega (arith, e)));
 }
 
-went_pairs : (all ps cs : List ℕ) (so_far : Pairs) {at : ℕ} (rest : List ℕ) → AllIn all ps → Rises ps
-    → AllAbove so_far ps → All IsWord ps → All IsWord cs
-    → Went (many (pair all) so_far) (after ps cs so_far) at (pairs ps cs ++ 10 ∷ rest) (10 ∷ rest)
-went_pairs all [] cs so_far rest there r above small fits = no_more all rest
-went_pairs all (p ∷ ps) [] so_far rest there r above small fits = no_more all rest
-went_pairs all (p ∷ ps) (c ∷ cs) so_far {at} rest there r above small fits =
-    go (eqb c 0) refl (went_pairs all ps cs so_far rest (All-tail (λ q. Contains all q) p ps there) r.1
+read_pairs : (all ps cs : List ℕ) (so_far : Pairs) (rest : List ℕ) → AllIn all ps → Rises ps → AllAbove so_far ps →
+    All IsWord ps → All IsWord cs →
+    IsReadFrom (many (pair all) so_far) (pairs ps cs ++ 10 ∷ rest) (after ps cs so_far) (10 ∷ rest)
+read_pairs all [] cs so_far rest there r above small fits = no_more all rest
+read_pairs all (p ∷ ps) [] so_far rest there r above small fits = no_more all rest
+read_pairs all (p ∷ ps) (c ∷ cs) so_far rest there r above small fits =
+    go (eqb c 0) refl (read_pairs all ps cs so_far rest (All-tail (λ q. Contains all q) p ps there) r.1
     (All-tail (λ q. DoesNotRise so_far q → ⊥) p ps above) (All-tail IsWord p ps small) (All-tail IsWord c cs fits))
-    (λ to. went_pairs all ps cs (with_pair so_far p c) rest (All-tail (λ q. Contains all q) p ps there) r.1
+    (read_pairs all ps cs (with_pair so_far p c) rest (All-tail (λ q. Contains all q) p ps there) r.1
     (above_last so_far p c ps r.0) (All-tail IsWord p ps small) (All-tail IsWord c cs fits))
   where
-    more : List ℕ
-    more = pairs ps cs ++ 10 ∷ rest
-
-    written : eqb c 0 ≡ false → ((to : ℕ) → Went (many (pair all) (with_pair so_far p c))
-        (after ps cs (with_pair so_far p c)) to more (10 ∷ rest))
-        → Went (many (pair all) so_far) (after ps cs (with_pair so_far p c)) at
-        ((32 ∷ decimal p ++ 58 ∷ decimal c ++ pairs ps cs) ++ 10 ∷ rest) (10 ∷ rest)
-    written e next =
-        let one = went_pair all so_far p c (All-head (λ q. DoesNotRise so_far q
-        → ⊥) p ps above) (All-head (λ q. Contains all q) p ps there) (All-head IsWord p ps small)
-        (let h = eqb-false c 0 e in omega (arith, h)) (All-head IsWord c cs fits) (pairs_end ps cs rest) in
-        let others = next one.to in
-        went_from (ap (λ xs. 32 ∷ xs) (pair_groups (decimal p) (58 ∷ decimal c) (pairs ps cs) (10 ∷ rest)))
-        (record { to = others.to; reads = many_reads (pair all) (laws_pair all) digit_no_space one.reads others.reads })
-
-    go : (b : Bool) → eqb c 0 ≡ b → Went (many (pair all) so_far) (after ps cs so_far) at more (10 ∷ rest)
-        → ((to : ℕ) → Went (many (pair all) (with_pair so_far p c)) (after ps cs (with_pair so_far p c)) to more
-        (10 ∷ rest))
-        → Went (many (pair all) so_far) (cond b (after ps cs so_far) (after ps cs (with_pair so_far p c))) at
-        (cond b (pairs ps cs) (32 ∷ decimal p ++ 58 ∷ decimal c ++ pairs ps cs) ++ 10 ∷ rest) (10 ∷ rest)
+    go : (b : Bool) → eqb c 0 ≡ b → IsReadFrom (many (pair all) so_far) (pairs ps cs ++ 10 ∷ rest)
+        (after ps cs so_far) (10 ∷ rest) → IsReadFrom (many (pair all) (with_pair so_far p c))
+        (pairs ps cs ++ 10 ∷ rest) (after ps cs (with_pair so_far p c)) (10 ∷ rest) → IsReadFrom
+        (many (pair all) so_far) (cond b (pairs ps cs) (32 ∷ decimal p ++ 58 ∷ decimal c ++ pairs ps cs) ++ 10 ∷ rest)
+        (cond b (after ps cs so_far) (after ps cs (with_pair so_far p c))) (10 ∷ rest)
     go true e skip next = skip
-    go false e skip next = written e next
+    go false e skip next = let one = read_pair all so_far p c (All-head (λ q. DoesNotRise so_far q → ⊥) p ps above)
+        (All-head (λ q. Contains all q) p ps there) (All-head IsWord p ps small)
+        (let h = eqb-false c 0 e in omega (arith, h)) (All-head IsWord c cs fits) (pairs_end ps cs rest) in
+        rw (pair_groups (decimal p) (58 ∷ decimal c) (pairs ps cs) (10 ∷ rest))
+        (record { read = read_item (pair all) (laws_pair all) digit_no_space one.read next.read })
 
-went_counts_in : (compact : Bool) (ps : List ℕ) {cs : List ℕ} {at : ℕ} {rest : List ℕ} → Rises ps →
-    length cs ≡ length ps
-    → All IsWord ps → All IsWord cs → Went (counts_in compact ps) cs at (counts_text compact ps cs ++ 10 ∷ rest) rest
-went_counts_in false ps {cs} {at} {rest} r same small fits = subst
-    (λ n. Went (counts n) cs at (fields cs ++ 10 ∷ rest) rest) same (went_counts cs fits)
-went_counts_in true ps {cs} {at} {rest} r same small fits =
-    subst (λ xs. Went (counts_in true ps) xs at (pairs ps cs ++ 10 ∷ rest) rest)
-    (after_counts ps cs no_pairs r same (λ k d lt. refl))
-    (went_then (joint_pairs ps) (went_pairs ps ps cs no_pairs rest (λ k d lt. Contains-get_or ps k d lt) r
-    (λ k d lt h. h) small fits) (λ to. went_mapped (λ _. map (after ps cs no_pairs).count ps) (went_byte 10)))
+read_counts_in : (compact : Bool) (ps : List ℕ) {cs rest : List ℕ} → Rises ps → length cs ≡ length ps → All IsWord ps →
+    All IsWord cs → IsReadFrom (counts_in compact ps) (counts_text compact ps cs ++ 10 ∷ rest) cs rest
+read_counts_in false ps r same small fits = rw (← same) (read_counts _ fits)
+read_counts_in true ps {cs} {rest} r same small fits =
+    subst (λ xs. IsReadFrom (counts_in true ps) (pairs ps cs ++ 10 ∷ rest) xs rest) (after_counts ps cs no_pairs r same
+    (λ k d lt. refl)) (then (joint_pairs ps) (read_pairs ps ps cs no_pairs rest (λ k d lt. Contains-get_or ps k d lt) r
+    (λ k d lt h. h) small fits) (with_value (λ _. map (after ps cs no_pairs).count ps) (read_byte 10)))
 
 -- ## A certificate
 
@@ -452,64 +273,50 @@ module _ (compact : Bool) (ids odd even : List ℕ) (ids_small : All IsWord ids)
       go true = odd_small
       go false = even_small
 
-  went_entry : (id : ℕ) {e : EntryData} {at : ℕ} {rest : List ℕ} → IsWord id → IsReadable e
-      → Went (entry compact odd even ids id) e at (entry_line compact odd even ids id e ++ rest) rest
-  went_entry id {e} {rest} small readable =
-      let lost = lost_by odd even e.winner in
-      let behind = counts_text compact lost e.counts ++ 10 ∷ rest in
-      went_from (regroup (decimal id) (move_text ids e.choice) (counts_text compact lost e.counts) rest (48 + e.winner))
-      (went_then (joint_id compact odd even ids id) (went_number (λ n. n ≡ id → ⊥) small (inl refl)
-      (λ other. other refl)) (λ t1. went_then (joint_space compact odd even ids) (went_byte 32) (λ t2.
-      went_then (joint_winner compact odd even ids) (went_winner e.winner readable.winner) (λ t3.
-      went_then (joint_second compact odd even ids e.winner) (went_byte 32) (λ t4.
-      went_then (joint_choice compact odd even ids e.winner)
-      (went_choice ids e.choice (counts_end compact lost e.counts rest) readable.choice) (λ t5.
-      went_mapped (λ cs. record { winner = e.winner; choice = e.choice; counts = cs })
-      (went_counts_in compact lost (lost_rises e.winner) readable.counts (lost_small e.winner) readable.small)))))))
+  read_entry : (id : ℕ) {e : EntryData} {rest : List ℕ} → IsWord id → IsReadable e →
+      IsReadFrom (entry compact odd even ids id) (entry_line compact odd even ids id e ++ rest) e rest
+  read_entry id {e} {rest} small readable = let lost = lost_by odd even e.winner in
+      rw (regroup (decimal id) (move_text ids e.choice) (counts_text compact lost e.counts) rest (48 + e.winner))
+      (then (joint_id compact odd even ids id) (read_number _ small (inl refl) (λ other. other refl))
+      (then (joint_space compact odd even ids) (read_byte 32) (then (joint_winner compact odd even ids)
+      (read_winner e.winner readable.winner) (then (joint_second compact odd even ids e.winner) (read_byte 32)
+      (then (joint_choice compact odd even ids e.winner) (read_choice ids e.choice (counts_end compact lost
+      e.counts rest) readable.choice) (with_value (λ cs. record { winner = e.winner; choice = e.choice; counts = cs })
+      (read_counts_in compact lost (lost_rises e.winner) readable.counts (lost_small e.winner) readable.small)))))))
 
-  went_entries : (left : List ℕ) (es : List EntryData) (v : ℕ) {at : ℕ}
-      → ((k : ℕ) → k < length left → get_or ids (v + k) 0 ≡ get_or left k 0) → All IsWord left
-      → length es ≡ length left → All IsReadable es →
-      Went (entries compact odd even ids left) es at (entry_lines compact odd even ids v es) []
-  went_entries [] [] v {at} here small same readable = record { to = at; reads = reads_give (stream_at at []) [] }
-  went_entries [] (e ∷ es) v here small same readable = absurd (omega (arith, same))
-  went_entries (id ∷ left) [] v here small same readable = absurd (omega (arith, same))
-  went_entries (id ∷ left) (e ∷ es) v here small same readable =
+  read_entries : (left : List ℕ) (es : List EntryData) (v : ℕ) →
+      ((k : ℕ) → k < length left → get_or ids (v + k) 0 ≡ get_or left k 0) → All IsWord left → length es ≡ length left →
+      All IsReadable es → IsReadFrom (entries compact odd even ids left) (entry_lines compact odd even ids v es) es []
+  read_entries [] [] v here small same readable = record { read = read_give [] [] }
+  read_entries [] (e ∷ es) v here small same readable = absurd (omega (arith, same))
+  read_entries (id ∷ left) [] v here small same readable = absurd (omega (arith, same))
+  read_entries (id ∷ left) (e ∷ es) v here small same readable =
       let is : get_or ids v 0 ≡ id = ap (λ n. get_or ids n 0) (sym (add-zero v)) ∙ here 0 (omega arith) in
-      went_from (ap (λ x. entry_line compact odd even ids x e ++ entry_lines compact odd even ids (v + 1) es) is)
-      (went_then (tight_joint (laws_entry compact odd even ids id)
-      (λ first. laws_mapped (λ others. first ∷ others) (entries compact odd even ids left)
-      (laws_entries compact odd even ids left))) (went_entry id (All-head IsWord id left small)
-      (All-head IsReadable e es readable)) (λ to. went_mapped (λ others. e ∷ others)
-      (went_entries left es (v + 1) (λ k lt. ap (λ n. get_or ids n 0) (omega arith) ∙ here (suc k)
-      (omega (arith, lt))) (All-tail IsWord id left small) (omega (arith, same)) (All-tail IsReadable e es readable))))
+      rw is (then (tight_joint (laws_entry compact odd even ids id) (λ first. laws_mapped (λ others. first ∷ others)
+      (entries compact odd even ids left) (laws_entries compact odd even ids left))) (read_entry id
+      (All-head IsWord id left small) (All-head IsReadable e es readable)) (with_value (λ others. e ∷ others)
+      (read_entries left es (v + 1) (λ k lt. ap (λ n. get_or ids n 0) (omega arith) ∙ here (suc k) (omega (arith, lt)))
+      (All-tail IsWord id left small) (omega (arith, same)) (All-tail IsReadable e es readable))))
 
   head_groups : (w a b c d e f g r : List ℕ) → ((((((((w ++ a) ++ b) ++ c) ++ d) ++ e) ++ f) ++ g) ++ r) ≡ w ++
       (a ++ (b ++ (c ++ (d ++ (e ++ (f ++ (g ++ r)))))))
   head_groups w a b c d e f g r = simp (append_assoc)
 
-  went_text : (es : List EntryData) → IsWord (length ids) → length es ≡ length ids → All IsReadable es
-      → Went (certificate odd even ids) (record { odd = odd; even = even; entries = es }) 0
-      (head_text compact (length ids) odd even ++ entry_lines compact odd even ids 0 es) []
-  went_text es small same readable =
-      let lines = entry_lines compact odd even ids 0 es in
-      let from_even = fields even ++ 10 ∷ lines in
-      let from_odd = fields odd ++ 10 ∷ (even_word ++ from_even) in
-      let from_count = decimal (length ids) ++ (odd_word ++ from_odd) in
-      went_from
-      (head_groups first_word (version_digit compact ∷ vertices_word) (decimal (length ids)) odd_word (fields odd)
-      (10 ∷ even_word) (fields even) (10 ∷ []) lines)
-      (went_then (joint_first odd even ids) (went_word first_word) (λ t1.
-      went_then (joint_version odd even ids) (went_version compact) (λ t2.
-      went_then (joint_vertices odd even ids compact) (went_word vertices_word) (λ t3.
-      went_then (joint_number odd even ids compact) (went_number (λ n. n ≡ length ids
-      → ⊥) small (inr (inl refl)) (λ other. other refl)) (λ t4.
-      went_then (joint_odd_word odd even ids compact) (went_word odd_word) (λ t5.
-      went_then (joint_odd odd even ids compact) (went_fields odd odd_small) (λ t6.
-      went_then (joint_even_word odd even ids compact) (went_word even_word) (λ t7.
-      went_then (joint_even odd even ids compact) (went_fields even even_small) (λ t8.
-      went_mapped (λ es. record { odd = odd; even = even; entries = es })
-      (went_entries ids es 0 (λ k lt. ap (λ n. get_or ids n 0) (omega arith)) ids_small same readable))))))))))
+  read_text : (es : List EntryData) → IsWord (length ids) → length es ≡ length ids → All IsReadable es → IsReadFrom
+      (certificate odd even ids) (head_text compact (length ids) odd even ++ entry_lines compact odd even ids 0 es)
+      (record { odd = odd; even = even; entries = es }) []
+  read_text es small same readable = rw (head_groups first_word (version_digit compact ∷ vertices_word) (decimal (length
+      ids)) odd_word (fields odd) (10 ∷ even_word) (fields even) (10 ∷ []) (entry_lines compact odd even ids 0 es))
+      (then (joint_first odd even ids) (read_word first_word)
+      (then (joint_version odd even ids) (read_version compact)
+      (then (joint_vertices odd even ids compact) (read_word vertices_word)
+      (then (joint_number odd even ids compact) (read_number _ small (inr (inl refl)) (λ other. other refl))
+      (then (joint_odd_word odd even ids compact) (read_word odd_word)
+      (then (joint_odd odd even ids compact) (read_fields odd odd_small)
+      (then (joint_even_word odd even ids compact) (read_word even_word)
+      (then (joint_even odd even ids compact)
+      (read_fields even even_small) (with_value (λ es. record { odd = odd; even = even; entries = es })
+      (read_entries ids es 0 (λ k lt. ap (λ n. get_or ids n 0) (omega arith)) ids_small same readable))))))))))
 
 -- ## The whole text
 
@@ -517,10 +324,10 @@ module _ (ids : List ℕ) (differ : AllPairs (λ x y. x ≢ y) ids) where
   found_at : {v : ℕ} → v < length ids → vertex_of ids (get_or ids v 0) ≡ Some v
   found_at {v} within =
       let id = get_or ids v 0 in
-      let e = position_or_len_is (λ other. eqb other id) ids v 0 (omega (arith, within))
-      (λ k lt. ne_eqb (get_or ids k 0) id (differ k v 0 lt within)) (λ _. eq-eqb id id refl) in
-      ap (λ i. cond (ltb i (length ids)) (Some i) None) e ∙ ap (λ (b : Bool). cond b (Some v) None)
-      (lt-ltb v (length ids) within)
+      let e = position_or_len_is (λ other. eqb other id) ids v 0
+      (omega (arith, within)) (λ k lt. ne_eqb (get_or ids k 0) id (differ k v 0 lt within)) (λ _. eq-eqb id id refl) in
+      ap (λ i. cond (ltb i (length ids)) (Some i) None) e
+      ∙ ap (λ (b : Bool). cond b (Some v) None) (lt-ltb v (length ids) within)
 
 -- each entry of a certificate that fits
 each_entry : (P : EntryData → Type 0) (entries : List EntryData)
@@ -565,13 +372,14 @@ module _ (compact : Bool) (game : NamedGameData) (c : CertificateData) (named : 
 
   pub reads_again : ReadsText game (text_in compact game c) (Ok c)
   reads_again =
-      let w = went_text compact game.ids c.odd c.even words.ids odd_rises even_rises words.odd words.even c.entries
+      let text = text_in compact game c in
+      let w = read_text compact game.ids c.odd c.even words.ids odd_rises even_rises words.odd words.even c.entries
       words.count (omega (arith, fits.entry_each, named.id_each)) readable in
       record {
         odd = c.odd;
         even = c.even;
         odd_listed = fits.odd_listed;
         even_listed = fits.even_listed;
-        answers = answers_ok (laws_certificate c.odd c.even game.ids)
-            (stream_at 0 (text_in compact game c)) c w.reads.1;
+        answers = answers_ok (laws_certificate c.odd c.even game.ids) (stream_at 0 text) c
+            (subst (λ all. IsRead (certificate c.odd c.even game.ids) all c []) (sym (signs_seen 0 text)) w.read);
       }

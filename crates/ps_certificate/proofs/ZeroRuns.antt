@@ -8,9 +8,8 @@ use Rattle.ps_certificate.specs.Written.{fields}
 
 fields-append : (xs ys : List ℕ) → fields (xs ++ ys) ≡ fields xs ++ fields ys
 fields-append [] ys = refl
-fields-append (x ∷ xs) ys =
-    ap (λ text. 32 ∷ decimal x ++ text) (fields-append xs ys)
-    ∙ ap (λ text. 32 ∷ text) (sym (append_assoc (decimal x) (fields xs) (fields ys)))
+fields-append (x ∷ xs) ys = ap (λ text. 32 ∷ decimal x ++ text)
+    (fields-append xs ys) ∙ ap (λ text. 32 ∷ text) (sym (append_assoc (decimal x) (fields xs) (fields ys)))
 
 -- the text of so many zeros
 abbrev pub zeros_text : ℕ → List ℕ
@@ -19,22 +18,19 @@ zeros_text (suc n) = 32 ∷ 48 ∷ zeros_text n
 
 pub fields-zeros : (n : ℕ) → zeros_text n ≡ fields (replicate n 0)
 fields-zeros zero = refl
-fields-zeros (suc n) =
-    ap (λ text. 32 ∷ 48 ∷ text) (fields-zeros n)
-    ∙ ap (λ digits. 32 ∷ digits ++ fields (replicate n 0)) (sym (decimal_digit 0 (omega arith)))
+fields-zeros (suc n) = ap (λ text. 32 ∷ 48 ∷ text)
+    (fields-zeros n) ∙ ap (λ digits. 32 ∷ digits ++ fields (replicate n 0)) (sym (decimal_digit 0 (omega arith)))
 
 -- the text of fewer zeros begins that of more
 pub take-zeros : (n m : ℕ) → n ≤ m → take (2 * n) (zeros_text m) ≡ zeros_text n
 take-zeros zero m few = refl
 take-zeros (suc n) zero few = absurd (omega (arith, few))
-take-zeros (suc n) (suc m) few =
-    let twice : 2 * suc n ≡ suc (suc (2 * n)) = omega arith in
+take-zeros (suc n) (suc m) few = let twice : 2 * suc n ≡ suc (suc (2 * n)) = omega arith in
     ap (λ k. take k (32 ∷ 48 ∷ zeros_text m)) twice ∙ ap (λ text. 32 ∷ 48 ∷ text) (take-zeros n m (omega (arith, few)))
 
 -- the zeros with which the rest begins are written
 pub zeros_written : (out numbers : List ℕ) {total : List ℕ} (place n : ℕ) →
-    take n (drop place numbers) ≡ replicate n 0 →
-    out ++ fields (drop place numbers) ≡ total →
+    take n (drop place numbers) ≡ replicate n 0 → out ++ fields (drop place numbers) ≡ total →
     (out ++ fields (replicate n 0)) ++ fields (drop (place + n) numbers) ≡ total
 zeros_written out numbers place n zeros so_far =
     append_assoc out (fields (replicate n 0)) (fields (drop (place + n) numbers))
@@ -42,7 +38,5 @@ zeros_written out numbers place n zeros so_far =
     ∙ so_far
   where
     parts : replicate n 0 ++ drop (place + n) numbers ≡ drop place numbers
-    parts =
-        ap (λ ys. ys ++ drop (place + n) numbers) (sym zeros)
-        ∙ ap (λ ys. take n (drop place numbers) ++ ys) (sym (drop-drop n place numbers))
-        ∙ take-append-drop n (drop place numbers)
+    parts = ap (λ ys. ys ++ drop (place + n) numbers) (sym zeros) ∙ ap (λ ys. take n (drop place numbers) ++ ys)
+        (sym (drop-drop n place numbers)) ∙ take-append-drop n (drop place numbers)

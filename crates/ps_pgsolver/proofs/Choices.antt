@@ -1,6 +1,6 @@
 -- The parts that may be missing: a setting and a name. And where a loop goes on.
 use Rattle.std.proofs.Common.{◌≡◌, ℕ, ◌<◌, true, false, List, [], ◌∷◌, ◌++◌, length, Option, None, Some, Ok, Err, refl}
-use Rattle.std.proofs.Common.{sym, ap, subst, inl, ◌∙◌, arith}
+use Rattle.std.proofs.Common.{sym, ap, subst, inl, ◌∙◌, rules}
 use Rattle.ps_text.specs.Answers.{Stream, next_of}
 use Rattle.ps_text.specs.Parts.{one, NoBad}
 use Rattle.ps_text.specs.Readers.{tail}
@@ -20,13 +20,11 @@ use Rattle.ps_pgsolver.proofs.PartLaws.{IsKind, kind_of, laws_one_name, laws_no_
 use Rattle.ps_pgsolver.proofs.PartLaws.{from_priority, another, laws_more}
 use Rattle.ps_pgsolver.proofs.GameLaws.{laws_line, laws_no_line, joint_line, line, takes_word, laws_entry}
 
-keyword_done : (word : List ℕ) (old : Stream Sign) {new : Stream Sign} → next_of old ≡ Some (Word word) →
-    new ≡ tail old →
-    Done (keyword word) old tt new
+keyword_done : (word : List ℕ) (old : Stream Sign) {new : Stream Sign} →
+    next_of old ≡ Some (Word word) → new ≡ tail old → Done (keyword word) old tt new
 unfolding keyword
-keyword_done word old {new} e n =
-    meets_next found_of pg_causes (keyword_in word) NoBad (λ u. u) old new (Word word) tt e n
-    (takes_word word) (λ f b. b)
+keyword_done word old {new} e n = meets_next found_of pg_causes
+    (keyword_in word) NoBad (λ u. u) old new (Word word) tt e n (takes_word word) (λ f b. b)
 
 line_entered : (word : List ℕ) (old : Stream Sign) → next_of old ≡ Some (Word word) → Enters (line word) (next_of old)
 unfolding keyword
@@ -37,21 +35,18 @@ line_entered word old e = subst (λ there. Enters (line word) there) (sym e)
 pub setting_none : (word : List ℕ) (old : Stream Sign) → (next_of old ≡ Some (Word word) → ⊥) →
     Done (setting word) old tt old
 unfolding setting
-setting_none word old differs =
-    right_otherwise found_of pg_causes (laws_line word) (laws_no_line word) (λ u. u) old old (Ok tt)
-    (λ t e h. differs (e ∙ ap Some h)) (λ h. h) (meets_give found_of pg_causes (λ u. u) old tt tt refl)
+setting_none word old differs = right_otherwise found_of pg_causes (laws_line word) (laws_no_line word) (λ u. u) old old
+    (Ok tt) (λ t e h. differs (e ∙ ap Some h)) (λ h. h) (meets_give found_of pg_causes (λ u. u) old tt tt refl)
 
 pub setting_done : (word : List ℕ) (old : Stream Sign) {mid : Stream Sign} (new : Stream Sign) →
-    next_of old ≡ Some (Word word) → mid ≡ tail old →
-    Done value_line mid tt new → Done (setting word) old tt new
+    next_of old ≡ Some (Word word) → mid ≡ tail old → Done value_line mid tt new → Done (setting word) old tt new
 unfolding setting
 setting_done word old {mid} new e n d =
     left_entered found_of pg_causes (laws_line word) (laws_no_line word) (λ u. u) old new (Ok tt)
     (λ t h k. k) (line_entered word old e) (done_then (joint_line word) old mid new tt tt (keyword_done word old e n) d)
 
 pub setting_halts : (word : List ℕ) (old : Stream Sign) {mid : Stream Sign} (f : PgFault) →
-    next_of old ≡ Some (Word word) →
-    mid ≡ tail old → Halts value_line mid f → Halts (setting word) old f
+    next_of old ≡ Some (Word word) → mid ≡ tail old → Halts value_line mid f → Halts (setting word) old f
 unfolding setting
 setting_halts word old {mid} f e n d =
     left_entered found_of pg_causes {X = Unit {0}} (laws_line word) (laws_no_line word) (λ u. u) old old (Err f)
@@ -62,39 +57,32 @@ some_none {t} e = none_is_some t (sym e)
 
 no_name : (t : Sign) → name_of (Some t) ≡ None → IsKind 2 t → ⊥
 unfolding kind_of
-no_name (Name x) e h = some_none e
-no_name _ e h = absurd (omega (arith, h))
+no_name t h1 h2 = search (rules, some_none)
 
 named : (o : Option Sign) (inner : List ℕ) → name_of o ≡ Some inner → o ≡ Some (Name inner)
-named (Some (Name x)) inner e = ap (λ z. Some (Name z)) (same_some x inner e)
-named _ inner e = absurd (none_is_some inner e)
+named o inner h1 = search (rules, same_some, none_is_some)
 
 pub name_none : (old : Stream Sign) → name_of (next_of old) ≡ None → Done name old None old
 unfolding name
-name_none old e = right_otherwise found_of pg_causes laws_one_name laws_no_name (λ n. n) old old (Ok None)
-    (λ t h k. no_name t (sym (ap name_of h) ∙ e) k) (λ h. h) (meets_give found_of pg_causes (λ n. n) old None None refl)
+name_none old e = search (rules, right_otherwise, laws_one_name, laws_no_name, no_name, meets_give)
 
-pub name_done : (old : Stream Sign) {new : Stream Sign} {inner : List ℕ} → name_of (next_of old) ≡ Some inner →
-    new ≡ tail old →
-    Done name old (Some inner) new
+pub name_done : (old : Stream Sign) {new : Stream Sign} {inner : List ℕ} →
+    name_of (next_of old) ≡ Some inner → new ≡ tail old → Done name old (Some inner) new
 unfolding name
-name_done old {new} {inner} e n =
-    let is : next_of old ≡ Some (Name inner) = named (next_of old) inner e in
-    left_entered found_of pg_causes laws_one_name laws_no_name (λ n. n) old new (Ok (Some inner)) (λ t h k. k)
-    (subst (λ there. Enters (one {F = PgCause} name_in NoBad) there) (sym is)
-    (enters_one name_in NoBad (Name inner) (inl (Some inner, refl))))
+name_done old {new} {inner} e n = let is : next_of old ≡ Some (Name inner) =
+    named (next_of old) inner e in left_entered found_of pg_causes laws_one_name laws_no_name
+    (λ n. n) old new (Ok (Some inner)) (λ t h k. k) (subst (λ there. Enters (one {F = PgCause} name_in NoBad) there)
+    (sym is) (enters_one name_in NoBad (Name inner) (inl (Some inner, refl))))
     (meets_next found_of pg_causes name_in NoBad (λ n. n) old new (Name inner) (Some inner) is n refl (λ f b. b))
 
 -- ## Loops
 
 comma_is : (o : Option Sign) → is_comma o ≡ true → o ≡ Some Comma
-comma_is (Some Comma) e = refl
-comma_is _ e = let y : false ≡ true = e in cc
+comma_is o h1 = search rules
 
 no_comma : (t : Sign) → is_comma (Some t) ≡ false → IsKind 3 t → ⊥
 unfolding kind_of
-no_comma Comma e h = let y : true ≡ false = e in cc
-no_comma _ e h = absurd (omega (arith, h))
+no_comma t h1 h2 = search rules
 
 pub comma_avoided : (old : Stream Sign) → is_comma (next_of old) ≡ false → Avoids (IsKind 3) (next_of old)
 comma_avoided old e t h k = no_comma t (sym (ap is_comma h) ∙ e) k
@@ -103,18 +91,15 @@ pub comma_entered : (known : Option (List ℕ)) (list : List ℕ) (old : Stream 
     Enters (more_successor known list) (next_of old)
 unfolding more_successor comma
 comma_entered known list old e =
-    subst (λ there. Enters (more_successor known list) there) (sym (comma_is (next_of old) e))
-    (enters_then comma (λ _. another known list) (joint_more known list) (Some Comma)
-    (enters_one comma_in NoBad Comma (inl (tt, refl))))
+    subst (λ there. Enters (more_successor known list) there) (sym (comma_is (next_of old) e)) (enters_then comma
+    (λ _. another known list) (joint_more known list) (Some Comma) (enters_one comma_in NoBad Comma (inl (tt, refl))))
 
 number_is : (o : Option Sign) → is_number o ≡ true → (n : ℕ) × (o ≡ Some (Number n))
-number_is (Some (Number x)) e = (x, refl)
-number_is _ e = let y : false ≡ true = e in cc
+number_is o h1 = search rules
 
 no_number : (t : Sign) → is_number (Some t) ≡ false → IsKind 0 t → ⊥
 unfolding kind_of
-no_number (Number x) e h = let y : true ≡ false = e in cc
-no_number _ e h = absurd (omega (arith, h))
+no_number t h1 h2 = search rules
 
 pub number_avoided : (old : Stream Sign) → is_number (next_of old) ≡ false → Avoids (IsKind 0) (next_of old)
 number_avoided old e t h k = no_number t (sym (ap is_number h) ∙ e) k
@@ -126,19 +111,16 @@ id_entered ids n = enters_one number_in (BadId ids) (Number n) (inl (n, refl))
 pub number_entered : (known : Option (List ℕ)) (nodes : List NodeData) (old : Stream Sign) →
     is_number (next_of old) ≡ true → Enters (entry known nodes) (next_of old)
 unfolding entry node
-number_entered known nodes old e =
-    let is = number_is (next_of old) e in
-    subst (λ there. Enters (entry known nodes) there) (sym is.1)
-    (enters_mapped (λ n. nodes ++ n ∷ []) (node known (ids_of nodes)) (Some (Number is.0))
-    (enters_then (new_id (ids_of nodes)) (from_priority known (ids_of nodes)) (joint_id known (ids_of nodes))
-    (Some (Number is.0)) (id_entered (ids_of nodes) is.0)))
+number_entered known nodes old e = let is = number_is (next_of old) e in
+    subst (λ there. Enters (entry known nodes) there) (sym is.1) (enters_mapped (λ n. nodes ++ n ∷ [])
+    (node known (ids_of nodes)) (Some (Number is.0)) (enters_then (new_id (ids_of nodes)) (from_priority known
+    (ids_of nodes)) (joint_id known (ids_of nodes)) (Some (Number is.0)) (id_entered (ids_of nodes) is.0)))
 
 -- what was read leaves fewer pieces
 pub more_shrinks : (known : Option (List ℕ)) (list v : List ℕ) (old new : Stream Sign) →
     Done (more_successor known list) old v new → length new.pieces < length old.pieces
-more_shrinks known list v old new d =
-    meets_shrinks found_of pg_causes (λ x. x) (more_successor known list) old new v
-    (λ w h. (laws_more known list).null w h) d
+more_shrinks known list v old new d = meets_shrinks found_of pg_causes
+    (λ x. x) (more_successor known list) old new v (λ w h. (laws_more known list).null w h) d
 
 pub entry_shrinks : (known : Option (List ℕ)) (nodes v : List NodeData) (old new : Stream Sign) →
     Done (entry known nodes) old v new → length new.pieces < length old.pieces

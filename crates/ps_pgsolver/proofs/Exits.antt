@@ -74,12 +74,10 @@ module _ {C : Type 0} {odd : Sign → Type 0} (item : C → Part Sign C PgCause)
   pub continues_many : {whole : Part Sign C PgCause} {start now next : Stream Sign} (c d : C) →
       Continues whole (many item c) start now → Done (item c) now d next → Continues whole (many item d) start next
   continues_many {now} {next} c d k m = record {
-    done =
-        λ v new n. k.done v new (many_then found_of pg_causes {X = C} item l apart (λ x. x) (λ x. x) c now next
-        new d (Ok v) m n);
-    stops =
-        λ e n. k.stops e (many_then found_of pg_causes {X = C} item l apart (λ x. x) (λ x. x) c now next next
-        d (Err e) m n);
+    done = λ v new n. k.done v new
+        (many_then found_of pg_causes {X = C} item l apart (λ x. x) (λ x. x) c now next new d (Ok v) m n);
+    stops = λ e n. k.stops e
+        (many_then found_of pg_causes {X = C} item l apart (λ x. x) (λ x. x) c now next next d (Err e) m n);
   }
 
   pub many_halts : (c : C) (now : Stream Sign) (e : PgFault) → Enters (item c) (next_of now) → Halts (item c) now e →

@@ -1,13 +1,11 @@
 -- A draft of a game, as the nodes of a text make it, and why it is a game.
-use Rattle.std.proofs.Common.{◌≡◌, ℕ, zero, suc, ◌<◌, eqb, List, [], ◌∷◌, length, map, get_or, Option, None, Some, refl}
-use Rattle.std.proofs.Common.{sym, ap, ap₂, subst, ◌∙◌, arith}
+use Rattle.std.proofs.Common.{◌≡◌, ℕ, zero, suc, ◌<◌, List, [], ◌∷◌, length, map, refl, sym, ap, subst, arith, rules}
 use Rattle.std.proofs.lemmas.List.{length-map}
 use Rattle.std.proofs.lemmas.List.Elements.{All-map}
 use Rattle.std.proofs.lemmas.List.Quantifiers.{position-Some}
-use Rattle.std.specs.Option.{unwrap_or}
-use Rattle.std.specs.List.{All, Contains, position}
+use Rattle.std.specs.List.{All, Contains}
 use Rattle.ps_game.specs.Games.{ParityGame, NamedGameData, vertex_count, successors_of}
-use Rattle.ps_game.specs.Drafts.{vertex_without_repeats, NoneBare, NoneUnknown}
+use Rattle.ps_game.specs.Drafts.{NoneBare, NoneUnknown}
 use Rattle.ps_pgsolver.specs.GamesOf.{place_of, vertex_of, draft_of, game_of, named_game_of}
 use Rattle.ps_pgsolver.specs.Nodes.{NodeData, IsNode, KnowsAll, ids_of, names_of}
 
@@ -21,19 +19,10 @@ all_tail P x xs h = λ k d l. h (suc k) d (omega (arith, l))
 
 -- the place of one of the ids is within their list
 place-within : (ids : List ℕ) (id : ℕ) → Contains ids id → place_of ids id < length ids
-place-within ids id h = go (position (λ other. eqb id other) ids) refl
-  where
-    some : (xs : List ℕ) → 0 < length ids
-    some xs = omega (arith, h.1)
-
-    go : (o : Option ℕ) → position (λ other. eqb id other) ids ≡ o → place_of ids id < length ids
-    go (Some i) e = let x : place_of ids id ≡ i = ap (λ o. unwrap_or o 0) e in
-        omega (arith, x, (position-Some (λ other. eqb id other) ids i 0 e).0)
-    go None e = let x : place_of ids id ≡ 0 = ap (λ o. unwrap_or o 0) e in omega (arith, x, some ids)
+place-within ids id h = search (rules, position-Some)
 
 places_within : (ids xs : List ℕ) → All (λ id. Contains ids id) xs → All (λ s. s < length ids) (map (place_of ids) xs)
-places_within ids xs h =
-    All-map (λ s. s < length ids) (place_of ids) xs (λ k d l. place-within ids (get_or xs k d) (h k d l))
+places_within ids xs h = search (rules, All-map, place-within)
 
 draft_at : (ids : List ℕ) (nodes : List NodeData) (v : ℕ) → v < vertex_count (draft_of ids nodes) →
     (node : NodeData) × (successors_of (draft_of ids nodes) v ≡ map (place_of ids) node.successors) ×
@@ -56,20 +45,16 @@ draft_bare ids nodes h v l =
 
 pub draft_known : {ids : List ℕ} (nodes : List NodeData) → ids ≡ ids_of nodes → KnowsAll ids nodes →
     NoneUnknown (draft_of ids nodes)
-draft_known {ids} nodes e h v l =
-    let r = draft_at ids nodes v l in
+draft_known {ids} nodes e h v l = let r = draft_at ids nodes v l in
     let known : All (λ id. Contains ids id) r.0.successors = r.2 (λ n. All (λ id. Contains ids id) n.successors) h in
-    let count : vertex_count (draft_of ids nodes) ≡ length ids = draft_count ids nodes
-    ∙ sym (ap length e ∙ length-map nodes (λ n. n.id)) in
-    subst (λ n. All (λ w. w < n) (successors_of (draft_of ids nodes) v)) (sym count)
-    (subst (λ ws. All (λ w. w < length ids) ws) (sym r.1) (places_within ids r.0.successors known))
+    let count : vertex_count (draft_of ids nodes) ≡ length ids =
+    search (rules, draft_count, length-map) in subst (λ n. All (λ w. w < n) (successors_of (draft_of ids nodes) v))
+    (sym count) (subst (λ ws. All (λ w. w < length ids) ws) (sym r.1) (places_within ids r.0.successors known))
 
 pub same_named : {named : NamedGameData} (nodes : List NodeData) → named.game ≡ game_of nodes →
     named.ids ≡ ids_of nodes → named.names ≡ names_of nodes → named ≡ named_game_of nodes
-same_named {named} nodes g i n = ap₂ (λ x y. record { game = x; ids = y; names = named.names }) g i
-    ∙ ap (λ z. record { game = game_of nodes; ids = ids_of nodes; names = z }) n
+same_named {named} nodes g i n = search rules
 
 pub named_count : {game : ParityGame} (nodes : List NodeData) → game ≡ game_of nodes → vertex_count game ≡ length nodes
 unfolding vertex_count
-named_count nodes e = ap length e ∙ length-map (draft_of (ids_of nodes) nodes) vertex_without_repeats
-    ∙ length-map nodes (vertex_of (ids_of nodes))
+named_count nodes e = search (rules, length-map)

@@ -1,7 +1,7 @@
 -- The tokens of a game text are those that the lexer finds, and no others.
 use Rattle.std.proofs.Common.{◌≡◌, ℕ, zero, suc, ◌+◌, ◌-◌, ◌<◌, ◌≤◌, Bool, true, false, cond, eqb, List, [], ◌∷◌, ◌++◌}
 use Rattle.std.proofs.Common.{length, get_or, take, drop, refl, sym, ap, subst, ◌∙◌, arith, append_assoc, append-nil}
-use Rattle.std.proofs.Common.{length-append, ne_eqb, lt-ltb, le-ltb, take-append-drop}
+use Rattle.std.proofs.Common.{length-append, ne_eqb, lt-ltb, take-append-drop, rules}
 use Rattle.std.specs.List.{prefix_len, take_while}
 use Rattle.std.proofs.lemmas.List.{take_more, drop_all, length-drop}
 use Rattle.std.proofs.Math.Seq.{take-append_seam}
@@ -28,8 +28,7 @@ use Rattle.ps_pgsolver.proofs.TokenLemmas.{prefix_len-behind, first_size-positiv
 first_run : {p : ℕ → Bool} (b : ℕ) (bs : List ℕ) → p b ≡ true →
     IsRun p (take (prefix_len p (b ∷ bs)) (b ∷ bs)) (drop (prefix_len p (b ∷ bs)) (b ∷ bs))
 first_run {p} b bs h = record {
-  some = let size : prefix_len p (b ∷ bs) ≡ suc (prefix_len p bs) = rw h (omega arith) in
-      omega (arith, size, length-prefix_len p (b ∷ bs));
+  some = search (rules, length-prefix_len);
   all = run_all p (b ∷ bs);
   longest = run_ends p (b ∷ bs);
 }
@@ -131,8 +130,7 @@ mark_found before b bs d l k q = go (eqb b 44) (eqb b 59) refl refl
 
 moved : (before w : List ℕ) (t : Sign) (n : ℕ) → first_sign before w ≡ t → first_size w ≡ n → Found before w t n →
     Found before w (first_sign before w) (first_size w)
-moved before w t n e f h =
-    subst (λ t. Found before w t (first_size w)) (sym e) (subst (λ n. Found before w t n) (sym f) h)
+moved before w t n e f h = search rules
 
 found : (before : List ℕ) (b : ℕ) (bs : List ℕ) → is_blank b ≡ false →
     Found before (b ∷ bs) (first_sign before (b ∷ bs)) (first_size (b ∷ bs))
@@ -146,9 +144,8 @@ found before b bs k = go (is_digit b) (is_letter b) (eqb b 34) refl refl refl
     go true l q x y z = let p = at_digit before b bs refl x in moved before w _ _ p.0 p.1 (number_found before b bs x)
     go false true q x y z =
         let p = at_letter before b bs refl x y in moved before w _ _ p.0 p.1 (word_found before b bs y)
-    go false false true x y z = let p = at_quote before bs refl (eqb-true b 34 z) in
-        moved before w _ _ p.0 p.1 (subst (λ c. Found before (c ∷ bs) (name_sign bs) (name_size bs))
-        (sym (eqb-true b 34 z)) (name_found before bs))
+    go false false true x y z = let p = at_quote before bs refl (eqb-true b 34 z) in moved before w _ _ p.0 p.1 (subst
+        (λ c. Found before (c ∷ bs) (name_sign bs) (name_size bs)) (sym (eqb-true b 34 z)) (name_found before bs))
     go false false false x y z =
         let p = at_mark before b bs refl x y z in moved before w _ _ p.0 p.1 (mark_found before b bs x y k z)
 
@@ -167,16 +164,12 @@ run_begins {p} {text} r = go text r.some r.all
 
 run_taken : {p : ℕ → Bool} {text rest : List ℕ} → IsRun p text rest →
     (prefix_len p (text ++ rest) ≡ length text) × (take_while p (text ++ rest) ≡ text)
-run_taken {p} {text} {rest} r =
-    let n : prefix_len p (text ++ rest) ≡ length text = run_len p text rest r.all r.longest in
-    (n, ap (λ k. take k (text ++ rest)) n ∙ take-append_seam text rest)
+run_taken {p} {text} {rest} r = search (rules, run_len, take-append_seam)
 
 digits_are : (before : List ℕ) {text rest : List ℕ} → IsRun is_digit text rest →
     IsFound before (text ++ rest) (number_sign before (text ++ rest)) (length text)
-digits_are before {text} {rest} r =
-    let s = run_begins r in
-    let p = at_digit before s.0 (s.1 ++ rest) (ap (λ z. z ++ rest) s.2) s.3 in
-    (p.0, p.1 ∙ (run_taken r).0)
+digits_are before {text} {rest} r = let s = run_begins r in
+    let p = at_digit before s.0 (s.1 ++ rest) (ap (λ z. z ++ rest) s.2) s.3 in (p.0, p.1 ∙ (run_taken r).0)
 
 letters_are : (before : List ℕ) {text rest : List ℕ} → IsRun is_letter text rest →
     IsFound before (text ++ rest) (word_sign before (text ++ rest)) (length text)
@@ -185,9 +178,8 @@ letters_are before {text} {rest} r =
     let p = at_letter before s.0 (s.1 ++ rest) (ap (λ z. z ++ rest) s.2) (letter_no_digit s.0 s.3) s.3 in
     (p.0, p.1 ∙ (run_taken r).0)
 
-closed_name : (inner rest : List ℕ) → AllOf is_inner inner →
-    (name_sign ((inner ++ 34 ∷ []) ++ rest) ≡ Name inner) × (name_size ((inner ++ 34 ∷ []) ++ rest) ≡ length
-    (34 ∷ (inner ++ 34 ∷ [])))
+closed_name : (inner rest : List ℕ) → AllOf is_inner inner → (name_sign ((inner ++ 34 ∷ []) ++ rest) ≡ Name inner) ×
+    (name_size ((inner ++ 34 ∷ []) ++ rest) ≡ length (34 ∷ (inner ++ 34 ∷ [])))
 closed_name inner rest a =
     subst (λ bs. (name_sign bs ≡ Name inner) × (name_size bs ≡ length (34 ∷ (inner ++ 34 ∷ []))))
     (sym (append_assoc inner (34 ∷ []) rest)) both
@@ -212,22 +204,7 @@ closed_name inner rest a =
 
 open_name_is : (inner : List ℕ) {rest : List ℕ} → AllOf is_inner inner → rest ≡ [] →
     (name_sign (inner ++ rest) ≡ OpenName) × (name_size (inner ++ rest) ≡ length (34 ∷ inner))
-open_name_is inner a e =
-    subst (λ r. (name_sign (inner ++ r) ≡ OpenName) × (name_size (inner ++ r) ≡ length (34 ∷ inner))) (sym e) both
-  where
-    n : prefix_len is_inner (inner ++ []) ≡ length inner
-    n = run_len is_inner inner [] a tt
-
-    closed : is_closed (inner ++ []) ≡ false
-    closed = let x : length (inner ++ []) ≡ length inner = ap length (append-nil inner) in
-        le-ltb (prefix_len is_inner (inner ++ [])) (length (inner ++ [])) (omega (arith, n, x))
-
-    both : (name_sign (inner ++ []) ≡ OpenName) × (name_size (inner ++ []) ≡ length (34 ∷ inner))
-    both = (
-      ap (λ e. cond e (Name (take_while is_inner (inner ++ []))) OpenName) closed,
-      ap (λ e. cond e (prefix_len is_inner (inner ++ []) + 2) (prefix_len is_inner (inner ++ []) + 1)) closed
-          ∙ omega (arith, n),
-    )
+open_name_is inner a e = search (rules, run_len)
 
 not_both : (b : ℕ) → is_blank b ≡ false → is_blank b ≡ true → ⊥
 not_both b f t = let x : false ≡ true = sym f ∙ t in cc
@@ -252,21 +229,15 @@ token_is before text rest (Name inner) h =
     let q = closed_name inner rest h.1 in
     (p.0 ∙ q.0, p.1 ∙ q.1 ∙ ap length (sym h.0))
 token_is before text rest Comma h =
-    let p = at_mark before 44 rest (ap (λ z. z ++ rest) h) refl refl refl in
-    (p.0, p.1 ∙ ap length (sym h))
+    let p = at_mark before 44 rest (ap (λ z. z ++ rest) h) refl refl refl in (p.0, p.1 ∙ ap length (sym h))
 token_is before text rest Semicolon h =
-    let p = at_mark before 59 rest (ap (λ z. z ++ rest) h) refl refl refl in
-    (p.0, p.1 ∙ ap length (sym h))
-token_is before text rest OpenName h =
-    let p = at_quote before (h.0 ++ rest) (ap (λ z. z ++ rest) h.1) refl in
-    let q = open_name_is h.0 h.2 h.3 in
-    (p.0 ∙ q.0, p.1 ∙ q.1 ∙ ap length (sym h.1))
-token_is before text rest Wrong (number_behind_word r e) =
-    let p = digits_are before r in
+    let p = at_mark before 59 rest (ap (λ z. z ++ rest) h) refl refl refl in (p.0, p.1 ∙ ap length (sym h))
+token_is before text rest OpenName h = let p = at_quote before (h.0 ++ rest) (ap (λ z. z ++ rest) h.1) refl in
+    let q = open_name_is h.0 h.2 h.3 in (p.0 ∙ q.0, p.1 ∙ q.1 ∙ ap length (sym h.1))
+token_is before text rest Wrong (number_behind_word r e) = let p = digits_are before r in
     (p.0 ∙ ap (λ e. cond e Wrong (Number (decimal_value (take_while is_digit (text ++ rest))))) e, p.1)
 token_is before text rest Wrong (word_behind_number r e) =
-    let p = letters_are before r in
-    (p.0 ∙ ap (λ e. cond e Wrong (Word (take_while is_letter (text ++ rest)))) e, p.1)
+    let p = letters_are before r in (p.0 ∙ ap (λ e. cond e Wrong (Word (take_while is_letter (text ++ rest)))) e, p.1)
 token_is before text rest Wrong (stray b x s) =
     let p = at_mark before b rest (ap (λ z. z ++ rest) x) s.no_digit s.no_letter (ne_eqb b 34 s.no_quote) in (
       p.0 ∙ ap (λ e. cond e Comma (cond (eqb b 59) Semicolon Wrong)) (ne_eqb b 44 s.no_comma)
@@ -278,37 +249,15 @@ token_is before text rest Wrong (stray b x s) =
 
 token_begins : (before text rest : List ℕ) (t : Sign) → IsToken before t text rest →
     (b : ℕ) × (bs : List ℕ) × (text ≡ b ∷ bs) × (is_blank b ≡ true → ⊥)
-token_begins before text rest (Number n) h =
-    let s = run_begins h.0 in (s.0, s.1, s.2, not_both s.0 (digit_no_blank s.0 s.3))
-token_begins before text rest (Word letters) h =
-    let s = run_begins h.0 in (s.0, s.1, s.2, not_both s.0 (letter_no_blank s.0 s.3))
-token_begins before text rest (Name inner) h = (34, inner ++ 34 ∷ [], h.0, not_both 34 refl)
-token_begins before text rest Comma h = (44, [], h, not_both 44 refl)
-token_begins before text rest Semicolon h = (59, [], h, not_both 59 refl)
-token_begins before text rest OpenName h = (34, h.0, h.1, not_both 34 refl)
-token_begins before text rest Wrong (number_behind_word r e) =
-    let s = run_begins r in (s.0, s.1, s.2, not_both s.0 (digit_no_blank s.0 s.3))
-token_begins before text rest Wrong (word_behind_number r e) =
-    let s = run_begins r in (s.0, s.1, s.2, not_both s.0 (letter_no_blank s.0 s.3))
-token_begins before text rest Wrong (stray b x s) = (b, [], x, not_both b s.no_blank)
+token_begins before text rest t h1 = search (rules, run_begins, not_both, digit_no_blank, letter_no_blank)
 
 pub tokens_differ : TokensDiffer (λ b. is_blank b ≡ true) IsToken
-tokens_differ = record { begins = token_begins; one = one }
-  where
-    one : (before text rest text' rest' : List ℕ) (t u : Sign) → IsToken before t text rest →
-        IsToken before u text' rest' → text ++ rest ≡ text' ++ rest' → (t ≡ u) × (text ≡ text')
-    one before text rest text' rest' t u h k e =
-        let p = token_is before text rest t h in
-        let q = token_is before text' rest' u k in (
-          sym p.0 ∙ ap (first_sign before) e ∙ q.0,
-          (same_split text rest text' rest' e (sym p.1 ∙ ap first_size e ∙ q.1)).0,
-        )
+tokens_differ = search (rules, token_begins, token_is, same_split)
 
 all_blank : (w : List ℕ) → drop (prefix_len is_blank w) w ≡ [] → AllOf is_blank w
-all_blank w e =
-    subst (AllOf is_blank) (sym (ap (λ z. take (prefix_len is_blank w) w ++ z) e)
-    ∙ take-append-drop (prefix_len is_blank w) w) (subst (AllOf is_blank)
-    (sym (append-nil (take (prefix_len is_blank w) w))) (run_all is_blank w))
+all_blank w e = subst (AllOf is_blank)
+    (sym (ap (λ z. take (prefix_len is_blank w) w ++ z) e) ∙ take-append-drop (prefix_len is_blank w) w)
+    (subst (AllOf is_blank) (sym (append-nil (take (prefix_len is_blank w) w))) (run_all is_blank w))
 
 abbrev IsLexed : List ℕ → List ℕ → Type 0
 IsLexed before w = TokensFrom (λ b. is_blank b ≡ true) IsToken before w (lex 0 before w)
@@ -324,8 +273,7 @@ step before w ih = go (drop n w) refl
     front = before ++ take n w
 
     go : (rest : List ℕ) → drop n w ≡ rest → IsLexed before w
-    go [] e =
-        subst (TokensFrom (λ b. is_blank b ≡ true) IsToken before w)
+    go [] e = subst (TokensFrom (λ b. is_blank b ≡ true) IsToken before w)
         (sym (lex-blanks before w ∙ ap (lex 0 front) e ∙ lex-end front)) (all_blank w e)
     go (b ∷ bs) e =
         subst (TokensFrom (λ b. is_blank b ≡ true) IsToken before w)
@@ -351,12 +299,9 @@ step before w ih = go (drop n w) refl
         }
 
         shorter_rest : length (drop s (b ∷ bs)) < length w
-        shorter_rest =
-            let x : length (drop s (b ∷ bs)) ≡ suc (length bs) - s = length-drop s (b ∷ bs) in
-            let y : length (drop n w) ≡ length w - n = length-drop n w in
-            let z : length (drop n w) ≡ suc (length bs) = ap length e in
-            let q : 0 < s = first_size-positive b bs in
-            omega (arith, x, y, z, q)
+        shorter_rest = let x : length (drop s (b ∷ bs)) ≡ suc (length bs) - s = length-drop s (b ∷ bs) in
+            let y : length (drop n w) ≡ length w - n = length-drop n w in let z : length (drop n w) ≡ suc (length bs) =
+            ap length e in let q : 0 < s = first_size-positive b bs in omega (arith, x, y, z, q)
 
         later : IsLexed (front ++ take s (b ∷ bs)) (drop s (b ∷ bs))
         later = ih (front ++ take s (b ∷ bs)) (drop s (b ∷ bs)) shorter_rest
@@ -370,5 +315,4 @@ pub tokens_found : (text : List ℕ) → AreGameTokens text (stream_of text)
 tokens_found text = (lexed (suc (length text)) [] text (omega arith), refl)
 
 pub only_tokens : (text : List ℕ) (s : Stream Sign) → AreGameTokens text s → s ≡ stream_of text
-only_tokens text s h =
-    has_one_tokenisation (λ b. is_blank b ≡ true) IsToken tokens_differ text s (stream_of text) h (tokens_found text)
+only_tokens text s h = search (rules, has_one_tokenisation, tokens_differ, tokens_found)

@@ -1,6 +1,6 @@
 -- Nodes that are kept in lists.
 use Rattle.std.proofs.Common.{◌≡◌, ℕ, zero, suc, ◌+◌, ◌-◌, ◌<◌, ◌≤◌, true, List, [], ◌∷◌, ◌++◌, Option, None, Some}
-use Rattle.std.proofs.Common.{length, map, refl, sym, ap, ap₂, subst, ◌∙◌, arith, length-append, append_assoc}
+use Rattle.std.proofs.Common.{length, map, refl, sym, ap, ap₂, subst, ◌∙◌, arith, length-append, append_assoc, rules}
 use Rattle.std.specs.Prelude.{Vec, replicate}
 use Rattle.std.specs.Global.{Global}
 use Rattle.std.specs.List.{All, Contains, list_all}
@@ -49,18 +49,16 @@ kept_vertices (id ∷ ids) (v ∷ vertices) (name ∷ names) i n =
 
 -- one more node
 kept_push : (ids : List ℕ) (vertices : ParityGame) (names : List (Option (List ℕ))) (id : ℕ) (v : VertexData)
-    (name : Option (List ℕ)) → length ids ≡ length vertices → length names ≡ length ids →
-    nodes_kept (ids ++ id ∷ []) (vertices ++ v ∷ []) (names ++ name ∷ []) ≡ nodes_kept ids vertices names ++
-    node_kept id v name ∷ []
+    (name : Option (List ℕ)) → length ids ≡ length vertices → length names ≡ length ids → nodes_kept (ids ++ id ∷ [])
+    (vertices ++ v ∷ []) (names ++ name ∷ []) ≡ nodes_kept ids vertices names ++ node_kept id v name ∷ []
 unfolding nodes_kept
 kept_push [] [] [] id v name i n = refl
 kept_push [] [] (name0 ∷ names) id v name i n = absurd (omega (arith, n))
 kept_push [] (v0 ∷ vertices) names id v name i n = absurd (omega (arith, i))
 kept_push (id0 ∷ ids) [] names id v name i n = absurd (omega (arith, i))
 kept_push (id0 ∷ ids) (v0 ∷ vertices) [] id v name i n = absurd (omega (arith, n))
-kept_push (id0 ∷ ids) (v0 ∷ vertices) (name0 ∷ names) id v name i n =
-    ap (λ ns. node_kept id0 v0 name0 ∷ ns) (kept_push ids vertices names id v name (omega (arith, i))
-    (omega (arith, n)))
+kept_push (id0 ∷ ids) (v0 ∷ vertices) (name0 ∷ names) id v name i n = ap
+    (λ ns. node_kept id0 v0 name0 ∷ ns) (kept_push ids vertices names id v name (omega (arith, i)) (omega (arith, n)))
 
 placed : (ids : List ℕ) (nodes : List NodeData) → map (with_places ids) (map vertex_kept nodes) ≡ draft_of ids nodes
 placed ids [] = refl
@@ -80,16 +78,12 @@ module _ (ids : List ℕ) (vertices : ParityGame) (names : List (Option (List �
   vertices_are = sym (kept_vertices ids vertices names kept.id_each kept.name_each) ∙ ap (map vertex_kept) e
 
   pub known_are : list_all (λ v. knows_each ids v.successors) vertices ≡ knows_all (ids_of nodes) nodes
-  known_are =
-      ap₂ (λ is vs. list_all (λ (v : VertexData). knows_each is v.successors) vs) ids_are vertices_are
-      ∙ list_all-map (λ (v : VertexData). knows_each (ids_of nodes) v.successors) vertex_kept nodes
+  known_are = search (rules, ids_are, vertices_are, list_all-map)
 
   pub each_is_id : KnowsAll (ids_of nodes) nodes → All (λ v. KnowsEach ids v.successors) vertices
-  each_is_id known =
-      let Knows : List ℕ → VertexData → Type 0 = λ is v. KnowsEach is v.successors in
-      subst (λ (vs : ParityGame). All (Knows ids) vs) (sym vertices_are)
-      (subst (λ is. All (Knows is) (map vertex_kept nodes)) (sym ids_are)
-      (All-map (Knows (ids_of nodes)) vertex_kept nodes known))
+  each_is_id known = let Knows : List ℕ → VertexData → Type 0 = λ is v. KnowsEach is v.successors in subst
+      (λ (vs : ParityGame). All (Knows ids) vs) (sym vertices_are) (subst (λ is. All (Knows is) (map vertex_kept nodes))
+      (sym ids_are) (All-map (Knows (ids_of nodes)) vertex_kept nodes known))
 
   pub draft_is : map (with_places ids) vertices ≡ draft_of (ids_of nodes) nodes
   draft_is = ap₂ (λ is vs. map (with_places is) vs) ids_are vertices_are ∙ placed (ids_of nodes) nodes
@@ -98,10 +92,7 @@ module _ (ids : List ℕ) (vertices : ParityGame) (names : List (Option (List �
       (name : Option (List ℕ))
       (i : ids' ≡ ids ++ id ∷ []) (vs : vertices' ≡ vertices ++ v ∷ []) (n : names' ≡ names ++ name ∷ []) where
     pub pushed_is : nodes_kept ids' vertices' names' ≡ nodes ++ node_kept id v name ∷ []
-    pushed_is =
-        ap₂ (λ x y. nodes_kept x y names') i vs ∙ ap (λ x. nodes_kept (ids ++ id ∷ []) (vertices ++ v ∷ []) x) n
-        ∙ kept_push ids vertices names id v name kept.id_each kept.name_each
-        ∙ ap (λ ns. ns ++ node_kept id v name ∷ []) e
+    pushed_is = search (rules, kept_push)
 
     pub AreKept-push : ¬ Contains (ids_of nodes) id → IsNode (node_kept id v name) → AreKept ids' vertices' names'
     AreKept-push new is = record {
@@ -129,12 +120,7 @@ module _ (ids : List ℕ) (vertices : ParityGame) (names : List (Option (List �
 pub AreKept-none : {ids : List ℕ} {vertices : ParityGame} {names : List (Option (List ℕ))} → ids ≡ [] → vertices ≡ [] →
     names ≡ [] → AreKept ids vertices names
 unfolding nodes_kept
-AreKept-none {vertices} {names} i v n = record {
-  id_each = ap length i ∙ sym (ap length v);
-  name_each = ap length n ∙ sym (ap length i);
-  well_formed = subst (λ xs. AreNodes (nodes_kept xs vertices names)) (sym i)
-      (record { distinct = λ k j d l m. absurd (omega (arith, m)); each = λ k d l. absurd (omega (arith, l)) });
-}
+AreKept-none {vertices} {names} i v n = search rules
 
 pub nodes_kept-none : {ids : List ℕ} (vertices : ParityGame) (names : List (Option (List ℕ))) → ids ≡ [] →
     nodes_kept ids vertices names ≡ []
@@ -148,13 +134,7 @@ no_name = None
 
 pub few_names : {count : ℕ} (names : List (Option (List ℕ))) → length (with_none count names) ≡ count →
     length names ≤ count
-few_names {count} names e =
-    omega (
-      arith,
-      e,
-      length-append names (replicate (count - length names) no_name),
-      length-replicate (count - length names) no_name,
-    )
+few_names {count} names e = search (rules, length-replicate)
 
 -- a place for a name that is not there
 pub none_kept : (count : ℕ) (names : List (Option (List ℕ))) → length names < count →
@@ -163,9 +143,8 @@ none_kept count names room =
     let left : count - length (names ++ no_name ∷ []) ≡ count - length names - 1 =
     omega (arith, length-append names (no_name ∷ [])) in
     let more : suc (count - length names - 1) ≡ count - length names = omega arith in
-    ap (λ n. (names ++ no_name ∷ []) ++ replicate n no_name) left
-    ∙ append_assoc names (no_name ∷ []) (replicate (count - length names - 1) no_name)
-    ∙ ap (λ n. names ++ replicate n no_name) more
+    ap (λ n. (names ++ no_name ∷ []) ++ replicate n no_name) left ∙ append_assoc names
+    (no_name ∷ []) (replicate (count - length names - 1) no_name) ∙ ap (λ n. names ++ replicate n no_name) more
 
 none_more : (n : ℕ) → replicate (suc n) no_name ≡ replicate n no_name ++ no_name ∷ []
 none_more zero = refl
@@ -173,32 +152,25 @@ none_more (suc n) = ap (λ xs. no_name ∷ xs) (none_more n)
 
 with_none-more : (count : ℕ) (names : List (Option (List ℕ))) → length names ≤ count →
     with_none (count + 1) names ≡ with_none count names ++ None ∷ []
-with_none-more count names few =
-    let more : count + 1 - length names ≡ suc (count - length names) = omega arith in
+with_none-more count names few = let more : count + 1 - length names ≡ suc (count - length names) = omega arith in
     ap (λ n. names ++ replicate n no_name) more ∙ ap (λ xs. names ++ xs) (none_more (count - length names))
     ∙ sym (append_assoc names (replicate (count - length names) no_name) (no_name ∷ []))
 
 pub names_pushed : {count : ℕ} (padded old : List (Option (Vec ℕ Global))) (name : Option (Vec ℕ Global)) →
-    length padded ≤ count →
-    (is_some name ≡ true → length padded ≡ count) → with_none count (map name_bytes padded) ≡ with_none count
-    (map name_bytes old) →
-    with_none (count + 1) (map name_bytes (names_with padded name)) ≡ with_none count (map name_bytes old) ++
-    name_bytes name ∷ []
-names_pushed {count} padded old None few full same =
-    with_none-more count (map name_bytes padded) (omega (arith, length-map padded name_bytes))
-    ∙ ap (λ xs. xs ++ no_name ∷ []) same
+    length padded ≤ count → (is_some name ≡ true → length padded ≡ count) →
+    with_none count (map name_bytes padded) ≡ with_none count (map name_bytes old) → with_none
+    (count + 1) (map name_bytes (names_with padded name)) ≡ with_none count (map name_bytes old) ++ name_bytes name ∷ []
+names_pushed {count} padded old None few full same = search (rules, with_none-more, length-map)
 names_pushed {count} padded old (Some name) few full same =
     let whole : length padded ≡ count = full refl in
     let last = name_bytes (Some name) in
     let e : map name_bytes (padded ++ Some name ∷ []) ≡ map name_bytes padded ++ last ∷ [] =
     map-append name_bytes padded (Some name ∷ []) in
     ap (with_none (count + 1)) e ∙ with_none-all (count + 1) (map name_bytes padded ++ last ∷ [])
-    (omega (arith, length-append (map name_bytes padded) (last ∷ []), length-map padded name_bytes))
-    ∙ ap (λ xs. xs ++ last ∷ []) (sym (with_none-all count (map name_bytes padded)
-    (omega (arith, length-map padded name_bytes))) ∙ same)
+    (omega (arith, length-append (map name_bytes padded) (last ∷ []), length-map padded name_bytes)) ∙ ap (λ xs. xs ++
+    last ∷ []) (sym (with_none-all count (map name_bytes padded) (omega (arith, length-map padded name_bytes))) ∙ same)
 
 pub plain_kept : (count : ℕ) (names : List (Option (List ℕ))) → All HasNoQuote (with_none count names) →
     All HasNoQuote names
-plain_kept count names plain k d lt =
-    let rest = replicate (count - length names) no_name in
+plain_kept count names plain k d lt = let rest = replicate (count - length names) no_name in
     subst HasNoQuote (get_or_append_left names rest d k lt) (plain k d (omega (arith, lt, length-append names rest)))

@@ -1,6 +1,6 @@
 -- The sign that comes next, by the first byte that is no blank.
 use Rattle.std.proofs.Common.{◌≡◌, ℕ, ◌+◌, Bool, true, false, eqb, List, [], ◌∷◌, take, drop, Option, Some, None, refl}
-use Rattle.std.proofs.Common.{cond, sym, ap, ◌∙◌, ⊎_elim, arith}
+use Rattle.std.proofs.Common.{cond, sym, ap, ◌∙◌, rules}
 use Rattle.std.proofs.lemmas.List.{drop-drop}
 use Rattle.std.proofs.lemmas.Bool.{cases_Bool, eqb-true}
 use Rattle.std.specs.Prelude.{not, ◌&&◌}
@@ -20,18 +20,14 @@ head_sign before (b ∷ bs) = Some (first_sign before (b ∷ bs))
 
 first_of_lex : (before rest : List ℕ) → prefix_len is_blank rest ≡ 0 →
     first_of (signs (lex 0 before rest)) ≡ head_sign before rest
-first_of_lex before [] none = ap (λ ps. first_of (signs ps)) (lex-end before)
-first_of_lex before (b ∷ bs) none = ap (λ ps. first_of (signs ps)) (lex-first before (b ∷ bs) none (omega arith))
+first_of_lex before rest h1 = search (rules, lex-end, lex-first)
 
-pub next_sign : (text : List ℕ) {before rest : List ℕ} (at : ℕ) {start : ℕ} →
-    start ≡ at + prefix_len is_blank (drop at text) →
-    before ≡ take start text → rest ≡ drop start text → next_of (stream_from text at) ≡ head_sign before rest
-next_sign text {before} at {start} begins front back =
-    let none : prefix_len is_blank (drop start text) ≡ 0 =
+pub next_sign : (text : List ℕ) {before rest : List ℕ} (at : ℕ) {start : ℕ} → start ≡ at + prefix_len is_blank (drop
+    at text) → before ≡ take start text → rest ≡ drop start text → next_of (stream_from text at) ≡ head_sign before rest
+next_sign text {before} at {start} begins front back = let none : prefix_len is_blank (drop start text) ≡ 0 =
     rw (begins, ← drop-drop (prefix_len is_blank (drop at text)) at text) (prefix_len-behind is_blank (drop at text)) in
-    ap next_of (stream_from-blanks text at ∙ ap (stream_from text) (sym begins))
-    ∙ first_of_lex (take start text) (drop start text) none
-    ∙ ap (λ b. head_sign b (drop start text)) (sym front) ∙ ap (head_sign before) (sym back)
+    ap next_of (stream_from-blanks text at ∙ ap (stream_from text) (sym begins)) ∙ first_of_lex (take start text)
+    (drop start text) none ∙ ap (λ b. head_sign b (drop start text)) (sym front) ∙ ap (head_sign before) (sym back)
 
 -- ## What the first byte says of the sign
 
@@ -58,32 +54,24 @@ sign_mark before b bs d l q = rw (d, l, q) refl
 -- a property of the first sign, by the byte's class
 by_class : (P : Sign → Type 0) (before : List ℕ) (b : ℕ) (bs : List ℕ) →
     (is_digit b ≡ true → P (number_sign before (b ∷ bs))) →
-    (is_digit b ≡ false → is_letter b ≡ true → P (word_sign before (b ∷ bs))) →
-    (is_digit b ≡ false → eqb b 34 ≡ true → P (name_sign bs)) →
-    (is_digit b ≡ false → eqb b 34 ≡ false → P (mark_sign b)) → P (first_sign before (b ∷ bs))
-by_class P before b bs number word name mark = ⊎_elim
-    (λ (d : is_digit b ≡ true). rw (sign_digit before b bs d) (number d)) (λ (d : is_digit b ≡ false). ⊎_elim
-    (λ (l : is_letter b ≡ true). rw (sign_letter before b bs d l) (word d l)) (λ (l : is_letter b ≡ false). ⊎_elim
-    (λ (q : eqb b 34 ≡ true). rw (sign_quote before b bs d l q) (name d q))
-    (λ (q : eqb b 34 ≡ false). rw (sign_mark before b bs d l q) (mark d q)) (cases_Bool (eqb b 34)))
-    (cases_Bool (is_letter b))) (cases_Bool (is_digit b))
+    (is_digit b ≡ false → is_letter b ≡ true → P (word_sign before (b ∷ bs))) → (is_digit b ≡ false → eqb b 34 ≡ true →
+    P (name_sign bs)) → (is_digit b ≡ false → eqb b 34 ≡ false → P (mark_sign b)) → P (first_sign before (b ∷ bs))
+by_class P before b bs number word name mark =
+    search (rules, sign_digit, sign_letter, sign_quote, sign_mark, cases_Bool)
 
 -- what holds of both signs holds of the one that a test chooses
 of_both : {X : Type 0} {x : X} {a b : Sign} (f : Sign → X) (t : Bool) → f a ≡ x → f b ≡ x → f (cond t a b) ≡ x
-of_both f true p q = p
-of_both f false p q = q
+of_both f t h1 h2 = search rules
 
 of_marks : {X : Type 0} {x : X} (f : Sign → X) (b : ℕ) → f Comma ≡ x → f Semicolon ≡ x → f Wrong ≡ x →
     f (mark_sign b) ≡ x
 of_marks f b p q r = of_both f (eqb b 44) p (of_both f (eqb b 59) q r)
 
 number_number : (t : Bool) (n : ℕ) → is_number (Some (cond t Wrong (Number n))) ≡ not t
-number_number true n = refl
-number_number false n = refl
+number_number t n = search rules
 
 mark_comma : (s t : Bool) → is_comma (Some (cond s Comma (cond t Semicolon Wrong))) ≡ s
-mark_comma true t = refl
-mark_comma false t = of_both (λ sign. is_comma (Some sign)) t refl refl
+mark_comma s t = search (rules, of_both)
 
 -- a number comes next where a digit does, and no letter stands directly before it
 pub at_number : (before rest : List ℕ) →
@@ -102,9 +90,7 @@ at_number before (b ∷ bs) = by_class (λ sign. is_number (Some sign) ≡ is_di
     other d = sym (ap (λ t. t && not (ends_in is_letter before)) d)
 
 no_comma_where : (b : ℕ) (p : ℕ → Bool) → p 44 ≡ false → p b ≡ true → eqb b 44 ≡ false
-no_comma_where b p fails passes = ⊎_elim
-    (λ (e : eqb b 44 ≡ true). let x : true ≡ false = sym passes ∙ ap p (eqb-true b 44 e) ∙ fails in cc)
-    (λ (e : eqb b 44 ≡ false). e) (cases_Bool (eqb b 44))
+no_comma_where b p fails passes = search (rules, eqb-true, cases_Bool)
 
 -- a comma comes next where its byte does
 pub at_comma : (before rest : List ℕ) → is_comma (head_sign before rest) ≡ begins_in (λ b. eqb b 44) rest

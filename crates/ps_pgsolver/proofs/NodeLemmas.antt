@@ -1,5 +1,6 @@
 -- Nodes with a table of their ids.
-use Rattle.std.proofs.Common.{◌≡◌, ◌≢◌, ℕ, List, [], ◌∷◌, ◌++◌, Option, true, length, arith, length-append, sym, subst}
+use Rattle.std.proofs.Common.{rules, ◌≡◌, ◌≢◌, ℕ, List, [], ◌∷◌, ◌++◌, Option, true, length, arith, length-append, sym}
+use Rattle.std.proofs.Common.{subst}
 use Rattle.std.proofs.lemmas.List.{get_or_append_left, map-append}
 use Rattle.std.proofs.lemmas.List.Sums.{AllPass-from_list_all, list_all-from_AllPass}
 use Rattle.std.proofs.Math.Seq.{get_or-append_seam}
@@ -43,13 +44,10 @@ pub each_known : (ids list : List ℕ) → knows_each ids list ≡ true → Know
 each_known ids list e k d l = Contains-any _ ids (AllPass-from_list_all (λ id. is_member ids id) list e k d l)
 
 each_tested : (ids list : List ℕ) → KnowsEach ids list → knows_each ids list ≡ true
-each_tested ids list h =
-    list_all-from_AllPass (λ id. is_member ids id) list (λ k d l. any-from_Contains _ ids (h k d l))
+each_tested ids list h = search (rules, list_all-from_AllPass, any-from_Contains)
 
 pub all_known : (ids : List ℕ) (nodes : List NodeData) → knows_all ids nodes ≡ true → KnowsAll ids nodes
-all_known ids nodes e k d l =
-    each_known ids _ (AllPass-from_list_all (λ (n : NodeData). knows_each ids n.successors) nodes e k d l)
+all_known ids nodes e k d l = search (rules, each_known, AllPass-from_list_all)
 
 pub all_tested : (ids : List ℕ) (nodes : List NodeData) → KnowsAll ids nodes → knows_all ids nodes ≡ true
-all_tested ids nodes h =
-    list_all-from_AllPass (λ (n : NodeData). knows_each ids n.successors) nodes (λ k d l. each_tested ids _ (h k d l))
+all_tested ids nodes h = search (rules, list_all-from_AllPass, each_tested)

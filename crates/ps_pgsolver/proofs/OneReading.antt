@@ -1,6 +1,6 @@
 -- A game text has one answer.
-use Rattle.std.proofs.Common.{◌≡◌, ℕ, ◌<◌, ◌≤◌, eqb, if◌then◌else◌, List, length, Option, None, Some, Result, Ok, Err}
-use Rattle.std.proofs.Common.{refl, sym, ap, subst, ◌∙◌, arith}
+use Rattle.std.proofs.Common.{◌≡◌, ℕ, ◌<◌, ◌≤◌, eqb, List, length, Option, None, Some, Result, Ok, Err, sym, ap, subst}
+use Rattle.std.proofs.Common.{◌∙◌, arith, rules}
 use Rattle.ps_text.specs.Answers.{Stream, Found, AreNumbered}
 use Rattle.ps_text.specs.Parts.{PartAnswers, IsWrong}
 use Rattle.ps_text.proofs.OneAnswer.{has_one_answer}
@@ -16,20 +16,15 @@ use Rattle.ps_pgsolver.specs.declared.fault.PgCause.{PgCause}
 use Rattle.ps_pgsolver.specs.declared.fault.PgCause.TheVariants as causes
 use Rattle.ps_pgsolver.proofs.GameTokens.{only_tokens}
 use Rattle.ps_pgsolver.proofs.GameLaws.{laws_game}
+use Rattle.std.proofs.Common.{if◌then◌else◌}
 
 abbrev of_number : ℕ → PgCause
-of_number n =
-    if eqb n 30 then causes.Syntax else (if eqb n 31 then causes.NoSuccessor else
-    (if eqb n 32 then causes.UnknownSuccessor
-    else (if eqb n 33 then causes.NodeTwice else (if eqb n 34 then causes.Number else causes.Limit))))
+of_number n = if eqb n 30 then causes.Syntax else
+    (if eqb n 31 then causes.NoSuccessor else (if eqb n 32 then causes.UnknownSuccessor else
+    (if eqb n 33 then causes.NodeTwice else (if eqb n 34 then causes.Number else causes.Limit))))
 
 back : (f : PgCause) → of_number (cause_number f) ≡ f
-back causes.Syntax = refl
-back causes.NoSuccessor = refl
-back causes.UnknownSuccessor = refl
-back causes.NodeTwice = refl
-back causes.Number = refl
-back causes.Limit = refl
+back f = search rules
 
 numbered : AreNumbered cause_number
 numbered f g e = sym (back f) ∙ ap of_number e ∙ back g
@@ -39,9 +34,8 @@ Nodes = Result (List NodeData) (Found PgCause)
 
 same_answer : (known : Option (List ℕ)) (stream : Stream Sign) (a b : Nodes) →
     PartAnswers pg_causes (game known) stream a → PartAnswers pg_causes (game known) stream b → a ≡ b
-same_answer known stream a b h k =
-    has_one_answer (game known).IsText (IsWrong pg_causes (game known)) cause_number (laws_game known).one_value
-    numbered stream a b h k
+same_answer known stream a b h k = has_one_answer (game known).IsText
+    (IsWrong pg_causes (game known)) cause_number (laws_game known).one_value numbered stream a b h k
 
 abbrev nodes_of : List NodeData → Nodes → List NodeData
 nodes_of d (Ok ns) = ns
@@ -88,13 +82,11 @@ over : (text : List ℕ) (a : GameAnswer) → Answer text a → Over text a
 over text a (too_long l e) = long l e
 over text a (refused s f h p e) =
     first h.short f (subst (λ z. PartAnswers pg_causes (game None) z (nodes_err f)) (only_tokens text s h.tokens) p) e
-over text a (unknown s ns f h p q e) =
-    both h.short ns (nodes_err f) (subst (λ z. PartAnswers pg_causes (game None) z (nodes_ok ns))
-    (only_tokens text s h.tokens) p)
+over text a (unknown s ns f h p q e) = both h.short ns
+    (nodes_err f) (subst (λ z. PartAnswers pg_causes (game None) z (nodes_ok ns)) (only_tokens text s h.tokens) p)
     (subst (λ z. PartAnswers pg_causes (game (Some (ids_of ns))) z (nodes_err f)) (only_tokens text s h.tokens) q) e
-over text a (meaning s ns h p q e) =
-    both h.short ns (nodes_ok ns) (subst (λ z. PartAnswers pg_causes (game None) z (nodes_ok ns))
-    (only_tokens text s h.tokens) p)
+over text a (meaning s ns h p q e) = both h.short ns
+    (nodes_ok ns) (subst (λ z. PartAnswers pg_causes (game None) z (nodes_ok ns)) (only_tokens text s h.tokens) p)
     (subst (λ z. PartAnswers pg_causes (game (Some (ids_of ns))) z (nodes_ok ns)) (only_tokens text s h.tokens) q) e
 
 not_both : (ns : List NodeData) (f : Found PgCause) → nodes_ok ns ≡ nodes_err f → ⊥
@@ -114,8 +106,7 @@ same_over {text} (both l ns r p q e) (first m f s k) =
     absurd (not_both ns f (same_answer None (stream_of text) (nodes_ok ns) (nodes_err f) p s))
 same_over {text} (both l ns r p q e) (both m ms t s u k) =
     let x : ns ≡ ms = ap (nodes_of ns) (same_answer None (stream_of text) (nodes_ok ns) (nodes_ok ms) p s) in
-    let y : r ≡ t = same_answer (Some (ids_of ms)) (stream_of text) r t (subst
-    (λ z. PartAnswers pg_causes (game (Some (ids_of z))) (stream_of text) r) x q) u in
+    let y : r ≡ t = search (rules, same_answer) in
     e ∙ ap (λ z. result_of z r) x ∙ ap (result_of ms) y ∙ sym k
 
 pub one_reading : (text : List ℕ) (a b : GameAnswer) → Answer text a → Answer text b → a ≡ b

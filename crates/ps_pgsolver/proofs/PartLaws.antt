@@ -1,7 +1,9 @@
 -- The laws of the grammar's parts, and how they are joined.
-use Rattle.std.proofs.Common.{◌≡◌, ℕ, List, [], ◌∷◌, ◌++◌, Option, None, Some, refl, sym, inl, inr, ◌∙◌, arith}
+--     laws_sign      a part of one sign
+--     laws_number, .., laws_node, joint_more, .., joint_id      of each part, in the grammar's order
+use Rattle.std.proofs.Common.{◌≡◌, ℕ, List, [], ◌∷◌, ◌++◌, Option, None, Some, refl, sym, ◌∙◌, arith, rules}
 use Rattle.ps_text.specs.Parts.{Part, one, give, then_by, many, mapped, NoBad}
-use Rattle.ps_text.proofs.Laws.{Laws, Joint, Nothing, Or, When, Within, Apart, weaker}
+use Rattle.ps_text.proofs.Laws.{Laws, Joint, Nothing, Or, Within, Apart, weaker}
 use Rattle.ps_text.proofs.Joined.{joint}
 use Rattle.ps_text.proofs.Simple.{Taken, BadSign, none_is_some, laws_one, laws_give, laws_mapped, laws_then}
 use Rattle.ps_text.proofs.Following.{laws_next}
@@ -46,97 +48,44 @@ kinds_apart i j d t h k = d (sym h ∙ k)
 pub same : (A : Sign → Type 0) → Within A A
 same A t h = h
 
-first_number : Within (Or (Taken number_in) (BadSign {F = PgCause} BadNumber)) (IsKind 0)
-unfolding kind_of
-first_number (Number x) h = refl
-first_number _ (inl h) = absurd (none_is_some h.0 h.1)
-first_number _ (inr h) = absurd h.1
-
-first_id : (ids : List ℕ) → Within (Or (Taken number_in) (BadSign {F = PgCause} (BadId ids))) (IsKind 0)
-unfolding kind_of
-first_id ids (Number x) h = refl
-first_id ids _ (inl h) = absurd (none_is_some h.0 h.1)
-first_id ids _ (inr h) = absurd h.1
-
-first_owner : Within (Or (Taken number_in) (BadSign {F = PgCause} BadOwner)) (IsKind 0)
-unfolding kind_of
-first_owner (Number x) h = refl
-first_owner _ (inl h) = absurd (none_is_some h.0 h.1)
-first_owner _ (inr h) = absurd h.1
-
-first_more : (known : Option (List ℕ)) → Within (Or (Taken number_in) (BadSign {F = PgCause} (BadSuccessor known)))
-    (IsKind 0)
-unfolding kind_of
-first_more known (Number x) h = refl
-first_more known _ (inl h) = absurd (none_is_some h.0 h.1)
-first_more known _ (inr h) = absurd h.1
-
-first_comma : Within (Or (Taken comma_in) (BadSign {F = PgCause} NoBad)) (IsKind 3)
-unfolding kind_of
-first_comma Comma h = refl
-first_comma _ (inl h) = absurd (none_is_some h.0 h.1)
-first_comma _ (inr h) = absurd h.1
-
-first_semicolon : Within (Or (Taken semicolon_in) (BadSign {F = PgCause} NoBad)) (IsKind 4)
-unfolding kind_of
-first_semicolon Semicolon h = refl
-first_semicolon _ (inl h) = absurd (none_is_some h.0 h.1)
-first_semicolon _ (inr h) = absurd h.1
-
-first_name : Within (Or (Taken name_in) (BadSign {F = PgCause} NoBad)) (IsKind 2)
-unfolding kind_of
-first_name (Name x) h = refl
-first_name _ (inl h) = absurd (none_is_some h.0 h.1)
-first_name _ (inr h) = absurd h.1
+-- one sign, where each that may stand there, or is bad, is one of these
+pub laws_sign : {V : Type 0} (take : Sign → Option V) (Bad : Sign → PgCause → Type 0) (t : Sign) (v : V) (First : Sign →
+    Type 0) → take t ≡ Some v → Within (Or (Taken take) (BadSign Bad)) First → Laws Odd (one take Bad) First Nothing ⊥
+laws_sign take Bad t v First e first =
+    weaker (laws_one take Bad Odd t v e (no_odd _) (no_odd _)) first (same Nothing) (λ h. h)
 
 pub laws_number : Laws Odd number (IsKind 0) Nothing ⊥
-unfolding number
-laws_number =
-    weaker (laws_one number_in BadNumber Odd (Number 0) 0 refl (no_odd _) (no_odd _)) first_number
-    (same Nothing) (λ h. h)
+unfolding number kind_of
+laws_number = laws_sign number_in BadNumber (Number 0) 0 (IsKind 0) refl (search (rules, none_is_some))
 
 pub laws_id : (ids : List ℕ) → Laws Odd (new_id ids) (IsKind 0) Nothing ⊥
-unfolding new_id
-laws_id ids =
-    weaker (laws_one number_in (BadId ids) Odd (Number 0) 0 refl (no_odd _) (no_odd _)) (first_id ids)
-    (same Nothing) (λ h. h)
+unfolding new_id kind_of
+laws_id ids = laws_sign number_in (BadId ids) (Number 0) 0 (IsKind 0) refl (search (rules, none_is_some))
 
 pub laws_owner : Laws Odd owner (IsKind 0) Nothing ⊥
-unfolding owner
-laws_owner =
-    weaker (laws_one number_in BadOwner Odd (Number 0) 0 refl (no_odd _) (no_odd _)) first_owner (same Nothing) (λ h. h)
+unfolding owner kind_of
+laws_owner = laws_sign number_in BadOwner (Number 0) 0 (IsKind 0) refl (search (rules, none_is_some))
 
 pub laws_successor : (known : Option (List ℕ)) → Laws Odd (successor known) (IsKind 0) Nothing ⊥
-unfolding successor
+unfolding successor kind_of
 laws_successor known =
-    weaker (laws_one number_in (BadSuccessor known) Odd (Number 0) 0 refl (no_odd _) (no_odd _)) (first_more known)
-    (same Nothing) (λ h. h)
+    laws_sign number_in (BadSuccessor known) (Number 0) 0 (IsKind 0) refl (search (rules, none_is_some))
 
 pub laws_first : (known : Option (List ℕ)) → Laws Odd (first_successor known) Anything Nothing ⊥
 unfolding first_successor
-laws_first known =
-    weaker (laws_one number_in (BadFirst known) Odd (Number 0) 0 refl (no_odd _) (no_odd _)) (λ t h. tt)
-    (same Nothing) (λ h. h)
+laws_first known = laws_sign number_in (BadFirst known) (Number 0) 0 Anything refl (λ t h. tt)
 
 pub laws_comma : Laws Odd comma (IsKind 3) Nothing ⊥
-unfolding comma
-laws_comma =
-    weaker (laws_one comma_in NoBad Odd Comma tt refl (no_odd _) (no_odd _)) first_comma (same Nothing) (λ h. h)
+unfolding comma kind_of
+laws_comma = laws_sign comma_in NoBad Comma tt (IsKind 3) refl (search (rules, none_is_some))
 
 pub laws_semicolon : Laws Odd semicolon (IsKind 4) Nothing ⊥
-unfolding semicolon
-laws_semicolon =
-    weaker (laws_one semicolon_in NoBad Odd Semicolon tt refl (no_odd _) (no_odd _)) first_semicolon
-    (same Nothing) (λ h. h)
+unfolding semicolon kind_of
+laws_semicolon = laws_sign semicolon_in NoBad Semicolon tt (IsKind 4) refl (search (rules, none_is_some))
 
 pub laws_one_name : Laws Odd (one {F = PgCause} name_in NoBad) (IsKind 2) Nothing ⊥
-laws_one_name =
-    weaker (laws_one name_in NoBad Odd (Name []) (Some []) refl (no_odd _) (no_odd _)) first_name
-    (same Nothing) (λ h. h)
-
-pub first_of_two : (A B : Sign → Type 0) (t : Sign) → Or A (When ⊥ B) t → A t
-first_of_two A B t (inl h) = h
-first_of_two A B t (inr h) = absurd h.0
+unfolding kind_of
+laws_one_name = laws_sign name_in NoBad (Name []) (Some []) (IsKind 2) refl (search (rules, none_is_some))
 
 module _ (known : Option (List ℕ)) where
   abbrev pub another : List ℕ → Part Sign (List ℕ) PgCause
@@ -155,42 +104,25 @@ module _ (known : Option (List ℕ)) where
   abbrev pub all_more : ℕ → Part Sign (List ℕ) PgCause
   all_more n = many (more_successor known) (n ∷ [])
 
-  or_nothing : (t : Sign) → Or Nothing (IsKind 3) t → IsKind 3 t
-  or_nothing t (inl h) = absurd h
-  or_nothing t (inr h) = h
-
   laws_all_more : (n : ℕ) → Laws Odd (all_more n) (IsKind 3) (IsKind 3) (Unit {0})
   laws_all_more n =
-      weaker (laws_many (more_successor known) laws_more (nothing_apart _) (n ∷ [])) (same _) or_nothing (λ h. h)
+      weaker (laws_many (more_successor known) laws_more (nothing_apart _) (n ∷ [])) (same _) (search rules) (λ h. h)
 
   pub joint_successors : Joint (first_successor known) all_more
   joint_successors = joint (laws_first known) laws_all_more (nothing_apart _)
 
-  more_successors : (t : Sign) → Or (IsKind 3) (When (Unit {0}) Nothing) t → IsKind 3 t
-  more_successors t (inl h) = h
-  more_successors t (inr h) = absurd h.1
-
   pub laws_successors : Laws Odd (successors known) Anything (IsKind 3) ⊥
   unfolding successors
   laws_successors =
-      weaker (laws_then (laws_first known) laws_all_more (nothing_apart _)) (λ t h. tt) more_successors (λ h. h.0)
-
-more_name : (t : Sign) → Or (Or Nothing Nothing) (Or (When ⊥ Nothing) (When (Unit {0}) (IsKind 2))) t → IsKind 2 t
-more_name t (inl (inl h)) = absurd h
-more_name t (inl (inr h)) = absurd h
-more_name t (inr (inl h)) = absurd h.0
-more_name t (inr (inr h)) = h.1
-
-first_of_name : (t : Sign) → Or (IsKind 2) Nothing t → IsKind 2 t
-first_of_name t (inl h) = h
-first_of_name t (inr h) = absurd h
+      weaker (laws_then (laws_first known) laws_all_more (nothing_apart _)) (λ t h. tt) (search rules) (λ h. h.0)
 
 pub laws_no_name : Laws Odd (give {T = Sign} {V = Option (List ℕ)} {F = PgCause} None) Nothing Nothing (Unit {0})
 laws_no_name = laws_give Odd None
 
 pub laws_name : Laws Odd name (IsKind 2) (IsKind 2) (Unit {0})
 unfolding name
-laws_name = weaker (laws_either laws_one_name laws_no_name (λ t h k. k) (λ h k. h)) first_of_name more_name (λ h. tt)
+laws_name =
+    weaker (laws_either laws_one_name laws_no_name (λ t h k. k) (λ h k. h)) (search rules) (search rules) (λ h. tt)
 
 -- ## The parts of a node, from the back
 
@@ -224,27 +156,20 @@ module _ (known : Option (List ℕ)) (ids : List ℕ) where
   pub joint_name : (id priority owner' : ℕ) (list : List ℕ) → Joint name (node_end id priority owner' list)
   joint_name id priority owner' list = joint laws_name (laws_node_end id priority owner' list) name_ends
 
-  first_from_name : (t : Sign) → Or (IsKind 2) (When (Unit {0}) (IsKind 4)) t → NodeEnd t
-  first_from_name t (inl h) = inl h
-  first_from_name t (inr h) = inr h.1
-
   laws_from_name : (id priority owner' : ℕ) (list : List ℕ) →
       Laws Odd (from_name id priority owner' list) NodeEnd Nothing ⊥
-  laws_from_name id priority owner' list =
-      weaker (laws_then laws_name (laws_node_end id priority owner' list) name_ends) first_from_name
-      (first_of_two _ _) (λ h. h.1)
+  laws_from_name id priority owner' list = weaker (laws_then laws_name
+      (laws_node_end id priority owner' list) name_ends) (search rules) (search rules) (λ h. h.1)
 
   comma_ends : Apart (IsKind 3) NodeEnd
-  comma_ends t h (inl k) = kinds_apart 3 2 (λ e. omega (arith, e)) t h k
-  comma_ends t h (inr k) = kinds_apart 3 4 (λ e. omega (arith, e)) t h k
+  comma_ends = search (rules, kinds_apart)
 
   pub joint_list : (id priority owner' : ℕ) → Joint (successors known) (from_name id priority owner')
   joint_list id priority owner' = joint (laws_successors known) (laws_from_name id priority owner') comma_ends
 
   laws_from_successors : (id priority owner' : ℕ) → Laws Odd (from_successors id priority owner') Anything Nothing ⊥
-  laws_from_successors id priority owner' =
-      weaker (laws_then (laws_successors known) (laws_from_name id priority owner') comma_ends) (λ t h. tt)
-      (first_of_two _ _) (λ h. h.0)
+  laws_from_successors id priority owner' = weaker (laws_then
+      (laws_successors known) (laws_from_name id priority owner') comma_ends) (λ t h. tt) (search rules) (λ h. h.0)
 
   pub joint_owner : (id priority : ℕ) → Joint owner (from_successors id priority)
   joint_owner id priority = joint laws_owner (laws_from_successors id priority) (nothing_apart _)

@@ -46,13 +46,11 @@ one_reads {V} {take} {Bad} s {w} sw answer fits none old {new} {r} n e = go (nex
     known : (t : Sign) → next_of old ≡ Some t → (x : Result V PgFault) → r ≡ x → Fits take Bad t at x → Goal x
     known t h x q (taken v k good y) =
         subst Goal (sym y) (meets_next found_of pg_causes take Bad (λ z. z) old new t v h n k good)
-    known t h x q (bad f b least y) =
-        subst Goal (sym y) (meets_bad_next found_of pg_causes take Bad (λ z. z) old new t f (faults.Text f at)
-        h b least refl)
-    known t h x q (refused k good y) =
-        subst Goal (sym y) (meets_refusal found_of pg_causes take Bad (λ z. z) old new s w sw
-        (λ u g. ap take (same_some u t (sym g ∙ h)) ∙ k)
-        (λ u f g b. good f (subst (λ z. Bad z f) (same_some u t (sym g ∙ h)) b)) (faults.Text causes.Syntax at)
+    known t h x q (bad f b least y) = subst Goal
+        (sym y) (meets_bad_next found_of pg_causes take Bad (λ z. z) old new t f (faults.Text f at) h b least refl)
+    known t h x q (refused k good y) = subst Goal (sym y)
+        (meets_refusal found_of pg_causes take Bad (λ z. z) old new s w sw (λ u g. ap take (same_some u t (sym g ∙ h))
+        ∙ k) (λ u f g b. good f (subst (λ z. Bad z f) (same_some u t (sym g ∙ h)) b)) (faults.Text causes.Syntax at)
         (sym (ap (λ o. Some (record { cause = refusal_of pg_causes o; offset = at })) h)))
 
     ended : next_of old ≡ None → Goal (Err (faults.Text causes.Syntax at))
@@ -123,10 +121,9 @@ successor_fits known (Number n) at = ⊎_elim (λ (yes : ltb n too_large ≡ tru
     (cases_Bool (ltb n too_large))
 successor_fits known _ at = refused refl (λ f b. b) refl
 
-same_fits : {V : Type 0} {take : Sign → Option V} {Bad Bad' : Sign → PgCause → Type 0} {t : Sign} {at : ℕ}
-    {r : Result V PgFault} →
-    ((f : PgCause) → Bad' t f → Bad t f) → ((f : PgCause) → Bad t f → Bad' t f) → Fits take Bad t at r →
-    Fits take Bad' t at r
+same_fits : {V : Type 0} {take : Sign → Option V} {Bad Bad' : Sign → PgCause → Type 0}
+    {t : Sign} {at : ℕ} {r : Result V PgFault} → ((f : PgCause) → Bad' t f → Bad t f) →
+    ((f : PgCause) → Bad t f → Bad' t f) → Fits take Bad t at r → Fits take Bad' t at r
 same_fits back on (taken v e good y) = taken v e (λ f b. good f (back f b)) y
 same_fits back on (bad f b least y) = bad f (on f b) (λ g c. least g (back g c)) y
 same_fits back on (refused e good y) = refused e (λ f b. good f (back f b)) y
@@ -165,15 +162,13 @@ unfolding owner
 reads_owner old = one_reads (Number 0) refl owner_answer owner_fits (λ at. refl) old
 
 pub reads_successor : (known : Option (List ℕ)) (old : Stream Sign) {new : Stream Sign} {r : Result ℕ PgFault} →
-    new ≡ tail old →
-    r ≡ successor_answer known (next_of old) (offset_of old.pieces old.end) →
+    new ≡ tail old → r ≡ successor_answer known (next_of old) (offset_of old.pieces old.end) →
     ReadsAs (λ n. n) (successor known) old r new
 unfolding successor
 reads_successor known old = one_reads (Number 0) refl (successor_answer known) (successor_fits known) (λ at. refl) old
 
 pub reads_first : (known : Option (List ℕ)) (old : Stream Sign) {new : Stream Sign} {r : Result ℕ PgFault} →
-    new ≡ tail old →
-    r ≡ first_answer known (next_of old) (offset_of old.pieces old.end) →
+    new ≡ tail old → r ≡ first_answer known (next_of old) (offset_of old.pieces old.end) →
     ReadsAs (λ n. n) (first_successor known) old r new
 unfolding first_successor
 reads_first known old = one_reads (Number 0) refl (first_answer known) (first_fits known) (λ at. refl) old
@@ -223,16 +218,14 @@ first_known known ids (Some OpenName) at n h e = absurd (no_fault n (faults.Text
 first_known known ids _ at n h e = absurd (no_fault n (faults.Text causes.Syntax at) e)
 
 pub later_successor : (known : Option (List ℕ)) (old : Stream Sign) {new : Stream Sign} (r : Result ℕ PgFault) →
-    new ≡ tail old →
-    r ≡ successor_answer known (next_of old) (offset_of old.pieces old.end) →
+    new ≡ tail old → r ≡ successor_answer known (next_of old) (offset_of old.pieces old.end) →
     ReadsKnown Contains (λ n. n) successor old r new
 later_successor known old (Ok n) t e =
     λ ids h. reads_successor (Some ids) old t (successor_known known ids (next_of old) _ n h e)
 later_successor known old (Err f) t e = tt
 
 pub later_first : (known : Option (List ℕ)) (old : Stream Sign) {new : Stream Sign} (r : Result ℕ PgFault) →
-    new ≡ tail old →
-    r ≡ first_answer known (next_of old) (offset_of old.pieces old.end) →
+    new ≡ tail old → r ≡ first_answer known (next_of old) (offset_of old.pieces old.end) →
     ReadsKnown Contains (λ n. n) first_successor old r new
 later_first known old (Ok n) t e = λ ids h. reads_first (Some ids) old t (first_known known ids (next_of old) _ n h e)
 later_first known old (Err f) t e = tt

@@ -1,16 +1,17 @@
 -- Each game text has an answer.
-use Rattle.std.proofs.Common.{◌≡◌, ℕ, ◌<◌, ◌≤◌, ◌⊎◌, true, false, List, [], ◌∷◌, ◌++◌, length, Option, None, Some}
-use Rattle.std.proofs.Common.{Result, Ok, Err, refl, sym, subst, inl, inr, ⊎_elim, ◌∙◌, arith}
+use Rattle.std.proofs.Common.{◌≡◌, ℕ, suc, ◌<◌, ◌≤◌, ◌⊎◌, List, [], ◌∷◌, ◌++◌, length, Option, None, Some}
+use Rattle.std.proofs.Common.{Result, Ok, Err, refl, sym, subst, inl, inr}
 use Rattle.std.specs.Prelude.{codes}
 use Rattle.std.specs.List.{Contains}
-use Rattle.std.proofs.lemmas.Bool.{cases_Bool, cases_lt}
+use Rattle.std.proofs.lemmas.Bool.{cases_lt}
 use Rattle.ps_text.specs.Answers.{Stream, Found, signs}
 use Rattle.ps_text.specs.Parts.{Part, PartAnswers, NoBad}
 use Rattle.ps_text.specs.Outcomes.{HasOutcomes}
 use Rattle.ps_text.proofs.Outcomes.{Judged, good, bad_only, has_give, has_one, has_mapped, has_then, has_either}
 use Rattle.ps_text.proofs.Outcomes.{has_many, some_answer}
+use Rattle.ps_text.proofs.Decisions.{Decided, decide_not, decide_both, decide_below, decide_in, judge_cause}
+use Rattle.ps_text.proofs.Decisions.{judge_one, judge_as}
 use Rattle.ps_game.specs.Games.{NamedGameData}
-use Rattle.ps_ids.proofs.Members.{Contains-any, any-from_Contains}
 use Rattle.ps_pgsolver.specs.Causes.{cause_number}
 use Rattle.ps_pgsolver.specs.GamesOf.{named_game_of}
 use Rattle.ps_pgsolver.specs.GameTexts.{pg_causes, too_large, number_in, comma_in, semicolon_in, name_in, keyword_in}
@@ -18,7 +19,7 @@ use Rattle.ps_pgsolver.specs.GameTexts.{BadNumber, BadId, BadOwner, BadSuccessor
 use Rattle.ps_pgsolver.specs.GameTexts.{owner, successor, first_successor, comma, semicolon, more_successor, successors}
 use Rattle.ps_pgsolver.specs.GameTexts.{name, node, entry, entries, keyword, value_line, setting, game}
 use Rattle.ps_pgsolver.specs.Lexer.{stream_of}
-use Rattle.ps_pgsolver.specs.Nodes.{NodeData, ids_of, is_member}
+use Rattle.ps_pgsolver.specs.Nodes.{NodeData, ids_of}
 use Rattle.ps_pgsolver.specs.Reading.{Answer, HasTokens, text_limit, too_long, refused, unknown, meaning}
 use Rattle.ps_pgsolver.specs.Signs.{Sign, Number, Word, Name, Comma, Semicolon, OpenName, Wrong}
 use Rattle.ps_pgsolver.specs.declared.fault.PgCause.{PgCause}
@@ -38,29 +39,12 @@ Judges Bad = (t : Sign) → Judged cause_number (Bad t)
 no_bad : Judges NoBad
 no_bad t = good (λ f b. b)
 
-module _ (ids : List ℕ) (n : ℕ) where
-  member : Contains ids n ⊎ ¬ Contains ids n
-  member = ⊎_elim (λ (yes : is_member ids n ≡ true). inl (Contains-any n ids yes))
-      (λ (no : is_member ids n ≡ false). inr (λ h. true_false (sym (any-from_Contains n ids h) ∙ no)))
-      (cases_Bool (is_member ids n))
-    where
-      true_false : true ≡ false → ⊥
-      true_false e = let x : true ≡ false = e in cc
-
 judge_number : Judges BadNumber
-judge_number (Number n) = go (cases_lt n too_large)
-  where
-    go : (n < too_large) ⊎ (too_large ≤ n) → Judged cause_number (BadNumber (Number n))
-    go (inl small) = good (λ f b. omega (arith, small, b.0))
-    go (inr large) = bad_only cause_number _ causes.Number (large, refl) (λ g b. sym b.1)
+judge_number (Number n) = judge_cause cause_number causes.Number (decide_below too_large n)
 judge_number _ = good (λ f b. b)
 
 judge_owner : Judges BadOwner
-judge_owner (Number n) = go (cases_lt n 2)
-  where
-    go : (n < 2) ⊎ (2 ≤ n) → Judged cause_number (BadOwner (Number n))
-    go (inl small) = good (λ f b. omega (arith, small, b.0))
-    go (inr large) = bad_only cause_number _ causes.Number (large, refl) (λ g b. sym b.1)
+judge_owner (Number n) = judge_cause cause_number causes.Number (decide_below 2 n)
 judge_owner _ = good (λ f b. b)
 
 -- a number that is too large, or of which A tells the cause
@@ -68,37 +52,26 @@ module _ (A : Type 0) (cause : PgCause) (n : ℕ) where
   abbrev pub OneOf : PgCause → Type 0
   OneOf f = ((too_large ≤ n) × (f ≡ causes.Number)) ⊎ ((n < too_large) × A × (f ≡ cause))
 
-  judge_two : A ⊎ ¬ A → Judged cause_number OneOf
-  judge_two holds = go (cases_lt n too_large) holds
+  judge_two : Decided A → Judged cause_number OneOf
+  judge_two holds = judge_as cause_number to from
+      (judge_one cause_number (judge_cause cause_number causes.Number (decide_below too_large n))
+      (judge_cause cause_number cause (decide_both (decide_below (suc n) too_large) holds)))
     where
-      large_only : too_large ≤ n → (f : PgCause) → OneOf f → causes.Number ≡ f
-      large_only large f (inl b) = sym b.1
-      large_only large f (inr b) = absurd (omega (arith, large, b.0))
+      to : (f : PgCause) → ((too_large ≤ n) × (f ≡ causes.Number)) ⊎ (((n < too_large) × A) × (f ≡ cause)) → OneOf f
+      to f (inl h) = inl h
+      to f (inr h) = inr (h.0.0, h.0.1, h.1)
 
-      small_only : n < too_large → (f : PgCause) → OneOf f → cause ≡ f
-      small_only small f (inl b) = absurd (omega (arith, small, b.0))
-      small_only small f (inr b) = sym b.2
-
-      none : n < too_large → ¬ A → (f : PgCause) → OneOf f → ⊥
-      none small failing f (inl b) = omega (arith, small, b.0)
-      none small failing f (inr b) = failing b.1
-
-      go : (n < too_large) ⊎ (too_large ≤ n) → A ⊎ ¬ A → Judged cause_number OneOf
-      go (inr large) h = bad_only cause_number OneOf causes.Number (inl (large, refl)) (large_only large)
-      go (inl small) (inl holding) = bad_only cause_number OneOf cause (inr (small, holding, refl)) (small_only small)
-      go (inl small) (inr failing) = good (none small failing)
+      from : (f : PgCause) → OneOf f → ((too_large ≤ n) × (f ≡ causes.Number)) ⊎ (((n < too_large) × A) × (f ≡ cause))
+      from f (inl h) = inl h
+      from f (inr h) = inr ((h.0, h.1), h.2)
 
 judge_id : (ids : List ℕ) → Judges (BadId ids)
-judge_id ids (Number n) = judge_two (Contains ids n) causes.NodeTwice n (member ids n)
+judge_id ids (Number n) = judge_two (Contains ids n) causes.NodeTwice n (decide_in ids n)
 judge_id ids _ = good (λ f b. b)
 
-unknown_or_not : (known : Option (List ℕ)) (n : ℕ) → IsUnknown known n ⊎ ¬ IsUnknown known n
+unknown_or_not : (known : Option (List ℕ)) (n : ℕ) → Decided (IsUnknown known n)
 unknown_or_not None n = inr (λ h. h)
-unknown_or_not (Some ids) n = go (member ids n)
-  where
-    go : Contains ids n ⊎ ¬ Contains ids n → (¬ Contains ids n) ⊎ ¬ ¬ Contains ids n
-    go (inl there) = inr (λ none. none there)
-    go (inr none) = inl none
+unknown_or_not (Some ids) n = decide_not (decide_in ids n)
 
 judge_successor : (known : Option (List ℕ)) → Judges (BadSuccessor known)
 judge_successor known (Number n) = judge_two (IsUnknown known n) causes.UnknownSuccessor n (unknown_or_not known n)

@@ -41,13 +41,11 @@ sound_one take Bad g = record { good = λ text v h q. g h.0 v h.2 (λ f b. q [] 
 sound_then : {A B : Type 0} {P : Part Sign A PgCause} (Q : A → Part Sign B PgCause) {G : A → Type 0} {H : B → Type 0} →
     Sound P G → ((a : A) → G a → Sound (Q a) H) → Sound (then_by P Q) H
 sound_then {P} Q l r = record {
-  good = λ text v h q.
-      let left_quiet : Quiet P h.left = λ front rest t f e c. q front (rest ++ h.right) t f
-      (h.split ∙ ap (λ x. x ++ h.right) e ∙ append_assoc front (t ∷ rest) h.right) (inl c) in
-      let right_quiet : Quiet (Q h.value) h.right = λ front rest t f e c. q (h.left ++ front) rest t f
-      (h.split ∙ ap (λ x. h.left ++ x) e ∙ sym (append_assoc h.left front (t ∷ rest)))
-      (inr (record { left = h.left; right = front; value = h.value; split = refl; is_left = h.is_left; is_cause = c }))
-      in
+  good = λ text v h q. let left_quiet : Quiet P h.left = λ front rest t f e c. q front
+      (rest ++ h.right) t f (h.split ∙ ap (λ x. x ++ h.right) e ∙ append_assoc front (t ∷ rest) h.right) (inl c) in
+      let right_quiet : Quiet (Q h.value) h.right = λ front rest t f e c. q
+      (h.left ++ front) rest t f (h.split ∙ ap (λ x. h.left ++ x) e ∙ sym (append_assoc h.left front (t ∷ rest))) (inr
+      (record { left = h.left; right = front; value = h.value; split = refl; is_left = h.is_left; is_cause = c })) in
       (r h.value (l.good h.left h.value h.is_left left_quiet)).good h.right v h.is_right right_quiet;
 }
 
@@ -102,8 +100,7 @@ module _ (ids : List ℕ) where
 
   sound_more : (list : List ℕ) → Known list → Sound (more_successor (Some ids) list) Known
   unfolding more_successor
-  sound_more list k =
-      sound_then (λ _. mapped (λ n. list ++ n ∷ []) (successor (Some ids))) (sound_any)
+  sound_more list k = sound_then (λ _. mapped (λ n. list ++ n ∷ []) (successor (Some ids))) (sound_any)
       (λ _ _. sound_mapped (λ n. list ++ n ∷ []) (λ n h. All-push (λ n. Contains ids n) list n k h) sound_successor)
 
   one_known : (n : ℕ) → Contains ids n → Known (n ∷ [])
@@ -111,8 +108,7 @@ module _ (ids : List ℕ) where
 
   sound_successors : Sound (successors (Some ids)) Known
   unfolding successors
-  sound_successors =
-      sound_then (λ n. many (more_successor (Some ids)) (n ∷ [])) sound_first
+  sound_successors = sound_then (λ n. many (more_successor (Some ids)) (n ∷ [])) sound_first
       (λ n h. sound_many (more_successor (Some ids)) sound_more (n ∷ []) (one_known n h))
 
   abbrev KnownNode : NodeData → Type 0
@@ -120,10 +116,9 @@ module _ (ids : List ℕ) where
 
   sound_node : (earlier : List ℕ) → Sound (node (Some ids) earlier) KnownNode
   unfolding node
-  sound_node earlier =
-      sound_then _ (sound_any) (λ id _. sound_then _ (sound_any) (λ priority _. sound_then _ (sound_any) (λ owner' _.
-      sound_then _ sound_successors (λ list known. sound_then _ (sound_any) (λ name' _.
-      sound_mapped _ (λ _ _. known) (sound_any))))))
+  sound_node earlier = sound_then _ (sound_any) (λ id _. sound_then _
+      (sound_any) (λ priority _. sound_then _ (sound_any) (λ owner' _. sound_then _ sound_successors
+      (λ list known. sound_then _ (sound_any) (λ name' _. sound_mapped _ (λ _ _. known) (sound_any))))))
 
   sound_entry : (nodes : List NodeData) → KnowsAll ids nodes → Sound (entry (Some ids) nodes) (KnowsAll ids)
   unfolding entry
@@ -132,9 +127,8 @@ module _ (ids : List ℕ) where
 
   sound_entries : Sound (entries (Some ids)) (KnowsAll ids)
   unfolding entries
-  sound_entries =
-      sound_then (λ nodes. many (entry (Some ids)) nodes) (sound_entry [] (λ k d l. absurd (omega (arith, l))))
-      (λ nodes k. sound_many (entry (Some ids)) sound_entry nodes k)
+  sound_entries = sound_then (λ nodes. many (entry (Some ids)) nodes) (sound_entry []
+      (λ k d l. absurd (omega (arith, l)))) (λ nodes k. sound_many (entry (Some ids)) sound_entry nodes k)
 
   sound_game : Sound (game (Some ids)) (KnowsAll ids)
   unfolding game
@@ -168,9 +162,8 @@ same_mapped h P P' s text v i = (i.0, s text i.0 i.1, i.2)
 same_times : {C : Type 0} (item item' : C → Part Sign C PgCause) → ((c : C) → Same (item c) (item' c)) →
     (n : ℕ) (c : C) → Same (times n item c) (times n item' c)
 same_times item item' s zero c text v h = h
-same_times item item' s (suc n) c text v h =
-    same_then (item c) (item' c) (λ d. times n item d) (λ d. times n item' d) (s c)
-    (λ d. same_times item item' s n d) text v h
+same_times item item' s (suc n) c text v h = same_then
+    (item c) (item' c) (λ d. times n item d) (λ d. times n item' d) (s c) (λ d. same_times item item' s n d) text v h
 
 same_many : {C : Type 0} (item item' : C → Part Sign C PgCause) → ((c : C) → Same (item c) (item' c)) → (c : C) →
     Same (many item c) (many item' c)
@@ -187,24 +180,21 @@ module _ (k : Option (List ℕ)) where
 
   same_more : (list : List ℕ) → Same (more_successor k list) (more_successor None list)
   unfolding more_successor
-  same_more list =
-      same_then comma comma (λ _. mapped (λ n. list ++ n ∷ []) (successor k))
-      (λ _. mapped (λ n. list ++ n ∷ []) (successor None)) (λ text v h. h)
-      (λ _. same_mapped (λ n. list ++ n ∷ []) (successor k) (successor None) same_successor)
+  same_more list = same_then comma comma
+      (λ _. mapped (λ n. list ++ n ∷ []) (successor k)) (λ _. mapped (λ n. list ++ n ∷ []) (successor None))
+      (λ text v h. h) (λ _. same_mapped (λ n. list ++ n ∷ []) (successor k) (successor None) same_successor)
 
   same_successors : Same (successors k) (successors None)
   unfolding successors
-  same_successors =
-      same_then (first_successor k) (first_successor None) (λ n. many (more_successor k) (n ∷ []))
-      (λ n. many (more_successor None) (n ∷ [])) same_first
+  same_successors = same_then (first_successor k) (first_successor None)
+      (λ n. many (more_successor k) (n ∷ [])) (λ n. many (more_successor None) (n ∷ [])) same_first
       (λ n. same_many (more_successor k) (more_successor None) same_more (n ∷ []))
 
   same_node : (ids : List ℕ) → Same (node k ids) (node None ids)
   unfolding node
-  same_node ids =
-      same_then (new_id ids) (new_id ids) (from_priority k ids) (from_priority None ids) (λ text v h. h) (λ id.
-      same_then number number (from_owner k ids id) (from_owner None ids id) (λ text v h. h) (λ priority.
-      same_then owner owner (from_successors k ids id priority) (from_successors None ids id priority)
+  same_node ids = same_then (new_id ids) (new_id ids) (from_priority k ids) (from_priority None ids)
+      (λ text v h. h) (λ id. same_then number number (from_owner k ids id) (from_owner None ids id) (λ text v h. h)
+      (λ priority. same_then owner owner (from_successors k ids id priority) (from_successors None ids id priority)
       (λ text v h. h) (λ owner'. same_then (successors k) (successors None) (from_name k ids id priority owner')
       (from_name None ids id priority owner') same_successors (λ list. λ text v h. h))))
 
@@ -215,17 +205,14 @@ module _ (k : Option (List ℕ)) where
 
   same_entries : Same (entries k) (entries None)
   unfolding entries
-  same_entries =
-      same_then (entry k []) (entry None []) (λ nodes. many (entry k) nodes) (λ nodes. many (entry None) nodes)
-      (same_entry []) (λ nodes. same_many (entry k) (entry None) same_entry nodes)
+  same_entries = same_then (entry k []) (entry None []) (λ nodes. many (entry k) nodes)
+      (λ nodes. many (entry None) nodes) (same_entry []) (λ nodes. same_many (entry k) (entry None) same_entry nodes)
 
   same_game : Same (game k) (game None)
   unfolding game
-  same_game =
-      same_then (setting (codes "parity")) (setting (codes "parity")) (λ _. from_start k) (λ _. from_start None)
-      (λ text v h. h)
-      (λ _. same_then (setting (codes "start")) (setting (codes "start")) (λ _. entries k) (λ _. entries None)
-      (λ text v h. h) (λ _. same_entries))
+  same_game = same_then (setting (codes "parity")) (setting (codes "parity"))
+      (λ _. from_start k) (λ _. from_start None) (λ text v h. h) (λ _. same_then (setting (codes "start"))
+      (setting (codes "start")) (λ _. entries k) (λ _. entries None) (λ text v h. h) (λ _. same_entries))
 
   pub same_nodes : (text : List Sign) {nodes other : List NodeData} → (game None).IsText text nodes →
       (game k).IsText text other → nodes ≡ other

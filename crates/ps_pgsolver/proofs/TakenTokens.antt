@@ -20,9 +20,8 @@ pub record Begins (before rest : List ℕ) (sign : Sign) (size : ℕ) : Type 0 w
   pub sized : size ≡ first_size rest
 
 pub begins_number : {before : List ℕ} (rest : List ℕ) {value digits : ℕ} →
-    value ≡ decimal_value (take_while is_digit rest) →
-    digits ≡ prefix_len is_digit rest → 0 < digits → ends_in is_letter before ≡ false →
-    Begins before rest (Number value) digits
+    value ≡ decimal_value (take_while is_digit rest) → digits ≡ prefix_len is_digit rest →
+    0 < digits → ends_in is_letter before ≡ false → Begins before rest (Number value) digits
 begins_number [] v d some apart = absurd (omega (arith, d))
 begins_number {before} (b ∷ bs) v d some apart = ⊎_elim (λ (yes : is_digit b ≡ true).
     let both = at_digit before b bs refl yes in
@@ -56,6 +55,5 @@ pub leaves : (text before rest : List ℕ) (at start size : ℕ) (kind : Kind) (
     rest ≡ drop start text → sign_of kind ≡ Some sign → Begins before rest sign size → stream_from text at ≡ stream →
     Leaves text (start + size) sign stream
 leaves text before rest at start size kind sign stream begins within front back of begun is =
-    let read = reads_split at begins within front back
-    (λ empty. absurd (omega (arith, begun.some, ap length empty))) (λ _. of ∙ ap Some begun.is) begun.sized is in
-    record { sign_is = sym read.head.sign ∙ of; rest = read.rest }
+    let read = reads_split at begins within front back (λ empty. absurd (omega (arith, begun.some, ap length empty)))
+    (λ _. of ∙ ap Some begun.is) begun.sized is in record { sign_is = sym read.head.sign ∙ of; rest = read.rest }

@@ -1,5 +1,5 @@
 -- The lexer, token by token.
-use Rattle.std.proofs.Common.{◌≡◌, ℕ, zero, suc, ◌+◌, ◌-◌, ◌<◌, ◌≤◌, Bool, true, false, eqb, List, [], ◌∷◌, ◌++◌}
+use Rattle.std.proofs.Common.{◌≡◌, ℕ, zero, suc, ◌+◌, ◌-◌, ◌<◌, ◌≤◌, Bool, true, false, eqb, List, [], ◌∷◌, ◌++◌, rules}
 use Rattle.std.proofs.Common.{length, get_or, take, drop, Some, None, refl, sym, ap, subst, ◌∙◌, ⊎_elim, arith}
 use Rattle.std.proofs.Common.{append_assoc}
 use Rattle.std.proofs.lemmas.List.{append-nil, drop-drop, length-take-le, length-drop}
@@ -14,7 +14,7 @@ use Rattle.ps_pgsolver.specs.Heads.{IsHead, sign_of}
 use Rattle.ps_text.specs.Readers.{tail}
 use Rattle.ps_pgsolver.specs.declared.token.Kind.{Kind}
 use Rattle.ps_pgsolver.specs.Lexer.{lex, first_sign, first_size, number_sign, word_sign, name_sign, name_size}
-use Rattle.ps_pgsolver.specs.Lexer.{mark_sign, is_closed, stream_from}
+use Rattle.ps_pgsolver.specs.Lexer.{mark_sign, stream_from}
 
 nil_of : (xs : List ℕ) → length xs ≤ 0 → xs ≡ []
 nil_of [] h = refl
@@ -24,19 +24,16 @@ pub ends_in-last : (p : ℕ → Bool) (text : List ℕ) → 0 < length text →
     ends_in p text ≡ p (get_or text (length text - 1) 0)
 ends_in-last p [] h = absurd (omega arith)
 ends_in-last p (b ∷ []) h = refl
-ends_in-last p (b ∷ c ∷ cs) h =
-    let e : suc (suc (length cs)) - 1 ≡ suc (length cs) = omega arith in
-    let e' : suc (length cs) - 1 ≡ length cs = omega arith in
-    ends_in-last p (c ∷ cs) (omega arith) ∙ rw (e, e') refl
+ends_in-last p (b ∷ c ∷ cs) h = let e : suc (suc (length cs)) - 1 ≡ suc (length cs) = omega arith in
+    let e' : suc (length cs) - 1 ≡ length cs = omega arith in ends_in-last p (c ∷ cs) (omega arith) ∙ rw (e, e') refl
 
 pub at_digit : (before : List ℕ) (b : ℕ) (bs : List ℕ) {rest : List ℕ} → rest ≡ b ∷ bs → is_digit b ≡ true →
     (first_sign before rest ≡ number_sign before rest) × (first_size rest ≡ prefix_len is_digit rest)
 unfolding first_sign first_size
 at_digit before b bs e d = rw e (rw d refl, rw d refl)
 
-pub at_letter : (before : List ℕ) (b : ℕ) (bs : List ℕ) {rest : List ℕ} → rest ≡ b ∷ bs → is_digit b ≡ false →
-    is_letter b ≡ true →
-    (first_sign before rest ≡ word_sign before rest) × (first_size rest ≡ prefix_len is_letter rest)
+pub at_letter : (before : List ℕ) (b : ℕ) (bs : List ℕ) {rest : List ℕ} → rest ≡ b ∷ bs → is_digit b ≡ false → is_letter
+    b ≡ true → (first_sign before rest ≡ word_sign before rest) × (first_size rest ≡ prefix_len is_letter rest)
 unfolding first_sign first_size
 at_letter before b bs e d l = rw e (rw (d, l) refl, rw (d, l) refl)
 
@@ -46,8 +43,7 @@ unfolding first_sign first_size
 at_quote before bs e q = rw (e, q) (refl, refl)
 
 pub at_mark : (before : List ℕ) (b : ℕ) (bs : List ℕ) {rest : List ℕ} → rest ≡ b ∷ bs → is_digit b ≡ false →
-    is_letter b ≡ false →
-    eqb b 34 ≡ false → (first_sign before rest ≡ mark_sign b) × (first_size rest ≡ 1)
+    is_letter b ≡ false → eqb b 34 ≡ false → (first_sign before rest ≡ mark_sign b) × (first_size rest ≡ 1)
 unfolding first_sign first_size
 at_mark before b bs e d l q = rw e (rw (d, l, q) refl, rw (d, l, q) refl)
 
@@ -56,18 +52,16 @@ pub lex-skip : (skip : ℕ) (before bs : List ℕ) → lex skip before bs ≡ le
 unfolding lex
 lex-skip zero before bs = ap (λ front. lex 0 front bs) (sym (append-nil before))
 lex-skip (suc skip) before [] = refl
-lex-skip (suc skip) before (b ∷ bs) =
-    lex-skip skip (before ++ b ∷ []) bs ∙ ap (λ front. lex 0 front (drop skip bs))
-    (append_assoc before (b ∷ []) (take skip bs))
+lex-skip (suc skip) before (b ∷ bs) = lex-skip skip
+    (before ++ b ∷ []) bs ∙ ap (λ front. lex 0 front (drop skip bs)) (append_assoc before (b ∷ []) (take skip bs))
 
 lex-blank : (before : List ℕ) (b : ℕ) (bs : List ℕ) → is_blank b ≡ true →
     lex 0 before (b ∷ bs) ≡ lex 0 (before ++ b ∷ []) bs
 unfolding lex
 lex-blank before b bs h = rw h refl
 
-lex-token : (before : List ℕ) (b : ℕ) (bs : List ℕ) → is_blank b ≡ false →
-    lex 0 before (b ∷ bs) ≡ (record { sign = first_sign before (b ∷ bs); start = length before }) ∷ lex
-    (first_size (b ∷ bs) - 1) (before ++ b ∷ []) bs
+lex-token : (before : List ℕ) (b : ℕ) (bs : List ℕ) → is_blank b ≡ false → lex 0 before (b ∷ bs) ≡ (record
+    { sign = first_sign before (b ∷ bs); start = length before }) ∷ lex (first_size (b ∷ bs) - 1) (before ++ b ∷ []) bs
 unfolding lex
 lex-token before b bs h = rw h refl
 
@@ -89,29 +83,18 @@ prefix_len-behind p xs = run_len p [] (drop (prefix_len p xs) xs) tt (run_ends p
 
 pub stream_from-blanks : (text : List ℕ) (at : ℕ) → stream_from text at ≡ stream_from text
     (at + prefix_len is_blank (drop at text))
-stream_from-blanks text at =
-    let n = prefix_len is_blank (drop at text) in
-    let e : lex 0 (take at text) (drop at text) ≡ lex 0 (take (at + n) text) (drop (at + n) text) =
-    lex-blanks (take at text) (drop at text) ∙ rw (take-add at n text, drop-drop n at text) refl in
-    ap (λ ps. record { pieces = ps; end = length text }) e
+stream_from-blanks text at = search (rules, lex-blanks, take-add, drop-drop)
 
 name_size-positive : (bs : List ℕ) → 0 < name_size bs
-name_size-positive bs = ⊎_elim (λ (yes : is_closed bs ≡ true). rw yes (omega arith))
-    (λ (no : is_closed bs ≡ false). rw no (omega arith)) (cases_Bool (is_closed bs))
+name_size-positive bs = search (rules, cases_Bool)
 
 pub first_size-positive : (b : ℕ) (bs : List ℕ) → 0 < first_size (b ∷ bs)
 unfolding first_size
-first_size-positive b bs = ⊎_elim (λ (digit : is_digit b ≡ true). rw digit (omega arith))
-    (λ (no_digit : is_digit b ≡ false). ⊎_elim (λ (letter : is_letter b ≡ true). rw (no_digit, letter) (omega arith))
-    (λ (no_letter : is_letter b ≡ false). ⊎_elim
-    (λ (quote : eqb b 34 ≡ true). rw (no_digit, no_letter, quote) (name_size-positive bs))
-    (λ (no_quote : eqb b 34 ≡ false). rw (no_digit, no_letter, no_quote) (omega arith)) (cases_Bool (eqb b 34)))
-    (cases_Bool (is_letter b))) (cases_Bool (is_digit b))
+first_size-positive b bs = search (rules, name_size-positive, cases_Bool)
 
 pub first_size-none : (rest : List ℕ) → length rest ≡ 0 → first_size rest ≡ 0
 unfolding first_size
-first_size-none [] e = refl
-first_size-none (b ∷ bs) e = absurd (omega (arith, e))
+first_size-none rest h1 = search rules
 
 -- the first token of a text that begins with no blank
 pub lex-first : (before rest : List ℕ) → prefix_len is_blank rest ≡ 0 → 0 < length rest →
@@ -145,85 +128,54 @@ pub record Reads (text : List ℕ) (start size : ℕ) (kind : Kind) (stream : St
 
 reads_end : {text : List ℕ} {start size : ℕ} {kind : Kind} → start ≤ length text → drop start text ≡ [] →
     sign_of kind ≡ None → size ≡ first_size (drop start text) → Reads text start size kind (stream_from text start)
-reads_end {text} {start} {size} {kind} within ended none sized =
-    let left : lex 0 (take start text) (drop start text) ≡ [] = ap (λ rest. lex 0 (take start text) rest) ended
-    ∙ lex-end (take start text) in
-    let nothing : length (drop start text) ≡ 0 = ap length ended in
-    let at_end : start ≡ length text = omega (arith, length-drop start text) in
-    let empty : size ≡ 0 = sized ∙ first_size-none (drop start text) nothing in
-    let whole : stream_from text start ≡ (record { pieces = []; end = length text }) =
-    ap (λ ps. record { pieces = ps; end = length text }) left in
-    let same : start + size ≡ start = omega arith in
-    let P : Stream Sign → Type 0 = λ stream. Reads text start size kind stream in
-    subst P (sym whole) (record {
-      head = record { sign = none; start = at_end };
-      rest = ap (stream_from text) same ∙ whole;
-    })
+reads_end {text} {start} {size} {kind} within ended none sized = search (rules, lex-end, length-drop, first_size-none)
 
 reads_token : {text : List ℕ} {start size : ℕ} {kind : Kind} → start ≤ length text → 0 < length (drop start text) →
     prefix_len is_blank (drop start text) ≡ 0 → sign_of kind ≡ Some (first_sign (take start text) (drop start text)) →
     size ≡ first_size (drop start text) → Reads text start size kind (stream_from text start)
 reads_token {text} {start} {size} {kind} within some no_blank is_sign sized =
-    let before = take start text in
-    let rest = drop start text in
-    let more : lex 0 (before ++ take (first_size rest) rest) (drop (first_size rest) rest) ≡ lex 0
-    (take (start + size) text) (drop (start + size) text) =
-    rw (← sized, take-add start size text, drop-drop size start text) refl in
-    let whole : stream_from text start ≡ (record {
-      pieces = (record { sign = first_sign before rest; start = length before }) ∷ lex 0 (take (start + size) text)
-          (drop (start + size) text);
-      end = length text;
-    }) =
-    ap (λ ps. record { pieces = ps; end = length text }) (lex-first before rest no_blank some
-    ∙ ap (λ ps. (record { sign = first_sign before rest; start = length before }) ∷ ps) more) in
-    let P : Stream Sign → Type 0 = λ stream. Reads text start size kind stream in
-    subst P (sym whole) (record {
-      head = record { sign = is_sign; start = sym (length-take-le start text within) };
-      rest = refl;
-    })
+    search (rules, take-add, drop-drop, lex-first, length-take-le)
 
 pub reads : (text : List ℕ) (at start size : ℕ) (kind : Kind) → start ≡ at + prefix_len is_blank (drop at text) →
     start ≤ length text → (drop start text ≡ [] → sign_of kind ≡ None) →
     (0 < length (drop start text) → sign_of kind ≡ Some (first_sign (take start text) (drop start text))) →
     size ≡ first_size (drop start text) → Reads text start size kind (stream_from text at)
 reads text at start size kind begins within ended some sized =
-    let e : stream_from text at ≡ stream_from text start = stream_from-blanks text at
-    ∙ ap (stream_from text) (sym begins) in
+    let e : stream_from text at ≡ stream_from text start =
+    stream_from-blanks text at ∙ ap (stream_from text) (sym begins) in
     let none : prefix_len is_blank (drop start text) ≡ 0 =
     rw (begins, ← drop-drop (prefix_len is_blank (drop at text)) at text) (prefix_len-behind is_blank (drop at text)) in
     let P : Stream Sign → Type 0 = λ stream. Reads text start size kind stream in
     subst P (sym e) (⊎_elim (λ (some_left : 0 < length (drop start text)). reads_token within some_left none
-    (some some_left) sized) (λ (none_left : length (drop start text) ≤ 0).
-    let empty : drop start text ≡ [] = nil_of (drop start text) none_left in
-    reads_end within empty (ended empty) sized) (cases_lt 0 (length (drop start text))))
+    (some some_left) sized) (λ (none_left : length (drop start text) ≤ 0). let empty : drop start text ≡ [] =
+    search (rules, nil_of) in reads_end within empty (ended empty) sized) (cases_lt 0 (length (drop start text))))
 
 -- the same, of a text that was cut where the token begins
 pub reads_split : {text before rest : List ℕ} (at : ℕ) {start size : ℕ} {kind : Kind} {stream : Stream Sign} →
-    start ≡ at + prefix_len is_blank (drop at text) → start ≤ length text → before ≡ take start text →
-    rest ≡ drop start text →
-    (rest ≡ [] → sign_of kind ≡ None) → (0 < length rest → sign_of kind ≡ Some (first_sign before rest)) →
+    start ≡ at + prefix_len is_blank (drop at text) → start ≤ length text → before ≡ take start text → rest ≡ drop
+    start text → (rest ≡ [] → sign_of kind ≡ None) → (0 < length rest → sign_of kind ≡ Some (first_sign before rest)) →
     size ≡ first_size rest → stream_from text at ≡ stream → Reads text start size kind stream
 reads_split {text} {rest} at {start} {size} {kind} begins within front back ended some sized is =
     let P : Stream Sign → Type 0 = λ s. Reads text start size kind s in
     subst P is (reads text at start size kind begins within (λ empty. ended (back ∙ empty))
-    (λ left. let long : 0 < length rest = omega (arith, ap length back) in
-    some long ∙ ap (λ b. Some (first_sign b rest)) front ∙ ap (λ r. Some (first_sign (take start text) r)) back)
-    (sized ∙ ap first_size back))
+    (λ left. let long : 0 < length rest = omega (arith, ap length back) in some long ∙ ap (λ b. Some
+    (first_sign b rest)) front ∙ ap (λ r. Some (first_sign (take start text) r)) back) (sized ∙ ap first_size back))
 
 -- where the next token begins is the offset of what is left
 pub offset_ahead : (text : List ℕ) (at : ℕ) {start : ℕ} → start ≡ at + prefix_len is_blank (drop at text) →
     start ≤ length text → start ≡ offset_of (stream_from text at).pieces (length text)
-offset_ahead text at {start} begins within =
-    let e : stream_from text at ≡ stream_from text start = stream_from-blanks text at
-    ∙ ap (stream_from text) (sym begins) in
-    let none : prefix_len is_blank (drop start text) ≡ 0 =
-    rw (begins, ← drop-drop (prefix_len is_blank (drop at text)) at text) (prefix_len-behind is_blank (drop at text)) in
-    let here : offset_of (lex 0 (take start text) (drop start text)) (length text) ≡ start = ⊎_elim
-    (λ (some : 0 < length (drop start text)).
-    ap (λ ps. offset_of ps (length text)) (lex-first (take start text) (drop start text) none some)
-    ∙ length-take-le start text within) (λ (none_left : length (drop start text) ≤ 0).
-    let at_end : length text ≡ start = omega (arith, length-drop start text) in
-    ap (λ rest. offset_of (lex 0 (take start text) rest) (length text)) (nil_of (drop start text) none_left)
-    ∙ ap (λ ps. offset_of ps (length text)) (lex-end (take start text)) ∙ at_end)
-    (cases_lt 0 (length (drop start text))) in
-    sym (ap (λ (s : Stream Sign). offset_of s.pieces (length text)) e ∙ here)
+offset_ahead text at {start} begins within = let e : stream_from text at ≡ stream_from text start =
+    search (rules, stream_from-blanks) in let none : prefix_len is_blank (drop start text) ≡ 0 = rw (
+      begins,
+      ← drop-drop
+          (prefix_len is_blank (drop at text)) at text,
+    ) (prefix_len-behind is_blank (drop at text)) in let here : offset_of
+    (lex 0 (take start text) (drop start text)) (length text) ≡ start = search (
+      rules,
+      lex-first,
+      length-take-le,
+      length-drop,
+      nil_of,
+      lex-end,
+      cases_lt,
+    ) in sym (ap (λ (s : Stream Sign). offset_of s.pieces (length text)) e ∙ here)

@@ -1,5 +1,6 @@
 -- From what the reading of a whole text did to the answer.
-use Rattle.std.proofs.Common.{◌≡◌, ℕ, List, [], ◌∷◌, Option, Result, Ok, Err, IsErrAnd, refl, sym, ap, subst, ◌∙◌}
+use Rattle.std.proofs.Common.{rules, ◌≡◌, ℕ, List, [], ◌∷◌, Option, Result, Ok, Err, IsErrAnd, refl, sym, ap, subst}
+use Rattle.std.proofs.Common.{◌∙◌}
 use Rattle.std.proofs.lemmas.Result.{err_from_is_err_and}
 use Rattle.ps_text.specs.Answers.{Piece, Stream, signs, first_of, next_of, offset_of}
 use Rattle.ps_text.specs.Parts.{IsRead}
@@ -22,9 +23,7 @@ halts_answers known stream (faults.Text cause offset) m =
 
 pub answer_exit : (known : Option (List ℕ)) (stream : Stream Sign) (e : PgFault) (r : Result (List NodeData) PgFault) →
     Halts (game known) stream e → IsErrAnd r (λ y. y ≡ e) → TextAnswers known stream r
-answer_exit known stream e r m i =
-    let y = err_from_is_err_and r i in
-    subst (λ z. TextAnswers known stream z) (sym (y.1 ∙ ap Err y.2)) (halts_answers known stream e m)
+answer_exit known stream e r m i = search (rules, err_from_is_err_and, halts_answers)
 
 abbrev pub done_as : Unit {0} → Result (Unit {0}) PgFault
 done_as u = Ok u
@@ -42,18 +41,16 @@ ended known old new nodes u m e = go new.pieces refl e
   where
     go : (ps : List (Piece Sign)) → new.pieces ≡ ps → done_as u ≡ end_answer (first_of (signs ps))
         (offset_of ps new.end) → TextAnswers known old (Ok nodes)
-    go [] x e =
-        answers_ok (laws_game known) old nodes (subst (λ ps. IsRead (game known) (signs old.pieces) nodes (signs ps)) x
-        m.1)
+    go [] x e = answers_ok
+        (laws_game known) old nodes (subst (λ ps. IsRead (game known) (signs old.pieces) nodes (signs ps)) x m.1)
     go (p ∷ ps) x e = absurd (ok_is_err u (faults.Text causes.Syntax p.start) e)
 
 same_err : {e f : PgFault} → fails_as e ≡ fails_as f → e ≡ f
 same_err {e} {f} h = let x : fails_as e ≡ fails_as f = h in cc
 
-pub not_ended : (known : Option (List ℕ)) (old new : Stream Sign) (nodes : List NodeData) (e : PgFault)
-    (r : Result (List NodeData) PgFault) → Done (game known) old nodes new →
-    fails_as e ≡ end_answer (next_of new) (offset_of new.pieces new.end) → IsErrAnd r (λ y. y ≡ e) →
-    TextAnswers known old r
+pub not_ended : (known : Option (List ℕ)) (old new : Stream Sign) (nodes : List NodeData)
+    (e : PgFault) (r : Result (List NodeData) PgFault) → Done (game known) old nodes new → fails_as e ≡ end_answer
+    (next_of new) (offset_of new.pieces new.end) → IsErrAnd r (λ y. y ≡ e) → TextAnswers known old r
 not_ended known old new nodes e r m h i =
     let y = err_from_is_err_and r i in
     subst (λ z. TextAnswers known old z) (sym (y.1 ∙ ap Err y.2)) (go new.pieces refl h)
@@ -61,6 +58,5 @@ not_ended known old new nodes e r m h i =
     go : (ps : List (Piece Sign)) → new.pieces ≡ ps → fails_as e ≡ end_answer (first_of (signs ps))
         (offset_of ps new.end) → FaultAnswers known old (found_of e)
     go [] x h = absurd (ok_is_err tt e (sym h))
-    go (p ∷ ps) x h =
-        subst (λ f. FaultAnswers known old (found_of f)) (sym (same_err h))
-        (answers_trailing (laws_game known) old new nodes p ps m.0 m.1 x)
+    go (p ∷ ps) x h = subst (λ f. FaultAnswers known old (found_of f))
+        (sym (same_err h)) (answers_trailing (laws_game known) old new nodes p ps m.0 m.1 x)

@@ -25,18 +25,16 @@ greatest_end ids v le = rw (drop_all v ids le) (grind arith)
 
 -- ## A line
 
-pub commas_step : (ids ws out : List ℕ) {before : List ℕ} (k : ℕ) → k < length ws →
-    out ++ commas ids (drop k ws) ≡ before →
-    ((out ++ 44 ∷ []) ++ decimal (get_or ids (get_or ws k 0) 0)) ++ commas ids (drop (k + 1) ws) ≡ before
+pub commas_step : (ids ws out : List ℕ) {before : List ℕ} (k : ℕ) → k < length ws → out ++ commas ids (drop k ws)
+    ≡ before → ((out ++ 44 ∷ []) ++ decimal (get_or ids (get_or ws k 0) 0)) ++ commas ids (drop (k + 1) ws) ≡ before
 commas_step ids ws out k lt e =
     let a = decimal (get_or ids (get_or ws k 0) 0) in
     let b = commas ids (drop (k + 1) ws) in
-    append_assoc (out ++ 44 ∷ []) a b ∙ append_assoc out (44 ∷ []) (a ++ b)
-    ∙ ap (λ xs. out ++ commas ids xs) (sym (drop_more ws k 0 lt)) ∙ e
+    append_assoc (out ++ 44 ∷ []) a b
+    ∙ append_assoc out (44 ∷ []) (a ++ b) ∙ ap (λ xs. out ++ commas ids xs) (sym (drop_more ws k 0 lt)) ∙ e
 
-pub commas_end : (ids ws out : List ℕ) {before : List ℕ} (k : ℕ) → length ws ≤ k →
-    out ++ commas ids (drop k ws) ≡ before →
-    out ++ [] ≡ before
+pub commas_end : (ids ws out : List ℕ) {before : List ℕ} (k : ℕ) →
+    length ws ≤ k → out ++ commas ids (drop k ws) ≡ before → out ++ [] ≡ before
 commas_end ids ws out k le e = ap (λ xs. out ++ commas ids xs) (sym (drop_all k ws le)) ∙ e
 
 pub list_first : (ids ws out : List ℕ) → 0 < length ws → (out ++ decimal (get_or ids (get_or ws 0 0) 0)) ++
@@ -63,18 +61,16 @@ line_joined o a b c d e f = line_grouped o a b c d e f (32 ∷ [])
 
 -- ## The lines
 
-pub lines_step : (ids : List ℕ) (names : List (Option (List ℕ))) (game : ParityGame) (v : ℕ) (out : List ℕ)
-    {out' before : List ℕ}
-    → v < length game → out' ≡ out ++ vertex_line ids (get_or ids v 0) (get_or game v no_vertex) (get_or names v None) →
-    out ++ vertex_lines ids names v (drop v game) ≡ before → out' ++
-    vertex_lines ids names (v + 1) (drop (v + 1) game) ≡ before
+pub lines_step : (ids : List ℕ) (names : List (Option (List ℕ))) (game : ParityGame)
+    (v : ℕ) (out : List ℕ) {out' before : List ℕ} → v < length game → out' ≡ out ++ vertex_line ids (get_or ids v 0)
+    (get_or game v no_vertex) (get_or names v None) → out ++ vertex_lines ids names v (drop v game) ≡ before →
+    out' ++ vertex_lines ids names (v + 1) (drop (v + 1) game) ≡ before
 lines_step ids names game v out lt new e =
     let line = vertex_line ids (get_or ids v 0) (get_or game v no_vertex) (get_or names v None) in
     let later = vertex_lines ids names (v + 1) (drop (v + 1) game) in
-    ap (λ o. o ++ later) new ∙ append_assoc out line later ∙ ap (λ xs. out ++ vertex_lines ids names v xs)
-    (sym (drop_more game v no_vertex lt)) ∙ e
+    ap (λ o. o ++ later) new ∙ append_assoc out line later
+    ∙ ap (λ xs. out ++ vertex_lines ids names v xs) (sym (drop_more game v no_vertex lt)) ∙ e
 
 pub lines_end : (ids : List ℕ) (names : List (Option (List ℕ))) (game : ParityGame) (v : ℕ) (out : List ℕ)
-    {before : List ℕ} →
-    length game ≤ v → out ++ vertex_lines ids names v (drop v game) ≡ before → out ++ [] ≡ before
+    {before : List ℕ} → length game ≤ v → out ++ vertex_lines ids names v (drop v game) ≡ before → out ++ [] ≡ before
 lines_end ids names game v out le e = ap (λ xs. out ++ vertex_lines ids names v xs) (sym (drop_all v game le)) ∙ e

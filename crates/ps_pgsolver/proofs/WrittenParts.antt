@@ -21,12 +21,10 @@ use Rattle.ps_pgsolver.specs.GameTexts.{owner, successor, first_successor, comma
 use Rattle.ps_pgsolver.specs.GameTexts.{name, node, entry, entries, keyword, value_line, setting, game}
 use Rattle.ps_pgsolver.specs.Nodes.{NodeData, ids_of}
 use Rattle.ps_pgsolver.specs.Signs.{Sign, Number, Word, Name, Comma, Semicolon}
-use Rattle.ps_pgsolver.proofs.PartLaws.{IsKind, kind_of, another, all_more, joint_more, laws_more, joint_successors}
-use Rattle.ps_pgsolver.proofs.PartLaws.{laws_one_name, laws_no_name, node_end, from_name, from_successors, from_owner}
-use Rattle.ps_pgsolver.proofs.PartLaws.{from_priority, joint_name, joint_list, joint_owner, joint_priority, joint_id}
-use Rattle.ps_pgsolver.proofs.GameLaws.{IsWord, laws_entry, more_entries, joint_entries, joint_value, takes_word}
-use Rattle.ps_pgsolver.proofs.GameLaws.{joint_line, line, laws_line, laws_no_line, from_start, joint_start}
-use Rattle.ps_pgsolver.proofs.GameLaws.{joint_parity, laws_game}
+use Rattle.ps_pgsolver.proofs.PartLaws.{IsKind, kind_of, joint_more, laws_more, joint_successors, laws_one_name}
+use Rattle.ps_pgsolver.proofs.PartLaws.{laws_no_name, joint_name, joint_list, joint_owner, joint_priority, joint_id}
+use Rattle.ps_pgsolver.proofs.GameLaws.{IsWord, laws_entry, joint_entries, joint_value, takes_word, joint_line, line}
+use Rattle.ps_pgsolver.proofs.GameLaws.{laws_line, laws_no_line, joint_start, joint_parity, laws_game}
 use Rattle.ps_pgsolver.proofs.WrittenSigns.{comma_signs, list_signs, name_signs, node_signs, nodes_signs, written_signs}
 
 abbrev pub IsKnown : Option (List ℕ) → ℕ → Type 0
@@ -87,9 +85,8 @@ module _ (known : Option (List ℕ)) where
 
   read_commas : (ns list : List ℕ) {rest : List Sign} → All (IsKnown known) ns → Avoids (IsKind 3) (first_of rest) →
       IsRead (many (more_successor known) list) (comma_signs ns rest) (list ++ ns) rest
-  read_commas [] list {rest} are avoids =
-      subst (λ v. IsRead (many (more_successor known) list) rest v rest) (sym (append-nil list))
-      (read_none (more_successor known) (laws_more known) (λ t h k. h) list rest avoids)
+  read_commas [] list {rest} are avoids = subst (λ v. IsRead (many (more_successor known) list) rest v rest)
+      (sym (append-nil list)) (read_none (more_successor known) (laws_more known) (λ t h k. h) list rest avoids)
   read_commas (n ∷ ns) list {rest} are avoids = read_item (more_successor known) (laws_more known) (λ t h k. h)
       (read_another list (All-head (IsKnown known) n ns are))
       (subst (λ v. IsRead (many (more_successor known) (list ++ n ∷ [])) (comma_signs ns rest) v rest)
@@ -99,9 +96,8 @@ module _ (known : Option (List ℕ)) where
       Avoids (IsKind 3) (first_of rest) → IsRead (successors known) (list_signs ns rest) ns rest
   unfolding successors
   read_list [] some are avoids = absurd (omega (arith, some))
-  read_list (n ∷ ns) some are avoids = read_then (joint_successors known)
-      (read_first known (All-head (IsKnown known) n ns are))
-      (read_commas ns (n ∷ []) (All-tail (IsKnown known) n ns are) avoids)
+  read_list (n ∷ ns) some are avoids = read_then (joint_successors known) (read_first known
+      (All-head (IsKnown known) n ns are)) (read_commas ns (n ∷ []) (All-tail (IsKnown known) n ns are) avoids)
 
 read_name : (name' : Option (List ℕ)) (rest : List Sign) → IsRead name (name_signs name' (Semicolon ∷ rest)) name'
     (Semicolon ∷ rest)
@@ -135,13 +131,11 @@ module _ (known : Option (List ℕ)) where
   read_node : {ids : List ℕ} {n : NodeData} {rest : List Sign} → IsReadable known ids n →
       IsRead (node known ids) (node_signs n rest) n rest
   unfolding node
-  read_node {ids} {n} {rest} is = read_then (joint_id known ids) (read_id ids is.id is.new)
-      (read_then (joint_priority known ids n.id) (read_number is.priority)
-      (read_then (joint_owner known ids n.id n.priority) (read_owner is.owner)
-      (read_then (joint_list known ids n.id n.priority n.owner)
-      (read_list known n.successors is.some is.successors (name_avoids n.name rest))
-      (read_then (joint_name known ids n.id n.priority n.owner n.successors) (read_name n.name rest)
-      (read_mapped (λ _. n) semicolon read_semicolon)))))
+  read_node {ids} {n} {rest} is = read_then (joint_id known ids) (read_id ids is.id is.new) (read_then
+      (joint_priority known ids n.id) (read_number is.priority) (read_then (joint_owner known ids n.id n.priority)
+      (read_owner is.owner) (read_then (joint_list known ids n.id n.priority n.owner)
+      (read_list known n.successors is.some is.successors (name_avoids n.name rest)) (read_then (joint_name known ids
+      n.id n.priority n.owner n.successors) (read_name n.name rest) (read_mapped (λ _. n) semicolon read_semicolon)))))
 
   read_entry : (before : List NodeData) {n : NodeData} {rest : List Sign} → IsReadable known (ids_of before) n →
       IsRead (entry known before) (node_signs n rest) (before ++ n ∷ []) rest
@@ -150,8 +144,7 @@ module _ (known : Option (List ℕ)) where
 
   read_more : (nodes before : List NodeData) → AreReadable known before nodes →
       IsRead (many (entry known) before) (nodes_signs nodes) (before ++ nodes) []
-  read_more [] before are =
-      subst (λ v. IsRead (many (entry known) before) [] v []) (sym (append-nil before))
+  read_more [] before are = subst (λ v. IsRead (many (entry known) before) [] v []) (sym (append-nil before))
       (read_none (entry known) (laws_entry known) (λ t h k. h) before [] (λ t e h. none_is_some t e))
   read_more (n ∷ nodes) before are = read_item (entry known) (laws_entry known) (λ t h k. h)
       (read_entry before are.0) (subst (λ v. IsRead (many (entry known) (before ++ n ∷ [])) (nodes_signs nodes) v [])
@@ -168,9 +161,8 @@ module _ (known : Option (List ℕ)) where
       IsRead (setting (codes "parity")) (Word (codes "parity") ∷ Number id ∷ Semicolon ∷ rest) tt rest
   unfolding setting keyword value_line
   read_parity id small = let word = codes "parity" in read_as (line word) (setting word)
-      (covers_left (line word) (give tt) (laws_no_line word) _ (λ t e h. h))
-      (read_then (joint_line word) (read_one (keyword_in word) NoBad (takes_word word) (λ f b. b))
-      (read_then joint_value (read_number small) read_semicolon))
+      (covers_left (line word) (give tt) (laws_no_line word) _ (λ t e h. h)) (read_then (joint_line word) (read_one
+      (keyword_in word) NoBad (takes_word word) (λ f b. b)) (read_then joint_value (read_number small) read_semicolon))
 
   no_start : (id : ℕ) → Avoids (IsWord (codes "start")) (Some (Number id))
   unfolding kind_of
@@ -192,6 +184,5 @@ module _ (known : Option (List ℕ)) where
   pub written_answers : (stream : Stream Sign) (id : ℕ) (nodes : List NodeData) →
       signs stream.pieces ≡ written_signs id nodes → id < too_large → 0 < length nodes →
       AreReadable known [] nodes → PartAnswers pg_causes (game known) stream (Ok nodes)
-  written_answers stream id nodes e small some are =
-      answers_ok (laws_game known) stream nodes (subst (λ ss. IsRead (game known) ss nodes []) (sym e)
-      (read_game id nodes small some are))
+  written_answers stream id nodes e small some are = answers_ok (laws_game known) stream nodes
+      (subst (λ ss. IsRead (game known) ss nodes []) (sym e) (read_game id nodes small some are))

@@ -35,9 +35,8 @@ record Lexed (before bytes : List ℕ) (ss : List Sign) : Type 0 where
 abbrev Lexes : List ℕ → List Sign → Type 0
 Lexes bytes ss = (before : List ℕ) → Lexed before bytes ss
 
-token : (before blanks text rest : List ℕ) (s : Sign) (ss : List Sign) → AllByRecursion Blank blanks →
-    IsToken (before ++ blanks) s text rest →
-    Lexed (before ++ blanks ++ text) rest ss → Lexed before (blanks ++ (text ++ rest)) (s ∷ ss)
+token : (before blanks text rest : List ℕ) (s : Sign) (ss : List Sign) → AllByRecursion Blank blanks → IsToken (before
+    ++ blanks) s text rest → Lexed (before ++ blanks ++ text) rest ss → Lexed before (blanks ++ (text ++ rest)) (s ∷ ss)
 token before blanks text rest s ss b t l = record {
   pieces = (record { sign = s; start = length (before ++ blanks) }) ∷ l.pieces;
   are = ap (λ z. s ∷ z) l.are;
@@ -59,16 +58,15 @@ number_token before n rest small e stops =
 
 blank_number : (b n : ℕ) (rest : List ℕ) (ss : List Sign) → is_blank b ≡ true → is_letter b ≡ false → n < 2 ^ 64 →
     StopsBefore is_digit rest → Lexes rest ss → Lexes (b ∷ (decimal n ++ rest)) (Number n ∷ ss)
-blank_number b n rest ss k l small stops more before =
-    token before (b ∷ []) (decimal n) rest (Number n) ss (k, tt)
-    (number_token (before ++ b ∷ []) n rest small (ends_after is_letter before b ∙ l) stops) (more _)
+blank_number b n rest ss k l small stops more before = token before (b ∷ []) (decimal n) rest (Number n) ss
+    (k, tt) (number_token (before ++ b ∷ []) n rest small (ends_after is_letter before b ∙ l) stops) (more _)
 
 comma_number : (n : ℕ) (rest : List ℕ) (ss : List Sign) → n < 2 ^ 64 → StopsBefore is_digit rest → Lexes rest ss →
     Lexes (44 ∷ (decimal n ++ rest)) (Comma ∷ Number n ∷ ss)
 comma_number n rest ss small stops more before =
     let front = before ++ [] ++ 44 ∷ [] in
-    let plain : ends_in is_letter (front ++ []) ≡ false = ap (ends_in is_letter) (append-nil front)
-    ∙ ends_after is_letter (before ++ []) 44 in
+    let plain : ends_in is_letter (front ++ []) ≡ false =
+    ap (ends_in is_letter) (append-nil front) ∙ ends_after is_letter (before ++ []) 44 in
     token before [] (44 ∷ []) (decimal n ++ rest) Comma (Number n ∷ ss) tt refl
     (token front [] (decimal n) rest (Number n) ss tt (number_token (front ++ []) n rest small plain stops) (more _))
 
@@ -105,8 +103,7 @@ name_signs None ss = ss
 name_signs (Some name) ss = Name name ∷ ss
 
 abbrev pub node_signs : NodeData → List Sign → List Sign
-node_signs node ss =
-    Number node.id ∷ Number node.priority ∷ Number node.owner ∷ list_signs node.successors
+node_signs node ss = Number node.id ∷ Number node.priority ∷ Number node.owner ∷ list_signs node.successors
     (name_signs node.name (Semicolon ∷ ss))
 
 abbrev pub nodes_signs : List NodeData → List Sign
@@ -123,34 +120,29 @@ commas_stop ids (w ∷ ws) rest stops = refl
 lexes_commas : (ids ws rest : List ℕ) (ss : List Sign) → ((w : ℕ) → IsWord (id_at ids w)) → StopsBefore is_digit rest →
     Lexes rest ss → Lexes (commas ids ws ++ rest) (comma_signs (map (id_at ids) ws) ss)
 lexes_commas ids [] rest ss small stops more = more
-lexes_commas ids (w ∷ ws) rest ss small stops more =
-    subst (λ z. Lexes (44 ∷ z) (comma_signs (map (id_at ids) (w ∷ ws)) ss))
-    (sym (append_assoc (decimal (id_at ids w)) (commas ids ws) rest))
-    (comma_number (id_at ids w) (commas ids ws ++ rest) (comma_signs (map (id_at ids) ws) ss) (small w)
-    (commas_stop ids ws rest stops) (lexes_commas ids ws rest ss small stops more))
+lexes_commas ids (w ∷ ws) rest ss small stops more = subst (λ z. Lexes (44 ∷ z)
+    (comma_signs (map (id_at ids) (w ∷ ws)) ss)) (sym (append_assoc (decimal (id_at ids w)) (commas ids ws) rest))
+    (comma_number (id_at ids w) (commas ids ws ++ rest) (comma_signs (map (id_at ids) ws) ss)
+    (small w) (commas_stop ids ws rest stops) (lexes_commas ids ws rest ss small stops more))
 
-lexes_list : (ids ws rest : List ℕ) (ss : List Sign) → ((w : ℕ) → IsWord (id_at ids w)) → 0 < length ws →
-    StopsBefore is_digit rest → Lexes rest ss →
-    Lexes (32 ∷ (list_text ids ws ++ rest)) (list_signs (map (id_at ids) ws) ss)
+lexes_list : (ids ws rest : List ℕ) (ss : List Sign) → ((w : ℕ) → IsWord (id_at ids w)) → 0 < length ws → StopsBefore
+    is_digit rest → Lexes rest ss → Lexes (32 ∷ (list_text ids ws ++ rest)) (list_signs (map (id_at ids) ws) ss)
 lexes_list ids [] rest ss small some stops more = absurd (omega (arith, some))
-lexes_list ids (w ∷ ws) rest ss small some stops more =
-    subst (λ z. Lexes (32 ∷ z) (list_signs (map (id_at ids) (w ∷ ws)) ss))
-    (sym (append_assoc (decimal (id_at ids w)) (commas ids ws) rest))
-    (blank_number 32 (id_at ids w) (commas ids ws ++ rest) (comma_signs (map (id_at ids) ws) ss) refl refl (small w)
-    (commas_stop ids ws rest stops) (lexes_commas ids ws rest ss small stops more))
+lexes_list ids (w ∷ ws) rest ss small some stops more = subst (λ z. Lexes (32 ∷ z)
+    (list_signs (map (id_at ids) (w ∷ ws)) ss)) (sym (append_assoc (decimal (id_at ids w)) (commas ids ws) rest))
+    (blank_number 32 (id_at ids w) (commas ids ws ++ rest) (comma_signs (map (id_at ids) ws) ss) refl refl
+    (small w) (commas_stop ids ws rest stops) (lexes_commas ids ws rest ss small stops more))
 
 inner_of : (name : List ℕ) → (Contains name 34 → ⊥) → AllOf is_inner name
 inner_of [] h = tt
-inner_of (b ∷ name) h =
-    let other : b ≡ 34 → ⊥ = λ e. h (0, omega arith, e) in
+inner_of (b ∷ name) h = let other : b ≡ 34 → ⊥ = λ e. h (0, omega arith, e) in
     (rw (ne_eqb b 34 other) refl, inner_of name (λ c. h (suc c.0, omega (arith, c.1), c.2)))
 
 lexes_name : (name : Option (List ℕ)) (rest : List ℕ) (ss : List Sign) → HasNoQuote name → Lexes rest ss →
     Lexes (name_text name ++ rest) (name_signs name ss)
 lexes_name None rest ss plain more = more
-lexes_name (Some name) rest ss plain more =
-    subst (λ z. Lexes (32 ∷ 34 ∷ z) (Name name ∷ ss)) (sym (append_assoc name (34 ∷ []) rest))
-    (name_token name rest ss (inner_of name plain) more)
+lexes_name (Some name) rest ss plain more = subst (λ z. Lexes (32 ∷ 34 ∷ z) (Name name ∷ ss))
+    (sym (append_assoc name (34 ∷ []) rest)) (name_token name rest ss (inner_of name plain) more)
 
 name_stops : (name : Option (List ℕ)) (rest : List ℕ) → StopsBefore is_digit (name_text name ++ 59 ∷ rest)
 name_stops None rest = refl
@@ -198,28 +190,25 @@ module _ (ids : List ℕ) (names : List (Option (List ℕ))) (small : (w : ℕ) 
       let list = list_text ids vertex.successors ++ end in
       let l1 : Lexes end (name_signs name (Semicolon ∷ ss)) =
       lexes_name name (59 ∷ 10 ∷ rest) (Semicolon ∷ ss) (plain v) (semicolon_token (10 ∷ rest) ss more) in
-      let l2 : Lexes (32 ∷ list) (list_signs ns (name_signs name (Semicolon ∷ ss))) =
-      lexes_list ids vertex.successors end (name_signs name (Semicolon ∷ ss)) small is.some
-      (name_stops name (10 ∷ rest)) l1 in
-      let l3 = blank_number 32 vertex.owner (32 ∷ list) (list_signs ns (name_signs name (Semicolon ∷ ss))) refl refl
-      (omega (arith, is.owner)) refl l2 in
+      let l2 : Lexes (32 ∷ list) (list_signs ns (name_signs name (Semicolon ∷ ss))) = lexes_list
+      ids vertex.successors end (name_signs name (Semicolon ∷ ss)) small is.some (name_stops name (10 ∷ rest)) l1 in
+      let l3 = blank_number 32 vertex.owner
+      (32 ∷ list) (list_signs ns (name_signs name (Semicolon ∷ ss))) refl refl (omega (arith, is.owner)) refl l2 in
       let l4 = blank_number 32 vertex.priority (32 ∷ (decimal vertex.owner ++ 32 ∷ list))
       (Number vertex.owner ∷ list_signs ns (name_signs name (Semicolon ∷ ss))) refl refl is.priority refl l3 in
-      let l5 =
-      blank_number 10 (id_at ids v) (32 ∷ (decimal vertex.priority ++ 32 ∷ (decimal vertex.owner ++ 32 ∷ list)))
-      (Number vertex.priority ∷ Number vertex.owner ∷ list_signs ns (name_signs name (Semicolon ∷ ss))) refl refl
-      (small v) refl l4 in
+      let l5 = blank_number 10
+      (id_at ids v) (32 ∷ (decimal vertex.priority ++ 32 ∷ (decimal vertex.owner ++ 32 ∷ list))) (Number vertex.priority
+      ∷ Number vertex.owner ∷ list_signs ns (name_signs name (Semicolon ∷ ss))) refl refl (small v) refl l4 in
       subst (λ z. Lexes (10 ∷ z) (node_signs (node_made ids names v vertex) ss))
-      (sym (line_groups (decimal (id_at ids v)) (decimal vertex.priority) (decimal vertex.owner)
-      (list_text ids vertex.successors) (name_text name) (59 ∷ 10 ∷ []) rest (32 ∷ []))) l5
+      (sym (line_groups (decimal (id_at ids v)) (decimal vertex.priority)
+      (decimal vertex.owner) (list_text ids vertex.successors) (name_text name) (59 ∷ 10 ∷ []) rest (32 ∷ []))) l5
 
   lexes_lines : (v : ℕ) (vertices : ParityGame) → All IsPlainVertex vertices →
       Lexes (10 ∷ vertex_lines ids names v vertices) (nodes_signs (nodes_made ids names v vertices))
   lexes_lines v [] are = λ before. record { pieces = []; are = refl; tokens = (refl, tt) }
-  lexes_lines v (vertex ∷ vertices) are =
-      lexes_line v (vertex_lines ids names (v + 1) vertices) (nodes_signs (nodes_made ids names (v + 1) vertices))
-      (All-head IsPlainVertex vertex vertices are) (lexes_lines (v + 1) vertices
-      (All-tail IsPlainVertex vertex vertices are))
+  lexes_lines v (vertex ∷ vertices) are = lexes_line v (vertex_lines ids names (v + 1) vertices)
+      (nodes_signs (nodes_made ids names (v + 1) vertices)) (All-head IsPlainVertex vertex vertices are)
+      (lexes_lines (v + 1) vertices (All-tail IsPlainVertex vertex vertices are))
 
   head_groups : (a s b e r : List ℕ) → (((a ++ s) ++ b) ++ e) ++ r ≡ a ++ (s ++ (b ++ (e ++ r)))
   head_groups a s b e r = simp (append_assoc)

@@ -9,9 +9,8 @@ use Rattle.ps_certificate.proofs.checking.broken_priority.Goals.{else-priorities
 use Rattle.ps_certificate.proofs.checking.broken_priority.Goals.{else-priorities-start-via-else-priorities-start}
 
 pub first_at_least-start-requires : goal.first_at_least-start-requires
-first_at_least-start-requires g c =
-    let P : List ℕ → Type 0 = IsStrictlyIncreasing in
-    subst P (sym c.opposing-priorities.ensures) (opposing_rises c.winner.result c.requires.fits)
+first_at_least-start-requires g c = let P : List ℕ → Type 0 =
+    IsStrictlyIncreasing in subst P (sym c.opposing-priorities.ensures) (opposing_rises c.winner.result c.requires.fits)
 
 pub returns-in-None-clause-none : goal.returns-in-None-clause-none
 returns-in-None-clause-none g c k within_opposing =

@@ -40,15 +40,18 @@ returns-in-None-clause-exact g c = (
 )
 
 pub returns-in-None-clause-regions : goal.returns-in-None-clause-regions
-returns-in-None-clause-regions g c =
-    BothHold-from_valid (g.A.Arena.game c.args.arena.now) c.args.certificate.now c.requires
-    (valid_in_the_end c.loop-vertex.vertex
-    (omega (arith, c.loop-vertex-test.false, c.count-vertex-end.ensures.vertices)) c.loop-vertex.invariant.sound
-    c.loop-vertex.invariant.none c.in-None.is)
+returns-in-None-clause-regions g c = BothHold-from_valid (g.A.Arena.game c.args.arena.now)
+    c.args.certificate.now c.requires (valid_in_the_end c.loop-vertex.vertex (omega (
+      arith,
+      c.loop-vertex-test.false,
+      c.count-vertex-end.ensures.vertices,
+    )) c.loop-vertex.invariant.sound c.loop-vertex.invariant.none c.in-None.is)
 
 pub returns-in-None-clause-best : goal.returns-in-None-clause-best
-returns-in-None-clause-best g c =
-    NoneWinsOutside-from_valid (g.A.Arena.game c.args.arena.now) c.args.certificate.now
-    c.count-vertex-end.ensures.well_formed c.requires (valid_in_the_end c.loop-vertex.vertex
-    (omega (arith, c.loop-vertex-test.false, c.count-vertex-end.ensures.vertices)) c.loop-vertex.invariant.sound
-    c.loop-vertex.invariant.none c.in-None.is)
+returns-in-None-clause-best g c = NoneWinsOutside-from_valid
+    (g.A.Arena.game c.args.arena.now) c.args.certificate.now c.count-vertex-end.ensures.well_formed c.requires
+    (valid_in_the_end c.loop-vertex.vertex (omega (
+      arith,
+      c.loop-vertex-test.false,
+      c.count-vertex-end.ensures.vertices,
+    )) c.loop-vertex.invariant.sound c.loop-vertex.invariant.none c.in-None.is)

@@ -7,52 +7,47 @@ use Rattle.ps_certificate.proofs.Counts.{own_edge, own_edges, other_edges, IsFir
 use Rattle.ps_certificate.proofs.checking.unranked_at.Goals as goal
 
 pub broken_priority-requires-clause-same_winner : goal.broken_priority-requires-clause-same_winner
-broken_priority-requires-clause-same_winner g c =
-    let own : owner_of (g.A.Arena.game c.args.arena.now) c.args.vertex ≡ winner_of c.args.certificate.now c.args.vertex
-    = sym c.owner.ensures ∙ c.if-owner-winner.true ∙ c.winner.ensures in
-    c.requires.sound.inside c.in-Some.successor (own_edge c.requires.sound.right_move own
-    (sym c.choice.ensures ∙ c.in-Some.is))
+broken_priority-requires-clause-same_winner g c = let own : owner_of
+    (g.A.Arena.game c.args.arena.now) c.args.vertex ≡ winner_of c.args.certificate.now c.args.vertex =
+    sym c.owner.ensures ∙ c.if-owner-winner.true ∙ c.winner.ensures in c.requires.sound.inside c.in-Some.successor
+    (own_edge c.requires.sound.right_move own (sym c.choice.ensures ∙ c.in-Some.is))
 
 pub returns-in-Some-broken_priority-clause-some : goal.returns-in-Some-broken_priority-clause-some
 returns-in-Some-broken_priority-clause-some g c =
-    let own : owner_of (g.A.Arena.game c.args.arena.now) c.args.vertex ≡ winner_of c.args.certificate.now c.args.vertex
-    = sym c.owner.ensures ∙ c.if-owner-winner.true ∙ c.winner.ensures in
-    let is : choice_of c.args.certificate.now c.args.vertex ≡ Some c.in-Some.successor = sym c.choice.ensures
-    ∙ c.in-Some.is in
+    let own : owner_of (g.A.Arena.game c.args.arena.now) c.args.vertex ≡ winner_of
+    c.args.certificate.now c.args.vertex = sym c.owner.ensures ∙ c.if-owner-winner.true ∙ c.winner.ensures in
+    let is : choice_of c.args.certificate.now c.args.vertex ≡ Some c.in-Some.successor =
+    sym c.choice.ensures ∙ c.in-Some.is in
     let remains : Remains (g.A.Arena.game c.args.arena.now) c.args.certificate.now c.args.vertex c.in-Some.successor =
     own_edge c.requires.sound.right_move own is in
-    IsFirstFlawAt-rank c.requires.fits remains (c.requires.sound.inside c.in-Some.successor remains)
-    c.in-Some-broken_priority.ensures.some (λ w other. inl (own_edges (g.A.Arena.game c.args.arena.now)
-    c.args.certificate.now c.args.vertex own is other))
+    IsFirstFlawAt-rank c.requires.fits remains
+    (c.requires.sound.inside c.in-Some.successor remains) c.in-Some-broken_priority.ensures.some
+    (λ w other. inl (own_edges (g.A.Arena.game c.args.arena.now) c.args.certificate.now c.args.vertex own is other))
 
 pub broken_priority-requires-in-loop-number-clause-successor :
     goal.broken_priority-requires-in-loop-number-clause-successor
-broken_priority-requires-in-loop-number-clause-successor g c =
-    c.count-vertices.ensures.well_formed.within c.args.vertex c.successor-successor.result
-    (HasEdge-at (g.A.Arena.game c.args.arena.now) c.args.vertex c.loop-number.number
-    c.requires.vertex (omega arith) c.successor-successor.ensures)
+broken_priority-requires-in-loop-number-clause-successor g c = c.count-vertices.ensures.well_formed.within
+    c.args.vertex c.successor-successor.result (HasEdge-at (g.A.Arena.game c.args.arena.now)
+    c.args.vertex c.loop-number.number c.requires.vertex (omega arith) c.successor-successor.ensures)
 
 pub returns-in-Some-broken_priority-2-clause-some : goal.returns-in-Some-broken_priority-2-clause-some
 returns-in-Some-broken_priority-2-clause-some g c =
     let other : owner_of (g.A.Arena.game c.args.arena.now) c.args.vertex ≡ winner_of c.args.certificate.now
     c.args.vertex → ⊥ = λ own. c.if-owner-winner.false (c.owner.ensures ∙ own ∙ sym c.winner.ensures) in
-    let remains : Remains (g.A.Arena.game c.args.arena.now) c.args.certificate.now c.args.vertex
-    c.successor-successor.result =
-    Remains-other (g.A.Arena.game c.args.arena.now) c.args.certificate.now c.args.vertex
-    c.successor-successor.result other (HasEdge-at (g.A.Arena.game c.args.arena.now) c.args.vertex
-    c.loop-number.number c.requires.vertex (omega arith) c.successor-successor.ensures) in
+    let remains : Remains (g.A.Arena.game c.args.arena.now) c.args.certificate.now
+    c.args.vertex c.successor-successor.result = Remains-other (g.A.Arena.game c.args.arena.now) c.args.certificate.now
+    c.args.vertex c.successor-successor.result other (HasEdge-at (g.A.Arena.game c.args.arena.now)
+    c.args.vertex c.loop-number.number c.requires.vertex (omega arith) c.successor-successor.ensures) in
     IsFirstFlawAt-rank c.requires.fits remains
     (c.requires.sound.inside c.successor-successor.result remains) c.in-Some-broken_priority-2.ensures.some
     (other_edges (g.A.Arena.game c.args.arena.now) c.args.certificate.now c.args.vertex c.successor-successor.result
     c.loop-number.number (omega arith) c.successor-successor.ensures c.loop-number.invariant)
 
 pub loop-number-preserved : goal.loop-number-preserved
-loop-number-preserved g c =
-    let P : ℕ → Type 0 = KeepsCounts (g.A.Arena.game c.args.arena.now) c.args.certificate.now c.args.vertex in
-    below_more _ _ c.loop-number.invariant (subst P c.successor-successor.ensures
-    c.in_default-broken_priority.ensures.none)
+loop-number-preserved g c = let P : ℕ →
+    Type 0 = KeepsCounts (g.A.Arena.game c.args.arena.now) c.args.certificate.now c.args.vertex in below_more
+    _ _ c.loop-number.invariant (subst P c.successor-successor.ensures c.in_default-broken_priority.ensures.none)
 
 pub returns-clause-none : goal.returns-clause-none
-returns-clause-none g c =
-    KeepsCountsAt-from_all (g.A.Arena.game c.args.arena.now) c.args.certificate.now c.args.vertex
+returns-clause-none g c = KeepsCountsAt-from_all (g.A.Arena.game c.args.arena.now) c.args.certificate.now c.args.vertex
     (λ k within. c.loop-number.invariant k (omega (arith, within)))

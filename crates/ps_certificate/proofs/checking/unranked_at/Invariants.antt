@@ -5,6 +5,5 @@ use Rattle.ps_certificate.proofs.checking.unranked_at.Given as goal
 
 -- each edge before the place keeps the rule
 abbrev pub invariant-loop-number : goal.invariant-loop-number
-invariant-loop-number g l =
-    (k : ℕ) → k < l.number → KeepsCounts (g.A.Arena.game l.arena) l.certificate l.vertex
-    (get_or (successors_of (g.A.Arena.game l.arena) l.vertex) k 0)
+invariant-loop-number g l = (k : ℕ) → k < l.number → KeepsCounts
+    (g.A.Arena.game l.arena) l.certificate l.vertex (get_or (successors_of (g.A.Arena.game l.arena) l.vertex) k 0)

@@ -23,6 +23,5 @@ returns-clause-exact g c = (
 )
 
 pub returns-clause-regions : goal.returns-clause-regions
-returns-clause-regions g c =
-    BothKeep-from_closed (g.A.Arena.game c.args.arena.now) c.args.certificate.now (IsClosed-from_sound
-    (λ v below. c.loop-vertex.invariant v (omega arith)))
+returns-clause-regions g c = BothKeep-from_closed (g.A.Arena.game c.args.arena.now) c.args.certificate.now
+    (IsClosed-from_sound (λ v below. c.loop-vertex.invariant v (omega arith)))

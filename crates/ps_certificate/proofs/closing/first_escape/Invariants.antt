@@ -5,6 +5,5 @@ use Rattle.ps_certificate.proofs.closing.first_escape.Given as goal
 
 -- each successor before the place stays with the winner
 abbrev pub invariant-loop-number : goal.invariant-loop-number
-invariant-loop-number g l =
-    (k : ℕ) → k < l.number → winner_of l.certificate (get_or (successors_of (g.A.Arena.game l.arena) l.vertex) k 0) ≡
-    l.winner
+invariant-loop-number g l = (k : ℕ) →
+    k < l.number → winner_of l.certificate (get_or (successors_of (g.A.Arena.game l.arena) l.vertex) k 0) ≡ l.winner

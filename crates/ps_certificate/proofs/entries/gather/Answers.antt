@@ -27,12 +27,10 @@ loop-place-preserved c =
           record {
             within = omega (arith, few, length-drop (place + 1) counts, w.place-is, c.loop-place-test.true);
             kept = ap (λ (v : _). take (length old) v.items) w.placed-is ∙ c.loop-place.invariant.kept;
-            all =
-                ap (λ (v : _). v.items ++ gathered (c.if-count-eq0.place + 1) (drop (c.if-count-eq0.place + 1) counts))
-                w.placed-is ∙ ap (λ k. placed ++ gathered (k + 1) (drop (k + 1) counts)) w.place-is
-                ∙ ap (λ rest. placed ++ rest)
-                (sym (gathered_run counts place n c.loop-place-test.true w.if-count-eq0.true run))
-                ∙ c.loop-place.invariant.all;
+            all = ap (λ (v : _). v.items ++ gathered (c.if-count-eq0.place + 1)
+                (drop (c.if-count-eq0.place + 1) counts)) w.placed-is ∙ ap (λ k. placed ++ gathered
+                (k + 1) (drop (k + 1) counts)) w.place-is ∙ ap (λ rest. placed ++ rest) (sym (gathered_run
+                counts place n c.loop-place-test.true w.if-count-eq0.true run)) ∙ c.loop-place.invariant.all;
           }
       | else-count-eq0+in_ok-push w ↦
           let one : PlacedCount = record { place = place; count = get_or counts place 0 } in
@@ -41,12 +39,9 @@ loop-place-preserved c =
           record {
             within = omega (arith, w.place-is, c.loop-place-test.true);
             kept = grind (arith, common_steps, pushed, c.loop-place.invariant.kept);
-            all =
-                ap (λ new. new ++ gathered (c.if-count-eq0.place + 1) (drop (c.if-count-eq0.place + 1) counts)) pushed
-                ∙ ap (λ k. (placed ++ one ∷ []) ++ gathered (k + 1) (drop (k + 1) counts)) w.place-is
-                ∙ append_assoc placed (one ∷ []) (gathered (place + 1) (drop (place + 1) counts))
-                ∙ ap (λ rest. placed ++ rest)
-                (sym (gathered_one counts place c.loop-place-test.true w.if-count-eq0.false))
-                ∙ c.loop-place.invariant.all;
+            all = ap (λ new. new ++ gathered (c.if-count-eq0.place + 1) (drop (c.if-count-eq0.place + 1) counts)) pushed
+                ∙ ap (λ k. (placed ++ one ∷ []) ++ gathered (k + 1) (drop (k + 1) counts)) w.place-is ∙ append_assoc
+                placed (one ∷ []) (gathered (place + 1) (drop (place + 1) counts)) ∙ ap (λ rest. placed ++ rest) (sym
+                (gathered_one counts place c.loop-place-test.true w.if-count-eq0.false)) ∙ c.loop-place.invariant.all;
           }
     ]

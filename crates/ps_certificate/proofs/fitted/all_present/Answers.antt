@@ -17,9 +17,8 @@ returns-then-not-window_present g c = (
 pub loop-start-preserved : goal.loop-start-preserved
 loop-start-preserved g c = record {
   within = omega arith;
-  present =
-      present_more (g.A.Arena.game c.args.arena.now) c.args.list.now c.loop-start.start c.min-end.result (omega arith)
-      c.loop-start.invariant.present (c.window_present.ensures.0 c.if-not-window_present.false);
+  present = present_more (g.A.Arena.game c.args.arena.now) c.args.list.now c.loop-start.start c.min-end.result
+      (omega arith) c.loop-start.invariant.present (c.window_present.ensures.0 c.if-not-window_present.false);
 }
 
 pub returns : goal.returns

@@ -17,9 +17,8 @@ loop-vertex-init g c = record {
 }
 
 pub loop-vertex-preserved : goal.loop-vertex-preserved
-loop-vertex-preserved g c =
-    AreJust-found c.requires.rising (omega arith) c.priority-priority.ensures c.in-Some.ensures.some
-    c.loop-vertex.invariant
+loop-vertex-preserved g c = AreJust-found c.requires.rising
+    (omega arith) c.priority-priority.ensures c.in-Some.ensures.some c.loop-vertex.invariant
 
 pub returns-then-not-seen-place : goal.returns-then-not-seen-place
 returns-then-not-seen-place g c =

@@ -17,9 +17,8 @@ loop-vertex-init g c =
 pub loop-vertex-preserved : goal.loop-vertex-preserved
 loop-vertex-preserved g c = elim c.match-place_of.branch [
   | in-Some w ↦ (let P : List Bool → Type 0 = λ s. AreMarks (g.A.Arena.game c.args.arena.now) c.args.window.now s
-      (c.loop-vertex.vertex + 1) in
-      subst P (sym w.seen-is) (AreMarks-found c.requires.rising (omega arith) c.priority.ensures
-      w.in-Some.ensures.some c.loop-vertex.invariant))
+      (c.loop-vertex.vertex + 1) in subst P (sym w.seen-is) (AreMarks-found c.requires.rising
+      (omega arith) c.priority.ensures w.in-Some.ensures.some c.loop-vertex.invariant))
   | in_default w ↦ (let P : List Bool → Type 0 = λ s. AreMarks (g.A.Arena.game c.args.arena.now) c.args.window.now s
       (c.loop-vertex.vertex + 1) in
       subst P (sym w.seen-is) (AreMarks-missing c.priority.ensures w.in_default.ensures.none c.loop-vertex.invariant))

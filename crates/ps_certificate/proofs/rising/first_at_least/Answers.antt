@@ -14,16 +14,13 @@ pub returns-in-Ok-clause-behind : goal.returns-in-Ok-clause-behind
 returns-in-Ok-clause-behind c k above within =
     let found = search_result c.args.list.now c.args.number (Ok c.in-Ok.place) c.requires c.in-Ok.ensures.position in
     let more : slice_index c.args.list.now c.in-Ok.place ≤ slice_index c.args.list.now k =
-    rising_near c.args.list.now c.requires c.in-Ok.place k above within in
-    omega (arith, more, found.1)
+    rising_near c.args.list.now c.requires c.in-Ok.place k above within in omega (arith, more, found.1)
 
 pub returns-in-Err-clause-before : goal.returns-in-Err-clause-before
-returns-in-Err-clause-before c k below =
-    let found = search_result c.args.list.now c.args.number (Err c.in-Err.place) c.requires c.in-Err.ensures.position in
-    found.1 k below
+returns-in-Err-clause-before c k below = let found = search_result c.args.list.now c.args.number
+    (Err c.in-Err.place) c.requires c.in-Err.ensures.position in found.1 k below
 
 pub returns-in-Err-clause-behind : goal.returns-in-Err-clause-behind
 returns-in-Err-clause-behind c k above within =
     let found = search_result c.args.list.now c.args.number (Err c.in-Err.place) c.requires c.in-Err.ensures.position in
-    let more : c.args.number < slice_index c.args.list.now k = found.2 k above within in
-    omega arith
+    let more : c.args.number < slice_index c.args.list.now k = found.2 k above within in omega arith

@@ -5,9 +5,8 @@ use Rattle.ps_certificate.proofs.row.count_in.Goals.{else-number-placed-via-then
 use Rattle.ps_certificate.proofs.row.count_in.Goals.{else-number-placed-via-else-number-placed}
 
 pub returns-then-placed-number : goal.returns-then-placed-number
-returns-then-placed-number c =
-    sym (count_first c.args.placed.now c.args.place c.args.number c.requires.rising c.requires.number
-    c.if-number-placed.true c.if-placed-number.true)
+returns-then-placed-number c = sym (count_first c.args.placed.now
+    c.args.place c.args.number c.requires.rising c.requires.number c.if-number-placed.true c.if-placed-number.true)
 
 pub returns-else-number-placed : goal.returns-else-number-placed
 returns-else-number-placed c =

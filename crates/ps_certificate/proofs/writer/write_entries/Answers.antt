@@ -3,7 +3,7 @@ use Rattle.std.proofs.lemmas.Grind.{common_steps}
 use Rattle.std.specs.List.{All}
 use Rattle.ps_certificate.specs.Certificates.{EntryData, no_entry}
 use Rattle.ps_certificate.specs.Written.{IsWord}
-use Rattle.ps_certificate.proofs.Writing.{all_taken, all_taken_all}
+use Rattle.ps_certificate.proofs.WritingSteps.{all_taken, all_taken_all}
 use Rattle.ps_certificate.proofs.writer.write_entries.Goals as goal
 
 pub loop-vertex-preserved : goal.loop-vertex-preserved
@@ -20,21 +20,21 @@ loop-vertex-preserved c =
     ∙ ap (λ ns. record { winner = is.winner; choice = is.choice; counts = ns }) counts in
     record {
       bytes = grind (arith, common_steps);
-      ids =
-          all_taken IsWord c.args.game.now.ids c.loop-vertex.vertex 0
-          (omega (arith, c.loop-vertex-test.true, c.len-vertex-end.ensures, c.requires.ids)) c.loop-vertex.invariant.ids
-          c.in_ok-write_entry.ensures.id;
+      ids = all_taken IsWord c.args.game.now.ids c.loop-vertex.vertex 0 (omega (
+        arith,
+        c.loop-vertex-test.true,
+        c.len-vertex-end.ensures,
+        c.requires.ids,
+      )) c.loop-vertex.invariant.ids c.in_ok-write_entry.ensures.id;
       counts = all_taken (λ (e : EntryData). All IsWord e.counts) c.args.entries.now c.loop-vertex.vertex no_entry
           (omega (arith, c.loop-vertex-test.true, c.len-vertex-end.ensures)) c.loop-vertex.invariant.counts
           (subst (λ (e : EntryData). All IsWord e.counts) entry c.in_ok-write_entry.ensures.counts);
     }
 
 pub returns-clause-ids : goal.returns-clause-ids
-returns-clause-ids c =
-    all_taken_all IsWord c.args.game.now.ids c.loop-vertex.vertex
+returns-clause-ids c = all_taken_all IsWord c.args.game.now.ids c.loop-vertex.vertex
     (omega (arith, c.loop-vertex-test.false, c.len-vertex-end.ensures, c.requires.ids)) c.loop-vertex.invariant.ids
 
 pub returns-clause-counts : goal.returns-clause-counts
-returns-clause-counts c =
-    all_taken_all (λ (e : EntryData). All IsWord e.counts) c.args.entries.now c.loop-vertex.vertex
+returns-clause-counts c = all_taken_all (λ (e : EntryData). All IsWord e.counts) c.args.entries.now c.loop-vertex.vertex
     (omega (arith, c.loop-vertex-test.false, c.len-vertex-end.ensures)) c.loop-vertex.invariant.counts

@@ -19,10 +19,9 @@ loop-place-preserved-then-zeros-gt0 c =
         length-drop place numbers,
         c.loop-place-test.true,
       );
-      bytes =
-          ap (λ xs. xs ++ fields (drop (place + zeros) numbers)) c.in_ok-write_zeros.ensures
-          ∙ zeros_written c.loop-place.out.items numbers place zeros (ap (λ xs. take zeros xs) (sym rest)
-          ∙ c.leading_zeros-zeros.ensures.zeros) c.loop-place.invariant.bytes;
+      bytes = ap (λ xs. xs ++ fields (drop (place + zeros) numbers)) c.in_ok-write_zeros.ensures
+          ∙ zeros_written c.loop-place.out.items numbers place zeros
+          (ap (λ xs. take zeros xs) (sym rest) ∙ c.leading_zeros-zeros.ensures.zeros) c.loop-place.invariant.bytes;
     }
 
 pub returns-clause-words : goal.returns-clause-words

@@ -3,7 +3,7 @@ use Rattle.std.proofs.Common.{arith, ◌≡◌, ◌++◌, ◌∷◌, []}
 use Rattle.std.specs.Prelude.{decimal}
 use Rattle.ps_certificate.specs.Words.{first_word, vertices_word, odd_word, even_word}
 use Rattle.ps_certificate.specs.Written.{fields, version_digit}
-use Rattle.ps_certificate.proofs.Writing.{head_joined}
+use Rattle.ps_certificate.proofs.WritingSteps.{head_joined}
 use Rattle.ps_certificate.proofs.writer.write_head.Goals as goal
 
 pub returns-clause-bytes : goal.returns-clause-bytes
@@ -23,7 +23,7 @@ returns-clause-bytes c =
     grind (arith, common_steps) in
     let f : c.extend_from_slice-4.new.self.items ≡ c.write_fields.new.out.items ++ 10 ∷ even_word =
     grind (arith, common_steps) in
-    let g : c.write_fields-2.new.out.items ≡ c.extend_from_slice-4.new.self.items ++
-    fields c.args.certificate.now.even = grind (arith, common_steps) in
+    let g : c.write_fields-2.new.out.items
+    ≡ c.extend_from_slice-4.new.self.items ++ fields c.args.certificate.now.even = grind (arith, common_steps) in
     let h : c.push-2.new.self.items ≡ c.write_fields-2.new.out.items ++ 10 ∷ [] = grind (arith, common_steps) in
     rw (h, g, f, e, d, b, a, y, z) o

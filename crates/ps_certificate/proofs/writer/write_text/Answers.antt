@@ -15,11 +15,9 @@ write_entries-requires-clause-writable c =
     let o : c.args.certificate.now.odd ≡ c.deref.result.now = search rules in
     let e : c.args.certificate.now.even ≡ c.deref-2.result.now = search rules in
     subst (λ odd. All (IsWritable (vertex_count c.args.game.now.game) odd c.deref-2.result.now)
-    c.certificate.inside.entries) o
-    (subst (λ even. All (IsWritable (vertex_count c.args.game.now.game) c.args.certificate.now.odd even)
-    c.certificate.inside.entries) e
-    (subst (λ entries. All (IsWritable (vertex_count c.args.game.now.game) c.args.certificate.now.odd
-    c.args.certificate.now.even) entries) x w))
+    c.certificate.inside.entries) o (subst (λ even. All (IsWritable (vertex_count c.args.game.now.game)
+    c.args.certificate.now.odd even) c.certificate.inside.entries) e (subst (λ entries. All (IsWritable
+    (vertex_count c.args.game.now.game) c.args.certificate.now.odd c.args.certificate.now.even) entries) x w))
 
 pub returns-clause-read_again : goal.returns-clause-read_again
 returns-clause-read_again c =

@@ -1,4 +1,4 @@
-use Rattle.std.proofs.Common.{◌≡◌, ◌+◌, ◌-◌, ◌*◌, ◌^◌, ◌<◌, ◌∙◌, true, length, get_or, sym, subst, arith}
+use Rattle.std.proofs.Common.{◌≡◌, ◌+◌, ◌-◌, ◌*◌, ◌^◌, ◌<◌, ◌∙◌, true, length, get_or, sym, subst, arith, rules}
 use Rattle.std.specs.Char.{is_ascii_digit}
 use Rattle.ps_text.proofs.LeadingDigits.{IsReadTo, read_one}
 use Rattle.ps_pgsolver.proofs.FewDigits.{digit_small, few_small, few_more}
@@ -7,12 +7,11 @@ use Rattle.ps_pgsolver.proofs.token.few_digits.Goals as goal
 pub overflow_mul-value : goal.overflow_mul-value
 overflow_mul-value c =
     let few : c.loop-digits.digits < 18 = omega (arith, c.loop-digits-test.true, c.min-most.ensures) in
-    let small = few_small c.loop-digits.value c.loop-digits.digits c.loop-digits.invariant.1 few in
-    omega (arith, small)
+    let small = few_small c.loop-digits.value c.loop-digits.digits c.loop-digits.invariant.1 few in omega (arith, small)
 
 pub overflow_add-value : goal.overflow_add-value
 overflow_add-value c =
-    let few : c.loop-digits.digits < 18 = omega (arith, c.loop-digits-test.true, c.min-most.ensures) in
+    let few : c.loop-digits.digits < 18 = search rules in
     let small = few_small c.loop-digits.value c.loop-digits.digits c.loop-digits.invariant.1 few in
     let digit : is_ascii_digit (get_or c.args.text.now c.loop-digits.digits 0) ≡ true =
     sym c.is_ascii_digit.ensures.value ∙ c.if-is_ascii_digit.true in
@@ -25,8 +24,7 @@ loop-digits-preserved c =
     let digits = c.loop-digits.digits in
     let digit : is_ascii_digit (get_or c.args.text.now digits 0) ≡ true =
     sym c.is_ascii_digit.ensures.value ∙ c.if-is_ascii_digit.true in
-    let next : value * 10 + c.from.result ≡ value * 10 + (get_or c.args.text.now digits 0 - 48) = omega
-    (arith, c.from.ensures) in
+    let next : value * 10 + c.from.result ≡ value * 10 + (get_or c.args.text.now digits 0 - 48) = search rules in
     let within : digits < length c.args.text.now = omega (arith, c.loop-digits-test.true, c.min-most.ensures) in (
       subst (λ n. IsReadTo c.args.text.now n (digits + 1)) (sym next)
           (read_one c.args.text.now value digits within digit c.loop-digits.invariant.0),

@@ -1,11 +1,9 @@
-use Rattle.std.proofs.Common.{sym, ap, ◌∙◌, arith, length-drop, length}
-use Rattle.ps_pgsolver.specs.Lexer.{stream_from}
+use Rattle.std.proofs.Common.{rules}
 use Rattle.ps_pgsolver.proofs.TokenLemmas.{reads_split, stream_from-blanks}
 use Rattle.ps_pgsolver.proofs.token.token_from.Goals as goal
 
 pub returns-clause-blanks : goal.returns-clause-blanks
-returns-clause-blanks c = stream_from-blanks c.args.text.now c.args.at
-    ∙ ap (stream_from c.args.text.now) (sym c.next_start-start.ensures.start)
+returns-clause-blanks c = search (rules, stream_from-blanks)
 
 pub returns-clause-ahead : goal.returns-clause-ahead
 returns-clause-ahead c =
@@ -17,12 +15,5 @@ returns-clause-ahead c =
       plain = c.token_at-size.ensures.plain;
       rest = read.rest;
       start = c.next_start-start.ensures.within;
-      within =
-          omega (
-            arith,
-            c.token_at-size.ensures.within,
-            ap length c.split_at.ensures.back,
-            length-drop c.next_start-start.result c.args.text.now,
-            c.next_start-start.ensures.within,
-          );
+      within = search rules;
     }

@@ -1,4 +1,4 @@
-use Rattle.std.proofs.Common.{arith, ap, sym, ◌≡◌, ◌<◌, ◌∙◌, length, append-nil}
+use Rattle.std.proofs.Common.{arith, ap, sym, ◌≡◌, ◌<◌, ◌∙◌, length, append-nil, rules}
 use Rattle.std.proofs.lemmas.List.Elements.{All-more}
 use Rattle.ps_game.specs.Games.{VertexData, vertex_count, priority_of, no_vertex}
 use Rattle.ps_pgsolver.specs.Written.{IsWord}
@@ -10,37 +10,31 @@ unfolding vertex_count priority_of
 loop-vertex-preserved c =
     let game = c.args.game.now in
     let v = c.loop-vertex.vertex in
-    let count : c.count-vertex-end.result ≡ length game.game = c.count-vertex-end.ensures.vertices
-    ∙ ap length c.game.ensures.game in
+    let count : c.count-vertex-end.result ≡ length game.game = search rules in
     let within : v < length game.game = omega (arith, c.loop-vertex-test.true, count) in
     record {
-      bytes =
-          lines_step game.ids game.names game.game v c.loop-vertex.out.items within
-          c.in_ok-write_vertex.ensures.bytes c.loop-vertex.invariant.bytes;
-      ids =
-          All-more IsWord game.ids v 0 (omega (arith, within, c.game.ensures.well_formed.id_each))
+      bytes = lines_step game.ids game.names
+          game.game v c.loop-vertex.out.items within c.in_ok-write_vertex.ensures.bytes c.loop-vertex.invariant.bytes;
+      ids = All-more IsWord game.ids v 0 (omega (arith, within, c.game.ensures.well_formed.id_each))
           c.loop-vertex.invariant.ids c.in_ok-write_vertex.ensures.id;
-      priorities =
-          All-more (λ (x : VertexData). IsWord x.priority) game.game v no_vertex within
-          c.loop-vertex.invariant.priorities c.in_ok-write_vertex.ensures.priority;
+      priorities = All-more (λ (x : VertexData). IsWord x.priority)
+          game.game v no_vertex within c.loop-vertex.invariant.priorities c.in_ok-write_vertex.ensures.priority;
     }
 
 pub returns-clause-bytes : goal.returns-clause-bytes
 unfolding vertex_count
 returns-clause-bytes c =
     let game = c.args.game.now in
-    let count : c.count-vertex-end.result ≡ length game.game = c.count-vertex-end.ensures.vertices
-    ∙ ap length c.game.ensures.game in
-    sym (append-nil c.loop-vertex.out.items)
-    ∙ lines_end game.ids game.names game.game c.loop-vertex.vertex c.loop-vertex.out.items
-    (omega (arith, c.loop-vertex-test.false, count)) c.loop-vertex.invariant.bytes
+    let count : c.count-vertex-end.result ≡ length game.game =
+    c.count-vertex-end.ensures.vertices ∙ ap length c.game.ensures.game in
+    sym (append-nil c.loop-vertex.out.items) ∙ lines_end game.ids game.names game.game c.loop-vertex.vertex
+    c.loop-vertex.out.items (omega (arith, c.loop-vertex-test.false, count)) c.loop-vertex.invariant.bytes
 
 pub returns-clause-ids : goal.returns-clause-ids
 unfolding vertex_count
 returns-clause-ids c =
     let game = c.args.game.now in
-    let count : c.count-vertex-end.result ≡ length game.game = c.count-vertex-end.ensures.vertices
-    ∙ ap length c.game.ensures.game in
+    let count : c.count-vertex-end.result ≡ length game.game = search rules in
     all_taken_all IsWord game.ids c.loop-vertex.vertex (omega (
       arith,
       c.loop-vertex-test.false,
@@ -52,7 +46,7 @@ pub returns-clause-priorities : goal.returns-clause-priorities
 unfolding vertex_count
 returns-clause-priorities c =
     let game = c.args.game.now in
-    let count : c.count-vertex-end.result ≡ length game.game = c.count-vertex-end.ensures.vertices
-    ∙ ap length c.game.ensures.game in
+    let count : c.count-vertex-end.result ≡ length game.game =
+    c.count-vertex-end.ensures.vertices ∙ ap length c.game.ensures.game in
     all_taken_all (λ (x : VertexData). IsWord x.priority) game.game c.loop-vertex.vertex
     (omega (arith, c.loop-vertex-test.false, count)) c.loop-vertex.invariant.priorities

@@ -14,19 +14,15 @@ pub returns-then-comes : goal.returns-then-comes
 returns-then-comes c = choice_dash c.args.ids.now c.args.self.now (sym c.if-comes.ensures) c.step.ensures
 
 pub returns-in_err-id : goal.returns-in_err-id
-returns-in_err-id c =
-    fails (λ v. v) (choice c.args.ids.now) c.args.self.now _ _ _
-    (choice_fails c.args.ids.now c.args.self.now (sym c.if-comes.ensures) _
-    (judged_fails (OfOtherGame (λ id. ¬ Contains c.args.ids.now id)) c.args.self.now c.number.new.self _
-    c.in_err-id.ensures)) c.from_residual.ensures.1
+returns-in_err-id c = fails (λ v. v) (choice c.args.ids.now) c.args.self.now _ _ _ (choice_fails c.args.ids.now
+    c.args.self.now (sym c.if-comes.ensures) _ (judged_fails (OfOtherGame (λ id. ¬ Contains c.args.ids.now id))
+    c.args.self.now c.number.new.self _ c.in_err-id.ensures)) c.from_residual.ensures.1
 
 pub returns-then-ends : goal.returns-then-ends
-returns-then-ends c =
-    choice_fails c.args.ids.now c.args.self.now (sym c.if-comes.ensures) _
-    (number_wrong (λ id. ¬ Contains c.args.ids.now id) c.args.self.now c.number.new.self c.in_ok-id.id
-    c.in_ok-id.ensures (ends_true c.number.new.self.rest (sym c.if-ends.ensures))
-    (Contains-none c.in_ok-id.id c.args.ids.now (sym c.place-vertex.ensures.member ∙ c.if-is_none.ensures))
-    c.fault-other_game.ensures)
+returns-then-ends c = choice_fails c.args.ids.now c.args.self.now
+    (sym c.if-comes.ensures) _ (number_wrong (λ id. ¬ Contains c.args.ids.now id) c.args.self.now c.number.new.self
+    c.in_ok-id.id c.in_ok-id.ensures (ends_true c.number.new.self.rest (sym c.if-ends.ensures)) (Contains-none
+    c.in_ok-id.id c.args.ids.now (sym c.place-vertex.ensures.member ∙ c.if-is_none.ensures)) c.fault-other_game.ensures)
 
 pub returns : goal.returns
 returns c =

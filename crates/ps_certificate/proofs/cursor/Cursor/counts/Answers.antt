@@ -5,33 +5,25 @@ use Rattle.ps_certificate.proofs.Loops.{fails, space_fails, count_fails, count_n
 use Rattle.ps_certificate.proofs.cursor.Cursor.counts.Goals as goal
 
 pub returns-in_err-byte : goal.returns-in_err-byte
-returns-in_err-byte c =
-    fails _ (counts c.args.count) c.args.self.now _ _ _
-    (space_fails c.args.count c.loop.counter (at_place c.args.self.now)
-    (at_place c.loop.self) c.loop.counts.items c.loop.invariant c.loop-test.true _ c.in_err-byte.ensures)
-    c.from_residual.ensures.1
+returns-in_err-byte c = fails _ (counts c.args.count) c.args.self.now _ _ _
+    (space_fails c.args.count c.loop.counter (at_place c.args.self.now) (at_place c.loop.self)
+    c.loop.counts.items c.loop.invariant c.loop-test.true _ c.in_err-byte.ensures) c.from_residual.ensures.1
 
 pub returns-in_err-number : goal.returns-in_err-number
-returns-in_err-number c =
-    fails _ (counts c.args.count) c.args.self.now _ _ _
-    (count_fails c.args.count c.loop.counter (at_place c.args.self.now)
-    (at_place c.loop.self) c.loop.counts.items c.loop.invariant c.loop-test.true c.in_ok-byte.ensures _
-    (judged_fails (OfOtherGame Never) c.byte.new.self c.number.new.self _ c.in_err-number.ensures))
-    c.from_residual-in_err-number.ensures.1
+returns-in_err-number c = fails _ (counts c.args.count) c.args.self.now _ _ _
+    (count_fails c.args.count c.loop.counter (at_place c.args.self.now) (at_place c.loop.self)
+    c.loop.counts.items c.loop.invariant c.loop-test.true c.in_ok-byte.ensures _ (judged_fails (OfOtherGame Never)
+    c.byte.new.self c.number.new.self _ c.in_err-number.ensures)) c.from_residual-in_err-number.ensures.1
 
 pub loop-preserved : goal.loop-preserved
-loop-preserved c =
-    count_next c.args.count c.loop.counter (at_place c.args.self.now)
-    (at_place c.loop.self) c.loop.counts.items c.loop.invariant c.loop-test.true c.in_ok-byte.ensures
-    (number_reads Never c.byte.new.self c.number.new.self _ c.in_ok-number.ensures
-    (λ _ never. never)) c.in_ok-push.ensures.items
+loop-preserved c = count_next c.args.count c.loop.counter (at_place c.args.self.now)
+    (at_place c.loop.self) c.loop.counts.items c.loop.invariant c.loop-test.true c.in_ok-byte.ensures (number_reads
+    Never c.byte.new.self c.number.new.self _ c.in_ok-number.ensures (λ _ never. never)) c.in_ok-push.ensures.items
 
 pub returns-in_err-byte-2 : goal.returns-in_err-byte-2
-returns-in_err-byte-2 c =
-    fails _ (counts c.args.count) c.args.self.now _ _ _
-    (counts_end_fails c.args.count c.loop.counter (at_place c.args.self.now)
-    (at_place c.loop.self) c.loop.counts.items c.loop.invariant c.loop-test.false _ c.in_err-byte-2.ensures)
-    c.from_residual-in_err-byte-2.ensures.1
+returns-in_err-byte-2 c = fails _ (counts c.args.count) c.args.self.now _ _ _
+    (counts_end_fails c.args.count c.loop.counter (at_place c.args.self.now) (at_place c.loop.self) c.loop.counts.items
+    c.loop.invariant c.loop-test.false _ c.in_err-byte-2.ensures) c.from_residual-in_err-byte-2.ensures.1
 
 pub returns : goal.returns
 returns c = counts_end c.args.count c.loop.counter (at_place c.args.self.now)

@@ -8,16 +8,14 @@ use Rattle.ps_certificate.proofs.cursor.Cursor.exactly.Goals.{else-found-number-
 use Rattle.ps_certificate.proofs.cursor.Cursor.exactly.Goals.{else-found-number-via-else-found-number}
 
 pub returns-in_err-found : goal.returns-in_err-found
-returns-in_err-found c =
-    fails (λ n. n) (number (λ n. n ≢ c.args.number)) c.args.self.now _ _ _
-    (judged_fails (OfOtherGame (λ n. n ≢ c.args.number)) c.args.self.now c.number.new.self _
-    c.in_err-found.ensures) c.from_residual.ensures.1
+returns-in_err-found c = fails (λ n. n) (number (λ n. n ≢ c.args.number)) c.args.self.now _ _ _
+    (judged_fails (OfOtherGame (λ n. n ≢ c.args.number)) c.args.self.now c.number.new.self _ c.in_err-found.ensures)
+    c.from_residual.ensures.1
 
 pub returns-then-ends : goal.returns-then-ends
 returns-then-ends c =
     number_wrong (λ n. n ≢ c.args.number) c.args.self.now c.number.new.self c.in_ok-found.found c.in_ok-found.ensures
-    (ends_true c.number.new.self.rest (sym c.if-ends.ensures)) c.if-found-number.true
-    c.fault-other_game.ensures
+    (ends_true c.number.new.self.rest (sym c.if-ends.ensures)) c.if-found-number.true c.fault-other_game.ensures
 
 pub returns : goal.returns
 returns c =

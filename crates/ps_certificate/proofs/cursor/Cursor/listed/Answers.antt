@@ -9,28 +9,22 @@ use Rattle.ps_certificate.proofs.cursor.Cursor.listed.Goals as goal
 use Rattle.ps_certificate.proofs.cursor.Cursor.listed.Goals.{else-ne-via-then-ne+else-ends, else-ne-via-else-ne}
 
 pub returns-in_err-byte : goal.returns-in_err-byte
-returns-in_err-byte c = fails _ (priority c.args.priorities.now) c.args.self.now _ _ _
-    (stops_first causes (joint_listed c.args.priorities.now)
-    (at_place c.args.self.now) _ c.in_err-byte.ensures) c.from_residual.ensures.1
+returns-in_err-byte c = fails _ (priority c.args.priorities.now) c.args.self.now _ _ _ (stops_first causes
+    (joint_listed c.args.priorities.now) (at_place c.args.self.now) _ c.in_err-byte.ensures) c.from_residual.ensures.1
 
 pub returns-in_err-number : goal.returns-in_err-number
-returns-in_err-number c =
-    fails _ (priority c.args.priorities.now) c.args.self.now _ _ _
+returns-in_err-number c = fails _ (priority c.args.priorities.now) c.args.self.now _ _ _
     (stops_behind causes (joint_listed c.args.priorities.now) c.in_ok-byte.ensures _
     (stops_mapped causes (λ _. drop 1 c.args.priorities.now) (number (NotNext c.args.priorities.now))
-    (at_place c.byte.new.self) _
-    (judged_fails (OfOtherGame (NotNext c.args.priorities.now)) c.byte.new.self c.number.new.self _
-    c.in_err-number.ensures))) c.from_residual-in_err-number.ensures.1
+    (at_place c.byte.new.self) _ (judged_fails (OfOtherGame (NotNext c.args.priorities.now))
+    c.byte.new.self c.number.new.self _ c.in_err-number.ensures))) c.from_residual-in_err-number.ensures.1
 
 pub returns-then-ends : goal.returns-then-ends
-returns-then-ends c =
-    stops_behind causes (joint_listed c.args.priorities.now) c.in_ok-byte.ensures _
-    (stops_mapped causes (λ _. drop 1 c.args.priorities.now) (number (NotNext c.args.priorities.now))
-    (at_place c.byte.new.self) _
+returns-then-ends c = stops_behind causes (joint_listed c.args.priorities.now) c.in_ok-byte.ensures _ (stops_mapped
+    causes (λ _. drop 1 c.args.priorities.now) (number (NotNext c.args.priorities.now)) (at_place c.byte.new.self) _
     (number_wrong (NotNext c.args.priorities.now) c.byte.new.self c.number.new.self c.in_ok-number.number
-    c.in_ok-number.ensures (ends_true c.number.new.self.rest (sym c.if-ends.ensures))
-    (is_not_next c.args.priorities.now c.in_ok-number.number
-    (c.copied.ensures ∙ c.first.ensures.value) c.if-ne.ensures) c.fault-other_game.ensures))
+    c.in_ok-number.ensures (ends_true c.number.new.self.rest (sym c.if-ends.ensures)) (is_not_next c.args.priorities.now
+    c.in_ok-number.number (c.copied.ensures ∙ c.first.ensures.value) c.if-ne.ensures) c.fault-other_game.ensures))
 
 pub returns : goal.returns
 returns c =

@@ -8,15 +8,12 @@ use Rattle.ps_certificate.proofs.PairLoops.{pair_shrinks}
 use Rattle.ps_certificate.proofs.cursor.Cursor.pairs.Goals as goal
 
 pub more-init : goal.more-init
-more-init c =
-    let zeros : c.resize.new.self.items ≡ replicate (length c.args.priorities.now) 0 =
-    grind (arith, common_steps, c.in_ok-resize.ensures.items, c.clear.ensures.len) in
-    subst (PairsSoFar c.args.priorities.now (at_place c.args.self.now) c.args.self.now None) (sym zeros)
-    (no_pairs_yet refl)
+more-init c = let zeros : c.resize.new.self.items ≡ replicate (length c.args.priorities.now) 0 =
+    grind (arith, common_steps, c.in_ok-resize.ensures.items, c.clear.ensures.len) in subst
+    (PairsSoFar c.args.priorities.now (at_place c.args.self.now) c.args.self.now None) (sym zeros) (no_pairs_yet refl)
 
 pub returns-in_err-place : goal.returns-in_err-place
-returns-in_err-place c =
-    fails _ (counts_in true c.args.priorities.now) c.args.self.now _ _ _
+returns-in_err-place c = fails _ (counts_in true c.args.priorities.now) c.args.self.now _ _ _
     (pair_fails c.args.priorities.now (at_place c.args.self.now) c.more.self c.more.last c.more.counts.items
     c.more.invariant (sym c.more-test.ensures) _ c.in_err-place.ensures.read) c.from_residual-in_err-place.ensures.1
 
@@ -25,14 +22,12 @@ more-smaller c = pair_shrinks c.args.priorities.now c.more.last c.more.self c.pa
     c.in_ok-place.ensures.read
 
 pub more-preserved : goal.more-preserved
-more-preserved c =
-    pair_more c.args.priorities.now (at_place c.args.self.now) c.more.self c.more.last c.more.counts.items
-    c.more.invariant c.requires c.in_ok-place.place c.in_ok-place.count
-    c.in_ok-place.ensures.within c.in_ok-place.ensures.read
+more-preserved c = pair_more c.args.priorities.now
+    (at_place c.args.self.now) c.more.self c.more.last c.more.counts.items c.more.invariant
+    c.requires c.in_ok-place.place c.in_ok-place.count c.in_ok-place.ensures.within c.in_ok-place.ensures.read
 
 pub returns-in_err-byte : goal.returns-in_err-byte
-returns-in_err-byte c =
-    fails _ (counts_in true c.args.priorities.now) c.args.self.now _ _ _
+returns-in_err-byte c = fails _ (counts_in true c.args.priorities.now) c.args.self.now _ _ _
     (pairs_fail c.args.priorities.now (at_place c.args.self.now) c.more.self c.more.last c.more.counts.items
     c.more.invariant (sym c.more-test.ensures) _ c.in_err-byte.ensures) c.from_residual-in_err-byte.ensures.1
 

@@ -9,8 +9,7 @@ use Rattle.ps_certificate.proofs.Loops.{fails, fewer, priorities_fail, prioritie
 use Rattle.ps_certificate.proofs.cursor.Cursor.priorities.Goals as goal
 
 pub returns-in_err-left : goal.returns-in_err-left
-returns-in_err-left c =
-    fails (λ u. u) (priorities c.args.priorities.now) c.args.self.now _ _ _
+returns-in_err-left c = fails (λ u. u) (priorities c.args.priorities.now) c.args.self.now _ _ _
     (priorities_fail c.args.priorities.now c.more.left.now (at_place c.args.self.now) c.more.self c.more.invariant
     (sym c.more-test.ensures) _ c.in_err-left.ensures) c.from_residual.ensures.1
 
@@ -22,8 +21,6 @@ pub more-preserved : goal.more-preserved
 more-preserved c = carries_many priority laws_priority digit_no_space causes c.more.invariant c.in_ok-left.ensures
 
 pub returns : goal.returns
-returns c =
-    then_meets found_of causes (λ u. u) (at_place c.line_end.new.self) c.line_end.result
-    (joint_priorities c.args.priorities.now)
-    (priorities_end c.args.priorities.now c.more.left.now (at_place c.args.self.now) c.more.self c.more.invariant
-    (sym c.more-test.ensures)) c.line_end.ensures
+returns c = then_meets found_of causes (λ u. u) (at_place c.line_end.new.self) c.line_end.result
+    (joint_priorities c.args.priorities.now) (priorities_end c.args.priorities.now c.more.left.now
+    (at_place c.args.self.now) c.more.self c.more.invariant (sym c.more-test.ensures)) c.line_end.ensures

@@ -14,10 +14,9 @@ returns-then-not-ends-clause-read c = λ pairs same.
     c.in_ok-priority.priority c.in_ok-priority.ensures c.number.new.self (sym c.if-not-ends.ensures) c.fault.ensures
 
 pub returns-then-not-is_above-clause-read : goal.returns-then-not-is_above-clause-read
-returns-then-not-is_above-clause-read c = λ pairs same.
-    priority_low c.args.priorities.now c.args.last pairs same c.args.self.now c.number.new.self
-    c.in_ok-priority.priority c.in_ok-priority.ensures c.number.new.self (sym c.if-not-ends.ensures)
-    (sym c.if-not-is_above.ensures) c.fault-refused.ensures
+returns-then-not-is_above-clause-read c = λ pairs same. priority_low c.args.priorities.now c.args.last
+    pairs same c.args.self.now c.number.new.self c.in_ok-priority.priority c.in_ok-priority.ensures c.number.new.self
+    (sym c.if-not-ends.ensures) (sym c.if-not-is_above.ensures) c.fault-refused.ensures
 
 pub returns-in-Some-clause-read : goal.returns-in-Some-clause-read
 returns-in-Some-clause-read c = λ pairs same.
@@ -25,7 +24,6 @@ returns-in-Some-clause-read c = λ pairs same.
     c.in_ok-priority.priority c.in_ok-priority.ensures (sym c.if-not-is_above.ensures) c.in-Some.ensures.some
 
 pub returns-in-None-clause-read : goal.returns-in-None-clause-read
-returns-in-None-clause-read c = λ pairs same.
-    priority_unknown c.args.priorities.now c.args.last pairs same c.args.self.now c.number.new.self
-    c.in_ok-priority.priority c.in_ok-priority.ensures c.number.new.self (sym c.if-not-ends.ensures)
-    (sym c.if-not-is_above.ensures) c.in-None.ensures.none c.fault-other_game.ensures
+returns-in-None-clause-read c = λ pairs same. priority_unknown c.args.priorities.now c.args.last
+    pairs same c.args.self.now c.number.new.self c.in_ok-priority.priority c.in_ok-priority.ensures c.number.new.self
+    (sym c.if-not-ends.ensures) (sym c.if-not-is_above.ensures) c.in-None.ensures.none c.fault-other_game.ensures

@@ -18,8 +18,8 @@ index-requires c =
 
 pub returns : goal.returns
 returns c =
-    let is : entries_in c.self.inside.winners.items c.self.inside.lines.items c.self.inside.placed.items ≡
-    c.args.self.now = c.self.view_is in
+    let is : entries_in c.self.inside.winners.items
+    c.self.inside.lines.items c.self.inside.placed.items ≡ c.args.self.now = c.self.view_is in
     let within : c.args.vertex < length (entries_in c.self.inside.winners.items c.self.inside.lines.items
     c.self.inside.placed.items) = subst (λ es. c.args.vertex < length es) (sym is) c.requires in
     choice_at c.self.inside.winners.items c.self.inside.lines.items c.self.inside.placed.items c.args.vertex

@@ -20,48 +20,43 @@ index-line-requires c =
 
 pub part-requires-clause-rises : goal.part-requires-clause-rises
 part-requires-clause-rises c =
-    let is : entries_in c.self.inside.winners.items c.self.inside.lines.items c.self.inside.placed.items ≡
-    c.args.self.now = c.self.view_is in
+    let is : entries_in c.self.inside.winners.items
+    c.self.inside.lines.items c.self.inside.placed.items ≡ c.args.self.now = c.self.view_is in
     let within : c.args.vertex < length (entries_in c.self.inside.winners.items c.self.inside.lines.items
     c.self.inside.placed.items) = subst (λ es. c.args.vertex < length es) (sym is) c.requires in
-    (line_within c.self.inside.winners.items c.self.inside.lines.items c.self.inside.placed.items c.args.vertex
-    c.self.invariant within c.index-line.result.now c.index-line.ensures).rises
+    (line_within c.self.inside.winners.items c.self.inside.lines.items
+    c.self.inside.placed.items c.args.vertex c.self.invariant within c.index-line.result.now c.index-line.ensures).rises
 
 pub part-requires-clause-ends : goal.part-requires-clause-ends
 part-requires-clause-ends c =
-    let is : entries_in c.self.inside.winners.items c.self.inside.lines.items c.self.inside.placed.items ≡
-    c.args.self.now = c.self.view_is in
+    let is : entries_in c.self.inside.winners.items
+    c.self.inside.lines.items c.self.inside.placed.items ≡ c.args.self.now = c.self.view_is in
     let within : c.args.vertex < length (entries_in c.self.inside.winners.items c.self.inside.lines.items
     c.self.inside.placed.items) = subst (λ es. c.args.vertex < length es) (sym is) c.requires in
-    let inside =
-    line_within c.self.inside.winners.items c.self.inside.lines.items c.self.inside.placed.items c.args.vertex
-    c.self.invariant within c.index-line.result.now c.index-line.ensures in
+    let inside = line_within c.self.inside.winners.items c.self.inside.lines.items
+    c.self.inside.placed.items c.args.vertex c.self.invariant within c.index-line.result.now c.index-line.ensures in
     omega (arith, inside.ends, ap length c.deref.ensures.value)
 
 pub invariant_of-result : goal.invariant_of-result
 invariant_of-result c =
-    let is : entries_in c.self.inside.winners.items c.self.inside.lines.items c.self.inside.placed.items ≡
-    c.args.self.now = c.self.view_is in
+    let is : entries_in c.self.inside.winners.items
+    c.self.inside.lines.items c.self.inside.placed.items ≡ c.args.self.now = c.self.view_is in
     let within : c.args.vertex < length (entries_in c.self.inside.winners.items c.self.inside.lines.items
     c.self.inside.placed.items) = subst (λ es. c.args.vertex < length es) (sym is) c.requires in
-    let inside =
-    line_within c.self.inside.winners.items c.self.inside.lines.items c.self.inside.placed.items c.args.vertex
-    c.self.invariant within c.index-line.result.now c.index-line.ensures in
-    subst (IsRow c.index-line.result.now.width) (sym (c.part.ensures
-    ∙ ap (λ xs. slice_range xs c.index-line.result.now.start c.index-line.result.now.end) c.deref.ensures.value))
-    inside.row
+    let inside = line_within c.self.inside.winners.items c.self.inside.lines.items
+    c.self.inside.placed.items c.args.vertex c.self.invariant within c.index-line.result.now c.index-line.ensures in
+    subst (IsRow c.index-line.result.now.width) (sym (c.part.ensures ∙ ap
+    (λ xs. slice_range xs c.index-line.result.now.start c.index-line.result.now.end) c.deref.ensures.value)) inside.row
 
 pub returns : goal.returns
 returns c =
-    let is : entries_in c.self.inside.winners.items c.self.inside.lines.items c.self.inside.placed.items ≡
-    c.args.self.now = c.self.view_is in
+    let is : entries_in c.self.inside.winners.items
+    c.self.inside.lines.items c.self.inside.placed.items ≡ c.args.self.now = c.self.view_is in
     let within : c.args.vertex < length (entries_in c.self.inside.winners.items c.self.inside.lines.items
     c.self.inside.placed.items) = subst (λ es. c.args.vertex < length es) (sym is) c.requires in
-    let part : c.part.result.now ≡ slice_range c.self.inside.placed.items c.index-line.result.now.start
-    c.index-line.result.now.end =
-    c.part.ensures ∙ ap (λ xs. slice_range xs c.index-line.result.now.start c.index-line.result.now.end)
-    c.deref.ensures.value in
-    ap (row_of c.index-line.result.now.width) part
-    ∙ counts_at c.self.inside.winners.items c.self.inside.lines.items c.self.inside.placed.items c.args.vertex
-    c.self.invariant within c.index-line.result.now c.index-line.ensures
+    let part : c.part.result.now
+    ≡ slice_range c.self.inside.placed.items c.index-line.result.now.start c.index-line.result.now.end = c.part.ensures
+    ∙ ap (λ xs. slice_range xs c.index-line.result.now.start c.index-line.result.now.end) c.deref.ensures.value in
+    ap (row_of c.index-line.result.now.width) part ∙ counts_at c.self.inside.winners.items c.self.inside.lines.items
+    c.self.inside.placed.items c.args.vertex c.self.invariant within c.index-line.result.now c.index-line.ensures
     ∙ ap (λ es. (get_or es c.args.vertex no_entry).counts) is

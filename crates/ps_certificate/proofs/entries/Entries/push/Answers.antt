@@ -17,9 +17,8 @@ pub invariant_of-self-in_err-start : goal.invariant_of-self-in_err-start
 invariant_of-self-in_err-start c =
     let ws : c.reserve.new.self.items ≡ c.self.inside.winners.items = search rules in
     let ls : c.reserve-2.new.self.items ≡ c.self.inside.lines.items = search rules in
-    let same =
-    lines_same c.self.inside.winners.items c.self.inside.lines.items c.self.inside.placed.items c.put.new.placed.items
-    c.self.invariant c.put.ensures.kept in
+    let same = lines_same c.self.inside.winners.items
+    c.self.inside.lines.items c.self.inside.placed.items c.put.new.placed.items c.self.invariant c.put.ensures.kept in
     let goal_is : AreLines c.reserve.new.self.items c.reserve-2.new.self.items c.put.new.placed.items =
     rw (ws, ls) same in
     goal_is
@@ -28,11 +27,10 @@ pub returns-in_err-start-clause-err : goal.returns-in_err-start-clause-err
 returns-in_err-start-clause-err c =
     let ws : c.reserve.new.self.items ≡ c.self.inside.winners.items = search rules in
     let ls : c.reserve-2.new.self.items ≡ c.self.inside.lines.items = search rules in
-    let same = entries_same c.self.inside.winners.items c.self.inside.lines.items c.self.inside.placed.items
-    c.put.new.placed.items c.self.invariant c.put.ensures.kept in
-    let goal_is : entries_in c.reserve.new.self.items c.reserve-2.new.self.items c.put.new.placed.items
-    ≡ c.args.self.now =
-    rw (ws, ls) (same ∙ c.self.view_is) in
+    let same = entries_same c.self.inside.winners.items
+    c.self.inside.lines.items c.self.inside.placed.items c.put.new.placed.items c.self.invariant c.put.ensures.kept in
+    let goal_is : entries_in c.reserve.new.self.items
+    c.reserve-2.new.self.items c.put.new.placed.items ≡ c.args.self.now = rw (ws, ls) (same ∙ c.self.view_is) in
     on_err c.from_residual-in_err-start.result goal_is
 
 pub invariant_of-self-2 : goal.invariant_of-self-2

@@ -18,9 +18,9 @@ index-requires c =
 
 pub returns : goal.returns
 returns c =
-    let is : entries_in c.self.inside.winners.items c.self.inside.lines.items c.self.inside.placed.items ≡
-    c.args.self.now = c.self.view_is in
+    let is : entries_in c.self.inside.winners.items
+    c.self.inside.lines.items c.self.inside.placed.items ≡ c.args.self.now = c.self.view_is in
     let within : c.args.vertex < length (entries_in c.self.inside.winners.items c.self.inside.lines.items
     c.self.inside.placed.items) = subst (λ es. c.args.vertex < length es) (sym is) c.requires in
-    winner_at c.self.inside.winners.items c.self.inside.lines.items c.self.inside.placed.items c.args.vertex
-    c.self.invariant within c.index.ensures ∙ ap (λ es. (get_or es c.args.vertex no_entry).winner) is
+    winner_at c.self.inside.winners.items c.self.inside.lines.items c.self.inside.placed.items
+    c.args.vertex c.self.invariant within c.index.ensures ∙ ap (λ es. (get_or es c.args.vertex no_entry).winner) is

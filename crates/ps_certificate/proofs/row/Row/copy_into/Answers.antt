@@ -16,14 +16,13 @@ loop-number-preserved c =
     let pushed : c.push.new.self.items ≡ c.resize.new.self.items ++ number_at placed number ∷ [] =
     c.in_ok-push.ensures.items in
     subst (λ new. IsFilled c.self.inside.width placed new (number + 1))
-    (sym (pushed ∙ ap (λ front. front ++ number_at placed number ∷ []) zeros))
-    (filled_next c.self.inside.width placed list number c.loop-number.invariant c.self.invariant
-    c.loop-number-test.true)
+    (sym (pushed ∙ ap (λ front. front ++ number_at placed number ∷ []) zeros)) (filled_next
+    c.self.inside.width placed list number c.loop-number.invariant c.self.invariant c.loop-number-test.true)
 
 pub returns : goal.returns
 returns c =
     let width = c.self.inside.width in
     let list = c.loop-number.list.items in
-    c.in_ok-resize-2.ensures.items ∙ resized list width _ c.loop-number.list.ok.0 c.loop-number.invariant.long
-    ∙ filled_end width c.self.inside.placed.now list c.loop-number.number c.loop-number.invariant
-    c.loop-number-test.false ∙ c.self.view_is
+    c.in_ok-resize-2.ensures.items
+    ∙ resized list width _ c.loop-number.list.ok.0 c.loop-number.invariant.long ∙ filled_end width
+    c.self.inside.placed.now list c.loop-number.number c.loop-number.invariant c.loop-number-test.false ∙ c.self.view_is

@@ -8,9 +8,8 @@ pub first_from-number-requires : goal.first_from-number-requires
 first_from-number-requires c = rising 0 c.self.inside.width c.self.inside.placed.now c.self.invariant
 
 pub loop-number-init : goal.loop-number-init
-loop-number-init c =
-    not_above_start c.self.inside.placed.now c.other.inside.placed.now c.args.from c.first_from-number.result
-    c.first_from-number.ensures
+loop-number-init c = not_above_start c.self.inside.placed.now
+    c.other.inside.placed.now c.args.from c.first_from-number.result c.first_from-number.ensures
 
 pub first_from-others-requires : goal.first_from-others-requires
 first_from-others-requires c = rising 0 c.other.inside.width c.other.inside.placed.now c.other.invariant
@@ -40,10 +39,9 @@ returns-then-count-count_in-clause-some c =
     (omega (arith, c.if-count-count_in.true, c.count_in.ensures))))
 
 pub loop-number-preserved : goal.loop-number-preserved
-loop-number-preserved c =
-    not_above_next c.self.inside.placed.now c.other.inside.placed.now c.args.from c.loop-number.number
-    c.loop-number.invariant (rising 0 c.self.inside.width c.self.inside.placed.now c.self.invariant)
-    c.loop-number-test.true (omega (arith, c.if-count-count_in.false, c.count_in.ensures))
+loop-number-preserved c = not_above_next c.self.inside.placed.now c.other.inside.placed.now
+    c.args.from c.loop-number.number c.loop-number.invariant (rising 0 c.self.inside.width c.self.inside.placed.now
+    c.self.invariant) c.loop-number-test.true (omega (arith, c.if-count-count_in.false, c.count_in.ensures))
 
 pub returns-clause-none : goal.returns-clause-none
 returns-clause-none c =
@@ -56,7 +54,6 @@ returns-clause-none c =
     let there : row_of c.self.inside.width other ≡ c.args.other.now =
     ap (λ n. row_of n other) (sym width) ∙ c.other.view_is in
     subst (λ n. AreAtMost c.args.self.now c.args.other.now c.args.from n) (sym long)
-    (subst (λ row. AreAtMost c.args.self.now row c.args.from c.self.inside.width) there
-    (subst (λ row. AreAtMost row (row_of c.self.inside.width other) c.args.from c.self.inside.width) c.self.view_is
-    (not_above_end own other c.args.from c.loop-number.number c.loop-number.invariant c.self.inside.width
-    c.loop-number-test.false)))
+    (subst (λ row. AreAtMost c.args.self.now row c.args.from c.self.inside.width) there (subst (λ row. AreAtMost row
+    (row_of c.self.inside.width other) c.args.from c.self.inside.width) c.self.view_is (not_above_end
+    own other c.args.from c.loop-number.number c.loop-number.invariant c.self.inside.width c.loop-number-test.false)))

@@ -1,10 +1,10 @@
-use Rattle.std.proofs.Common.{◌≡◌, refl, map, length, sym, subst, ap, ◌∙◌, arith}
+use Rattle.std.proofs.Common.{◌≡◌, refl, map, length, sym, subst, ap, ◌∙◌, rules}
 use Rattle.std.proofs.lemmas.List.{length-map}
 use Rattle.ps_game.specs.Drafts.{without_repeats, NoneBare, NoneUnknown}
 use Rattle.ps_game.specs.Games.{ParityGame, vertex_count}
 use Rattle.ps_game.specs.Names.{name_bytes, with_none}
 use Rattle.ps_pgsolver.specs.GamesOf.{draft_of, game_of}
-use Rattle.ps_pgsolver.specs.Nodes.{NodeData, AreNodes, ids_of}
+use Rattle.ps_pgsolver.specs.Nodes.{AreNodes, ids_of}
 use Rattle.ps_pgsolver.proofs.GameLemmas.{draft_bare, draft_known, named_count, same_named}
 use Rattle.ps_pgsolver.proofs.KeptLemmas.{ids_are, names_are, each_is_id, draft_is, few_names, plain_kept}
 use Rattle.ps_pgsolver.proofs.NodeLemmas.{names_plain}
@@ -12,21 +12,19 @@ use Rattle.ps_pgsolver.proofs.node.Nodes.into_game.Goals as goal
 use Rattle.ps_pgsolver.proofs.node.Nodes.into_game.Goals.{After-resolve, In_ok-game}
 
 pub resolve-requires : goal.resolve-requires
-resolve-requires c = each_is_id _ _ _ c.self.invariant c.args.self c.self.view_is c.requires
+resolve-requires c = search (rules, each_is_id)
 
 draft : (c : After-resolve) → c.resolve.new.self ≡ draft_of (ids_of c.args.self) c.args.self
 draft c = c.resolve.ensures ∙ draft_is _ _ _ c.self.invariant c.args.self c.self.view_is
 
 pub into_game-requires-clause-bare : goal.into_game-requires-clause-bare
-into_game-requires-clause-bare c =
-    let are = subst AreNodes c.self.view_is c.self.invariant.well_formed in
+into_game-requires-clause-bare c = let are = subst AreNodes c.self.view_is c.self.invariant.well_formed in
     subst (λ (g : ParityGame). NoneBare g) (sym (draft (goal.at.into_game-requires-clause-bare c).After-resolve))
     (draft_bare (ids_of c.args.self) c.args.self are.each)
 
 pub into_game-requires-clause-known : goal.into_game-requires-clause-known
-into_game-requires-clause-known c =
-    subst (λ (g : ParityGame). NoneUnknown g) (sym (draft (goal.at.into_game-requires-clause-known c).After-resolve))
-    (draft_known c.args.self refl c.requires)
+into_game-requires-clause-known c = subst (λ (g : ParityGame). NoneUnknown g)
+    (sym (draft (goal.at.into_game-requires-clause-known c).After-resolve)) (draft_known c.args.self refl c.requires)
 
 ids : (c : In_ok-game) → c.self.inside.ids ≡ ids_of c.args.self
 ids c = ids_are _ _ _ c.self.invariant c.args.self c.self.view_is
@@ -35,35 +33,21 @@ game : (c : In_ok-game) → c.in_ok-game.game ≡ game_of c.args.self
 game c = c.in_ok-game.ensures ∙ ap (λ (g : ParityGame). without_repeats g) (draft (goal.at.In_ok-game c).After-resolve)
 
 count : (c : In_ok-game) → vertex_count c.in_ok-game.game ≡ length c.self.inside.ids
-count c = named_count c.args.self (game c)
-    ∙ sym (length-map c.args.self (λ (n : NodeData). n.id)) ∙ sym (ap length (ids c))
+count c = search (rules, named_count, game, length-map, ids)
 
 pub with_first_names-requires-clause-id_each : goal.with_first_names-requires-clause-id_each
-with_first_names-requires-clause-id_each c =
-    let a = (goal.at.with_first_names-requires-clause-id_each c).In_ok-game in
-    omega (arith, c.into_list.result.ok.0, ap length c.into_list.ensures.list, count a)
+with_first_names-requires-clause-id_each c = search (rules, count)
 
 pub with_first_names-requires-clause-names_of_vertices : goal.with_first_names-requires-clause-names_of_vertices
-with_first_names-requires-clause-names_of_vertices c =
-    let names = c.self.inside.names.items in
-    omega (
-      arith,
-      c.self.inside.names.ok.0,
-      length-map names name_bytes,
-      few_names (map name_bytes names) c.self.invariant.name_each,
-      count (goal.at.with_first_names-requires-clause-names_of_vertices c).In_ok-game,
-    )
+with_first_names-requires-clause-names_of_vertices c = search (rules, length-map, few_names, count)
 
 pub with_first_names-requires-clause-names_plain : goal.with_first_names-requires-clause-names_plain
-with_first_names-requires-clause-names_plain c =
-    let are = subst AreNodes c.self.view_is c.self.invariant.well_formed in
+with_first_names-requires-clause-names_plain c = let are = subst AreNodes c.self.view_is c.self.invariant.well_formed in
     plain_kept (length c.self.inside.ids) (map name_bytes c.self.inside.names.items)
     (names_plain (names_are _ _ _ c.self.invariant c.args.self c.self.view_is) are)
 
 pub returns : goal.returns
-returns c =
-    let a = (goal.at.returns c).In_ok-game in
-    same_named c.args.self (c.with_first_names.ensures.game ∙ game a)
-    (c.with_first_names.ensures.ids ∙ c.into_list.ensures.list ∙ ids a)
-    (c.with_first_names.ensures.names ∙ ap (λ k. with_none k (map name_bytes c.self.inside.names.items)) (count a)
-    ∙ names_are _ _ _ c.self.invariant c.args.self c.self.view_is)
+returns c = let a = (goal.at.returns c).In_ok-game in same_named c.args.self
+    (c.with_first_names.ensures.game ∙ game a) (c.with_first_names.ensures.ids ∙ c.into_list.ensures.list ∙ ids a)
+    (c.with_first_names.ensures.names ∙ ap (λ k. with_none k (map name_bytes c.self.inside.names.items))
+    (count a) ∙ names_are _ _ _ c.self.invariant c.args.self c.self.view_is)

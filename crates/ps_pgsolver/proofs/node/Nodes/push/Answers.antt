@@ -1,8 +1,7 @@
-use Rattle.std.proofs.Common.{◌≡◌, ◌+◌, ◌++◌, ◌∷◌, [], ℕ, List, Option, map, length, length-append, sym, subst, ap, ap₂}
-use Rattle.std.proofs.Common.{◌∙◌, arith}
+use Rattle.std.proofs.Common.{◌≡◌, ◌+◌, ◌++◌, ◌∷◌, [], ℕ, List, Option, map, length, length-append, sym, ap, ap₂, ◌∙◌}
+use Rattle.std.proofs.Common.{arith, rules}
 use Rattle.std.specs.Prelude.{Vec}
 use Rattle.std.specs.Global.{Global}
-use Rattle.std.specs.List.{Contains}
 use Rattle.ps_game.specs.Games.{VertexData}
 use Rattle.ps_game.specs.Names.{name_bytes, with_none}
 use Rattle.ps_pgsolver.proofs.KeptLemmas.{ids_are, names_pushed, pushed_is, AreKept-push}
@@ -10,9 +9,7 @@ use Rattle.ps_pgsolver.proofs.node.Nodes.push.Goals as goal
 use Rattle.ps_pgsolver.proofs.node.Nodes.push.Goals.{After-keep_name}
 
 pub push-requires-2 : goal.push-requires-2
-push-requires-2 c =
-    subst (λ (ids : List ℕ). Contains ids c.args.node.id → ⊥) (sym
-    (ids_are _ _ _ c.self.invariant c.args.self.now c.self.view_is)) c.requires.new
+push-requires-2 c = search (rules, ids_are)
 
 abbrev vertex_of : After-keep_name → VertexData
 vertex_of c = record { owner = c.args.node.owner; priority = c.args.node.priority; successors = c.args.successors.now }
@@ -26,21 +23,20 @@ names_kept c =
     let longer : length c.push-2.new.self ≡ c.len-count.result + 1 =
     omega (arith, ap length c.in_default.ensures.ok, length-append s.ids (c.args.node.id ∷ []), count) in
     let pushed = names_pushed c.make_room.new.names.items s.names.items name
-    (omega (arith, c.make_room.ensures.few, c.make_room.new.names.ok.0))
-    (λ named. omega (arith, c.in_ok-make_room.ensures.full (c.is_some.ensures ∙ named), c.make_room.new.names.ok.0))
-    c.make_room.ensures.same in
-    ap₂ (λ k (xs : List (Option (Vec ℕ Global))). with_none k (map name_bytes xs)) longer c.keep_name.ensures ∙ pushed
-    ∙ ap (λ k. with_none k (map name_bytes s.names.items) ++ name_bytes name ∷ []) count
+    (omega (arith, c.make_room.ensures.few, c.make_room.new.names.ok.0)) (λ named. omega (
+      arith,
+      c.in_ok-make_room.ensures.full (c.is_some.ensures ∙ named),
+      c.make_room.new.names.ok.0,
+    )) c.make_room.ensures.same in
+    ap₂ (λ k (xs : List (Option (Vec ℕ Global))). with_none k (map name_bytes xs)) longer c.keep_name.ensures
+    ∙ pushed ∙ ap (λ k. with_none k (map name_bytes s.names.items) ++ name_bytes name ∷ []) count
 
 pub invariant_of-self-2 : goal.invariant_of-self-2
-invariant_of-self-2 c =
-    let b = (goal.at.invariant_of-self-2 c).After-keep_name in
-    AreKept-push _ _ _ c.self.invariant c.args.self.now c.self.view_is _ _ _ c.args.node.id (vertex_of b)
-    (name_bytes c.args.node.name) c.in_default.ensures.ok c.in_ok-push.ensures.ok (names_kept b) c.requires.new
-    c.requires.node
+invariant_of-self-2 c = let b = (goal.at.invariant_of-self-2 c).After-keep_name in AreKept-push _
+    _ _ c.self.invariant c.args.self.now c.self.view_is _ _ _ c.args.node.id (vertex_of b) (name_bytes c.args.node.name)
+    c.in_default.ensures.ok c.in_ok-push.ensures.ok (names_kept b) c.requires.new c.requires.node
 
 pub returns : goal.returns
-returns c =
-    let b = (goal.at.returns c).After-keep_name in
-    pushed_is _ _ _ c.self.invariant c.args.self.now c.self.view_is _ _ _ c.args.node.id (vertex_of b)
-    (name_bytes c.args.node.name) c.in_default.ensures.ok c.in_ok-push.ensures.ok (names_kept b)
+returns c = let b = (goal.at.returns c).After-keep_name in
+    pushed_is _ _ _ c.self.invariant c.args.self.now c.self.view_is _ _ _ c.args.node.id
+    (vertex_of b) (name_bytes c.args.node.name) c.in_default.ensures.ok c.in_ok-push.ensures.ok (names_kept b)

@@ -5,7 +5,6 @@ use Rattle.ps_pgsolver.proofs.NextSigns.{next_sign, at_comma}
 use Rattle.ps_pgsolver.proofs.token.Tokens.is_at_comma.Goals as goal
 
 pub returns : goal.returns
-returns c =
-    let next = ap next_of (sym c.self.view_is) ∙ next_sign c.self.inside.text.now c.self.inside.at
-    c.next_start.ensures.start c.split_at.ensures.front c.split_at.ensures.back in
+returns c = let next = ap next_of (sym c.self.view_is) ∙ next_sign c.self.inside.text.now
+    c.self.inside.at c.next_start.ensures.start c.split_at.ensures.front c.split_at.ensures.back in
     c.begins_with.ensures ∙ sym (at_comma _ _) ∙ sym (ap is_comma next)

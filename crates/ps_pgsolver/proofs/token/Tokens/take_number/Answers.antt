@@ -8,9 +8,8 @@ pub returns-clause-some : goal.returns-clause-some
 returns-clause-some c =
     let value = c.in_ok-number.number.value in
     let digits = c.in_ok-number.number.digits in
-    let left = leaves c.self.inside.text.now _ _ c.self.inside.at _ digits (kinds.Number value) (Number value) _
-    c.next_start-start.ensures.start c.next_start-start.ensures.within
-    c.split_at.ensures.front c.split_at.ensures.back refl
-    (begins_number _ c.in_ok-number.ensures.value c.in_ok-number.ensures.digits
+    let left = leaves c.self.inside.text.now _ _ c.self.inside.at _ digits (kinds.Number value)
+    (Number value) _ c.next_start-start.ensures.start c.next_start-start.ensures.within c.split_at.ensures.front
+    c.split_at.ensures.back refl (begins_number _ c.in_ok-number.ensures.value c.in_ok-number.ensures.digits
     (omega (arith, c.if-number-eq0.false)) (sym c.ends_in_class.ensures ∙ c.if-ends_in_class.false)) c.self.view_is in
     record { sign = left.sign_is; small = omega (arith, c.few_digits.type_inv); rest = left.rest }

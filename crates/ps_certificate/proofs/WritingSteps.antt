@@ -1,0 +1,61 @@
+-- What the writer of a certificate has written.
+--     all_taken, all_taken_all      of each element that was passed
+--     head_joined      what stands before the lines of the vertices
+--     pair_written, pair_skipped      one count further
+use Rattle.std.proofs.Common.{◌≡◌, ℕ, suc, ◌+◌, ◌<◌, ◌≤◌, Bool, cond, eqb, List, [], ◌∷◌, ◌++◌, length, get_or, drop}
+use Rattle.std.proofs.Common.{take, sym, ap, ap₂, subst, ◌∙◌, append_assoc, arith}
+use Rattle.std.specs.Prelude.{decimal}
+use Rattle.std.specs.List.{All}
+use Rattle.std.proofs.Math.Seq.{take-suc}
+use Rattle.std.proofs.lemmas.Bool.{eq-eqb, ne_eqb}
+use Rattle.std.proofs.lemmas.List.{take_all, drop_more}
+use Rattle.std.proofs.lemmas.List.Elements.{All-nil, All-cons, All-append}
+use Rattle.ps_certificate.specs.Written.{pairs}
+
+pub all_taken : {X : Type 0} (P : X → Type 0) (xs : List X) (v : ℕ) (d : X) → v < length xs → All P (take v xs)
+    → P (get_or xs v d) → All P (take (v + 1) xs)
+all_taken P xs v d lt h p =
+    let x = get_or xs v d in
+    let next : v + 1 ≡ suc v = omega arith in
+    subst (All P) (sym (ap (λ n. take n xs) next ∙ take-suc xs v d lt))
+    (All-append P (take v xs) (x ∷ []) h (All-cons P x [] p (All-nil P)))
+
+pub all_taken_all : {X : Type 0} (P : X → Type 0) (xs : List X) (v : ℕ) → length xs ≤ v → All P (take v xs) → All P xs
+all_taken_all P xs v le h = subst (All P) (take_all v xs le) h
+
+eight_joined : (o w a b c d e f g : List ℕ) → (((((((o ++ w) ++ a) ++ b) ++ c) ++ d) ++ e) ++ f) ++ g ≡ o ++
+    (((((((w ++ a) ++ b) ++ c) ++ d) ++ e) ++ f) ++ g)
+eight_joined o w a b c d e f g = simp (append_assoc)
+
+pub head_joined : (o w : List ℕ) (v : ℕ) (a b c d e f : List ℕ) → ((((((((o ++ w) ++ v ∷ []) ++ a) ++ b) ++ c) ++ d)
+    ++ 10 ∷ e) ++ f) ++ 10 ∷ [] ≡ o ++ (((((((w ++ v ∷ a) ++ b) ++ c) ++ d) ++ 10 ∷ e) ++ f) ++ 10 ∷ [])
+head_joined o w v a b c d e f = ap (λ x. (((((x ++ b) ++ c) ++ d) ++ 10 ∷ e) ++ f) ++ 10 ∷ [])
+    (append_assoc (o ++ w) (v ∷ []) a) ∙ eight_joined o w (v ∷ a) b c d (10 ∷ e) f (10 ∷ [])
+
+-- one place further
+pairs_next : (ps cs : List ℕ) (i : ℕ) → i < length cs → length cs ≡ length ps
+    → pairs (drop i ps) (drop i cs) ≡ cond (eqb (get_or cs i 0) 0) (pairs (drop (i + 1) ps) (drop (i + 1) cs))
+    (32 ∷ decimal (get_or ps i 0) ++ 58 ∷ decimal (get_or cs i 0) ++ pairs (drop (i + 1) ps) (drop (i + 1) cs))
+pairs_next ps cs i lt same = ap₂ (λ (x : List ℕ) (y : List ℕ). pairs x y) (drop_more ps i 0 (omega (arith, lt, same)))
+    (drop_more cs i 0 lt)
+
+regroup_pair : (out a b r : List ℕ) → ((out ++ a) ++ b) ++ r ≡ out ++ ((a ++ b) ++ r)
+regroup_pair out a b r = simp (append_assoc)
+
+pub pair_written : (out ps cs : List ℕ) {total : List ℕ} (i : ℕ) → i < length cs → length cs ≡ length ps →
+    (get_or cs i 0 ≡ 0 → ⊥) → out ++ pairs (drop i ps) (drop i cs) ≡ total → ((out ++ 32 ∷ decimal (get_or ps i 0))
+    ++ 58 ∷ decimal (get_or cs i 0)) ++ pairs (drop (i + 1) ps) (drop (i + 1) cs) ≡ total
+pair_written out ps cs i lt same some h =
+    let more = pairs (drop (i + 1) ps) (drop (i + 1) cs) in
+    let text = 32 ∷ decimal (get_or ps i 0) ++ 58 ∷ decimal (get_or cs i 0) ++ more in
+    let next : pairs (drop i ps) (drop i cs) ≡ text =
+    pairs_next ps cs i lt same ∙ ap (λ (b : Bool). cond b more text) (ne_eqb (get_or cs i 0) 0 some) in
+    regroup_pair out
+    (32 ∷ decimal (get_or ps i 0)) (58 ∷ decimal (get_or cs i 0)) more ∙ ap (λ xs. out ++ xs) (sym next) ∙ h
+
+pub pair_skipped : (out ps cs : List ℕ) {total : List ℕ} (i : ℕ) → i < length cs → length cs ≡ length ps → get_or
+    cs i 0 ≡ 0 → out ++ pairs (drop i ps) (drop i cs) ≡ total → out ++ pairs (drop (i + 1) ps) (drop (i + 1) cs) ≡ total
+pair_skipped out ps cs i lt same none h = let more = pairs (drop (i + 1) ps) (drop (i + 1) cs) in
+    let text = 32 ∷ decimal (get_or ps i 0) ++ 58 ∷ decimal (get_or cs i 0) ++ more in
+    let next : pairs (drop i ps) (drop i cs) ≡ more = pairs_next ps cs i lt same
+    ∙ ap (λ (b : Bool). cond b more text) (eq-eqb (get_or cs i 0) 0 none) in ap (λ xs. out ++ xs) (sym next) ∙ h
