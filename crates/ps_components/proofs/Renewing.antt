@@ -5,7 +5,6 @@ use Rattle.std.proofs.lemmas.List.{length-set}
 use Rattle.std.proofs.lemmas.Option.{slice_get_within, slice_get-get_or}
 use Rattle.ps_components.specs.declared.marks.Mark.{Mark}
 use Rattle.ps_components.specs.declared.marks.Mark.TheVariants.{Unseen}
-use Rattle.ps_components.specs.Searching.{AreListed}
 use Rattle.ps_components.proofs.Places.{slice_get-set_cases}
 
 -- what is marked stands in the order from place n on
@@ -13,13 +12,6 @@ pub record AreListedFrom (marks : List Mark) (order : List ℕ) (n : ℕ) : Type
   pub within : (i v : ℕ) → slice_get order i ≡ Some v → v < length marks
   pub listed : (v : ℕ) (m : Mark) → slice_get marks v ≡ Some m →
       (m ≡ Unseen) ⊎ ((i : ℕ) × (n ≤ i) × (slice_get order i ≡ Some v))
-
-pub listed_first : {marks : List Mark} {order : List ℕ} → AreListed marks order → AreListedFrom marks order 0
-listed_first all = record {
-  within = all.within;
-  listed = λ v m at.
-      elim (all.listed v m at) [ inl none ↦ inl none | inr found ↦ inr (found.0, omega arith, found.1) ];
-}
 
 later : (order : List ℕ) {n item v i : ℕ} → slice_get order n ≡ Some item → v ≢ item → n ≤ i →
     slice_get order i ≡ Some v → n + 1 ≤ i

@@ -1,7 +1,7 @@
 -- Chains of cells that hold counts: with one more cell, and as rows.
 use Rattle.std.proofs.Common.{◌≡◌, ◌≢◌, ℕ, zero, suc, ◌+◌, ◌-◌, ◌<◌, ◌≤◌, ◌==◌, ◌∙◌, ◌++◌, ◌∷◌, [], List, length, map}
 use Rattle.std.proofs.Common.{max, get_or, inl, inr, refl, sym, ap, add-one, arith, Option, None, Some, cond}
-use Rattle.std.proofs.Common.{replicate}
+use Rattle.std.proofs.Common.{replicate, rules}
 use Rattle.std.specs.Prelude.{slice_get, slice_index, slice_set}
 use Rattle.std.proofs.Math.Nat.{zero-max}
 use Rattle.std.proofs.lemmas.Bool.{cases_eq, cases_lt, ne_eqb, eq-eqb}
@@ -263,10 +263,7 @@ module _ {width : ℕ} {heads : List ℕ} {cells : List CountCell} {vertex place
 -- ---- no cell
 
 pub none_headed : (width count : ℕ) → AreHeaded width (replicate count 0) []
-none_headed width count = record {
-  chained = record { falls = λ i cell at. absurd cc; places = λ i cell at. absurd cc };
-  first = λ v. (let is : slice_index (replicate count 0) v ≡ 0 = zeros_at count v in omega (arith, is));
-}
+none_headed width count = search (rules, zeros_at)
 
 pub none_zero : (width count : ℕ) → AreZero (rows_in width (replicate count 0) []) count width
 none_zero width count = record {

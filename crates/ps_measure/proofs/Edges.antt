@@ -1,5 +1,5 @@
 -- Links of the graphs, and the edges that remain.
-use Rattle.std.proofs.Common.{◌≡◌, ℕ, ◌+◌, ◌-◌, ◌<◌, ◌≤◌, ◌∙◌, length, inl, inr, refl, sym, ap}
+use Rattle.std.proofs.Common.{rules, ◌≡◌, ℕ, ◌+◌, ◌-◌, ◌<◌, ◌≤◌, ◌∙◌, length, inl, inr, refl, sym, ap}
 use Rattle.std.proofs.Common.{arith, Option, None, Some, Bool, true, false, cond, nat_le, not, ◌&&◌, ◌||◌}
 use Rattle.std.specs.Prelude.{slice_index, ◌==◌}
 use Rattle.std.proofs.lemmas.Bool.{cases_eq, eqb-true, eq-eqb, ne_eqb, and_parts, and_from, or_cases, or_left, or_right}
@@ -36,8 +36,7 @@ some-is_move o w e = rw e (eq-eqb w w refl)
 
 -- the places of a vertex that has places under a condition
 pub below_places : (b : Bool) (k n : ℕ) → k < cond b n 0 → (b ≡ true) × (k < n)
-below_places true k n below = (refl, below)
-below_places false k n below = absurd (omega arith)
+below_places b k n below = search rules
 
 -- ---- edges that remain, by a test
 
@@ -168,9 +167,7 @@ leads_nowhere {low = low} {v} {w = w} reverse all none link =
 
 -- a vertex of weight 1 is in the region and has the priority
 heavy_parts : (a b : Bool) → counted (a && b) ≡ 1 → (a ≡ true) × (b ≡ true)
-heavy_parts true true e = (refl, refl)
-heavy_parts true false e = absurd cc
-heavy_parts false b e = absurd cc
+heavy_parts a b e = search rules
 
 pub heavy_inside : (low : LowData) (v : ℕ) → low_weight low v ≡ 1 → has low.region v ≡ true
 heavy_inside low v heavy = (heavy_parts (slice_index low.levels v == low.priority) (has low.region v) heavy).1

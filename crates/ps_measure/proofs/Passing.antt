@@ -1,5 +1,5 @@
 -- Passing links from the last vertex of the order to the first: each value is final before it is used.
-use Rattle.std.proofs.Common.{◌≡◌, ℕ, ◌+◌, ◌<◌, ◌≤◌, ◌∙◌, List, length, inl, inr, ap, arith, refl}
+use Rattle.std.proofs.Common.{rules, ◌≡◌, ℕ, ◌+◌, ◌<◌, ◌≤◌, ◌∙◌, List, length, inl, inr, ap, arith, refl}
 use Rattle.std.proofs.Common.{Option, None, Some}
 use Rattle.std.specs.Prelude.{slice_get, slice_index, slice_set}
 use Rattle.std.proofs.lemmas.Bool.{cases_eq}
@@ -16,10 +16,7 @@ use Rattle.ps_measure.proofs.Writing.{written}
 
 pub grows_on : {first second third : List ℕ} {place : ℕ} → GrowsBelow first second place →
     GrowsBelow second third place → GrowsBelow first third place
-grows_on one other = record {
-  grows = λ k. omega (arith, one.grows k, other.grows k);
-  same = λ k later. other.same k later ∙ one.same k later;
-}
+grows_on one other = search rules
 
 pub raised_before : (c : ComponentsData) {old new : List ℕ} (roots : List ℕ) {place : ℕ} → GrowsBelow old new place →
     AreRaised c old roots → AreRaised c new roots
@@ -136,9 +133,7 @@ module _ {g : Digraph} {weight : ℕ → ℕ} {c : ComponentsData} {values roots
   at_vertex other counts v (Some (Some k)) is = column.least other counts v k is
 
   bound : (o : Option (Option ℕ)) → value_at values o ≤ sum_below weight g.count
-  bound None = omega arith
-  bound (Some None) = omega arith
-  bound (Some (Some k)) = omega (arith, column.bounded k, weights_from-bound c weight k g.count)
+  bound o = search (rules, weights_from-bound)
 
   pub least_counts : AreLeast g weight (value_of c values)
   least_counts = record {

@@ -11,7 +11,8 @@ use Rattle.ps_measure.specs.Columns.{value_of, value_at}
 use Rattle.ps_measure.specs.Ranks.{count_of, width_of}
 use Rattle.ps_measure.specs.Sums.{sum_below, counted}
 use Rattle.ps_measure.specs.Tables.{HasPut, HasColumn}
-use Rattle.ps_measure.proofs.Summing.{sum_below-same, positive_none, positive_some, raised_below, raised_none, raised_same}
+use Rattle.ps_measure.proofs.Summing.{sum_below-same, positive_none, positive_some, raised_below, raised_none}
+use Rattle.ps_measure.proofs.Summing.{raised_same}
 
 -- one term more is 1, all others stay
 one_more : (f g : ℕ → ℕ) (n u : ℕ) → u < n → f u ≡ 0 → g u ≡ 1 → ((v : ℕ) → v ≢ u → g v ≡ f v) →
@@ -85,7 +86,8 @@ module _ {order : List ℕ} {counts : ℕ → ℕ} {old now : List (List ℕ)} {
           ∙ so_far.done j v (omega (arith, less, apart)) there
     ];
     rest = λ v nowhere.
-        old_stays v (λ e. nowhere i (omega arith) (rw e at)) ∙ so_far.rest v (λ j less there. nowhere j (omega (arith, less)) there);
+        old_stays v (λ e. nowhere i (omega arith) (rw e at))
+        ∙ so_far.rest v (λ j less there. nowhere j (omega (arith, less)) there);
     few = omega (arith, so_far.few);
     raised_is =
         let more = one_more (λ v. counted (nat_lt 0 (count_of now v place)))

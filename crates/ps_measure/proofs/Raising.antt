@@ -1,8 +1,8 @@
 -- Least counts for one priority are there, or a cycle that is lost: counts are raised along the edges that remain until
--- none has to be. A count is the length of a chain of vertices of that priority; where one comes twice, a cycle is lost.
+-- none has to be. Each is the length of a chain of vertices of that priority; where one comes twice, a cycle is lost.
 use Rattle.std.proofs.Common.{◌≡◌, ℕ, zero, suc, ◌+◌, ◌-◌, ◌*◌, ◌%◌, ◌<◌, ◌≤◌, ◌⊎◌, ◌∙◌, List, [], ◌∷◌, ◌++◌, length}
-use Rattle.std.proofs.Common.{map, max, get_or, inl, inr, refl, sym, ap, arith, add-one, Option, Bool, true, false, cond}
-use Rattle.std.proofs.Common.{not, nat_le, nat_eq, ◌&&◌}
+use Rattle.std.proofs.Common.{map, max, get_or, inl, inr, refl, sym, ap, arith, add-one, Option, Bool, true}
+use Rattle.std.proofs.Common.{cond, not, nat_le, nat_eq, ◌&&◌, rules}
 use Rattle.std.specs.Prelude.{◌==◌}
 use Rattle.std.specs.Cmp.{nat_eq_equiv}
 use Rattle.std.specs.List.{Contains, list_any}
@@ -18,9 +18,6 @@ use Rattle.ps_measure.specs.Ranks.{AreLeastFor, IsLostCycle, count_with}
 use Rattle.ps_measure.specs.Sums.{sum_below, count_below, counted}
 use Rattle.ps_measure.proofs.Edges.{may_stay, stays_so, so_stays}
 use Rattle.ps_measure.proofs.Summing.{sum_below-bound, sum_below-more}
-
-clash : (b : Bool) → b ≡ true → b ≡ false → ⊥
-clash b e f = cc
 
 -- ## Numbers below a bound
 
@@ -47,9 +44,7 @@ Distinct [] = Unit {0}
 Distinct (u ∷ us) = (Contains us u → ⊥) × Distinct us
 
 fewer : (b c : Bool) → counted (b && c) ≤ counted b
-fewer true true = omega arith
-fewer true false = omega arith
-fewer false c = omega arith
+fewer b c = search rules
 
 -- different numbers below n that pass a test are no more than those that do
 fits : (h : ℕ → Bool) (n : ℕ) (us : List ℕ) → Distinct us → ((u : ℕ) → Contains us u → (h u ≡ true) × (u < n)) →
@@ -160,11 +155,7 @@ module _ (game : ParityGame) (player : ℕ) (set : ℕ → Bool) (table : ℕ �
           let at = Contains-from_any (λ x y h. eqb-true x y h) u us there in
           let run = run_from u c.2.0 u c.2.1 (chain_reaches c.2.0 us c.2.2 at.0 u at.1 at.2) in
           inr (u, run.0, c.1, run.1)
-      | inr absent ↦ inl (
-        (λ again. clash (list_any (nat_eq u) us)
-            (list_any-from_Contains nat_eq_equiv u us again) absent),
-        d,
-      )
+      | inr absent ↦ inl ((λ again. cc (list_any-from_Contains nat_eq_equiv u us again)), d)
     ]
   ]
 

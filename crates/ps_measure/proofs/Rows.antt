@@ -1,6 +1,6 @@
 -- Rows of counts: those of one priority more, and how many are not 0.
 use Rattle.std.proofs.Common.{◌≡◌, ℕ, ◌+◌, ◌*◌, ◌<◌, ◌≤◌, ◌∙◌, List, length, inl, inr, refl, sym, arith, Bool, true}
-use Rattle.std.proofs.Common.{false, nat_lt, Option}
+use Rattle.std.proofs.Common.{false, nat_lt, Option, rules}
 use Rattle.std.specs.Prelude.{slice_index}
 use Rattle.std.proofs.Math.Nat.{mul-le-mul_left}
 use Rattle.std.proofs.lemmas.Bool.{cases_eq, cases_lt}
@@ -107,12 +107,7 @@ module _ {game : ParityGame} {player : ℕ} {set : ℕ → Bool} {table : ℕ �
   -- no count is there yet
   pub ranked_none : {priorities : List ℕ} {rows : List Row} → AreZero rows (vertex_count game) (length priorities) →
       AreRanked game player set table priorities rows 0 0
-  ranked_none zeros = record {
-    shape = zeros.shape;
-    least = λ k below. absurd (omega (arith, below));
-    after = λ v k _. zeros.none v k;
-    raises_is = refl;
-  }
+  ranked_none zeros = search rules
 
   -- in an empty set all counts are 0
   pub ranked_empty : {priorities : List ℕ} {rows : List Row} → ((v : ℕ) → set v ≡ false) →

@@ -1,5 +1,5 @@
 -- One priority more, and what is said of all of them.
-use Rattle.std.proofs.Common.{◌≡◌, ℕ, ◌+◌, ◌%◌, ◌<◌, ◌≤◌, ◌∙◌, List, length, ap, arith, Bool, Option}
+use Rattle.std.proofs.Common.{◌≡◌, ℕ, ◌+◌, ◌%◌, ◌<◌, ◌≤◌, ◌∙◌, List, length, ap, arith, Bool, Option, refl}
 use Rattle.std.specs.Prelude.{slice_index}
 use Rattle.std.proofs.lemmas.List.Elements.{All-get_or}
 use Rattle.ps_game.specs.Games.{ParityGame, IsGame, vertex_count}
@@ -8,7 +8,8 @@ use Rattle.ps_game.specs.Regions.{has, move_at}
 use Rattle.ps_game.specs.Ranking.{ListsPriorities}
 use Rattle.ps_measure.specs.declared.fault.MeasureFault.{MeasureFault}
 use Rattle.ps_measure.specs.declared.fault.MeasureFault.TheVariants.{BadCycle, OutOfMemory}
-use Rattle.ps_measure.specs.Remaining.{RemainingData, remaining_graph, star_graph, IsReverse, LowData, low_graph}
+use Rattle.ps_measure.specs.Remaining.{RemainingData, StarData, remaining_graph, star_graph, IsReverse, LowData}
+use Rattle.ps_measure.specs.Remaining.{low_graph}
 use Rattle.ps_measure.specs.Remaining.{low_weight}
 use Rattle.ps_measure.specs.Filling.{AreRanked, IsFilled, IsLowRefusal, AreLevels}
 use Rattle.ps_measure.specs.Ranks.{AreRanks, IsRefusal, total_of, raised_of, most_raises}
@@ -23,6 +24,21 @@ pub record IsAtPlace (r : RemainingData) (low : LowData) (priorities : List ℕ)
   pub regions : low.region ≡ r.region
   pub within : place < length priorities
   pub priority : low.priority ≡ slice_index priorities place
+
+pub is_at_place : {game : ParityGame} (player : ℕ) (region : List Bool) (strategy : List (Option ℕ)) (star : StarData)
+    {levels : List ℕ} (priorities : List ℕ) (place : ℕ) → IsGame game → AreLevels game levels →
+    IsReverse (remaining_graph (record { game = game; player = player; region = region; strategy = strategy }))
+    (star_graph star) → place < length priorities →
+    IsAtPlace (record { game = game; player = player; region = region; strategy = strategy })
+    (record { star = star; region = region; levels = levels; priority = slice_index priorities place }) priorities place
+is_at_place player region strategy star priorities place is_game levels reverse within = record {
+  is_game = is_game;
+  levels = levels;
+  reverse = reverse;
+  regions = refl;
+  within = within;
+  priority = refl;
+}
 
 module _ {r : RemainingData} {low : LowData} {priorities : List ℕ} {place : ℕ}
     (at : IsAtPlace r low priorities place) where

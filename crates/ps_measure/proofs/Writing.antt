@@ -1,5 +1,5 @@
 -- A list of numbers after one was written, and a list of zeros.
-use Rattle.std.proofs.Common.{◌≡◌, ◌≢◌, ℕ, ◌<◌, ◌⊎◌, List, length, inl, inr, arith, replicate}
+use Rattle.std.proofs.Common.{rules, ◌≡◌, ◌≢◌, ℕ, ◌<◌, ◌⊎◌, List, length, inl, inr, arith, replicate}
 use Rattle.std.specs.Prelude.{slice_index, slice_set}
 use Rattle.std.proofs.lemmas.Bool.{cases_eq, cases_lt}
 use Rattle.std.proofs.lemmas.List.{get_or-set_same, get_or-set_other, get_or-replicate, get_or_past, length-replicate}
@@ -8,10 +8,7 @@ use Rattle.std.proofs.lemmas.List.{get_or-set_same, get_or-set_other, get_or-rep
 pub written : (xs : List ℕ) (i x j : ℕ) → i < length xs →
     ((j ≡ i) × (slice_index (slice_set xs i x) j ≡ x)) ⊎
     ((j ≢ i) × (slice_index (slice_set xs i x) j ≡ slice_index xs j))
-written xs i x j within = elim (cases_eq j i) [
-  | inl same ↦ inl (same, rw same (get_or-set_same xs i x 0 within))
-  | inr apart ↦ inr (apart, get_or-set_other xs i j x 0 apart)
-]
+written xs i x j within = search (rules, cases_eq, get_or-set_same, get_or-set_other)
 
 pub zeros_at : (n i : ℕ) → slice_index (replicate n 0) i ≡ 0
 zeros_at n i = elim (cases_lt i n) [

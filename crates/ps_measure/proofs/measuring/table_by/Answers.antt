@@ -1,33 +1,16 @@
 use Rattle.std.proofs.Common.{arith, refl, ◌≡◌, get_or, length}
 use Rattle.std.proofs.lemmas.Result.{err_from_is_err_and}
-use Rattle.ps_measure.specs.Remaining.{RemainingData, LowData}
+use Rattle.ps_measure.specs.Remaining.{LowData}
 use Rattle.ps_measure.proofs.Grouping.{group_at}
 use Rattle.ps_measure.proofs.Rows.{ranked_none, ranked_empty, ranked_fits, filled_bound}
-use Rattle.ps_measure.proofs.Whole.{IsAtPlace, column_done, refused}
+use Rattle.ps_measure.proofs.Whole.{is_at_place, column_done, refused}
 use Rattle.ps_measure.proofs.measuring.table_by.Goals as goal
 
 pub loop-place-preserved : goal.loop-place-preserved
 loop-place-preserved g c =
-    let r : RemainingData = record {
-      game = g.A.Arena.game c.args.arena.now;
-      player = c.args.player;
-      region = c.args.region.now;
-      strategy = c.args.strategy.now;
-    } in
-    let low : LowData = record {
-      star = c.in_ok-back.back;
-      region = c.args.region.now;
-      levels = c.in_ok-groups.groups.levels;
-      priority = get_or c.args.priorities.now c.loop-place.place 0;
-    } in
-    let at : IsAtPlace r low c.args.priorities.now c.loop-place.place = record {
-      is_game = c.count.ensures.well_formed;
-      levels = c.in_ok-groups.ensures.levels;
-      reverse = c.in_ok-back.ensures;
-      regions = refl;
-      within = omega (arith, c.loop-place-test.true);
-      priority = refl;
-    } in
+    let at = is_at_place c.args.player c.args.region.now c.args.strategy.now c.in_ok-back.back c.args.priorities.now
+    c.loop-place.place c.count.ensures.well_formed c.in_ok-groups.ensures.levels c.in_ok-back.ensures
+    (omega (arith, c.loop-place-test.true)) in
     rw c.from-raises.ensures (column_done at c.in_ok-raised.ensures.filled c.loop-place.invariant)
 
 pub overflow_add-raises : goal.overflow_add-raises
@@ -52,26 +35,9 @@ overflow_add-raises g c =
 
 pub returns-in_err-raised-clause-cycle : goal.returns-in_err-raised-clause-cycle
 returns-in_err-raised-clause-cycle g c =
-    let r : RemainingData = record {
-      game = g.A.Arena.game c.args.arena.now;
-      player = c.args.player;
-      region = c.args.region.now;
-      strategy = c.args.strategy.now;
-    } in
-    let low : LowData = record {
-      star = c.in_ok-back.back;
-      region = c.args.region.now;
-      levels = c.in_ok-groups.groups.levels;
-      priority = get_or c.args.priorities.now c.loop-place.place 0;
-    } in
-    let at : IsAtPlace r low c.args.priorities.now c.loop-place.place = record {
-      is_game = c.count.ensures.well_formed;
-      levels = c.in_ok-groups.ensures.levels;
-      reverse = c.in_ok-back.ensures;
-      regions = refl;
-      within = omega (arith, c.loop-place-test.true);
-      priority = refl;
-    } in
+    let at = is_at_place c.args.player c.args.region.now c.args.strategy.now c.in_ok-back.back c.args.priorities.now
+    c.loop-place.place c.count.ensures.well_formed c.in_ok-groups.ensures.levels c.in_ok-back.ensures
+    (omega (arith, c.loop-place-test.true)) in
     let p = err_from_is_err_and c.from_residual-in_err-raised.result c.from_residual-in_err-raised.ensures.1 in
     rw (p.1, p.2) (refused at c.in_err-raised.field-0.0 c.requires.listed c.in_err-raised.ensures.cycle)
 

@@ -1,4 +1,4 @@
-use Rattle.std.proofs.Common.{arith}
+use Rattle.std.proofs.Common.{arith, rules}
 use Rattle.ps_measure.proofs.Steps.{step_fits, step_counting, step_raised, step_enough, step_inside, step_lost}
 use Rattle.ps_measure.proofs.column.Column.pass.Goals as goal
 
@@ -18,32 +18,16 @@ overflow_add-value c =
     omega (arith, fits, c.count-vertices.ensures.count, c.count-vertices.type_inv)
 
 pub returns-then-index-value-clause-counting : goal.returns-then-index-value-clause-counting
-returns-then-index-value-clause-counting c =
-    let r = c.requires in
-    step_counting c.args.low.now r.counting r.link r.number c.number.ensures c.unwrap_or-before.ensures
-    c.weight-weight.ensures c.index.ensures c.if-before-number.true
+returns-then-index-value-clause-counting c = search (rules, step_counting)
 
 pub returns-then-index-value-clause-passed : goal.returns-then-index-value-clause-passed
-returns-then-index-value-clause-passed c =
-    let r = c.requires in
-    step_raised c.args.low.now r.counting r.link r.number c.number.ensures c.unwrap_or-before.ensures
-    c.weight-weight.ensures c.index.ensures c.if-before-number.true
+returns-then-index-value-clause-passed c = search (rules, step_raised)
 
 pub returns-else-index-value-clause-passed : goal.returns-else-index-value-clause-passed
-returns-else-index-value-clause-passed c =
-    let r = c.requires in
-    step_enough c.args.low.now r.counting r.link r.number c.number.ensures c.unwrap_or-before.ensures
-    c.weight-weight.ensures c.index.ensures c.if-before-number.true c.index-then-before-number.ensures
-    c.if-index-value.false
+returns-else-index-value-clause-passed c = search (rules, step_enough)
 
 pub returns-else-before-number-clause-passed : goal.returns-else-before-number-clause-passed
-returns-else-before-number-clause-passed c =
-    let r = c.requires in
-    step_inside c.args.low.now r.counting r.link r.number c.number.ensures c.unwrap_or-before.ensures
-    c.weight-weight.ensures c.if-before-number.false
+returns-else-before-number-clause-passed c = search (rules, step_inside)
 
 pub returns-else-before-number-clause-lost : goal.returns-else-before-number-clause-lost
-returns-else-before-number-clause-lost c =
-    let r = c.requires in
-    step_lost c.args.low.now r.counting r.link r.number c.number.ensures c.unwrap_or-before.ensures
-    c.weight-weight.ensures c.if-before-number.false
+returns-else-before-number-clause-lost c = search (rules, step_lost)
