@@ -65,7 +65,6 @@ close_case b c bs t ih (suc depth) n is =
     let k = some_more _ m.0 m.1 in
     let inner = ih depth k.0 k.1 in
     let e : n ≡ suc (suc k.0) = m.2 ∙ ap (λ (x : ℕ). suc x) k.2 in
-    let short = inner.1 in
     rw e (closes both.0 both.1 inner.0, omega arith)
 
 ends_length : {depth : ℕ} {bs : List ℕ} → Ends depth bs → 0 < length bs
@@ -89,12 +88,10 @@ comment_sound (suc fuel) (b ∷ c ∷ bs) depth n short is =
             let k = some_more _ m.0 m.1 in
             let inner = comment_sound fuel bs (suc depth) k.0 less k.1 in
             let e : n ≡ suc (suc k.0) = m.2 ∙ ap (λ (x : ℕ). suc x) k.2 in
-            let within = inner.1 in
             rw e (opens both.0 both.1 inner.0, omega arith)
         | inr u ↦
             let m = some_more _ n (sym (comment_plain b c bs depth t u) ∙ is) in
             let inner = comment_sound fuel (c ∷ bs) depth m.0 less' m.1 in
-            let within = inner.1 in
             rw m.2 (on b c bs m.0 depth (not_both b 42 c 47 t) (not_both b 47 c 42 u) inner.0 m.1, omega arith)
       ])
     ])
@@ -130,7 +127,6 @@ pair_case b [] e ih n is = absurd (quoted_none true n is)
 pair_case b (c ∷ cs) e ih n is =
     let m = some_more _ n (sym (quoted_pair c cs) ∙ is) in
     let inner = ih c cs m.0 refl m.1 in
-    let within = inner.3 in
     rw m.2 (b ∷ c ∷ inner.0, escaped e inner.1, ap (λ (xs : List ℕ). b ∷ c ∷ xs) inner.2, omega arith)
 
 pub quoted_sound : (fuel : ℕ) (bs : List ℕ) (n : ℕ) → length bs ≤ fuel → quoted_len bs false ≡ Some n → Quotes bs n
@@ -153,7 +149,6 @@ quoted_sound (suc fuel) (b ∷ bs) n short is =
                 (let m = some_more (quoted_len bs false) n (sym (quoted_more b bs p.1
                 ∙ ap (λ (t : Bool). one_more (quoted_len bs t)) q.0) ∙ is) in
                 let inner = quoted_sound fuel bs m.0 less m.1 in
-                let within = inner.3 in
                 rw m.2 (b ∷ inner.0, plain p.1 q.1 inner.1, ap (λ (xs : List ℕ). b ∷ xs) inner.2, omega arith))
           ])
     ])

@@ -94,7 +94,6 @@ number_sound : (b : ℕ) (bs : List ℕ) → class_of b ≡ Digit → Sound (b �
 number_sound b bs e =
     let k = prefix_len is_digit bs in
     let r = run_sound is_digit bs in
-    let within = r.2 in
     let len : length (take k bs) ≡ k = length-prefix_len is_digit bs in
     let one : 1 + k ≡ suc k = omega arith in
     let digit : is_digit b ≡ true = ap digits e in
@@ -134,7 +133,6 @@ name_sound : (b : ℕ) (bs : List ℕ) → class_of b ≡ Letter → Sound (b �
 name_sound b bs e =
     let k = prefix_len is_name_byte bs in
     let r = run_sound is_name_byte bs in
-    let within = r.2 in
     let one : 1 + k ≡ suc k = omega arith in
     let two : 2 + k ≡ suc (suc k) = omega arith in
     cond_sound (b ∷ bs) (nat_eq (head_or_zero (drop k bs)) 58) _ _
@@ -156,7 +154,6 @@ alias_sound : (b : ℕ) (bs : List ℕ) → class_of b ≡ At → Sound (b ∷ b
 alias_sound b bs e =
     let k = prefix_len is_name_byte bs in
     let r = run_sound is_name_byte bs in
-    let within = r.2 in
     let len : length (take k bs) ≡ k = length-prefix_len is_name_byte bs in
     let one : 1 + k ≡ suc k = omega arith in
     let at : b ≡ 64 = tells_of b At e in
@@ -181,7 +178,6 @@ text_sound b bs e = go (quoted_len bs false) refl
     go None is = odd_here b bs (by_class b bs Quote e ∙ ap text_by is)
     go (Some n) is =
         let q = quoted_sound (length bs) bs n (omega arith) is in
-        let within = q.3 in
         let one : 1 + n ≡ suc n = omega arith in
         let quote : b ≡ 34 = tells_of b Quote e in
         rw one (
@@ -241,7 +237,6 @@ slash_sound b (c ∷ cs) e = cond_sound (b ∷ c ∷ cs) (nat_eq c 42) _ _
     )
     go star (Some n) is =
         let s = comment_sound (length cs) cs 0 n (omega arith) is in
-        let within = s.1 in
         let two : 2 + n ≡ suc (suc n) = omega arith in
         rw two (inr (take n cs, (λ i. slash i ∷ star i ∷ take n cs), s.0), omega arith, omega arith)
 

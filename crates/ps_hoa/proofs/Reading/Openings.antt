@@ -43,7 +43,7 @@ behind text from at b h = record { split = b.split; are_blanks = b.run; all = no
 pub without_hoa : (text : List ℕ) (first : ℕ) → length text ≤ text_limit → AreBlanks text 0 first →
     IsNoBlank (step_of (drop first text)) →
     begins_with (drop first text) (codes "HOA:") ≡ false → ReadsFile text (at_offset causes.NotHoa first)
-without_hoa text first short b h none = let e : length b.blanks ≡ first = let end = b.end in omega arith in
+without_hoa text first short b h none = let e : length b.blanks ≡ first = omega arith in
     subst (λ (k : ℕ). ReadsFile text (at_offset causes.NotHoa k)) e
     (not_hoa short (behind text 0 first b h) (word_missing (drop first text) (codes "HOA:") none))
 
@@ -80,7 +80,7 @@ module _ (text : List ℕ) (first second : ℕ) (o : Opens text first second) wh
   version_stands = behind text (first + 4) second o.further o.second_end
 
   place : length o.before.blanks + 4 + length o.further.blanks ≡ second
-  place = let a = o.before.end in let b = o.further.end in omega arith
+  place = omega arith
 
   version_is : IsVersion (drop second text) (take (prefix_len is_version_byte (drop second text)) (drop second text))
       (drop (prefix_len is_version_byte (drop second text)) (drop second text))
