@@ -160,8 +160,16 @@ three_end x {a} {b} h i j k = ends_more ((x ++ a) ++ b) (ends_more (x ++ a) (end
 
 text_ends : (c : CircuitData) → ends_line (text_of c) ≡ true
 text_ends c =
-    search (rules, three_end, symbol_lines_end, ends_newline, ends_more, literal_lines_end, latch_lines_end,
-    gate_lines_end)
+    search (
+      rules,
+      three_end,
+      symbol_lines_end,
+      ends_newline,
+      ends_more,
+      literal_lines_end,
+      latch_lines_end,
+      gate_lines_end,
+    )
 
 -- ## The circuit is read again
 

@@ -1,5 +1,7 @@
 -- Runs of bytes as parts of a text: their laws, and how they are read and fail.
 --     laws_run      a run begins and goes on with the bytes that pass
+--     bad_is      what is wrong with the run that comes is the run's
+--     run_read      a list of signs that is one run is read
 --     run_reads, run_bad      a run was passed: it is read, unless it is wrong
 --     stops_here      no sign comes with which the part begins
 use Rattle.std.proofs.Common.{◌≡◌, ℕ, suc, ◌+◌, ◌<◌, ◌≤◌, Bool, true, false, List, [], ◌∷◌, ◌++◌, length, Option, None}
