@@ -3,8 +3,7 @@
 --     AddsItem kind c d x      d has the item x more than c
 --     Added kind before read d      behind what was defined and read before, d has what its items define and read
 --     input_kind, latch_kind, output_kind, gate_kind      the four kinds of lines
-use Rattle.std.proofs.Common.{◌≡◌, ℕ, List, [], ◌∷◌, ◌++◌, map, flat_map, refl, sym, ap, ap₂, ◌∙◌, append-nil}
-use Rattle.std.proofs.Common.{append_assoc}
+use Rattle.std.proofs.Common.{◌≡◌, ℕ, List, [], ◌∷◌, ◌++◌, map, flat_map, refl, sym, ap, ap₂, ◌∙◌, rules, append_assoc}
 use Rattle.std.proofs.lemmas.List.{map-append}
 use Rattle.std.proofs.lemmas.List.Concat.{flat_map-append}
 use Rattle.ps_circuit.specs.declared.cursor.Number.{Number}
@@ -36,8 +35,7 @@ pub record Added {X : Type 0} (kind : LineKind X) (before read : List ℕ) (d : 
 -- nothing is added yet
 pub none_more : {X : Type 0} (of : List X → List ℕ) → of [] ≡ [] → (front : List ℕ) {items : List X} → items ≡ [] →
     front ≡ front ++ of items
-none_more of none front e =
-    sym (append-nil front) ∙ ap (λ z. front ++ z) (sym none ∙ ap of (sym e))
+none_more of none front e = search rules
 
 -- one item more
 pub one_more : {X : Type 0} (of : List X → List ℕ) → ((xs ys : List X) → of (xs ++ ys) ≡ of xs ++ of ys) →
@@ -48,10 +46,7 @@ one_more of both front old x e =
 
 pub added_none : {X : Type 0} {kind : LineKind X} {before read : List ℕ} {d : Lines X} → d.items ≡ [] →
     d.defined ≡ map variable before → values d.readings ≡ read → Added kind before read d
-added_none {kind = kind} {before} {read} e f g = record {
-  defined = f ∙ ap (map variable) (none_more kind.defines kind.defines_none before e);
-  readings = g ∙ none_more kind.reads kind.reads_none read e;
-}
+added_none {kind = kind} {before} {read} e f g = search (rules, none_more)
 
 pub added_more : {X : Type 0} {kind : LineKind X} {before read : List ℕ} {c d : Lines X} {x : X} →
     Added kind before read c → AddsItem kind c d x → Added kind before read d
@@ -108,26 +103,14 @@ gate_kind = record {
 -- ## One line more
 
 pub adds_input : (c : Lines ℕ) (l : Number) {x : ℕ} → l.value ≡ x → AddsItem input_kind c (add_input c l) x
-adds_input c l g = record {
-  items = ap (λ z. c.items ++ z ∷ []) g;
-  defined = ap (λ z. c.defined ++ variable z ∷ []) g;
-  readings = sym (append-nil (values c.readings));
-}
+adds_input c l g = search rules
 
 pub adds_latch : (c : Lines Latch) (l n : Number) {x : Latch} → l.value ≡ x.literal → n.value ≡ x.next →
     AddsItem latch_kind c (add_latch c l n x.reset) x
-adds_latch c l n {x} g h = record {
-  items = ap₂ (λ a b. c.items ++ record { literal = a; next = b; reset = x.reset } ∷ []) g h;
-  defined = ap (λ z. c.defined ++ variable z ∷ []) g;
-  readings = map-append (λ k. k.value) c.readings (n ∷ []) ∙ ap (λ z. values c.readings ++ z ∷ []) h;
-}
+adds_latch c l n {x} g h = search (rules, map-append)
 
 pub adds_output : (c : Lines ℕ) (l : Number) {x : ℕ} → l.value ≡ x → AddsItem output_kind c (add_output c l) x
-adds_output c l g = record {
-  items = ap (λ z. c.items ++ z ∷ []) g;
-  defined = sym (append-nil c.defined);
-  readings = map-append (λ k. k.value) c.readings (l ∷ []) ∙ ap (λ z. values c.readings ++ z ∷ []) g;
-}
+adds_output c l g = search (rules, map-append)
 
 pub adds_gate : (c : Lines Gate) (l m n : Number) {x : Gate} → l.value ≡ x.literal → m.value ≡ x.first →
     n.value ≡ x.second → AddsItem gate_kind c (add_gate c l m n) x

@@ -1,13 +1,13 @@
 -- What the moves of a cursor read of a text, and how they fail.
-use Rattle.std.proofs.Common.{◌≡◌, ℕ, suc, ◌+◌, ◌-◌, ◌^◌, ◌<◌, ◌≤◌, Bool, true, false, not, cond, eqb, List, [], ◌∷◌}
-use Rattle.std.proofs.Common.{◌++◌, length, take, drop, get_or, Option, None, Some, Result, Ok, refl, sym, ap, ap₂}
-use Rattle.std.proofs.Common.{subst, inl, ◌∙◌, append_assoc, arith, length-append}
+use Rattle.std.proofs.Common.{◌≡◌, ℕ, suc, ◌+◌, ◌-◌, ◌^◌, ◌<◌, ◌≤◌, Bool, true, false, not, eqb, List, [], ◌∷◌, ◌++◌}
+use Rattle.std.proofs.Common.{length, take, drop, get_or, Option, Some, Result, Ok, refl, sym, ap, ap₂, subst, ◌∙◌}
+use Rattle.std.proofs.Common.{append_assoc, arith, length-append, rules}
 use Rattle.std.specs.Option.{option_map}
 use Rattle.std.specs.List.{prefix_len, take_while}
 use Rattle.std.specs.Char.{is_ascii_digit}
 use Rattle.std.proofs.lemmas.Bool.{eqb-true}
 use Rattle.std.proofs.lemmas.List.{take-append-drop}
-use Rattle.ps_text.specs.Answers.{Piece, Stream, signs, first_of, next_of}
+use Rattle.ps_text.specs.Answers.{Stream, signs, next_of}
 use Rattle.ps_text.specs.Parts.{NoBad, give, either}
 use Rattle.ps_text.specs.Readers.{tail, Reads, Stops}
 use Rattle.ps_text.specs.Digits.{decimal_value}
@@ -23,7 +23,6 @@ use Rattle.ps_text.specs.declared.faults.Fault.TheVariants.{Text}
 use Rattle.ps_circuit.specs.Signs.{Seen, pieces_at, ends_line, stream_of, aig_causes, take_byte, byte, is_digit}
 use Rattle.ps_circuit.specs.Signs.{is_blank, is_inner, gap, rest_of_line, newline, line_end, more, NoBadRun}
 use Rattle.ps_circuit.specs.declared.cursor.Class.{Class}
-use Rattle.ps_circuit.specs.declared.cursor.Class.TheVariants.{Digit, Blank, Inner}
 use Rattle.ps_circuit.specs.Cursors.{in_class, ended, next_byte, place_of, found_of, Tells, Passes, saturated}
 use Rattle.ps_circuit.proofs.Runs.{Odd, run_reads, run_stops, stops_here}
 use Rattle.ps_circuit.proofs.Exits.{Left, unread, past, branch}
@@ -42,14 +41,7 @@ last_ends (b ∷ c ∷ cs) h =
 
 pub new_stream : (text : List ℕ) {b : Bool} → b ≡ ends_line text →
     record { pieces = pieces_at 0 (ended (not b) text); end = 0 + length text } ≡ stream_of text
-new_stream text {b} e =
-    let end : 0 + length text ≡ length text = omega arith in
-    ap₂ (λ (ps : List (Piece Seen)) (n : ℕ). record { pieces = ps; end = n })
-    (ap (pieces_at 0) (go b ∙ ap (λ x. cond x text (text ++ 10 ∷ [])) e)) end
-  where
-    go : (x : Bool) → ended (not x) text ≡ cond x text (text ++ 10 ∷ [])
-    go true = refl
-    go false = refl
+new_stream text {b} e = search rules
 
 length_pieces : (at : ℕ) (bytes : List ℕ) → length (pieces_at at bytes) ≡ length bytes
 length_pieces at [] = refl
@@ -69,8 +61,7 @@ place_is (b ∷ rest) false = refl
 -- ## Bytes
 
 pub next_is : {b : ℕ} (o : Option Seen) → option_map (λ s. s.byte) o ≡ Some b → (t : Seen) × (o ≡ Some t) × (t.byte ≡ b)
-next_is {b} None e = absurd (none_is_some b e)
-next_is {b} (Some t) e = (t, refl, same_some t.byte b e)
+next_is o h1 = search (rules, none_is_some, same_some)
 
 pub byte_reads : {b : ℕ} {old new : Stream Seen} → next_byte old ≡ Some b → new ≡ tail old → Reads (byte b) old tt new
 unfolding byte
@@ -94,15 +85,11 @@ pub is_empty_true : {r : List ℕ} {b : Bool} → b ≡ eqb (length r) 0 → b �
 is_empty_true {r} e t = nil_of r (eqb-true (length r) 0 (sym e ∙ t))
 
 pub is_empty_false : (r : List ℕ) {b : Bool} → b ≡ eqb (length r) 0 → b ≡ false → 0 < length r
-is_empty_false [] e f = let x : true ≡ false = sym e ∙ f in cc
-is_empty_false (x ∷ r) e f = omega arith
+is_empty_false r h1 h2 = search rules
 
 stops_ended : (p : ℕ → Bool) (u : Bool) (rest : List ℕ) → p 10 ≡ false → StopsBefore p rest →
     StopsBefore p (ended u rest)
-stops_ended p true [] line s = line
-stops_ended p false [] line s = tt
-stops_ended p true (x ∷ rest) line s = s
-stops_ended p false (x ∷ rest) line s = s
+stops_ended p u rest h1 h2 = search rules
 
 ended_append : (u : Bool) (a b : List ℕ) → ended u (a ++ b) ≡ a ++ ended u b
 ended_append true a b = append_assoc a b (10 ∷ [])
@@ -132,11 +119,7 @@ passes_run {p} line at {n} rest {run} {behind} u size taken left each = record {
     whole = sym (take-append-drop n rest) ∙ ap₂ (λ (x y : List ℕ). x ++ y) (sym taken) (sym left)
 
 pub same_place : {p : ℕ → Bool} {old new : Stream Seen} {r : List ℕ} → Passes p old new r → r ≡ [] → new ≡ old
-same_place {p} {old} {new} x e =
-    let y : Passes p old new [] = subst (Passes p old new) e x in
-    let k : y.at + 0 ≡ y.at = omega arith in
-    ap₂ (λ (ps : List (Piece Seen)) (n : ℕ). record { pieces = ps; end = n })
-    (y.new_is ∙ ap (λ a. pieces_at a y.rest) k ∙ sym y.old_is) y.end
+same_place {p} {old} {new} x e = search rules
 
 pub gap_reads : {old new : Stream Seen} {r : List ℕ} → Passes is_blank old new r → 0 < length r → Reads gap old tt new
 unfolding gap
@@ -164,15 +147,7 @@ rest_stops {old} {new} x none is =
 -- no byte of the class comes next
 pub avoids_run : {p : ℕ → Bool} {old new : Stream Seen} → Passes p old new [] →
     Avoids (λ (s : Seen). p s.byte ≡ true) (next_of old)
-avoids_run {p} x t n h = go x.rest x.longest (sym (ap (λ z. first_of (signs z)) x.old_is) ∙ n)
-  where
-    go : (rest : List ℕ) → StopsBefore p rest → first_of (signs (pieces_at x.at rest)) ≡ Some t → ⊥
-    go [] s n = none_is_some t n
-    go (c ∷ rest) s n =
-        let byte : c ≡ t.byte =
-        ap (λ (s : Seen). s.byte) (same_some (record { byte = c; at = x.at; behind = rest }) t n) in
-        let k : p c ≡ true = ap p byte ∙ h in
-        cc
+avoids_run {p} x t n h = search (rules, none_is_some, same_some)
 
 blanks_read : {old new : Stream Seen} {r : List ℕ} → Passes is_blank old new r → (b : Bool) → eqb (length r) 0 ≡ b →
     Reads (either gap (give tt)) old tt new
@@ -196,19 +171,14 @@ line_end_tells new {r} result x m =
 -- ## A further field
 
 avoids_blank : (old : Stream Seen) → next_byte old ≡ Some 10 → Avoids AtBlank (next_of old)
-avoids_blank old e t n h =
-    let s = next_is (next_of old) e in
-    let same : s.0 ≡ t = same_some s.0 t (sym s.1 ∙ n) in
-    blank_newline t h (ap (λ (x : Seen). x.byte) (sym same) ∙ s.2)
+avoids_blank old e t n h = search (rules, next_is, same_some, blank_newline)
 
 avoids_newline : (old : Stream Seen) → (next_byte old ≡ Some 10 → ⊥) → Avoids (At 10) (next_of old)
 avoids_newline old none t n h = none (ap (option_map (λ (s : Seen). s.byte)) n ∙ ap Some h)
 
 enters_newline : (old : Stream Seen) → next_byte old ≡ Some 10 → Enters newline (next_of old)
 unfolding newline byte
-enters_newline old e =
-    let t = next_is (next_of old) e in
-    subst (Enters newline) (sym t.1) (enters_one (take_byte 10) NoBad t.0 (inl (tt, byte_taken t.0 t.2)))
+enters_newline old e = search (rules, next_is, Enters, enters_one, byte_taken)
 
 module _ (old : Stream Seen) where
   pub at_line_end : next_byte old ≡ Some 10 → Left more old ends_here old
@@ -235,15 +205,11 @@ module _ (old : Stream Seen) where
 
 pub value_held : (digits : List ℕ) {v : ℕ} → AllOf is_digit digits → v < 2 ^ 64 →
     v ≡ decimal_value (take_while is_ascii_digit digits) → v ≡ saturated (decimal_value digits)
-value_held digits {v} all small e =
-    let whole : v ≡ decimal_value digits = e ∙ ap decimal_value (run_whole is_ascii_digit digits all) in
-    omega (arith, whole, small)
+value_held digits {v} all small e = search (rules, run_whole)
 
 pub value_large : (digits : List ℕ) → AllOf is_digit digits →
     2 ^ 64 ≤ decimal_value (take_while is_ascii_digit digits) → 18446744073709551615 ≡ saturated (decimal_value digits)
 value_large digits all large = omega (arith, large, ap decimal_value (run_whole is_ascii_digit digits all))
 
 pub class_line : (k : Class) → in_class k 10 ≡ false
-class_line Digit = refl
-class_line Blank = refl
-class_line Inner = refl
+class_line k = search rules

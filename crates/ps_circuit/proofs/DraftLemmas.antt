@@ -4,7 +4,7 @@
 --     sound_draft      a draft whose literals are all defined makes a circuit, but that a gate may depend on itself
 --     each_named      a name or none for each item
 use Rattle.std.proofs.Common.{◌≡◌, ℕ, zero, suc, ◌+◌, ◌*◌, ◌^◌, ◌<◌, List, [], ◌∷◌, ◌++◌, length, map, Option, All}
-use Rattle.std.proofs.Common.{refl, sym, ap, subst, ◌∙◌, append-nil, append_assoc, arith, length-append}
+use Rattle.std.proofs.Common.{refl, sym, ap, subst, ◌∙◌, append-nil, append_assoc, arith, length-append, rules}
 use Rattle.std.specs.Prelude.{vec_len, Vec}
 use Rattle.std.specs.Global.{Global}
 use Rattle.std.proofs.lemmas.List.{length-map, map-append}
@@ -17,9 +17,8 @@ use Rattle.ps_circuit.specs.declared.parts.Gate.{Gate}
 use Rattle.ps_circuit.specs.Circuits.{IsName, IsDefinition}
 use Rattle.ps_circuit.specs.Literals.{variable}
 use Rattle.ps_circuit.specs.Signs.{Seen, Field}
-use Rattle.ps_circuit.specs.Texts.{HeaderData, Lines, no_lines, next_lines, NamesData, draft_of as drafted}
-use Rattle.ps_circuit.specs.Texts.{input_line, latch_line, output_line, gate_line, DraftData, symbols, body}
-use Rattle.ps_circuit.specs.Texts.{circuit_text}
+use Rattle.ps_circuit.specs.Texts.{HeaderData, Lines, no_lines, next_lines, NamesData, draft_of as drafted, input_line}
+use Rattle.ps_circuit.specs.Texts.{latch_line, output_line, gate_line, DraftData, symbols, body, circuit_text}
 use Rattle.ps_circuit.specs.Reading.{Defines, IsKnownIn, AddsInput, AddsLatch, AddsOutput, AddsGate, Grown, none, more}
 use Rattle.ps_circuit.specs.Reading.{IsSoundDraft}
 use Rattle.ps_circuit.proofs.Adding.{values, LineKind, AddsItem, none_more, one_more, input_kind, latch_kind}
@@ -29,8 +28,7 @@ use Rattle.ps_circuit.proofs.ReadingLemmas.{draft_of}
 -- ## Lines
 
 defines_none : {most : ℕ} {old : List ℕ} → Defines most old [] old
-defines_none {old = old} =
-    record { variables = sym (append-nil old); each = λ k d lt. absurd (omega arith); apart = λ h. h }
+defines_none {old = old} = search rules
 
 defines_both : {most : ℕ} {old mid new xs ys : List ℕ} → Defines most old xs mid → Defines most mid ys new →
     Defines most old (xs ++ ys) new
@@ -50,10 +48,7 @@ module _ {X : Type 0} (kind : LineKind X) (most : ℕ) {Adds : Lines X → Lines
     (x : X) × AddsItem kind c d x × Defines most c.defined (kind.defines (x ∷ [])) d.defined) where
   lined : {before read : List ℕ} {c d : Lines X} → c.items ≡ [] → Defines most [] before c.defined →
       values c.readings ≡ read → Grown Adds c d → Lined kind most before read d
-  lined {before} {read} {c} e f g none = record {
-    new = subst (λ z. Defines most [] z c.defined) (none_more kind.defines kind.defines_none before e) f;
-    readings = g ∙ none_more kind.reads kind.reads_none read e;
-  }
+  lined {before} {read} {c} e f g none = search (rules, none_more)
   lined {before} {read} e f g (more {d} {e = now} grown a) =
       let h = lined e f g grown in
       let i = adds d now a in record {
@@ -66,11 +61,7 @@ module _ {X : Type 0} (kind : LineKind X) (most : ℕ) {Adds : Lines X → Lines
 module _ (most : ℕ) where
   input_adds : (c d : Lines ℕ) → AddsInput most c d →
       (x : ℕ) × AddsItem input_kind c d x × Defines most c.defined (x ∷ []) d.defined
-  input_adds c d a = (
-    a.literal.value,
-    subst (λ z. AddsItem input_kind c z a.literal.value) (sym a.is) (adds_input c a.literal refl),
-    a.new,
-  )
+  input_adds c d a = search (rules, AddsItem, input_kind, adds_input)
 
   latch_adds : (c d : Lines Latch) → AddsLatch most c d →
       (x : Latch) × AddsItem latch_kind c d x × Defines most c.defined (x.literal ∷ []) d.defined
@@ -80,18 +71,11 @@ module _ (most : ℕ) where
 
   output_adds : (c d : Lines ℕ) → AddsOutput c d →
       (x : ℕ) × AddsItem output_kind c d x × Defines most c.defined [] d.defined
-  output_adds c d a = (
-    a.literal.value,
-    subst (λ z. AddsItem output_kind c z a.literal.value) (sym a.is) (adds_output c a.literal refl),
-    subst (λ (z : Lines ℕ). Defines most c.defined [] z.defined) (sym a.is) defines_none,
-  )
+  output_adds c d a = search (rules, AddsItem, output_kind, adds_output, defines_none)
 
   gate_adds : (c d : Lines Gate) → AddsGate most c d →
       (x : Gate) × AddsItem gate_kind c d x × Defines most c.defined (x.literal ∷ []) d.defined
-  gate_adds c d a = let x : Gate =
-      record { literal = a.literal.value; first = a.first.value; second = a.second.value } in
-      (x, subst (λ z. AddsItem gate_kind c z x) (sym a.is) (adds_gate c a.literal a.first a.second refl refl refl),
-      a.new)
+  gate_adds c d a = search (rules, AddsItem, gate_kind, adds_gate)
 
 -- ## The offsets of the gates' lines
 
@@ -120,12 +104,16 @@ keeps_gate most c d text h =
     let second : Number = h.is_right.is_right.value in
     let gate : Gate = record { literal = l.value; first = first.value; second = second.value } in
     let is = h.is_right.is_right.is_right.2 in
-    omega (arith, ap (λ (z : Lines Gate). length z.starts) is, ap (λ (z : Lines Gate). length z.items) is,
-    length-append c.starts (l.offset ∷ []), length-append c.items (gate ∷ []))
+    omega (
+      arith,
+      ap (λ (z : Lines Gate). length z.starts) is,
+      ap (λ (z : Lines Gate). length z.items) is,
+      length-append c.starts (l.offset ∷ []),
+      length-append c.items (gate ∷ []),
+    )
 
 keeps_all : {A : Type 0} (k : ℕ) (item : Lines A → Field (Lines A)) → Keeps k item → (n : ℕ) → Keeps k (times n item)
-keeps_all {A} k item s zero c d text h =
-    subst (λ (z : Lines A). length z.starts + k * length c.items ≡ length c.starts + k * length z.items) (sym h.1) refl
+keeps_all {A} k item s zero c d text h = search rules
 keeps_all k item s (suc n) c d text h =
     omega (arith, keeps_all k item s n h.value d h.right h.is_right, s c h.value h.left h.is_left)
 
@@ -138,11 +126,13 @@ gates_placed text d h =
     let l = i.is_right in
     let o = l.is_right in
     let a = o.is_right in
-    let placed : length a.value.starts ≡ length a.value.items = omega (arith,
-    keeps_all 0 (input_line head.most) (keeps_input head.most) head.inputs _ i.value i.left i.is_left,
-    keeps_all 0 (latch_line head.most) (keeps_latch head.most) head.latches _ l.value l.left l.is_left,
-    keeps_all 0 (output_line head.most) (keeps_output head.most) head.outputs _ o.value o.left o.is_left,
-    keeps_all 1 (gate_line head.most) (keeps_gate head.most) head.gates _ a.value a.left a.is_left) in
+    let placed : length a.value.starts ≡ length a.value.items = omega (
+      arith,
+      keeps_all 0 (input_line head.most) (keeps_input head.most) head.inputs _ i.value i.left i.is_left,
+      keeps_all 0 (latch_line head.most) (keeps_latch head.most) head.latches _ l.value l.left l.is_left,
+      keeps_all 0 (output_line head.most) (keeps_output head.most) head.outputs _ o.value o.left o.is_left,
+      keeps_all 1 (gate_line head.most) (keeps_gate head.most) head.gates _ a.value a.left a.is_left,
+    ) in
     rw a.is_right.is_right.2 placed
 
 -- ## Drafts

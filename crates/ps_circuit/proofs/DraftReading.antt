@@ -5,7 +5,7 @@
 --     answered      the answer to a text
 --     draft_fails, draft_trails      the exits of the reading of a text
 use Rattle.std.proofs.Common.{◌≡◌, ℕ, ◌^◌, ◌≤◌, List, [], ◌∷◌, length, Option, None, Some, Result, Ok, Err, IsErrAnd}
-use Rattle.std.proofs.Common.{All, refl, sym, ap, ap₂, subst, ◌∙◌, arith, length-append}
+use Rattle.std.proofs.Common.{All, refl, sym, ap, subst, ◌∙◌, arith, length-append, rules}
 use Rattle.std.specs.Prelude.{replicate, IfOk}
 use Rattle.std.proofs.lemmas.Result.{err_from_is_err_and}
 use Rattle.ps_text.specs.Answers.{Piece, Stream, Found, signs, offset_of}
@@ -169,9 +169,7 @@ module _ (text : List ℕ) (d : DraftData) (okay : PartAnswers aig_causes circui
 pub draft_fails : (text : List ℕ) {start : Stream Seen} (e : AigFault) (r : Result Draft AigFault) →
     start ≡ stream_of text → Stops aig_causes circuit_text start (found_of e) → IsErrAnd r (λ y. y ≡ e) →
     TellsDraft text r
-draft_fails text e r is s i = let y = err_from_is_err_and r i in
-    subst (TellsDraft text) (sym (y.1 ∙ ap Err y.2)) (text_stops text e
-    (subst (λ x. Stops aig_causes circuit_text x (found_of e)) is s))
+draft_fails text e r is s i = search (rules, err_from_is_err_and, text_stops)
 
 pub draft_memory : (text : List ℕ) {e : AigFault} (r : Result Draft AigFault) → e ≡ OutOfMemory →
     IsErrAnd r (λ y. y ≡ e) → TellsDraft text r
@@ -181,10 +179,7 @@ pub draft_trails : (text : List ℕ) {start s6 : Stream Seen} (s7 : Stream Seen)
     (r : Result Draft AigFault) → start ≡ stream_of text → TellsComment s6 (Err e) s7 →
     (ReadsPart comment s6 tt s6 → ReadsPart circuit_text start d s6) → IsErrAnd r (λ y. y ≡ e) → TellsDraft text r
 draft_trails text {start} {s6} s7 {d} {e} r is c m i =
-    let y = err_from_is_err_and r i in
-    let none : next_byte s6 ≡ Some 99 → ⊥ = λ h. c.2 (same_some c.0 99 (sym c.1 ∙ h)) in
-    subst (TellsDraft text) (sym (y.1 ∙ ap Err y.2)) (text_trails text s6 d
-    (subst (λ x. ReadsPart circuit_text x d s6) is (m (comment_other none))) c.1 c.3)
+    search (rules, err_from_is_err_and, same_some, text_trails, comment_other)
 
 pub draft_reads : (text : List ℕ) {start s7 : Stream Seen} {d : DraftData} → start ≡ stream_of text → s7.pieces ≡ [] →
     ReadsPart circuit_text start d s7 → PartAnswers aig_causes circuit_text (stream_of text) (Ok d)
@@ -198,16 +193,4 @@ none_of (x ∷ items) e = ap (λ k. replicate k None) e ∙ ap (λ xs. None ∷ 
 pub none_named : (most : ℕ) (i : Lines ℕ) (l : Lines Latch) (u : Lines ℕ) (a : Lines Gate) {names : NamesData}
     {ni nl nu : ℕ} → AreNone names ni nl nu → ni ≡ length i.items → nl ≡ length l.items → nu ≡ length u.items →
     names ≡ first_names most i l u a
-none_named most i l u a x e f g =
-    let one = x.inputs_none ∙ none_of i.items e in
-    let two = x.latches_none ∙ none_of l.items f in
-    let three = x.outputs_none ∙ none_of u.items g in
-    rw_names one two three
-  where
-    named : List (Option (List ℕ)) → List (Option (List ℕ)) → List (Option (List ℕ)) → NamesData
-    named u v w = record { inputs = u; latches = v; outputs = w }
-
-    rw_names : {a b c x y z : List (Option (List ℕ))} → a ≡ x → b ≡ y → c ≡ z →
-        ◌≡◌ {A = NamesData} (record { inputs = a; latches = b; outputs = c })
-        (record { inputs = x; latches = y; outputs = z })
-    rw_names {a} {b} {c} {x} {y} {z} p q r = ap₂ (λ (u v : List (Option (List ℕ))). named u v c) p q ∙ ap (named x y) r
+none_named most i l u a x e f g = search (rules, none_of)

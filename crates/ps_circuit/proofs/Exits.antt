@@ -7,7 +7,7 @@
 --     comes, none_comes      a further field comes, or none
 --     branch      one of several forms stands there
 --     refuted      what a test denies
-use Rattle.std.proofs.Common.{◌≡◌, Bool, true, false, Option, Result, Ok, Err, IsErrAnd, sym, subst, ◌∙◌}
+use Rattle.std.proofs.Common.{◌≡◌, Bool, true, false, Option, Result, Ok, Err, IsErrAnd, sym, subst, ◌∙◌, rules}
 use Rattle.ps_text.specs.Answers.{Stream, Found, signs, next_of}
 use Rattle.ps_text.specs.Parts.{IsRead, then_by, mapped}
 use Rattle.ps_text.specs.Readers.{Reads, Stops, Carries}
@@ -26,8 +26,7 @@ exit view P old new e r m i = exits found_of aig_causes view P old new e r m i
 
 pub memory_exit : {V X : Type 0} (view : X → V) (P : Field V) (old new : Stream Seen) {e : AigFault}
     (r : Result X AigFault) → e ≡ OutOfMemory → IsErrAnd r (λ y. y ≡ e) → Tells view P old r new
-memory_exit view P old new {e} r m i =
-    exit view P old new e r (subst (λ y. Stops aig_causes P old (found_of y)) (sym m) tt) i
+memory_exit view P old new {e} r m i = search (rules, exit)
 
 pub value_is : {V : Type 0} {P : Field V} {old new : Stream Seen} {v w : V} → v ≡ w → Reads P old v new →
     Reads P old w new
@@ -75,11 +74,7 @@ module _ {V : Type 0} (P Q : Field V) {whole : Field V} {start now : Stream Seen
 
 pub branch : {V : Type 0} {P Q whole : Field V} {start now : Stream Seen} → Left whole start Q now →
     Stands (next_of now) P Q → Left whole start P now
-branch {V} {P} {Q} {whole} {start} {now} l w = record { carries = go }
-  where
-    go : Carries aig_causes whole start P now
-    go (Ok v) new m = l.carries (Ok v) new (reads_as w m)
-    go (Err o) new m = l.carries (Err o) now (stops_as_well aig_causes now o w m)
+branch {V} {P} {Q} {whole} {start} {now} l w = search (rules, reads_as, stops_as_well)
 
 pub refuted : {A : Type 0} {b : Bool} → (A → b ≡ true) → b ≡ false → A → ⊥
 refuted f e a = let y : true ≡ false = sym (f a) ∙ e in cc

@@ -2,7 +2,7 @@
 --     Through n i j      a way from i to j whose inner numbers are below n, as a fact that is decided by recursion on n
 --     first_or_none      the first number that leads back to itself, or there is none
 use Rattle.std.proofs.Common.{◌≡◌, ℕ, zero, suc, ◌<◌, ◌≤◌, ◌⊎◌, List, length, slice_get, Option, None, Some, refl, sym}
-use Rattle.std.proofs.Common.{subst, inl, inr, ◌∙◌, arith}
+use Rattle.std.proofs.Common.{subst, inl, inr, ◌∙◌, arith, rules}
 use Rattle.std.proofs.lemmas.Bool.{cases_eq, cases_lt}
 use Rattle.std.proofs.lemmas.Option.{slice_get_within}
 use Rattle.ps_text.proofs.Decisions.{Decided, decide_as, decide_both, decide_one}
@@ -34,12 +34,10 @@ module _ (R : ℕ → ℕ → Type 0) (decide : (i j : ℕ) → Decided (R i j))
 
   -- ways through one more number
   to_it : (n i : ℕ) → Through (suc n) i n → Through n i n
-  to_it n i (inl t) = t
-  to_it n i (inr t) = t.0
+  to_it n i h1 = search rules
 
   from_it : (n j : ℕ) → Through (suc n) n j → Through n n j
-  from_it n j (inl t) = t
-  from_it n j (inr t) = t.1
+  from_it n j h1 = search rules
 
   linked : (n i m j : ℕ) → m < n → Through n i m → Through n m j → Through n i j
   linked zero i m j below s t = absurd (omega (arith, below))
@@ -70,8 +68,7 @@ module _ (R : ℕ → ℕ → Type 0) (decide : (i j : ℕ) → Decided (R i j))
     through_of {i} {j = k} (next {j = j} r w) = linked n i j k (within i j r).1 (kept n i j r) (through_of w)
 
     below : (i j : ℕ) → Way R i j → i < n
-    below i j (last r) = (within i j r).0
-    below i k (next {j = j} r w) = (within i j r).0
+    below i j h1 = search rules
 
     abbrev NoneBelow : ℕ → Type 0
     NoneBelow k = (j : ℕ) → j < k → Way R j j → ⊥

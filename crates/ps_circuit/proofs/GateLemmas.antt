@@ -1,7 +1,7 @@
 -- The gates of a builder, and one more.
 use Rattle.std.proofs.Common.{◌≡◌, ◌∙◌, ℕ, ◌+◌, ◌-◌, ◌*◌, ◌/◌, ◌%◌, ◌^◌, ◌<◌, ◌≤◌, ◌&&◌, ◌||◌, Bool, true, false, not}
-use Rattle.std.proofs.Common.{cond, eqb, [], ◌∷◌, ◌++◌, length, length-append, get_or, slice_get, Some, refl, sym}
-use Rattle.std.proofs.Common.{ap, ap₂, subst, arith, inl, inr, ◌⊎◌, Result, Ok, Err, IsErrAnd}
+use Rattle.std.proofs.Common.{cond, eqb, [], ◌∷◌, ◌++◌, length, length-append, get_or, slice_get, Some, refl, sym, ap}
+use Rattle.std.proofs.Common.{ap₂, subst, arith, inl, inr, ◌⊎◌, Result, Err, IsErrAnd, rules}
 use Rattle.ps_circuit.specs.declared.encode_fault.EncodeFault.{EncodeFault}
 use Rattle.std.specs.List.{list_any}
 use Rattle.std.proofs.Math.Bool.{not-not}
@@ -26,33 +26,22 @@ pub sides_are : (a b : Sides) → a.first ≡ b.first → a.second ≡ b.second 
 sides_are a b e f = ap₂ (λ x y. record { first = x; second = y }) e f
 
 pub same_sides : {a b : Sides} → (sides_eq.eq-value).it a b ≡ true → a ≡ b
-same_sides {a} {b} e = let t = and_parts (eqb a.first b.first) (eqb a.second b.second) e in
-    sides_are a b (eqb-true a.first b.first t.0) (eqb-true a.second b.second t.1)
+same_sides {a} {b} e = search (rules, and_parts, sides_are, eqb-true)
 
 pub sides_same : (a : Sides) → (sides_eq.eq-value).it a a ≡ true
-sides_same a = and_from (eqb a.first a.first) (eqb a.second a.second) (eq-eqb a.first a.first refl)
-    (eq-eqb a.second a.second refl)
+sides_same a = search (rules, and_from, eq-eqb)
 
 pub bit-plain : (v : ℕ → Bool) (n : ℕ) → bit v (2 * n) ≡ v n
-bit-plain v n =
-    let even : 2 * n % 2 ≡ 0 = omega arith in
-    let half : 2 * n / 2 ≡ n = omega arith in
-    ap (λ r. cond (eqb r 1) (not (v (2 * n / 2))) (v (2 * n / 2))) even ∙ ap v half
+bit-plain v n = search rules
 
 bit_odd : (v : ℕ → Bool) (n : ℕ) → bit v (2 * n + 1) ≡ not (v n)
-bit_odd v n =
-    let odd : (2 * n + 1) % 2 ≡ 1 = omega arith in
-    let half : (2 * n + 1) / 2 ≡ n = omega arith in
-    ap (λ r. cond (eqb r 1) (not (v ((2 * n + 1) / 2))) (v ((2 * n + 1) / 2))) odd ∙ ap (λ k. not (v k)) half
+bit_odd v n = search rules
 
 negated_even : (n : ℕ) → negated (2 * n) ≡ 2 * n + 1
 negated_even n = let even : 2 * n % 2 ≡ 0 = omega arith in ap (λ r. cond (eqb r 1) (2 * n - 1) (2 * n + 1)) even
 
 negated_odd : (n : ℕ) → negated (2 * n + 1) ≡ 2 * n
-negated_odd n =
-    let odd : (2 * n + 1) % 2 ≡ 1 = omega arith in
-    let less : 2 * n + 1 - 1 ≡ 2 * n = omega arith in
-    ap (λ r. cond (eqb r 1) (2 * n + 1 - 1) (2 * n + 1 + 1)) odd ∙ less
+negated_odd n = search rules
 
 -- a literal is a variable's, or its negation
 of_literal : (P : ℕ → Type 0) → ((n : ℕ) → P (2 * n)) → ((n : ℕ) → P (2 * n + 1)) → (l : ℕ) → P l
@@ -62,14 +51,10 @@ of_literal P even odd l = elim (cases_eq (l % 2) 1) [
 ]
 
 pub bit-negated : (v : ℕ → Bool) (l : ℕ) → bit v (negated l) ≡ not (bit v l)
-bit-negated v l = of_literal (λ x. bit v (negated x) ≡ not (bit v x))
-    (λ n. ap (bit v) (negated_even n) ∙ bit_odd v n ∙ sym (ap not (bit-plain v n)))
-    (λ n. ap (bit v) (negated_odd n) ∙ bit-plain v n ∙ sym (ap not (bit_odd v n) ∙ not-not (v n))) l
+bit-negated v l = search (rules, of_literal, negated_even, bit_odd, bit-plain, negated_odd, not-not)
 
 variable-negated : (l : ℕ) → variable (negated l) ≡ variable l
-variable-negated l = of_literal (λ x. variable (negated x) ≡ variable x)
-    (λ n. ap variable (negated_even n) ∙ (let e : (2 * n + 1) / 2 ≡ 2 * n / 2 = omega arith in e))
-    (λ n. ap variable (negated_odd n) ∙ (let e : 2 * n / 2 ≡ (2 * n + 1) / 2 = omega arith in e)) l
+variable-negated l = search (rules, of_literal, negated_even, negated_odd)
 
 pub held-negated : (d : Drafted) (l : ℕ) → IsHeld d l → IsHeld d (negated l)
 held-negated d l h = subst (λ n. n ≤ variables_of d) (sym (variable-negated l)) h
@@ -78,21 +63,13 @@ pub extends-refl : (d : Drafted) → Extends d d
 extends-refl d = record { given = refl; more = omega arith; same = λ k s e. e }
 
 pub extends-trans : (a b c : Drafted) → Extends a b → Extends b c → Extends a c
-extends-trans a b c x y =
-    record {
-      given = y.given ∙ x.given;
-      more = (let p = x.more in let q = y.more in omega arith);
-      same = λ k s e. y.same k s (x.same k s e);
-    }
+extends-trans a b c x y = search rules
 
 pub held-extends : (a b : Drafted) → Extends a b → (l : ℕ) → IsHeld a l → IsHeld b l
 held-extends a b x l h = let p = x.more in let q = x.given in omega arith
 
 pub meets-extends : (a b : Drafted) → Extends a b → (v : ℕ → Bool) → Meets b v → Meets a v
-meets-extends a b x v m = record {
-  constant = m.constant;
-  each = λ k s e. ap (λ g. v (g + 1 + k)) (sym x.given) ∙ m.each k s (x.same k s e);
-}
+meets-extends a b x v m = search rules
 
 -- the gates with one more
 abbrev pub more : Drafted → Sides → Drafted
@@ -183,54 +160,31 @@ placed-bit d s place at v m = bit-plain v (d.given + 1 + place) ∙ m.each place
 -- where a gate is wanted
 pub needs : (d : Drafted) (own : ℕ) (s : Sides) → IsSoundDraft d → AreSides own s → IsNew d s.first s.second →
     NeedsGate d s.first s.second
-needs d own s is a new = record {
-  first_varies = (let p = a.falls in let q = a.not_constant in omega arith);
-  second_varies = a.not_constant;
-  different = λ e. a.different (sym e);
-  is_new = new;
-  is_new_too =
-      λ k t e both. (let p = (is.sides k t e).falls in let q = a.falls in let f = both.0 in
-      let g = both.1 in omega arith);
-}
+needs d own s is a new = search rules
 
 pub needs-turned : {d : Drafted} {x y : ℕ} → NeedsGate d x y → NeedsGate d y x
-needs-turned n =
-    record {
-      first_varies = n.second_varies;
-      second_varies = n.first_varies;
-      different = (λ e. n.different (sym e));
-      is_new = n.is_new_too;
-      is_new_too = n.is_new;
-    }
+needs-turned n = search rules
 
 de_morgan : (a b : Bool) → not (not a && not b) ≡ (a || b)
-de_morgan true b = refl
-de_morgan false b = not-not b
+de_morgan a b = search (rules, not-not)
 
 pub or_bits : (v : ℕ → Bool) (x y neither : ℕ) {nx ny result : ℕ} → nx ≡ negated x → ny ≡ negated y →
     result ≡ negated neither → bit v neither ≡ (bit v nx && bit v ny) → bit v result ≡ (bit v x || bit v y)
-or_bits v x y neither {ny} ex ey er h =
-    ap (bit v) er ∙ bit-negated v neither ∙ ap not (h ∙ ap (λ b. b && bit v ny) (ap (bit v) ex ∙ bit-negated v x)
-    ∙ ap (λ b. not (bit v x) && b) (ap (bit v) ey ∙ bit-negated v y)) ∙ de_morgan (bit v x) (bit v y)
+or_bits v x y neither {ny} ex ey er h = search (rules, bit-negated, de_morgan)
 
 choice : (a h l : Bool) → ((a && h) || (not a && l)) ≡ cond a h l
-choice true true l = refl
-choice true false l = refl
-choice false h l = refl
+choice a h l = search rules
 
 pub chosen_bits : (v : ℕ → Bool) (s h l : ℕ) {ns : ℕ} (high low result : ℕ) → ns ≡ negated s →
     bit v high ≡ (bit v s && bit v h) →
     bit v low ≡ (bit v ns && bit v l) → bit v result ≡ (bit v high || bit v low) →
     bit v result ≡ cond (bit v s) (bit v h) (bit v l)
-chosen_bits v s h l high low result e eh el er =
-    er ∙ ap (λ b. b || bit v low) eh ∙ ap (λ b. (bit v s && bit v h) || b)
-    (el ∙ ap (λ b. b && bit v l) (ap (bit v) e ∙ bit-negated v s)) ∙ choice (bit v s) (bit v h) (bit v l)
+chosen_bits v s h l high low result e eh el er = search (rules, bit-negated, choice)
 
 -- a fault that is passed on
 pub passed : {X : Type 0} (result : Result X EncodeFault) (fault other : EncodeFault) →
     IsErrAnd result (λ given. given ≡ fault) → result ≡ Err other → fault ≡ other
-passed (Ok x) fault other is e = absurd is
-passed (Err given) fault other is e = sym is ∙ (let same : given ≡ other = cc in same)
+passed result fault other h1 h2 = search rules
 
 pub passed_on : {X Y : Type 0} {call : Result Y EncodeFault} {result : Result X EncodeFault}
     {fault other : EncodeFault} → call ≡ Err fault → IsErrAnd result (λ given. given ≡ fault) → result ≡ Err other →

@@ -1,6 +1,6 @@
 -- What may be wrong with the numbers and the symbols of an AIGER text is decided.
-use Rattle.std.proofs.Common.{◌≡◌, ℕ, suc, ◌+◌, ◌*◌, ◌%◌, ◌^◌, ◌<◌, List, ◌++◌, length, slice_get, Option, None, Some}
-use Rattle.std.proofs.Common.{refl, sym, inl, inr, ◌∙◌}
+use Rattle.std.proofs.Common.{◌≡◌, ℕ, suc, ◌+◌, ◌*◌, ◌^◌, ◌<◌, List, ◌++◌, length, slice_get, Option, None, Some}
+use Rattle.std.proofs.Common.{refl, sym, ◌∙◌, rules}
 use Rattle.std.proofs.lemmas.Bool.{cases_eq}
 use Rattle.ps_text.specs.Digits.{decimal_value}
 use Rattle.ps_text.specs.Runs.{AllOf, StopsBefore}
@@ -10,10 +10,9 @@ use Rattle.ps_text.proofs.Decisions.{judge_cause, judge_one, judge_as}
 use Rattle.ps_text.proofs.ByteRuns.{same_run}
 use Rattle.ps_text.proofs.Simple.{none_is_some, same_some}
 use Rattle.ps_circuit.specs.declared.fault.AigCause.{AigCause}
-use Rattle.ps_circuit.specs.declared.fault.AigCause.TheVariants.{Syntax, Literal, DefinedTwice, UnsetLatch, Sections}
+use Rattle.ps_circuit.specs.declared.fault.AigCause.TheVariants.{Syntax, Literal, UnsetLatch, Sections}
 use Rattle.ps_circuit.specs.Causes.{cause_number}
 use Rattle.ps_circuit.specs.Circuits.{IsDefinition}
-use Rattle.ps_circuit.specs.Literals.{variable}
 use Rattle.ps_circuit.specs.Signs.{Seen, is_digit}
 use Rattle.ps_circuit.specs.Texts.{AnyNumber, WrongMost, WrongCount, WrongLiteral, WrongDefinition, WrongReset, Kind}
 use Rattle.ps_circuit.specs.Texts.{NamesData, names_of, take_kind, IsBadSymbol}
@@ -33,13 +32,10 @@ pub judge_literal : (most : ℕ) → Judges (WrongLiteral most)
 judge_literal most n = judge_cause cause_number Literal (decide_below (suc (2 * most + 1)) n)
 
 decide_definition : (most n : ℕ) → Decided (IsDefinition most n)
-decide_definition most n = decide_as (λ h. (h.0, h.1.0, h.1.1)) (λ h. (h.0, (h.1, h.2)))
-    (decide_both (cases_eq (n % 2) 0) (decide_both (decide_below 2 n) (decide_below n (2 * most + 1))))
+decide_definition most n = search (rules, decide_as, decide_both, cases_eq, decide_below)
 
 pub judge_definition : (most : ℕ) (defined : List ℕ) → Judges (WrongDefinition most defined)
-judge_definition most defined n = judge_one cause_number
-    (judge_cause cause_number Literal (decide_not (decide_definition most n)))
-    (judge_cause cause_number DefinedTwice (decide_in defined (variable n)))
+judge_definition most defined n = search (rules, judge_one, judge_cause, decide_not, decide_definition, decide_in)
 
 pub judge_reset : (latch : ℕ) → Judges (WrongReset latch)
 judge_reset latch n = judge_one cause_number (judge_cause cause_number UnsetLatch (cases_eq n latch))
@@ -59,18 +55,12 @@ pub record Digits (s : Seen) (digits : List ℕ) : Type 0 where
 pub bad_symbol : {names : NamesData} {s : Seen} {kind : Kind} {digits : List ℕ} {f : AigCause} →
     take_kind s ≡ Some kind → Digits s digits → IsBadSymbol names s f →
     (0 < length digits) × (slice_get (names_of names kind) (decimal_value digits) ≡ Some None → ⊥)
-bad_symbol {names} {s} {kind} {digits} letter d b =
-    let of_kind : b.kind ≡ kind = same_some b.kind kind (sym b.letter ∙ letter) in
-    let same : b.digits ≡ digits = same_run is_digit b.digits digits b.number.rest d.rest
-    (sym b.number.split ∙ d.split) b.number.all d.all b.number.longest d.longest in
-    (rw same at b.number.some, rw (of_kind, same) at b.not_free)
+bad_symbol {names} {s} {kind} {digits} letter d b = search (rules, same_some, same_run)
 
 module _ (names : NamesData) where
   -- no place of that kind has the number, or it has a name
   decide_free : (place : Option (Option (List ℕ))) → Decided (place ≡ Some None → ⊥)
-  decide_free None = inl (λ e. none_is_some None e)
-  decide_free (Some None) = inr (λ n. n refl)
-  decide_free (Some (Some name)) = inl (λ e. none_is_some name (sym (same_some (Some name) None e)))
+  decide_free place = search (rules, none_is_some, same_some)
 
   pub judge_symbol : (s : Seen) → Judged cause_number (IsBadSymbol names s)
   judge_symbol s = by (take_kind s) refl (run_of s.behind)

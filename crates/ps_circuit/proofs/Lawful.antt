@@ -5,7 +5,7 @@
 --     chained, next, tight      a chain: of any two; neither is empty; the first goes on with no sign
 --     given, mapped_by, either_of, or_nothing, many_of, one_sign, run_by      for the other combinators
 --     Judges Wrong      which numbers are wrong is decided
-use Rattle.std.proofs.Common.{◌≡◌, ◌⊎◌, ℕ, Bool, true, List, Option, Some, inl, inr}
+use Rattle.std.proofs.Common.{◌≡◌, ◌⊎◌, ℕ, Bool, true, List, Option, Some, inl, inr, rules}
 use Rattle.ps_text.specs.Parts.{give, one, then_by, either, many, mapped}
 use Rattle.ps_text.proofs.Laws.{Laws, Joint, Nothing, Or, When, Within, Apart, weaker}
 use Rattle.ps_text.proofs.Joined.{joint}
@@ -32,8 +32,7 @@ abbrev pub Judges : (ℕ → AigCause → Type 0) → Type 0
 Judges Wrong = (n : ℕ) → Judged cause_number (Wrong n)
 
 or_in : {A B C : Seen → Type 0} → Within A C → Within B C → Within (Or A B) C
-or_in f g t (inl h) = f t h
-or_in f g t (inr h) = g t h
+or_in h1 h2 = search rules
 
 pub larger : {V : Type 0} {P : Field V} {F M First More : Seen → Type 0} {N Null : Type 0} → Lawful P F M N →
     Within F First → Within M More → (N → Null) → Lawful P First More Null

@@ -2,7 +2,7 @@
 --     past_..      what is left of a line behind what was read of it
 --     Lining      the invariant of a loop over the lines of one kind
 use Rattle.std.proofs.Common.{◌≡◌, ℕ, zero, suc, ◌+◌, ◌-◌, ◌*◌, ◌^◌, ◌<◌, ◌≤◌, Bool, true, false, List, [], ◌∷◌, ◌++◌}
-use Rattle.std.proofs.Common.{length, Option, Result, Ok, Err, Contains, refl, sym, ap₂, subst, inl, inr, arith}
+use Rattle.std.proofs.Common.{length, Option, Result, Ok, Err, Contains, refl, sym, subst, inl, inr, arith, rules}
 use Rattle.ps_text.specs.Answers.{Stream, Found}
 use Rattle.ps_text.specs.Parts.{give, then_by, times, mapped}
 use Rattle.ps_text.specs.Readers.{Reads, Stops, Goes, Carries}
@@ -89,8 +89,7 @@ reading_reads most limit m small = field_reads (judge_literal most) m.1 (literal
 pub reading_wrong : (most : ℕ) {old : Stream Seen} (new : Stream Seen) (n : Number) {e : AigFault} → most < 2 ^ 31 →
     TellsField old (Ok n) new → 2 * most + 1 < n.value → e ≡ Text Literal n.offset →
     Stops aig_causes (field (WrongLiteral most)) old (found_of e)
-reading_wrong most new n {e} limit m large is =
-    field_fails (judge_literal most) (found_of e) m.1 (literal_wrong most limit m.2 large is)
+reading_wrong most new n {e} limit m large is = search (rules, field_fails, judge_literal, literal_wrong)
 
 -- ## Resets
 
@@ -113,8 +112,7 @@ module _ (latch : ℕ) {old : Stream Seen} where
 
 reset_least_unset : {latch v : ℕ} (g : AigCause) → v ≡ latch → WrongReset latch v g →
     cause_number UnsetLatch ≤ cause_number g
-reset_least_unset g e (inl w) = rw w.1 (omega arith)
-reset_least_unset g e (inr w) = absurd (w.1 e)
+reset_least_unset g h1 h2 = search rules
 
 pub reset_unset : {latch : ℕ} {old new : Stream Seen} {n : Number} {e : AigFault} → latch < 2 ^ 32 →
     NumberIs old new n → n.value ≡ latch → e ≡ Text UnsetLatch n.offset →
@@ -127,8 +125,7 @@ reset_unset {latch} {old} {new} {n} {e} limit x own is =
     same v h = omega (arith, h, own)
 
 reset_least_literal : (latch v : ℕ) (g : AigCause) → WrongReset latch v g → cause_number Literal ≤ cause_number g
-reset_least_literal latch v g (inl w) = rw w.1 (omega arith)
-reset_least_literal latch v g (inr w) = rw w.2 (omega arith)
+reset_least_literal latch v g h1 = search rules
 
 pub reset_wrong : (latch : ℕ) {old new : Stream Seen} {n : Number} {e : AigFault} → latch < 2 ^ 32 →
     NumberIs old new n → (n.value ≡ latch → ⊥) → 1 < n.value → e ≡ Text Literal n.offset →
@@ -188,15 +185,12 @@ module _ (most : ℕ) where
 pub input_is : (c : Lines ℕ) (l : Number) {items defined : List ℕ} → items ≡ c.items ++ l.value ∷ [] →
     defined ≡ c.defined ++ variable l.value ∷ []
     → record { items = items; defined = defined; readings = c.readings; starts = c.starts } ≡ add_input c l
-input_is c l {items} {defined} e f =
-    ap₂ (λ (x y : List ℕ). record { items = x; defined = y; readings = c.readings; starts = c.starts }) e f
+input_is c l {items} {defined} e f = search rules
 
 pub output_is : (c : Lines ℕ) (l : Number) {items : List ℕ} {readings : List Number} → items ≡ c.items ++ l.value ∷ [] →
     readings ≡ c.readings ++ l ∷ []
     → record { items = items; defined = c.defined; readings = readings; starts = c.starts } ≡ add_output c l
-output_is c l {items} {readings} e f =
-    ap₂ (λ (x : List ℕ) (y : List Number). record { items = x; defined = c.defined; readings = y; starts = c.starts }) e
-    f
+output_is c l {items} {readings} e f = search rules
 
 pub latch_is : (c : Lines Latch) (l next : Number) (r : Bool) {items : List Latch} {defined : List ℕ}
     {readings : List Number} → items ≡ c.items ++ record { literal = l.value; next = next.value; reset = r } ∷ []

@@ -1,7 +1,7 @@
 -- Links stand for the gates that a gate reads.
-use Rattle.std.proofs.Common.{◌≡◌, ◌≢◌, ℕ, ◌+◌, ◌<◌, IfSome, inl, inr, List, [], ◌∷◌, ◌++◌, map, length, get_or, refl}
-use Rattle.std.proofs.Common.{sym, ap, ap₂, subst, ◌∙◌, arith, nat_eq, Some, None, Option, slice_get, suc, zero}
-use Rattle.std.proofs.Common.{AllPairs, Contains, take, length-append, option_map}
+use Rattle.std.proofs.Common.{◌≡◌, ◌≢◌, ℕ, ◌+◌, ◌<◌, IfSome, List, [], ◌∷◌, ◌++◌, map, length, get_or, refl, sym, ap}
+use Rattle.std.proofs.Common.{ap₂, subst, ◌∙◌, arith, nat_eq, Some, None, Option, slice_get, suc, rules, AllPairs}
+use Rattle.std.proofs.Common.{Contains, take, length-append}
 use Rattle.std.proofs.lemmas.Option.{slice_get_within, slice_get-map, slice_get-get_or, get_or_from_slice_get}
 use Rattle.std.proofs.lemmas.List.{length-map, get_or-map, get_or-append-add, map-append, take_more}
 use Rattle.std.proofs.lemmas.List.Quantifiers.{position-Some}
@@ -77,41 +77,7 @@ length-links_by place_of (g ∷ gates) = ap suc (length-links_by place_of gates)
 -- the links by the places of all gates
 links-by_places : {gates : List Gate} {place_of : ℕ → Option ℕ} {links : List Links} → ArePlaces gates place_of →
     links ≡ links_by place_of gates → AreLinksOf gates links
-links-by_places {gates} {place_of} a e = record {
-  each = ap length e ∙ length-links_by place_of gates;
-  link_reads = λ i j l. reads i j (subst (λ ls. Link (graph_of ls) i j) e l);
-  reads_link = λ i j r. subst (λ ls. Link (graph_of ls) i j) (sym e) (linked i j r);
-}
-  where
-    reads : (i j : ℕ) → Link (graph_of (links_by place_of gates)) i j → ReadsGate gates i j
-    reads i j l = found (slice_get gates i) refl l.place
-        (sym (ap (λ o. target_of o l.place) (slice_get-map _ gates i)) ∙ l.target)
-      where
-        found : (o : Option Gate) → slice_get gates i ≡ o → (place : ℕ) → target_of (option_map
-            (λ g. record { first = place_of (variable g.first); second = place_of (variable g.second) }) o) place ≡
-            Some j → ReadsGate gates i j
-        found None is place t = absurd cc
-        found (Some g) is zero t = let h = a.back (variable g.first) j t in
-            record { reader = g; read = h.0; at_i = is; at_j = h.1; side = inl (sym h.2) }
-        found (Some g) is (suc place) t = let h = a.back (variable g.second) j t in
-            record { reader = g; read = h.0; at_i = is; at_j = h.1; side = inr (sym h.2) }
-
-    linked : (i j : ℕ) → ReadsGate gates i j → Link (graph_of (links_by place_of gates)) i j
-    linked i j r =
-        let sides : Links =
-        record { first = place_of (variable r.reader.first); second = place_of (variable r.reader.second) } in
-        let at : slice_get (links_by place_of gates) i ≡ Some sides = slice_get-map _ gates i ∙ (rw r.at_i) in
-        let link : (place : ℕ) → place < 2 → side_of sides place ≡ Some j →
-        Link (graph_of (links_by place_of gates)) i j = λ place lt e. record {
-          from = slice_get_within (links_by place_of gates) i sides at;
-          place = place;
-          at = lt;
-          target = ap (λ o. target_of o place) at ∙ e;
-        } in
-        elim r.side [
-          | inl e ↦ link 0 (omega arith) (ap place_of e ∙ a.forth j r.read r.at_j)
-          | inr e ↦ link 1 (omega arith) (ap place_of e ∙ a.forth j r.read r.at_j)
-        ]
+links-by_places {gates} {place_of} a e = search (rules, length-links_by, slice_get-map, slice_get_within)
 
 abbrev sides : Option ℕ → Option ℕ → Links
 sides first second = record { first = first; second = second }

@@ -1,5 +1,5 @@
 -- Gates that are made stay, and what was made once is there when it is asked for again.
-use Rattle.std.proofs.Common.{◌≡◌, ◌∙◌, ℕ, ◌+◌, ◌*◌, ◌<◌, ◌≤◌, ◌==◌, ◌&&◌, ◌||◌, Bool, true, false, cond, nat_lt}
+use Rattle.std.proofs.Common.{◌≡◌, ◌∙◌, ℕ, ◌+◌, ◌*◌, ◌<◌, ◌≤◌, ◌==◌, ◌&&◌, Bool, true, false, cond, rules}
 use Rattle.std.proofs.Common.{if◌then◌else◌, [], ◌∷◌, ◌++◌, length, length-append, get_or, slice_get, Some, refl, sym}
 use Rattle.std.proofs.Common.{ap, ap₂, subst, arith, inl, inr}
 use Rattle.std.specs.List.{list_any, position_or_len}
@@ -42,11 +42,7 @@ absent_place d s none =
     (λ lt. absurd (omega arith))
 
 present_place : (d : Drafted) (s : Sides) → list_any (has_sides s) d.gates ≡ true → place_of d s < length d.gates
-present_place d s some = elim (cases_lt (place_of d s) (length d.gates)) [
-  | inl lt ↦ lt
-  | inr le ↦ absurd (true_is_not_false (sym some ∙ list_any_none (has_sides s) d.gates
-      (λ k e lt. fails_before_first (has_sides s) d.gates k e (omega arith))))
-]
+present_place d s some = search (rules, cases_lt, true_is_not_false, list_any_none, fails_before_first)
 
 pub gate-extends : {d : Drafted} (s : Sides) → Extends d (gate_of d s).draft
 unfolding gate_of
@@ -77,10 +73,7 @@ gate_first {d} {e} s x k lt within =
     ∙ fails_before_first (has_sides s) d.gates k s lt
 
 place_within : (d : Drafted) (s : Sides) → place_of d s ≤ length d.gates
-place_within d s = elim (bool_cases (list_any (has_sides s) d.gates)) [
-  | inl there ↦ let lt = present_place d s there in omega arith
-  | inr none ↦ let e = absent_place d s none in omega arith
-]
+place_within d s = search (rules, bool_cases, present_place, absent_place)
 
 -- a gate that has these sides where no gate before it has them
 pub gate-found : (e : Drafted) {s : Sides} (place : ℕ) → slice_get e.gates place ≡ Some s →
@@ -127,16 +120,11 @@ gate_lasts : (s : Sides) → Lasts (λ d. gate_of d s)
 gate_lasts s = record { extends = λ d. gate-extends s; again = λ d e x. gate-again d s x }
 
 by_test : (b : Bool) (f g : Drafted → Made) → Lasts f → Lasts g → Lasts (λ d. if b then f d else g d)
-by_test true f g x y = x
-by_test false f g x y = y
+by_test b f g h1 h2 = search rules
 
 and_lasts : (x y : ℕ) → Lasts (λ d. and_of d x y)
 unfolding and_of
-and_lasts x y =
-    by_test (x == 0 || y == 0 || x == negated y) _ _ (taken_as_is 0)
-    (by_test (x == 1 || x == y) _ _ (taken_as_is y) (by_test (y == 1) _ _ (taken_as_is x)
-    (by_test (nat_lt y x) _ _ (gate_lasts (record { first = x; second = y }))
-    (gate_lasts (record { first = y; second = x })))))
+and_lasts x y = search (rules, by_test, taken_as_is, gate_lasts)
 
 or_lasts : (x y : ℕ) → Lasts (λ d. or_of d x y)
 unfolding or_of
@@ -195,23 +183,13 @@ above-extends d e x above = let p = x.more in let q = x.given in omega arith
 pub above-first : (d : Drafted) (s high low : ℕ) → 2147483647 < variables_of (and_of d s high).draft →
     2147483647 < variables_of (chosen_of d s high low).draft
 unfolding chosen_of
-above-first d s high low above =
-    let a = and_of d s high in
-    let b = and_of a.draft (negated s) low in
-    above-extends a.draft (or_of b.draft a.literal b.literal).draft
-    (extends-trans a.draft b.draft _ (and-extends (negated s) low) (or-extends a.literal b.literal)) above
+above-first d s high low above = search (rules, above-extends, extends-trans, and-extends, or-extends)
 
 pub above-second : (d t : Drafted) (s high low where_true : ℕ) {ns : ℕ} →
     and_of d s high ≡ record { draft = t; literal = where_true } → ns ≡ negated s →
     2147483647 < variables_of (and_of t ns low).draft → 2147483647 < variables_of (chosen_of d s high low).draft
 unfolding chosen_of
-above-second d t s high low where_true made is above =
-    let a = and_of d s high in
-    let b = and_of a.draft (negated s) low in
-    let here : 2147483647 < variables_of b.draft =
-    subst (λ x. 2147483647 < variables_of (and_of x (negated s) low).draft) (sym (ap (λ (m : Made). m.draft) made))
-    (subst (λ x. 2147483647 < variables_of (and_of t x low).draft) is above) in
-    above-extends b.draft (or_of b.draft a.literal b.literal).draft (or-extends a.literal b.literal) here
+above-second d t s high low where_true made is above = search (rules, above-extends, or-extends)
 
 pub above-new : (d : Drafted) (s : Sides) → variables_of d ≡ 2147483647 → list_any (has_sides s) d.gates ≡ false →
     2147483647 < variables_of (gate_of d s).draft

@@ -1,7 +1,7 @@
 -- Gates made of literals that are held: where there is a literal for each variable they are sound, and what is made has
 -- the bit that is asked for.
-use Rattle.std.proofs.Common.{if◌then◌else◌, ◌≡◌, ◌∙◌, ℕ, ◌+◌, ◌-◌, ◌*◌, ◌/◌, ◌%◌, ◌^◌, ◌<◌, ◌==◌, ◌&&◌, ◌||◌}
-use Rattle.std.proofs.Common.{Bool, true, false, not, cond, nat_lt, eqb, refl, sym, ap, ap₂, arith, inl, inr}
+use Rattle.std.proofs.Common.{if◌then◌else◌, ◌≡◌, ◌∙◌, ℕ, ◌+◌, ◌*◌, ◌/◌, ◌^◌, ◌<◌, ◌==◌, ◌&&◌, ◌||◌, rules}
+use Rattle.std.proofs.Common.{Bool, true, false, not, cond, nat_lt, refl, sym, ap, ap₂, arith}
 use Rattle.std.specs.List.{list_any}
 use Rattle.std.proofs.lemmas.Bool.{and_parts, cases_eq, eq-eqb, eqb-false, eqb-true, ltb-false, ltb-true, or_cases}
 use Rattle.std.proofs.lemmas.Bool.{or_parts}
@@ -31,8 +31,7 @@ pub record IsMade (m : Made) (wanted : (ℕ → Bool) → Bool) : Type 0 where
 
 pub made-as : (m : Made) (p q : (ℕ → Bool) → Bool) → ((v : ℕ → Bool) → v 0 ≡ false → p v ≡ q v) → IsMade m p →
     IsMade m q
-made-as m p q same made =
-    record { sound = made.sound; held = made.held; is = λ v meets. made.is v meets ∙ same v meets.constant }
+made-as m p q same made = search rules
 
 -- it stays where there are more gates
 pub made-later : (m : Made) (p : (ℕ → Bool) → Bool) (e : Drafted) → Extends m.draft e → IsSoundDraft e → IsMade m p →
@@ -50,13 +49,11 @@ pub record Makes (m : Made) (wanted : (ℕ → Bool) → Bool) : Type 0 where
 -- a literal that is there already
 there : {d : Drafted} (literal : ℕ) {wanted : (ℕ → Bool) → Bool} → IsSoundDraft d → IsHeld d literal →
     ((v : ℕ → Bool) → v 0 ≡ false → bit v literal ≡ wanted v) → Makes (record { draft = d; literal = literal }) wanted
-there literal sound held is =
-    record { made = λ room. record { sound = sound; held = held; is = λ v meets. is v meets.constant } }
+there literal sound held is = search rules
 
 by_test : {wanted : (ℕ → Bool) → Bool} (b : Bool) (m n : Made) → (b ≡ true → Makes m wanted) →
     (b ≡ false → Makes n wanted) → Makes (if b then m else n) wanted
-by_test true m n f g = f refl
-by_test false m n f g = g refl
+by_test b m n h1 h2 = search rules
 
 seen_as : {m : Made} {p : (ℕ → Bool) → Bool} (q : (ℕ → Bool) → Bool) → Makes m p →
     ((v : ℕ → Bool) → v 0 ≡ false → p v ≡ q v) → Makes m q
@@ -89,43 +86,17 @@ gate_makes {d} x y sound sides = record {
 
 -- literals of one variable are equal, or each is the other's negation
 one_variable : {x y : ℕ} → (x ≡ negated y → ⊥) → variable x ≡ variable y → x ≡ y
-one_variable {x} {y} other same = elim (cases_eq (y % 2) 1) [
-  | inl odd ↦
-      let is : negated y ≡ y - 1 = ap (λ b. cond b (y - 1) (y + 1)) (eq-eqb (y % 2) 1 odd) in
-      elim (cases_eq x (y - 1)) [
-        | inl e ↦ absurd (other (e ∙ sym is))
-        | inr ne ↦ omega arith
-      ]
-  | inr even ↦
-      let zero : y % 2 ≡ 0 = omega arith in
-      let is : negated y ≡ y + 1 = ap (λ r. cond (eqb r 1) (y - 1) (y + 1)) zero in
-      elim (cases_eq x (y + 1)) [
-        | inl e ↦ absurd (other (e ∙ sym is))
-        | inr ne ↦ omega arith
-      ]
-]
+one_variable {x} {y} other same = search (rules, cases_eq, eq-eqb)
 
 never_is : (x y : ℕ) → (x == 0 || y == 0 || x == negated y) ≡ true → (v : ℕ → Bool) → v 0 ≡ false →
     (bit v x && bit v y) ≡ false
-never_is x y e v zero = elim (or_cases (x == 0 || y == 0) (x == negated y) e) [
-  | inl one ↦ elim (or_cases (x == 0) (y == 0) one) [
-    | inl first ↦ ap (λ l. bit v l && bit v y) (eqb-true x 0 first) ∙ ap (λ b. b && bit v y) zero
-    | inr second ↦ ap (λ l. bit v x && bit v l) (eqb-true y 0 second) ∙ ap (λ b. bit v x && b) zero
-        ∙ and-false (bit v x)
-  ]
-  | inr turned ↦ ap (λ l. bit v l && bit v y) (eqb-true x (negated y) turned)
-      ∙ ap (λ b. b && bit v y) (bit-negated v y) ∙ not-and_self (bit v y)
-]
+never_is x y e v zero = search (rules, or_cases, eqb-true, and-false, bit-negated, not-and_self)
 
 second_is : (x y : ℕ) → (x == 1 || x == y) ≡ true → (v : ℕ → Bool) → v 0 ≡ false → bit v y ≡ (bit v x && bit v y)
-second_is x y e v zero = elim (or_cases (x == 1) (x == y) e) [
-  | inl one ↦ sym (ap (λ l. bit v l && bit v y) (eqb-true x 1 one) ∙ ap (λ b. not b && bit v y) zero)
-  | inr same ↦ sym (and_self (bit v y)) ∙ ap (λ l. bit v l && bit v y) (sym (eqb-true x y same))
-]
+second_is x y e v zero = search (rules, or_cases, eqb-true, and_self)
 
 first_is : (x y : ℕ) → (y == 1) ≡ true → (v : ℕ → Bool) → v 0 ≡ false → bit v x ≡ (bit v x && bit v y)
-first_is x y e v zero = sym (and-true (bit v x))
-    ∙ sym (ap (λ l. bit v x && bit v l) (eqb-true y 1 e) ∙ ap (λ b. bit v x && not b) zero)
+first_is x y e v zero = search (rules, and-true, eqb-true)
 
 -- what is neither constant nor of one variable
 record Differ (x y : ℕ) : Type 0 where
@@ -137,17 +108,7 @@ record Differ (x y : ℕ) : Type 0 where
 
 differ : (x y : ℕ) → (x == 0 || y == 0 || x == negated y) ≡ false → (x == 1 || x == y) ≡ false → (y == 1) ≡ false →
     Differ x y
-differ x y a b c =
-    let p = or_parts (x == 0 || y == 0) (x == negated y) a in
-    let q = or_parts (x == 0) (y == 0) p.0 in
-    let r = or_parts (x == 1) (x == y) b in
-    record {
-      first = eqb-false x 0 q.0;
-      second = eqb-false y 0 q.1;
-      first_varies = eqb-false x 1 r.0;
-      second_varies = eqb-false y 1 c;
-      different = λ same. eqb-false x y r.1 (one_variable (eqb-false x (negated y) p.1) same);
-    }
+differ x y a b c = search (rules, or_parts, eqb-false, one_variable)
 
 and_makes : {d : Drafted} (x y : ℕ) → IsSoundDraft d → IsHeld d x → IsHeld d y →
     Makes (and_of d x y) (λ v. bit v x && bit v y)
@@ -221,32 +182,25 @@ one_is : (v : ℕ → Bool) (l : ℕ) → v 0 ≡ false → (l == 1) ≡ true �
 one_is v l zero e = ap (bit v) (eqb-true l 1 e) ∙ ap not zero
 
 by_same : (b : Bool) {x : Bool} → x ≡ cond b x x
-by_same true = refl
-by_same false = refl
+by_same b = search rules
 
 by_itself : (b : Bool) → b ≡ cond b true false
-by_itself true = refl
-by_itself false = refl
+by_itself b = search rules
 
 by_other : (b : Bool) → not b ≡ cond b false true
-by_other true = refl
-by_other false = refl
+by_other b = search rules
 
 then_true : (b x : Bool) → (b || x) ≡ cond b true x
-then_true true x = refl
-then_true false x = refl
+then_true b x = search rules
 
 else_false : (b x : Bool) → (b && x) ≡ cond b x false
-else_false true x = refl
-else_false false x = refl
+else_false b x = search rules
 
 then_false : (b x : Bool) → (not b && x) ≡ cond b false x
-then_false true x = refl
-then_false false x = refl
+then_false b x = search rules
 
 else_true : (b x : Bool) → (not b || x) ≡ cond b x true
-else_true true x = refl
-else_true false x = refl
+else_true b x = search rules
 
 pub mux-made : (d : Drafted) (s high low : ℕ) → IsSoundDraft d → IsHeld d s → IsHeld d high → IsHeld d low →
     HasRoom (mux_of d s high low).draft → IsMade (mux_of d s high low) (λ v. cond (bit v s) (bit v high) (bit v low))

@@ -1,5 +1,5 @@
 -- Numbers of the text, and the first line: how they are read, and how they fail.
-use Rattle.std.proofs.Common.{◌≡◌, ℕ, zero, suc, ◌-◌, ◌<◌, ◌≤◌, Bool, true, false, List, Option, Result, Ok, Err}
+use Rattle.std.proofs.Common.{◌≡◌, ℕ, zero, suc, ◌-◌, ◌<◌, ◌≤◌, Bool, true, false, List, Option, Result, Ok, Err, rules}
 use Rattle.std.proofs.Common.{IsErrAnd, refl, sym, ap, ap₂, subst, inl, inr, ◌∙◌, arith}
 use Rattle.std.specs.Prelude.{codes}
 use Rattle.std.proofs.lemmas.Result.{err_from_is_err_and}
@@ -113,8 +113,7 @@ count_fails old mid new e r m i = let y = err_from_is_err_and r i in
 pub sections_end : (old new : Stream Seen) (left : ℕ) (r : Result (Unit {0}) AigFault) → left ≡ 0 →
     Tells (λ u. u) line_end old r new → Tells (λ u. u) (sections left) old r new
 unfolding sections
-sections_end old new zero r e m = m
-sections_end old new (suc n) r e m = absurd (omega (arith, e))
+sections_end old new left r h1 h2 = search rules
 
 abbrev pub section : ℕ → Field (Unit {0})
 section left = then_by (number WrongCount) (λ _. sections (left - 1))
@@ -162,8 +161,7 @@ count_wrong x some is = number_wrong WrongCount Sections x (λ v h. (λ z. some 
 
 pub header_exit : (old new : Stream Seen) (e : AigFault) (r : Result Header AigFault) →
     Stops aig_causes header old (found_of e) → IsErrAnd r (λ y. y ≡ e) → TellsHeader old r new
-header_exit old new e r m i =
-    let y = err_from_is_err_and r i in subst (λ z. TellsHeader old z new) (sym (y.1 ∙ ap Err y.2)) m
+header_exit old new e r m i = search (rules, err_from_is_err_and)
 
 pub header_unread : {old : Stream Seen} → Left header old (then_by (word (codes "aag")) (λ _. header_0)) old
 unfolding header

@@ -1,5 +1,5 @@
 -- A text has one answer.
-use Rattle.std.proofs.Common.{◌≡◌, ℕ, eqb, if◌then◌else◌, List, ◌∷◌, ◌++◌, slice_get, Some, Result, Ok, Err, All}
+use Rattle.std.proofs.Common.{◌≡◌, ℕ, eqb, if◌then◌else◌, List, ◌∷◌, ◌++◌, slice_get, Some, Result, Ok, Err, All, rules}
 use Rattle.std.proofs.Common.{refl, sym, ap, subst, ◌∙◌, arith}
 use Rattle.std.proofs.lemmas.List.Elements.{All-contains, Contains-append_right}
 use Rattle.std.specs.List.{Contains}
@@ -26,13 +26,7 @@ of_number n =
     (if eqb n 66 then causes.UnsetLatch else causes.Sections)))))
 
 back : (f : AigCause) → of_number (cause_number f) ≡ f
-back causes.Syntax = refl
-back causes.Literal = refl
-back causes.DefinedTwice = refl
-back causes.Undefined = refl
-back causes.Cyclic = refl
-back causes.UnsetLatch = refl
-back causes.Sections = refl
+back f = search rules
 
 numbered : AreNumbered cause_number
 numbered f g e = sym (back f) ∙ ap of_number e ∙ back g
@@ -102,8 +96,7 @@ settled d a b (undefined_at l u e) (undefined_at m v f) = let same : l ≡ m = s
 settled d a b (undefined_at l u e) (cyclic_at j s h c g f) = absurd (not_all u h)
 settled d a b (undefined_at l u e) (meant h n f) = absurd (not_all u h)
 settled d a b (cyclic_at i r k c g e) (undefined_at m v f) = absurd (not_all v k)
-settled d a b (cyclic_at i r k c g e) (cyclic_at j s h x y f) =
-    let place : i ≡ j = omega (arith, c.first j x.cyclic, x.first i c.cyclic) in cc
+settled d a b (cyclic_at i r k c g e) (cyclic_at j s h x y f) = search rules
 settled d a b (cyclic_at i r k c g e) (meant h n f) = absurd (n i c.cyclic)
 settled d a b (meant k n e) (undefined_at m v f) = absurd (not_all v k)
 settled d a b (meant k n e) (cyclic_at j s h x y f) = absurd (n j x.cyclic)

@@ -1,7 +1,7 @@
 -- Lemmas of the reader.
-use Rattle.std.proofs.Common.{◌≡◌, ◌≢◌, ℕ, ◌+◌, ◌^◌, ◌<◌, ◌≤◌, List, [], ◌∷◌, ◌++◌, Bool, true, false, map, length}
-use Rattle.std.proofs.Common.{take, drop, get_or, set, suc, refl, sym, ap, subst, ◌∙◌, arith, Some, Option, All}
-use Rattle.std.proofs.Common.{AllPairs, Contains, Vec}
+use Rattle.std.proofs.Common.{◌≡◌, ◌≢◌, ℕ, ◌+◌, ◌^◌, ◌<◌, ◌≤◌, List, [], ◌∷◌, ◌++◌, Bool, true, map, length, take, drop}
+use Rattle.std.proofs.Common.{get_or, set, suc, sym, ap, subst, ◌∙◌, arith, Some, Option, All, rules, AllPairs}
+use Rattle.std.proofs.Common.{Contains, Vec}
 use Rattle.std.proofs.lemmas.List.{length-map, get_or-map, map-set, take_more, take_all, take-append-drop}
 use Rattle.std.proofs.lemmas.Option.{slice_get_within, slice_get-get_or}
 use Rattle.std.proofs.Math.Seq.{drop-cons}
@@ -9,7 +9,7 @@ use Rattle.std.proofs.lemmas.List.Elements.{All-push, All-set, Contains-get_or}
 use Rattle.std.proofs.lemmas.List.Quantifiers.{all_pairs_push}
 use Rattle.std.specs.Global.{Global}
 use Rattle.ps_circuit.specs.declared.parts.Gate.{Gate}
-use Rattle.ps_components.specs.Graphs.{Way, last, next}
+use Rattle.ps_components.specs.Graphs.{Way}
 use Rattle.ps_circuit.specs.Circuits.{CircuitData, definitions, readings, IsDefinition, IsName, IsDraft, ReadsGate}
 use Rattle.ps_circuit.specs.Literals.{variable}
 use Rattle.ps_circuit.specs.Drafts.{name_bytes}
@@ -25,8 +25,7 @@ use Rattle.std.specs.Bool.{OnTrue}
 
 -- a variable that is none of those goes behind them
 pub adds_variable : {old new : List ℕ} {v : ℕ} → new ≡ old ++ v ∷ [] → (Contains old v → ⊥) → AddsVariable old v new
-adds_variable {old} e none =
-    record { behind = e; fresh = λ k d l h. none (subst (λ x. Contains old x) h (Contains-get_or old k d l)) }
+adds_variable {old} e none = search (rules, Contains-get_or)
 
 pub defines_one : {most : ℕ} (literal : ℕ) {old new : List ℕ} → IsDefinition most literal →
     AddsVariable old (variable literal) new → Defines most old (literal ∷ []) new
@@ -41,8 +40,7 @@ defines_one {most} literal {old} fits adds = record {
 }
 
 pub way_within : (gates : List Gate) {i j : ℕ} → Way (ReadsGate gates) i j → i < length gates
-way_within gates {i} (last r) = slice_get_within gates i r.reader r.at_i
-way_within gates {i} (next r w) = slice_get_within gates i r.reader r.at_i
+way_within gates h1 = search (rules, slice_get_within)
 
 apart_of : (literals : List ℕ) → AllPairs (λ v w. v ≢ w) (map variable literals) →
     AllPairs (λ l m. variable l ≢ variable m) literals
@@ -56,23 +54,10 @@ pub draft_of : {c : CircuitData} {defined : List ℕ} → c.most < 2 ^ 31 → De
     All (IsKnownIn defined) (readings c) → length c.input_names ≡ length c.inputs →
     length c.latch_names ≡ length c.latches → length c.output_names ≡ length c.outputs → All IsName c.input_names →
     All IsName c.latch_names → All IsName c.output_names → IsDraft c
-draft_of {c} limit d known n1 n2 n3 a1 a2 a3 = record {
-  limit = limit;
-  defined = d.each;
-  once = apart_of (definitions c)
-      (subst (λ ks. AllPairs (λ v w. v ≢ w) ks) d.variables (d.apart (λ i j d lt within. absurd (omega arith))));
-  known = subst (λ ks. All (IsKnownIn ks) (readings c)) d.variables known;
-  inputs_named = n1;
-  latches_named = n2;
-  outputs_named = n3;
-  input_names = a1;
-  latch_names = a2;
-  output_names = a3;
-}
+draft_of {c} limit d known n1 n2 n3 a1 a2 a3 = search (rules, apart_of)
 
 pub at_true : (b : Bool) (P : Type 0) → b ≡ true → OnTrue b P → P
-at_true true P e h = h
-at_true false P e h = cc
+at_true b P h1 h2 = search rules
 
 pub known_more : (variables : List ℕ) (fields : List Number) (i : ℕ) (d : Number) → i < length fields →
     All (λ f. IsKnownIn variables f.value) (take i fields) → IsKnownIn variables (get_or fields i d).value →
@@ -100,13 +85,10 @@ first_undefined {readings} i d l h n =
 
 pub cyclic_tells : (gates : List Gate) (starts : List ℕ) {i : ℕ} {f e : AigFault} → IsFirstOnCycle (ReadsGate gates) i →
     i < length starts → f ≡ Text Cyclic (get_or starts i 0) → f ≡ e → TellsCyclic gates starts (found_of e)
-cyclic_tells gates starts {i} first l is same =
-    subst (λ x. TellsCyclic gates starts (found_of x)) (sym is ∙ same) (i, refl, first, slice_get-get_or starts i 0 l)
+cyclic_tells gates starts {i} first l is same = search (rules, slice_get-get_or)
 
 -- a name that was read fits
 pub name_set : (names : List (Option (Vec ℕ Global))) (i : ℕ) {name : List ℕ} (v : Vec ℕ Global) →
     All IsName (map name_bytes names) → v.items ≡ name → 0 < length name → All (λ b. b ≢ 10) name →
     All IsName (map name_bytes (set names i (Some v)))
-name_set names i v h e full plain =
-    subst (λ ns. All IsName ns) (sym (map-set name_bytes names i (Some v)))
-    (All-set IsName (map name_bytes names) i (Some v.items) (rw e full, rw e plain) h)
+name_set names i v h e full plain = search (rules, map-set, All-set)

@@ -3,7 +3,7 @@
 --               and read up to there is before and read, and what they define and read
 --     reread_section      the lines of one kind
 --     reread_inputs, reread_latches, reread_outputs, reread_gates      of each kind
-use Rattle.std.proofs.Common.{◌≡◌, ℕ, ◌+◌, ◌*◌, ◌/◌, ◌<◌, ◌≤◌, ◌⊎◌, List, [], ◌∷◌, ◌++◌, length, get_or, map}
+use Rattle.std.proofs.Common.{◌≡◌, ℕ, ◌+◌, ◌*◌, ◌/◌, ◌<◌, ◌≤◌, ◌⊎◌, List, [], ◌∷◌, ◌++◌, length, get_or, map, rules}
 use Rattle.std.proofs.Common.{flat_map, All, Contains, refl, sym, ap, subst, inl, inr, ◌∙◌, arith, append_assoc}
 use Rattle.std.proofs.Common.{append-nil, length-append}
 use Rattle.std.proofs.lemmas.List.{length-map, get_or-map, get_or-append-add, get_or_append_left}
@@ -35,8 +35,7 @@ module _ (front own rest : List ℕ) {whole : List ℕ} (split : whole ≡ front
       omega (arith, ap length split, length-append front (own ++ rest), length-append own rest)
 
   at_place : (k d : ℕ) → k < length own → get_or whole (length front + k) d ≡ get_or own k d
-  at_place k d lt = ap (λ z. get_or z (length front + k) d) split ∙ get_or-append-add front (own ++ rest) k d
-      ∙ get_or_append_left own rest d k lt
+  at_place k d lt = search (rules, get_or-append-add, get_or_append_left)
 
   all_of_own : (P : ℕ → Type 0) → All P whole → All P own
   all_of_own P h k d lt = subst P (at_place k d lt) (h (length front + k) d (place_within k lt))
@@ -118,13 +117,7 @@ module _ {c : CircuitData} (draft : IsDraft c) {X : Type 0} (kind : LineKind X) 
 
   go : (xs : List X) (d : Lines X) → d.items ++ xs ≡ all → Added kind before read d → (rest : List ℕ) →
       Rereads (times (length xs) line d) (IsSection kind all before read) (texts xs ++ rest) rest
-  go [] d e a rest =
-      let is : d.items ≡ all = sym (append-nil d.items) ∙ e in
-      reread_as (ap (λ z. z ++ rest) none) (reread_give d (record {
-        items = is;
-        defined = a.defined ∙ ap (λ z. map variable (before ++ kind.defines z)) is;
-        readings = a.readings ∙ ap (λ z. read ++ kind.reads z) is;
-      }))
+  go [] d e a rest = search (rules, reread_as, reread_give)
   go (x ∷ xs) d e a rest =
       reread_as (ap (λ z. z ++ rest) (some x xs) ∙ append_assoc (text x) (texts xs) rest)
       (reread_then (chain_lines line laws (length xs) d) (reread (texts xs ++ rest)

@@ -6,14 +6,13 @@
 --     reread_as, reread_branch      another text; one of several forms
 --     number_then, field_then      a number, and a number behind a space, and what stands behind it
 --     reread_end, reread_more, reread_no_more      the end of a line; a further field comes, or none
-use Rattle.std.proofs.Common.{◌≡◌, ℕ, ◌+◌, ◌^◌, ◌<◌, Bool, true, false, ◌||◌, eqb, List, [], ◌∷◌, ◌++◌, length, refl}
-use Rattle.std.proofs.Common.{sym, ap, subst, ◌∙◌, arith}
+use Rattle.std.proofs.Common.{◌≡◌, ℕ, ◌+◌, ◌^◌, ◌<◌, Bool, true, false, List, [], ◌∷◌, ◌++◌, length, refl, sym}
+use Rattle.std.proofs.Common.{ap, subst, ◌∙◌, arith, rules}
 use Rattle.std.specs.Prelude.{decimal}
 use Rattle.std.proofs.lemmas.Bool.{eqb-true}
 use Rattle.ps_text.specs.Answers.{Stream, next_of, first_of, signs}
 use Rattle.ps_text.specs.Parts.{NoBad, give, then_by, mapped}
 use Rattle.ps_text.specs.Readers.{Reads}
-use Rattle.ps_text.specs.Digits.{decimal_value}
 use Rattle.ps_text.specs.Runs.{AllOf, StopsBefore}
 use Rattle.ps_text.proofs.Decimals.{number_text}
 use Rattle.ps_text.proofs.Simple.{same_some, laws_give}
@@ -22,8 +21,8 @@ use Rattle.ps_text.proofs.Exits.{reads_give, reads_mapped, reads_then, reads_nex
 use Rattle.ps_text.proofs.Branches.{Stands, reads_as, right_otherwise, left_otherwise}
 use Rattle.ps_circuit.specs.declared.cursor.Number.{Number}
 use Rattle.ps_circuit.specs.declared.fault.AigCause.{AigCause}
-use Rattle.ps_circuit.specs.Signs.{Seen, Field, pieces_at, take_byte, byte, word, is_digit, is_blank, number_at, number}
-use Rattle.ps_circuit.specs.Signs.{gap, newline, line_end, more, NoBadRun, run}
+use Rattle.ps_circuit.specs.Signs.{Seen, Field, pieces_at, take_byte, byte, word, is_digit, is_blank, number, gap}
+use Rattle.ps_circuit.specs.Signs.{newline, line_end, more, NoBadRun, run}
 use Rattle.ps_circuit.specs.Texts.{field}
 use Rattle.ps_circuit.specs.Cursors.{Passes, place_of}
 use Rattle.ps_circuit.proofs.Runs.{Odd, run_reads}
@@ -116,12 +115,7 @@ reread_run p see Bad text {rest} some all longest clean good = record {
 
 -- digits are no blanks
 digit_no_blank : (b : ℕ) → is_digit b ≡ true → is_blank b ≡ false
-digit_no_blank b h = go (eqb b 32) (eqb b 9) refl refl
-  where
-    go : (x y : Bool) → eqb b 32 ≡ x → eqb b 9 ≡ y → (x || y) ≡ false
-    go true y e f = absurd (let d : is_digit 32 ≡ true = ap is_digit (sym (eqb-true b 32 e)) ∙ h in cc)
-    go false true e f = absurd (let d : is_digit 9 ≡ true = ap is_digit (sym (eqb-true b 9 f)) ∙ h in cc)
-    go false false e f = refl
+digit_no_blank b h = search (rules, eqb-true)
 
 digits_no_blank : (digits rest : List ℕ) → 0 < length digits → AllOf is_digit digits →
     StopsBefore is_blank (digits ++ rest)
@@ -139,10 +133,7 @@ pub record IsGood (Wrong : ℕ → AigCause → Type 0) (n : ℕ) : Type 0 where
 pub reread_number : {Wrong : ℕ → AigCause → Type 0} (n : ℕ) {rest : List ℕ} → IsGood Wrong n →
     StopsBefore is_digit rest → Rereads (number Wrong) (HasValue n) (decimal n ++ rest) rest
 unfolding number
-reread_number {Wrong} n g longest =
-    let t = number_text n g.small in
-    reread_run is_digit number_at (λ digits f. Wrong (decimal_value digits) f) (decimal n) t.some t.pass longest
-    (λ f w. g.right f (subst (λ z. Wrong z f) t.value w)) (λ at. t.value)
+reread_number {Wrong} n g longest = search (rules, number_text, reread_run)
 
 pub number_then : {B : Type 0} {Wrong : ℕ → AigCause → Type 0} {Q : Number → Field B} {First More : Seen → Type 0}
     {Null : Type 0} {Good : B → Type 0} {mid rest : List ℕ} → Chain (number Wrong) Q First More Null → (n : ℕ) →
@@ -190,8 +181,7 @@ avoids_at A e at b rest none t x a = none t (ap (λ (s : Seen). s.byte) (sym (sa
 avoids_digits : (A : Seen → Type 0) (e at : ℕ) (digits rest : List ℕ) → 0 < length digits → AllOf is_digit digits →
     ((t : Seen) → AtDigit t → A t → ⊥) → Avoids A (next_of (from e at (digits ++ rest)))
 avoids_digits A e at [] rest some all none = absurd (omega arith)
-avoids_digits A e at (b ∷ digits) rest some all none =
-    avoids_at A e at b (digits ++ rest) (λ t x a. none t (ap is_digit x ∙ all.0) a)
+avoids_digits A e at (b ∷ digits) rest some all none = search (rules, avoids_at)
 
 pub field_then : {B : Type 0} {Wrong : ℕ → AigCause → Type 0} {Q : Number → Field B} {First More : Seen → Type 0}
     {Null : Type 0} {Good : B → Type 0} {mid rest : List ℕ} → Judges Wrong → Chain (field Wrong) Q First More Null →

@@ -3,7 +3,7 @@
 --     reread_header      the first line
 --     IsNew kind most d x      the item defines what may be defined behind d, and what it reads is no wrong literal
 --     reread_input, reread_latch, reread_output, reread_gate      a line of each kind
-use Rattle.std.proofs.Common.{◌≡◌, ℕ, ◌^◌, ◌<◌, ◌≤◌, Bool, true, false, if◌then◌else◌, List, [], ◌∷◌, ◌++◌}
+use Rattle.std.proofs.Common.{◌≡◌, ℕ, ◌^◌, ◌<◌, ◌≤◌, Bool, true, false, if◌then◌else◌, List, [], ◌∷◌, ◌++◌, rules}
 use Rattle.std.proofs.Common.{length, refl, sym, ap, subst, inl, inr, ◌∙◌, arith, append_assoc}
 use Rattle.std.specs.Prelude.{codes, decimal, All}
 use Rattle.std.proofs.lemmas.Bool.{eq-eqb}
@@ -14,9 +14,9 @@ use Rattle.ps_circuit.specs.declared.parts.Latch.{Latch}
 use Rattle.ps_circuit.specs.declared.parts.Gate.{Gate}
 use Rattle.ps_circuit.specs.Circuits.{CircuitData, IsDraft}
 use Rattle.ps_circuit.specs.Signs.{is_digit, by_more}
-use Rattle.ps_circuit.specs.Texts.{HeaderData, AnyNumber, WrongLiteral, WrongDefinition, WrongReset}
-use Rattle.ps_circuit.specs.Texts.{sections, header, Lines, add_input, add_latch, add_output, add_gate, input_line}
-use Rattle.ps_circuit.specs.Texts.{reset, latch_line, output_line, gate_line}
+use Rattle.ps_circuit.specs.Texts.{HeaderData, AnyNumber, WrongLiteral, WrongDefinition, WrongReset, sections, header}
+use Rattle.ps_circuit.specs.Texts.{Lines, add_input, add_latch, add_output, add_gate, input_line, reset, latch_line}
+use Rattle.ps_circuit.specs.Texts.{output_line, gate_line}
 use Rattle.ps_circuit.specs.Written.{header_line, fields, line, latch_line as latch_line_of}
 use Rattle.ps_circuit.proofs.Judges.{judge_any, judge_most, judge_literal}
 use Rattle.ps_circuit.proofs.TextLaws.{header_of, chain_sections, chain_header, chain_0, chain_1, chain_2, chain_3}
@@ -109,8 +109,7 @@ latch_line_is x rest = by x.reset
     by false = line_is x.literal (x.next ∷ []) rest
 
 reset_stops : (r : Bool) (rest : List ℕ) → StopsBefore is_digit (reset_text r rest)
-reset_stops true rest = refl
-reset_stops false rest = refl
+reset_stops r rest = search rules
 
 reread_reset : (r : Bool) (latch : ℕ) {rest : List ℕ} → 2 ≤ latch →
     Rereads (reset latch) (λ b. b ≡ r) (reset_text r rest) rest

@@ -2,7 +2,7 @@
 --     reread_names      the lines of the names of one kind, and what stands behind them
 --     reread_no_names, reread_no_comment      the end of the text, where no name and no comment comes
 use Rattle.std.proofs.Common.{◌≡◌, ◌≢◌, ℕ, ◌+◌, ◌^◌, ◌<◌, Bool, true, false, eqb, not, List, [], ◌∷◌, ◌++◌, length}
-use Rattle.std.proofs.Common.{Option, None, Some, All, slice_get, refl, sym, ap, subst, ◌∙◌, arith, append_assoc}
+use Rattle.std.proofs.Common.{Option, None, Some, All, slice_get, refl, sym, ap, subst, ◌∙◌, arith, append_assoc, rules}
 use Rattle.std.proofs.Common.{length-append}
 use Rattle.std.specs.Prelude.{decimal, slice_set}
 use Rattle.std.proofs.Math.Seq.{set-append_seam}
@@ -16,7 +16,7 @@ use Rattle.ps_text.proofs.Simple.{none_is_some, laws_give}
 use Rattle.ps_text.proofs.Exits.{reads_next}
 use Rattle.ps_text.proofs.Branches.{right_otherwise, many_reads, many_ends}
 use Rattle.ps_circuit.specs.Circuits.{IsName}
-use Rattle.ps_circuit.specs.Signs.{Seen, is_inner, NoBadRun, rest_of_line}
+use Rattle.ps_circuit.specs.Signs.{Seen, is_inner, rest_of_line}
 use Rattle.ps_circuit.specs.Texts.{Kind, OfInput, OfLatch, OfOutput, NamesData, no_names, names_of, put_names, add_name}
 use Rattle.ps_circuit.specs.Texts.{take_kind, IsBadSymbol, symbol_line, comment}
 use Rattle.ps_circuit.specs.Written as written
@@ -36,9 +36,7 @@ letter_of OfOutput = 111
 
 kind_taken : (kind : Kind) (at : ℕ) (behind : List ℕ) →
     take_kind (record { byte = letter_of kind; at = at; behind = behind }) ≡ Some kind
-kind_taken OfInput at behind = refl
-kind_taken OfLatch at behind = refl
-kind_taken OfOutput at behind = refl
+kind_taken kind at behind = search rules
 
 name_inner : (name : List ℕ) → All (λ b. b ≢ 10) name → AllOf is_inner name
 name_inner [] h = tt
@@ -81,8 +79,7 @@ module _ (names : NamesData) (kind : Kind) (k : ℕ) (small : k < 2 ^ 64)
 
   reread_name : Rereads rest_of_line (λ v. v ≡ name) (name ++ 10 ∷ rest) (10 ∷ rest)
   unfolding rest_of_line
-  reread_name = reread_run is_inner (λ at bytes. bytes) NoBadRun name full (name_inner name plain) refl (λ f x. x)
-      (λ at. refl)
+  reread_name = search (rules, reread_run, name_inner)
 
   reread_symbol : Rereads (symbol_line names) (λ d. d ≡ add_name names kind k name) (letter_of kind ∷ behind_letter)
       rest
@@ -126,28 +123,21 @@ seam_get (x ∷ xs) ys {y} = seam_get xs ys
 
 put_same : {names : NamesData} (kind : Kind) {list : List (Option (List ℕ))} → names_of names kind ≡ list →
     put_names names kind list ≡ names
-put_same {names} OfInput e = ap (λ z. put_names names OfInput z) (sym e)
-put_same {names} OfLatch e = ap (λ z. put_names names OfLatch z) (sym e)
-put_same {names} OfOutput e = ap (λ z. put_names names OfOutput z) (sym e)
+put_same kind h1 = search rules
 
 put_again : (names : NamesData) (kind : Kind) (one two : List (Option (List ℕ))) →
     put_names (put_names names kind one) kind two ≡ put_names names kind two
-put_again names OfInput one two = refl
-put_again names OfLatch one two = refl
-put_again names OfOutput one two = refl
+put_again names kind one two = search rules
 
 put_there : (names : NamesData) (kind : Kind) {list : List (Option (List ℕ))} →
     names_of (put_names names kind list) kind ≡ list
-put_there names OfInput = refl
-put_there names OfLatch = refl
-put_there names OfOutput = refl
+put_there names kind = search rules
 
 pub reread_names : (kind : Kind) (Good : NamesData → Type 0) (text rest : List ℕ) (ns before : List (Option (List ℕ)))
     (k : ℕ) (names : NamesData) → names_of names kind ≡ before ++ no_names ns → length before ≡ k → All IsName ns →
     k + length ns < 2 ^ 64 → Rereads (many symbol_line (put_names names kind (before ++ ns))) Good text rest →
     Rereads (many symbol_line names) Good (symbol_lines (letter_of kind) k ns ++ text) rest
-reread_names kind Good text rest [] before k names free size named small next =
-    subst (λ z. Rereads (many symbol_line z) Good text rest) (put_same kind free) next
+reread_names kind Good text rest [] before k names free size named small next = search (rules, Rereads, put_same)
 reread_names kind Good text rest (None ∷ ns) before k names free size named small next =
     reread_names kind Good text rest ns (before ++ None ∷ []) (k + 1) names
     (free ∙ sym (append_assoc before (None ∷ []) (no_names ns))) (omega (arith, size, length-append before (None ∷ [])))

@@ -3,9 +3,9 @@
 --     text_ends      its last byte is a newline
 --     reads_again      so its answer is the circuit
 use Rattle.std.proofs.Common.{◌≡◌, ℕ, ◌+◌, ◌^◌, ◌<◌, ◌⊎◌, Bool, true, false, if◌then◌else◌, List, [], ◌∷◌, ◌++◌, length}
-use Rattle.std.proofs.Common.{get_or, map, Option, None, Some, All, Contains, Ok, refl, sym, ap, subst, inl, inr}
+use Rattle.std.proofs.Common.{get_or, map, Option, None, Some, All, Contains, Ok, refl, sym, ap, subst, inl, inr, rules}
 use Rattle.std.proofs.Common.{◌∙◌, arith, append_assoc, append-nil}
-use Rattle.std.specs.Prelude.{codes, decimal}
+use Rattle.std.specs.Prelude.{decimal}
 use Rattle.std.proofs.lemmas.List.{length-map, get_or-map}
 use Rattle.ps_text.specs.Answers.{signs}
 use Rattle.ps_text.specs.Parts.{many, PartAnswers, IsRead}
@@ -17,9 +17,8 @@ use Rattle.ps_circuit.specs.Circuits.{CircuitData, definitions, readings, IsCirc
 use Rattle.ps_circuit.specs.Literals.{variable}
 use Rattle.ps_components.specs.Graphs.{Way}
 use Rattle.ps_circuit.specs.Signs.{stream_of, ends_line, closed, aig_causes, pieces_at}
-use Rattle.ps_circuit.specs.Texts.{Lines, no_lines, OfInput, OfLatch, OfOutput, NamesData, no_names}
-use Rattle.ps_circuit.specs.Texts.{symbol_line, DraftData, draft_of, symbols, body, circuit_text, IsDefined}
-use Rattle.ps_circuit.specs.Texts.{ReadsCircuit, meaning}
+use Rattle.ps_circuit.specs.Texts.{Lines, no_lines, OfInput, OfLatch, OfOutput, NamesData, no_names, symbol_line}
+use Rattle.ps_circuit.specs.Texts.{DraftData, draft_of, symbols, body, circuit_text, IsDefined, ReadsCircuit, meaning}
 use Rattle.ps_circuit.specs.Written.{fields, line, latch_line as latch_line_of, symbol_line as symbol_line_of}
 use Rattle.ps_circuit.specs.Written.{header_line, literal_lines, latch_lines, gate_lines, symbol_lines, text_of}
 use Rattle.ps_circuit.proofs.TextLaws.{laws_text, first_names, chain_text, chain_inputs, chain_latches, chain_outputs}
@@ -70,21 +69,10 @@ module _ {c : CircuitData} (w : IsWritable c) where
   module _ {i : Lines ℕ} {l : Lines Latch} {o : Lines ℕ} {a : Lines Gate} (ih : InputsRead c i)
       (lh : LatchesRead c l) (oh : OutputsRead c o) (ah : GatesRead c a) where
     draft_is : {names : NamesData} → names ≡ all_names → IsDraftOf c (draft_of c.most i l o a names)
-    draft_is {names} e = record {
-      circuit = rw (ih.items, lh.items, oh.items, ah.items, e) refl;
-      defined = ah.defined;
-      readings = ah.readings;
-    }
+    draft_is {names} e = search rules
 
     first_names_are : first_names c.most i l o a ≡ no_circuit_names
-    first_names_are =
-        let x : no_names i.items ≡ no_names c.input_names =
-        none_same i.items c.input_names (ap length ih.items ∙ sym w.draft.inputs_named) in
-        let y : no_names l.items ≡ no_names c.latch_names =
-        none_same l.items c.latch_names (ap length lh.items ∙ sym w.draft.latches_named) in
-        let z : no_names o.items ≡ no_names c.output_names =
-        none_same o.items c.output_names (ap length oh.items ∙ sym w.draft.outputs_named) in
-        cc (x, y, z)
+    first_names_are = search (rules, none_same)
 
     reread_symbols : Rereads (symbols c.most i l o a) (IsDraftOf c) names_text []
     unfolding symbols
@@ -139,8 +127,7 @@ abbrev AreLines : List ℕ → Type 0
 AreLines xs = (xs ≡ []) ⊎ (ends_line xs ≡ true)
 
 ends_more : (xs : List ℕ) {ys : List ℕ} → ends_line xs ≡ true → AreLines ys → ends_line (xs ++ ys) ≡ true
-ends_more xs h (inl e) = ap (λ z. ends_line (xs ++ z)) e ∙ ap ends_line (append-nil xs) ∙ h
-ends_more xs {ys} h (inr k) = ends_behind xs ys k
+ends_more xs h1 h2 = search (rules, ends_behind)
 
 literal_lines_end : (xs : List ℕ) → AreLines (literal_lines xs)
 literal_lines_end [] = inl refl
@@ -173,24 +160,16 @@ three_end x {a} {b} h i j k = ends_more ((x ++ a) ++ b) (ends_more (x ++ a) (end
 
 text_ends : (c : CircuitData) → ends_line (text_of c) ≡ true
 text_ends c =
-    three_end lines lines_end (symbol_lines_end 105 0 c.input_names) (symbol_lines_end 108 0 c.latch_names)
-    (symbol_lines_end 111 0 c.output_names)
-  where
-    lines : List ℕ
-    lines =
-        (((header_line c ++ literal_lines c.inputs) ++ latch_lines c.latches) ++ literal_lines c.outputs) ++
-        gate_lines c.gates
-
-    first : ends_line (header_line c) ≡ true
-    first =
-        ends_newline (codes "aag" ++ fields (c.most ∷ length c.inputs ∷ length c.latches ∷ length c.outputs ∷
-        length c.gates ∷ []))
-
-    lines_end : ends_line lines ≡ true
-    lines_end =
-        ends_more (((header_line c ++ literal_lines c.inputs) ++ latch_lines c.latches) ++ literal_lines c.outputs)
-        (three_end (header_line c) first
-        (literal_lines_end c.inputs) (latch_lines_end c.latches) (literal_lines_end c.outputs)) (gate_lines_end c.gates)
+    search (
+      rules,
+      three_end,
+      symbol_lines_end,
+      ends_newline,
+      ends_more,
+      literal_lines_end,
+      latch_lines_end,
+      gate_lines_end,
+    )
 
 -- ## The circuit is read again
 

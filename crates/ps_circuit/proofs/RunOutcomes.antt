@@ -1,8 +1,8 @@
 -- A run of bytes has an outcome from each list of signs: what its first sign sees judges it.
 --     has_run      the outcome, where the run's bytes are judged
 --     run_of      the longest run that a list begins with
-use Rattle.std.proofs.Common.{◌≡◌, ℕ, Bool, true, false, List, [], ◌∷◌, ◌++◌, Some, refl}
-use Rattle.std.proofs.Common.{sym, ap, subst, ◌∙◌, arith}
+use Rattle.std.proofs.Common.{◌≡◌, ℕ, Bool, true, false, List, [], ◌∷◌, ◌++◌, Some, refl, rules, sym, ap, subst, ◌∙◌}
+use Rattle.std.proofs.Common.{arith}
 use Rattle.std.specs.List.{AllByRecursion}
 use Rattle.ps_text.specs.Answers.{first_of}
 use Rattle.ps_text.specs.Parts.{IsRead, is_cause}
@@ -49,8 +49,7 @@ all_bytes p (s ∷ text) h = (h.0, all_bytes p text h.1)
 
 pub stops_bytes : (p : ℕ → Bool) (bytes : List ℕ) → ((b : ℕ) → first_of bytes ≡ Some b → p b ≡ false) →
     StopsBefore p bytes
-stops_bytes p [] h = tt
-stops_bytes p (b ∷ bytes) h = h b refl
+stops_bytes p bytes h1 = search rules
 
 module _ {V : Type 0} (p : ℕ → Bool) (see : ℕ → List ℕ → V) (Bad : List ℕ → AigCause → Type 0) where
   -- a byte that passes comes first
@@ -62,13 +61,7 @@ module _ {V : Type 0} (p : ℕ → Bool) (see : ℕ → List ℕ → V) (Bad : L
     whole = t.byte ∷ seen.text
 
     begins : BeginsRun p whole (t.byte ∷ t.behind)
-    begins = record {
-      rest = seen.rest;
-      split = ap (λ z. t.byte ∷ z) seen.split;
-      some = omega arith;
-      all = (passes, seen.all);
-      longest = stops_bytes p seen.rest seen.longest;
-    }
+    begins = search (rules, stops_bytes)
 
     taken : Spanned (λ (s : Seen). p s.byte) after
     taken = run_of after

@@ -1,11 +1,13 @@
 -- Runs of bytes as parts of a text: their laws, and how they are read and fail.
 --     laws_run      a run begins and goes on with the bytes that pass
+--     bad_is      what is wrong with the run that comes is the run's
+--     run_read      a list of signs that is one run is read
 --     run_reads, run_bad      a run was passed: it is read, unless it is wrong
 --     stops_here      no sign comes with which the part begins
 use Rattle.std.proofs.Common.{◌≡◌, ℕ, suc, ◌+◌, ◌<◌, ◌≤◌, Bool, true, false, List, [], ◌∷◌, ◌++◌, length, Option, None}
-use Rattle.std.proofs.Common.{Some, refl, sym, ap, ap₂, subst, ◌∙◌, arith}
-use Rattle.ps_text.specs.Answers.{Begins, Piece, Stream, signs, first_of, next_of, offset_of}
-use Rattle.ps_text.specs.Parts.{IsRead, is_cause, is_refusal, StopsAt, CleanUpTo}
+use Rattle.std.proofs.Common.{Some, refl, sym, ap, ap₂, subst, ◌∙◌, arith, rules}
+use Rattle.ps_text.specs.Answers.{Begins, Piece, Stream, signs, first_of, next_of}
+use Rattle.ps_text.specs.Parts.{IsRead, is_cause, StopsAt}
 use Rattle.ps_text.specs.Readers.{StopsWith, Reads}
 use Rattle.ps_text.proofs.Splits.{same_head}
 use Rattle.ps_text.specs.Runs.{AllOf, StopsBefore}
@@ -15,8 +17,7 @@ use Rattle.ps_text.proofs.Simple.{none_is_some, same_some, nil_is_cons}
 use Rattle.ps_text.proofs.Whole.{Own}
 use Rattle.ps_text.proofs.OneAnswer.{signs_split}
 use Rattle.ps_circuit.specs.declared.fault.AigCause.{AigCause}
-use Rattle.ps_circuit.specs.declared.fault.AigCause.TheVariants.{Syntax, Literal, DefinedTwice, Undefined, Cyclic}
-use Rattle.ps_circuit.specs.declared.fault.AigCause.TheVariants.{UnsetLatch, Sections}
+use Rattle.ps_circuit.specs.declared.fault.AigCause.TheVariants.{Syntax}
 use Rattle.ps_circuit.specs.Causes.{cause_number}
 use Rattle.ps_circuit.specs.Signs.{Seen, pieces_at, bytes_of, first_at, aig_causes, Field, BeginsRun, IsBadRun, run}
 use Rattle.ps_circuit.specs.Cursors.{Passes, place_of}
@@ -60,60 +61,17 @@ length_with at (b ∷ bytes) rest h = omega arith
 pub first_sees : (at : ℕ) (bytes : List ℕ) (t : Seen) (rest : List Seen) → signs (pieces_at at bytes) ≡ t ∷ rest →
     bytes ≡ t.byte ∷ t.behind
 first_sees at [] t rest e = absurd (nil_is_cons t rest e)
-first_sees at (b ∷ bytes) t rest e =
-    ap (λ (s : Seen). s.byte ∷ s.behind) (same_head _ t (signs (pieces_at (at + 1) bytes)) rest e)
+first_sees at (b ∷ bytes) t rest e = search (rules, same_head)
 
 pub syntax_least : (g : AigCause) → cause_number Syntax ≤ cause_number g
-syntax_least Syntax = omega arith
-syntax_least Literal = omega arith
-syntax_least DefinedTwice = omega arith
-syntax_least Undefined = omega arith
-syntax_least Cyclic = omega arith
-syntax_least UnsetLatch = omega arith
-syntax_least Sections = omega arith
+syntax_least g = search rules
 
 -- ## A part that does not begin
 
 pub stops_here : {V : Type 0} {P : Field V} {First More : Seen → Type 0} → Laws Odd P First More ⊥ →
     {old : Stream Seen} → ((t : Seen) → next_of old ≡ Some t → First t → ⊥)
     → StopsWith aig_causes P old (record { cause = Syntax; offset = place_of old })
-stops_here {V} {P = P} {First = First} l {old} none = go old.pieces refl
-  where
-    clean : (all : List Seen) → CleanUpTo P all 0
-    clean all front more t g e n c = absurd (omega (arith, n))
-
-    go : (ps : List (Piece Seen)) → old.pieces ≡ ps → StopsWith aig_causes P old
-        (record { cause = Syntax; offset = place_of old })
-    go [] e = record {
-      front = [];
-      rest = [];
-      split = e;
-      fault =
-          record {
-            front = [];
-            split = ap signs e;
-            clean = clean (signs old.pieces);
-            fault = is_refusal (record { before = l.some; no_text = l.null; stops = tt; no_cause = tt }) refl;
-          };
-      offset = ap (λ z. offset_of z old.end) e;
-    }
-    go (p ∷ ps) e = record {
-      front = [];
-      rest = p ∷ ps;
-      split = e;
-      fault = record {
-        front = [];
-        split = ap signs e;
-        clean = clean (signs old.pieces);
-        fault = is_refusal (record {
-          before = l.some;
-          no_text = l.null;
-          stops = λ x. none p.sign (ap (λ z. first_of (signs z)) e) (l.first_text p.sign x.more x.value x.is_text);
-          no_cause = λ f c. none p.sign (ap (λ z. first_of (signs z)) e) (l.first_cause p.sign f c);
-        }) refl;
-      };
-      offset = ap (λ z. offset_of z old.end) e;
-    }
+stops_here {V} {P = P} {First = First} l {old} none = search rules
 
 -- ## Runs
 
@@ -135,27 +93,11 @@ module _ {V : Type 0} (p : ℕ → Bool) (see : ℕ → List ℕ → V) (Bad : L
   AtRun s = p s.byte ≡ true
 
   pub laws_run : (b : ℕ) → p b ≡ true → Laws Odd (run p see Bad) AtRun AtRun ⊥
-  laws_run b e = record {
-    some = run_begins b e;
-    one_value = λ text v w h k. h.value ∙ sym k.value;
-    first_text = λ t text v h. h.all.0;
-    first_cause = λ t f c. let r = c.1.begins in head_passes t c.1.run r.rest r.some r.all r.split;
-    more_text =
-        λ text more t v w h k. (all_right p (bytes_of text) (bytes_of (t ∷ more))
-        (subst (AllOf p) (bytes_append text (t ∷ more)) k.all)).0;
-    more_cause =
-        λ text t v f h c. absurd (let z : 0 < length {A = Seen} [] = subst (λ (x : List Seen). 0 < length x) c.0 h.some
-        in omega (arith, z));
-    null = λ v h. omega (arith, h.some);
-    behind = λ front t f c. subst (Begins (run p see Bad).IsText) (sym c.0) (run_begins b e);
-    plain_text = λ front rest t v h o. none_is_some o.0 o.1;
-    plain_cause = λ front t f c o. none_is_some o.0 o.1;
-  }
+  laws_run b e = search (rules, run_begins, head_passes, all_right, bytes_append, none_is_some)
 
   -- what is wrong with the run that comes is the run's
   pub bad_is : {t : Seen} {r : List ℕ} {f : AigCause} → BeginsRun p r (t.byte ∷ t.behind) → IsBadRun p Bad t f → Bad r f
-  bad_is {t} {r} {f} x b = subst (λ z. Bad z f) (same_run p b.run r b.begins.rest x.rest
-      (sym b.begins.split ∙ x.split) b.begins.all x.all b.begins.longest x.longest) b.bad
+  bad_is {t} {r} {f} x b = search (rules, same_run)
 
   -- a run that is not wrong, and behind which no byte passes
   pub run_read : (text rest : List Seen) → 0 < length text → AllOf p (bytes_of text) →
@@ -184,13 +126,7 @@ module _ {V : Type 0} (p : ℕ → Bool) (see : ℕ → List ℕ → V) (Bad : L
 
   begins_there : {old new : Stream Seen} {r : List ℕ} → Passes p old new r → 0 < length r → (t : Seen)
       (rest : List Seen) → signs old.pieces ≡ t ∷ rest → BeginsRun p r (t.byte ∷ t.behind)
-  begins_there {r = r} x some t rest e = record {
-    rest = x.rest;
-    split = sym (first_sees x.at (r ++ x.rest) t rest (ap signs (sym x.old_is) ∙ e));
-    some = some;
-    all = x.all;
-    longest = x.longest;
-  }
+  begins_there {r = r} x some t rest e = search (rules, first_sees)
 
   pub run_reads : {old new : Stream Seen} {r : List ℕ} {v : V} → Passes p old new r → 0 < length r →
       ((f : AigCause) → Bad r f → ⊥) → v ≡ see (place_of old) r → Reads (run p see Bad) old v new

@@ -2,8 +2,8 @@
 --     Separates      a blank or a newline: what stands behind a number
 --     AtBody, AtTail      the first byte of what stands behind the first line, and behind the number lines
 --     numbers, optional      the chains of a number, and of a further field or none, and what stands behind them
-use Rattle.std.proofs.Common.{◌≡◌, ℕ, ◌⊎◌, Bool, true, false, cond, ◌||◌, eqb, List, [], ◌∷◌, None, Some, refl, sym, ap}
-use Rattle.std.proofs.Common.{inl, inr, ◌∙◌, arith}
+use Rattle.std.proofs.Common.{◌≡◌, ℕ, ◌⊎◌, Bool, true, false, cond, List, [], ◌∷◌, None, Some, refl, sym, ap, inl}
+use Rattle.std.proofs.Common.{inr, ◌∙◌, rules}
 use Rattle.std.proofs.lemmas.Bool.{eqb-true, eq-eqb}
 use Rattle.ps_text.specs.Parts.{NoBad, give, then_by, either, mapped}
 use Rattle.ps_text.specs.Digits.{decimal_value}
@@ -58,23 +58,13 @@ pub inner_newline : Apart AtInner (At 10)
 inner_newline t h e = test_at is_inner t e h refl
 
 blank_is : (t : Seen) → AtBlank t → (t.byte ≡ 32) ⊎ (t.byte ≡ 9)
-blank_is t h = go (eqb t.byte 32) (eqb t.byte 9) refl refl h
-  where
-    go : (x y : Bool) → eqb t.byte 32 ≡ x → eqb t.byte 9 ≡ y → (x || y) ≡ true → (t.byte ≡ 32) ⊎ (t.byte ≡ 9)
-    go true y e f h = inl (eqb-true t.byte 32 e)
-    go false true e f h = inr (eqb-true t.byte 9 f)
-    go false false e f h = absurd cc
+blank_is t h = search (rules, eqb-true)
 
 pub blank_digit : Apart AtBlank AtDigit
-blank_digit t h d = go (blank_is t h)
-  where
-    go : (t.byte ≡ 32) ⊎ (t.byte ≡ 9) → ⊥
-    go (inl e) = test_at is_digit t e d refl
-    go (inr e) = test_at is_digit t e d refl
+blank_digit t h d = search (rules, blank_is, test_at)
 
 pub digit_separates : Apart AtDigit Separates
-digit_separates t d (inl h) = blank_digit t h d
-digit_separates t d (inr e) = test_at is_digit t e d refl
+digit_separates = search (rules, blank_digit, test_at)
 
 pub separates_digit : Apart Separates AtDigit
 separates_digit t h d = digit_separates t d h
@@ -83,26 +73,16 @@ pub digit_space : Apart AtDigit (At 32)
 digit_space t d e = test_at is_digit t e d refl
 
 tail_blank : (t : Seen) → AtTail t → AtBlank t → ⊥
-tail_blank t (inl (inl e)) d = test_at is_blank t e d refl
-tail_blank t (inl (inr (inl e))) d = test_at is_blank t e d refl
-tail_blank t (inl (inr (inr e))) d = test_at is_blank t e d refl
-tail_blank t (inr e) d = test_at is_blank t e d refl
+tail_blank t h1 h2 = search (rules, test_at)
 
 tail_newline : (t : Seen) → AtTail t → At 10 t → ⊥
-tail_newline t (inl (inl e)) d = omega (arith, e, d)
-tail_newline t (inl (inr (inl e))) d = omega (arith, e, d)
-tail_newline t (inl (inr (inr e))) d = omega (arith, e, d)
-tail_newline t (inr e) d = omega (arith, e, d)
+tail_newline t h1 h2 = search rules
 
 pub separates_body : Apart Separates AtBody
-separates_body t h (inl d) = separates_digit t h d
-separates_body t (inl h) (inr k) = tail_blank t k h
-separates_body t (inr h) (inr k) = tail_newline t k h
+separates_body = search (rules, separates_digit, tail_blank, tail_newline)
 
 pub kind_comment : Apart AtKind (At 99)
-kind_comment t (inl e) c = omega (arith, e, c)
-kind_comment t (inr (inl e)) c = omega (arith, e, c)
-kind_comment t (inr (inr e)) c = omega (arith, e, c)
+kind_comment = search rules
 
 -- ## Bytes
 
@@ -110,11 +90,7 @@ pub byte_taken : {b : ℕ} (s : Seen) → s.byte ≡ b → take_byte b s ≡ Som
 byte_taken {b} s e = ap (λ x. cond x (Some tt) None) (eq-eqb s.byte b e)
 
 pub taken_byte : {b : ℕ} (s : Seen) {u : Unit {0}} → take_byte b s ≡ Some u → s.byte ≡ b
-taken_byte {b} s {u} e = go (eqb s.byte b) refl e
-  where
-    go : (x : Bool) → eqb s.byte b ≡ x → cond x (Some tt) None ≡ Some u → s.byte ≡ b
-    go true t h = eqb-true s.byte b t
-    go false t h = absurd cc
+taken_byte {b} s {u} e = search (rules, eqb-true)
 
 abbrev pub seen : ℕ → Seen
 seen b = record { byte = b; at = 0; behind = [] }

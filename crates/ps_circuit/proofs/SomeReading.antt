@@ -1,7 +1,7 @@
 -- Each text of a circuit has an answer: the text's first cause, or the first literal that is not defined, or the first
 -- gate that depends on itself, or else its circuit.
-use Rattle.std.proofs.Common.{ℕ, zero, suc, ◌<◌, ◌⊎◌, List, [], ◌∷◌, length, get_or, All, Result, Ok, Err, refl}
-use Rattle.std.proofs.Common.{ap, inl, inr, arith}
+use Rattle.std.proofs.Common.{ℕ, zero, suc, ◌<◌, ◌⊎◌, List, [], ◌∷◌, length, get_or, All, Result, Ok, Err, refl, ap}
+use Rattle.std.proofs.Common.{inl, inr, arith}
 use Rattle.std.proofs.lemmas.Bool.{cases_eq}
 use Rattle.std.proofs.lemmas.Option.{slice_get-get_or}
 use Rattle.ps_text.specs.Answers.{Found, signs}
@@ -16,8 +16,7 @@ use Rattle.ps_circuit.specs.declared.fault.AigCause.TheVariants.{Undefined, Cycl
 use Rattle.ps_circuit.specs.Circuits.{CircuitData, ReadsGate}
 use Rattle.ps_circuit.specs.Literals.{variable}
 use Rattle.ps_circuit.specs.Signs.{aig_causes, stream_of}
-use Rattle.ps_circuit.specs.Texts.{DraftData}
-use Rattle.ps_circuit.specs.Texts.{circuit_text, IsDefined, IsFirstUndefined, ReadsCircuit, refused}
+use Rattle.ps_circuit.specs.Texts.{DraftData, circuit_text, IsDefined, IsFirstUndefined, ReadsCircuit, refused}
 use Rattle.ps_circuit.specs.Texts.{undefined, cyclic, meaning}
 use Rattle.ps_circuit.proofs.DraftLemmas.{gates_placed}
 use Rattle.ps_circuit.proofs.GateCycles.{first_cyclic}

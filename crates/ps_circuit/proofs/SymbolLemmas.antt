@@ -1,9 +1,9 @@
 -- The lines of names, and the comment: how they are read, and how they fail.
 --     AtLetter      a letter of a symbol comes, and one step goes behind it
 --     past_letter, past_number, past_space, past_name      what is left of the line behind them
-use Rattle.std.proofs.Common.{◌≡◌, ◌≢◌, ℕ, zero, suc, ◌+◌, ◌^◌, ◌<◌, true, false, ◌==◌, ◌||◌, List, [], ◌∷◌, ◌++◌}
-use Rattle.std.proofs.Common.{length, map, set, Option, None, Some, Vec, refl, sym, ap, ap₂, subst, inl, inr, ◌∙◌, ◌⊎◌}
-use Rattle.std.proofs.Common.{arith}
+use Rattle.std.proofs.Common.{◌≡◌, ◌≢◌, ℕ, zero, suc, ◌+◌, ◌^◌, ◌<◌, true, false, List, [], ◌∷◌, ◌++◌}
+use Rattle.std.proofs.Common.{length, map, set, Option, None, Some, Vec, refl, sym, ap, ap₂, subst, inl, inr, ◌∙◌}
+use Rattle.std.proofs.Common.{arith, rules}
 use Rattle.std.specs.Prelude.{slice_get, All}
 use Rattle.std.specs.Global.{Global}
 use Rattle.std.specs.Option.{option_map}
@@ -30,8 +30,8 @@ use Rattle.ps_circuit.specs.Drafts.{name_bytes}
 use Rattle.ps_circuit.specs.Signs.{Seen, pieces_at, bytes_of, aig_causes, is_digit, is_inner, take_byte, byte}
 use Rattle.ps_circuit.specs.Signs.{rest_of_line, newline}
 use Rattle.ps_circuit.specs.Cursors.{next_byte, place_of, found_of, Passes, IsAhead, NumberIs}
-use Rattle.ps_circuit.specs.Texts.{Kind, OfInput, OfLatch, OfOutput, NamesData, names_of, put_names, add_name}
-use Rattle.ps_circuit.specs.Texts.{take_kind, IsBadSymbol, symbol_line, anything, comment}
+use Rattle.ps_circuit.specs.Texts.{Kind, NamesData, names_of, put_names, add_name, take_kind, IsBadSymbol, symbol_line}
+use Rattle.ps_circuit.specs.Texts.{anything, comment}
 use Rattle.ps_circuit.specs.Names.{is_kind}
 use Rattle.ps_circuit.proofs.Runs.{Odd, syntax_least, stops_here}
 use Rattle.ps_circuit.proofs.Exits.{Left, unread, past, stops_at, reads_last}
@@ -75,8 +75,7 @@ pub record AtLetter (all : NamesData) (kind : Kind) (names : List (Option (Vec �
 pub at_letter : (all : NamesData) (kind : Kind) (names : List (Option (Vec ℕ Global))) (t : Seen)
     {old s1 : Stream Seen} → names_of all kind ≡ map name_bytes names → next_of old ≡ Some t →
     take_kind t ≡ Some kind → IsAhead old → s1 ≡ tail old → AtLetter all kind names t old s1
-at_letter all kind names t same next is ahead moved =
-    record { same = same; next = next; is = is; ahead = ahead; moved = moved }
+at_letter all kind names t same next is ahead moved = search rules
 
 module _ {all : NamesData} {kind : Kind} {names : List (Option (Vec ℕ Global))} {t : Seen} {old s1 : Stream Seen}
     (a : AtLetter all kind names t old s1) where
@@ -112,8 +111,12 @@ module _ {all : NamesData} {kind : Kind} {names : List (Option (Vec ℕ Global))
         number = record { rest = d.rest; split = d.split; some = x.some; all = d.all; longest = d.longest };
         not_free = λ f.
             let there : slice_get (map name_bytes names) (decimal_value x.run) ≡ Some None = rw a.same at f in
-            let value : decimal_value x.run ≡ _ = omega (arith, x.value, length-map names name_bytes,
-            slice_get_within (map name_bytes names) (decimal_value x.run) None there) in
+            let value : decimal_value x.run ≡ _ = omega (
+              arith,
+              x.value,
+              length-map names name_bytes,
+              slice_get_within (map name_bytes names) (decimal_value x.run) None there,
+            ) in
             taken (rw value at there);
         cause = refl;
       }) (λ g b. syntax_least g) (ap found_of is))
@@ -154,25 +157,13 @@ module _ {all : NamesData} {kind : Kind} {names : List (Option (Vec ℕ Global))
 -- ## Which line comes
 
 letter_at : (t : Seen) → AtKind t → (is_kind (Some t.byte) ≡ true) × (kind : Kind) × (take_kind t ≡ Some kind)
-letter_at t (inl x) = (rw x refl, OfInput, rw x refl)
-letter_at t (inr (inl x)) = (rw x refl, OfLatch, rw x refl)
-letter_at t (inr (inr x)) = (rw x refl, OfOutput, rw x refl)
+letter_at t h1 = search rules
 
 kind_byte : (t : Seen) → is_kind (Some t.byte) ≡ true → AtKind t
-kind_byte t e = go (or_cases ((t.byte == 105) || (t.byte == 108)) (t.byte == 111) e)
-  where
-    go : (((t.byte == 105) || (t.byte == 108)) ≡ true) ⊎ ((t.byte == 111) ≡ true) → AtKind t
-    go (inr c) = inr (inr (eqb-true t.byte 111 c))
-    go (inl b) = elim (or_cases (t.byte == 105) (t.byte == 108) b) [
-      | inl c ↦ inl (eqb-true t.byte 105 c)
-      | inr c ↦ inr (inl (eqb-true t.byte 108 c))
-    ]
+kind_byte t e = search (rules, or_cases, AtKind, eqb-true)
 
 no_kind : (s : Stream Seen) → is_kind (next_byte s) ≡ false → Avoids AtKind (next_of s)
-no_kind s e t n h =
-    let k : is_kind (Some t.byte) ≡ false = ap (λ o. is_kind (option_map (λ (x : Seen). x.byte) o)) (sym n) ∙ e in
-    let l : is_kind (Some t.byte) ≡ true = (letter_at t h).0 in
-    cc
+no_kind s e t n h = search (rules, letter_at)
 
 enters_symbol : (names : NamesData) (s : Stream Seen) → is_kind (next_byte s) ≡ true →
     Enters (symbol_line names) (next_of s)
@@ -236,12 +227,7 @@ all_plain (x ∷ xs) h (suc k) d lt = all_plain xs h.1 k d (omega arith)
 pub plain_name : {old new : Stream Seen} {name : List ℕ} → Reads rest_of_line old name new →
     (0 < length name) × All (λ b. b ≢ 10) name
 unfolding rest_of_line
-plain_name m =
-    let t = m.1.is_text in
-    let size = length-map m.1.text (λ s. s.byte) in (
-      omega (arith, t.some, ap length t.value, size),
-      subst (λ xs. All (λ b. b ≢ 10) xs) (sym t.value) (all_plain (bytes_of m.1.text) t.all),
-    )
+plain_name m = search (rules, length-map, all_plain)
 
 -- ## The comment
 

@@ -1,7 +1,7 @@
 -- The laws of the parts of an AIGER text: with which bytes each begins, and with which it goes on. Its signs: SignLaws.
 --     fields      the chain of a number behind a gap, and what stands behind it
 --     chain_..      a part of a production and what stands behind it
-use Rattle.std.proofs.Common.{◌≡◌, ℕ, zero, suc, Bool, true, false, cond, eqb, List, None, Some, refl, inl, inr}
+use Rattle.std.proofs.Common.{◌≡◌, ℕ, zero, suc, Bool, false, eqb, List, Some, refl, inl, inr, rules}
 use Rattle.std.specs.Prelude.{codes}
 use Rattle.std.proofs.lemmas.Bool.{eqb-true}
 use Rattle.ps_text.specs.Parts.{NoBad, one, then_by, times, many, mapped}
@@ -16,9 +16,8 @@ use Rattle.ps_circuit.specs.Signs.{Seen, Field, byte, word, number, gap, rest_of
 use Rattle.ps_circuit.specs.Texts.{HeaderData, AnyNumber, WrongMost, WrongCount, WrongLiteral, WrongDefinition}
 use Rattle.ps_circuit.specs.Texts.{WrongReset, sections, field, header, Lines, no_lines, next_lines, add_input}
 use Rattle.ps_circuit.specs.Texts.{add_latch, add_output, add_gate, input_line, reset, latch_line, output_line}
-use Rattle.ps_circuit.specs.Texts.{gate_line, Kind, OfInput, OfLatch, OfOutput, NamesData, no_names, add_name}
-use Rattle.ps_circuit.specs.Texts.{take_kind, IsBadSymbol, symbol_line, anything, comment, DraftData, draft_of, symbols}
-use Rattle.ps_circuit.specs.Texts.{body, circuit_text}
+use Rattle.ps_circuit.specs.Texts.{gate_line, Kind, OfInput, NamesData, no_names, add_name, take_kind, IsBadSymbol}
+use Rattle.ps_circuit.specs.Texts.{symbol_line, anything, comment, DraftData, draft_of, symbols, body, circuit_text}
 use Rattle.ps_text.specs.Parts.{give}
 use Rattle.ps_circuit.proofs.Judges.{judge_any, judge_most, judge_count, judge_literal, judge_definition, judge_reset}
 use Rattle.ps_circuit.proofs.Judges.{judge_symbol}
@@ -190,14 +189,7 @@ module _ {C : Type 0} (item : C → Field C) (l : (c : C) → Lawful (item c) At
 -- ## Names
 
 kind_at : (s : Seen) {k : Kind} → take_kind s ≡ Some k → AtKind s
-kind_at s {k} e = go (eqb s.byte 105) (eqb s.byte 108) (eqb s.byte 111) refl refl refl e
-  where
-    go : (x y z : Bool) → eqb s.byte 105 ≡ x → eqb s.byte 108 ≡ y → eqb s.byte 111 ≡ z →
-        cond x (Some OfInput) (cond y (Some OfLatch) (cond z (Some OfOutput) None)) ≡ Some k → AtKind s
-    go true y z e f g h = inl (eqb-true s.byte 105 e)
-    go false true z e f g h = inr (inl (eqb-true s.byte 108 f))
-    go false false true e f g h = inr (inr (eqb-true s.byte 111 g))
-    go false false false e f g h = absurd cc
+kind_at s {k} e = search (rules, AtKind, eqb-true)
 
 abbrev pub letter : NamesData → Field Kind
 letter names = one take_kind (IsBadSymbol names)

@@ -19,9 +19,10 @@ invariant_of-graph c = record { within = links_within _ _ c.in_ok-links.ensures 
 pub invariant_of-result : goal.invariant_of-result
 invariant_of-result c =
     let links = rw c.deref.ensures.value at c.in_ok-links.ensures in
-    let arranged = rw c.in-Order.is at c.in_ok-arrangement.ensures in
-    (record { draft = c.requires; acyclic = acyclic-of_links _ _ links arranged.1 },
-    order-of_links _ _ links arranged.0)
+    let arranged = rw c.in-Order.is at c.in_ok-arrangement.ensures in (
+      record { draft = c.requires; acyclic = acyclic-of_links _ _ links arranged.1 },
+      order-of_links _ _ links arranged.0,
+    )
 
 pub returns-in-Order-clause-well_formed : goal.returns-in-Order-clause-well_formed
 returns-in-Order-clause-well_formed c =
