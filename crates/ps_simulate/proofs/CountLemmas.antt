@@ -1,6 +1,6 @@
 -- Lists of bits that differ are no more than the numbers of as many bits.
 use Rattle.std.proofs.Common.{◌≡◌, ◌≢◌, ℕ, suc, ◌+◌, ◌*◌, ◌^◌, ◌<◌, ◌≤◌, Bool, true, false, List, [], ◌∷◌, length}
-use Rattle.std.proofs.Common.{get_or, map, refl, ap, sym, ◌∙◌, subst, arith}
+use Rattle.std.proofs.Common.{get_or, map, refl, sym, ◌∙◌, subst, arith}
 use Rattle.std.specs.Prelude.{◌||◌}
 use Rattle.std.proofs.Math.Nat.{pow-suc}
 use Rattle.std.proofs.Math.Dec.{eqb}
@@ -64,6 +64,6 @@ few_seen n seen wide differ =
     (code_same (get_or seen i []) (get_or seen j []) (wide i (omega arith) ∙ sym (wide j (omega arith)))
     (sym (at i (omega arith) d) ∙ e ∙ at j (omega arith) d))) in
     let le : length codes ≤ 2 ^ n = length-le_from_distinct_below codes (2 ^ n) (IsDistinct-from_apart eqb codes apart)
-    (below (2 ^ n) codes (λ k lt. subst (λ m. m < 2 ^ n) (sym (at k (omega arith) 0))
-    (subst (λ m. code (get_or seen k []) < 2 ^ m) (wide k (omega arith)) (code_lt (get_or seen k []))))) in
+    (below (2 ^ n) codes (λ k lt. rw (at k (omega arith) 0) (subst (λ m. code (get_or seen k []) < 2 ^ m)
+    (wide k (omega arith)) (code_lt (get_or seen k []))))) in
     omega arith

@@ -12,7 +12,6 @@ use Rattle.ps_components.proofs.Ways.{Way-join}
 use Rattle.ps_circuit.specs.declared.parts.Gate.{Gate}
 use Rattle.ps_circuit.specs.Circuits.{CircuitData, IsCircuit, ReadsGate}
 use Rattle.ps_circuit.specs.Literals.{variable}
-use Rattle.ps_simulate.specs.Plans.{no_gate}
 use Rattle.ps_simulate.proofs.CountLemmas.{at_push, few_below}
 use Rattle.std.proofs.lemmas.Bool.{cases_order}
 use Rattle.ps_text.proofs.Decisions.{Decided, decide_as, decide_below, decide_in, decide_one}
@@ -44,8 +43,8 @@ module _ (R : ℕ → ℕ → Type 0) (n : ℕ) (to_within : (i j : ℕ) → R i
       IsPart (xs ++ i ∷ [])
   push {xs} i is lt absent sides = record {
     below = λ k k_lt. elim (at_push xs i 0 k k_lt) [
-      | inl old ↦ subst (λ m. m < n) (sym old.1) (is.below k old.0)
-      | inr new ↦ subst (λ m. m < n) (sym new.1) lt
+      | inl old ↦ rw old.1 (is.below k old.0)
+      | inr new ↦ rw new.1 lt
     ];
     once = λ k l less l_lt e. elim (at_push xs i 0 k (omega (arith, less, l_lt))) [
       | inl old ↦ elim (at_push xs i 0 l l_lt) [
@@ -55,9 +54,9 @@ module _ (R : ℕ → ℕ → Type 0) (n : ℕ) (to_within : (i j : ℕ) → R i
       | inr new ↦ absurd (omega (arith, less, l_lt, new.0, length-append xs (i ∷ [])))
     ];
     behind = λ k j k_lt r. elim (at_push xs i 0 k k_lt) [
-      | inl old ↦ (let b = is.behind k j old.0 (subst (λ m. R m j) old.1 r) in
+      | inl old ↦ (let b = is.behind k j old.0 (rw old.1 at r) in
           (b.0, b.1, get_or_append_left xs (i ∷ []) 0 b.0 (omega (arith, b.1, old.0)) ∙ b.2))
-      | inr new ↦ (let s = sides j (subst (λ m. R m j) new.1 r) in
+      | inr new ↦ (let s = sides j (rw new.1 at r) in
           (s.0, omega (arith, s.1, new.0), get_or_append_left xs (i ∷ []) 0 s.0 s.1 ∙ s.2))
     ];
   }
@@ -78,7 +77,7 @@ module _ (R : ℕ → ℕ → Type 0) (n : ℕ) (to_within : (i j : ℕ) → R i
           has = λ j p. before.has j (
             elim (cases_lt j m) [
               | inl less ↦ less
-              | inr ge ↦ absurd (isnt (let e : j ≡ m = omega (arith, p.0) in subst P e p.1))
+              | inr ge ↦ absurd (isnt (let e : j ≡ m = omega (arith, p.0) in rw e at p.1))
             ],
             p.1,
           );
@@ -131,7 +130,7 @@ module _ (R : ℕ → ℕ → Type 0) (n : ℕ) (to_within : (i j : ℕ) → R i
           new = sides.new;
           is_part = sides.is_part;
           keeps = sides.keeps;
-          has = λ k e. subst (Stands sides.new) e there;
+          has = λ k e. rw (← e) there;
         }
         | inr absent ↦ record {
           new = sides.new ++ i ∷ [];
@@ -175,14 +174,14 @@ module _ (R : ℕ → ℕ → Type 0) (n : ℕ) (to_within : (i j : ℕ) → R i
       ] in (
         xs,
         record {
-          within = λ k i e. subst (λ m. m < n) (read k i e) (is.below k (slice_get_within xs k i e));
+          within = λ k i e. rw (read k i e) at (is.below k (slice_get_within xs k i e));
           once = once;
           each = λ i lt. (let s = all_placed.has i (lt, lt) in (
             s.0,
             slice_get-get_or xs s.0 0 s.1 ∙ ap (λ (x : ℕ). Some x) s.2,
           ));
           behind = λ k l i j e f r.
-              (let b = is.behind k j (slice_get_within xs k i e) (subst (λ m. R m j) (sym (read k i e)) r) in
+              (let b = is.behind k j (slice_get_within xs k i e) (rw (read k i e) r) in
               let there : slice_get xs b.0 ≡ Some j =
               slice_get-get_or xs b.0 0 (omega (arith, b.1, slice_get_within xs k i e))
               ∙ ap (λ (x : ℕ). Some x) b.2 in

@@ -44,11 +44,7 @@ bit_in-and a b lane lt la lb =
 pub bit_in-mask : (b : Bool) (lane : ℕ) → lane < 256 → bit_in (replicate 4 (all_or_none b)) lane ≡ b
 bit_in-mask b lane lt =
     ap (λ n. bit_at n (lane % 64) == 1) (get_or-replicate 4 (lane / 64) (all_or_none b) 0 (omega arith))
-    ∙ ap (λ n. n == 1) (mask_bit b (lane % 64) (omega arith)) ∙ one b
-  where
-    one : (b : Bool) → (cond b 1 0 == 1) ≡ b
-    one true = refl
-    one false = refl
+    ∙ ap (λ n. n == 1) (mask_bit b (lane % 64) (omega arith)) ∙ grind arith
 
 -- words, all of them changed by a mask
 bit_in-flipped : (a : List ℕ) (b : Bool) (lane : ℕ) → lane < 256 → length a ≡ 4

@@ -1,6 +1,6 @@
 -- The plan of the lanes: where a circuit's rows are moved.
 use Rattle.std.proofs.Common.{◌≡◌, ℕ, zero, suc, ◌+◌, ◌-◌, ◌/◌, ◌^◌, ◌⊎◌, ◌<◌, ◌≤◌, Bool, inl, inr, List, [], ◌∷◌, ◌++◌}
-use Rattle.std.proofs.Common.{map, take, drop, length, get_or, refl, sym, ap, ap₂, subst, ◌∙◌, arith, All, Some}
+use Rattle.std.proofs.Common.{map, take, drop, length, get_or, refl, sym, ap, ap₂, ◌∙◌, arith, All, Some}
 use Rattle.std.proofs.Common.{get_or-set_same, get_or-set_other}
 use Rattle.std.specs.Prelude.{slice_set}
 use Rattle.std.specs.Int.Bits.{bit_and}
@@ -73,13 +73,11 @@ module _ {c : CircuitData} (is : IsCircuit c) where
 
     -- each place is one in front, or that of a row
     whose : (p : ℕ) → p < length (variables c) → (p < front) ⊎ ((k : ℕ) × (k < length rows) × (p ≡ (row rows k).target))
-    whose p lt = go (cases_lt p front)
-      where
-        go : (p < front) ⊎ (front ≤ p) → (p < front) ⊎ ((k : ℕ) × (k < length rows) × (p ≡ (row rows k).target))
-        go (inl less) = inl less
-        go (inr behind) = (let i = p - front in
-            let there = row_of_gate is are i (omega (arith, length-variables c)) in
-            inr (there.0, there.1, omega (arith, target_is is are there.0 there.1, there.2)))
+    whose p lt = elim (cases_lt p front) [
+      | inl less ↦ inl less
+      | inr behind ↦ (let there = row_of_gate is are (p - front) (omega (arith, length-variables c)) in
+          inr (there.0, there.1, omega (arith, target_is is are there.0 there.1, there.2)))
+    ]
 
     module _ (places : List ℕ) (each : length places ≡ length (variables c)) (kept : AreKept front places)
         (in_order : AreInOrder front places rows) where
@@ -87,25 +85,24 @@ module _ {c : CircuitData} (is : IsCircuit c) where
       goes k lt e = ap (moved places) e ∙ in_order k no_row lt
 
       within_table : (p : ℕ) → p < length (variables c) → moved places p < length (variables c)
-      within_table p lt = go (whose p lt)
-        where
-          go : (p < front) ⊎ ((k : ℕ) × (k < length rows) × (p ≡ (row rows k).target)) →
-              moved places p < length (variables c)
-          go (inl less) = omega (arith, kept p less)
-          go (inr (k, less, e)) = omega (arith, goes k less e, few_rows, length-variables c)
+      within_table p lt = elim (whose p lt) [
+        | inl less ↦ omega (arith, kept p less)
+        | inr w ↦ omega (arith, goes w.0 w.1 w.2, few_rows, length-variables c)
+      ]
 
       one_each : (p q : ℕ) → p < length (variables c) → q < length (variables c) →
           moved places p ≡ moved places q → p ≡ q
-      one_each p q hp hq same = go (whose p hp) (whose q hq)
-        where
-          go : (p < front) ⊎ ((k : ℕ) × (k < length rows) × (p ≡ (row rows k).target)) →
-              (q < front) ⊎ ((k : ℕ) × (k < length rows) × (q ≡ (row rows k).target)) → p ≡ q
-          go (inl lp) (inl lq) = sym (kept p lp) ∙ same ∙ kept q lq
-          go (inl lp) (inr (l, less, e)) = absurd (omega (arith, kept p lp, goes l less e, same))
-          go (inr (k, less, e)) (inl lq) = absurd (omega (arith, kept q lq, goes k less e, same))
-          go (inr (k, hk, ek)) (inr (l, hl, el)) =
-              (let h : k ≡ l = omega (arith, goes k hk ek, goes l hl el, same) in ek
-              ∙ ap (λ n. (row rows n).target) h ∙ sym el)
+      one_each p q hp hq same = elim (whose p hp) [
+        | inl lp ↦ elim (whose q hq) [
+          | inl lq ↦ omega (arith, kept p lp, kept q lq, same)
+          | inr w ↦ absurd (omega (arith, kept p lp, goes w.0 w.1 w.2, same))
+        ]
+        | inr v ↦ elim (whose q hq) [
+          | inl lq ↦ absurd (omega (arith, kept q lq, goes v.0 v.1 v.2, same))
+          | inr w ↦ (let h : v.0 ≡ w.0 = omega (arith, goes v.0 v.1 v.2, goes w.0 w.1 w.2, same) in
+              cc (v.2, w.2, ap (λ n. (row rows n).target) h))
+        ]
+      ]
 
       pub AreMoved-rows : AreMoved (length (variables c)) front places
       AreMoved-rows = record { each = each; within = within_table; once = one_each; kept = kept }
@@ -223,11 +220,9 @@ gate_on front gates values initial a b k lane less lt la lb first second before 
     let rows = rows_from front gates in
     let at : get_or rows k no_row ≡ row_of_operands (front + k) (get_or gates k no_operands) =
     rows_from_at front gates k lt in
-    subst (λ t. work_out (drop (k + 1) rows) (lane_of (slice_set values t (zip2 bit_and a b)) lane) ≡ work_out rows
-    (lane_of initial lane)) (ap (λ (r : Row). r.target) at)
-    (worked_on rows values initial a b k lane less (omega (arith, length-rows_from front gates)) la lb
-    (first ∙ ap (λ (r : Row). read (lane_of values lane) r.first) (sym at))
-    (second ∙ ap (λ (r : Row). read (lane_of values lane) r.second) (sym at)) before)
+    rw (ap (λ (r : Row). r.target) at) at (worked_on rows values initial a b k lane less
+    (omega (arith, length-rows_from front gates)) la lb (first ∙ ap (λ (r : Row). read (lane_of values lane) r.first)
+    (sym at)) (second ∙ ap (λ (r : Row). read (lane_of values lane) r.second) (sym at)) before)
 
 -- the literals of a gate within the table
 pub gate_fits : (front size : ℕ) (gates : List Operands) (k : ℕ) → k < length gates →

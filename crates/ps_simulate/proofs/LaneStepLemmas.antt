@@ -1,5 +1,5 @@
 -- What a step in all lanes reads from its table, in one lane.
-use Rattle.std.proofs.Common.{◌≡◌, ℕ, ◌+◌, ◌/◌, ◌<◌, ◌≤◌, Bool, false, List, [], map, length, get_or, sym, ap, subst}
+use Rattle.std.proofs.Common.{◌≡◌, ℕ, ◌+◌, ◌/◌, ◌<◌, ◌≤◌, Bool, false, List, [], map, length, get_or, sym, ap}
 use Rattle.std.proofs.Common.{◌∙◌, arith, All}
 use Rattle.std.specs.Prelude.{replicate}
 use Rattle.std.proofs.lemmas.List.{length-map, get_or-map}
@@ -8,7 +8,6 @@ use Rattle.std.proofs.lemmas.Simd.{map-map, get_or-replicate, length-replicate}
 use Rattle.ps_circuit.specs.Circuits.{CircuitData, IsCircuit}
 use Rattle.ps_circuit.specs.Values.{Steps, resets}
 use Rattle.ps_simulate.specs.declared.plan.Wire.{Wire}
-use Rattle.ps_simulate.specs.declared.plan.Row.{Row}
 use Rattle.ps_simulate.specs.declared.plan.Plan.{Plan}
 use Rattle.ps_simulate.specs.declared.lane_plan.LanePlan.{LanePlan}
 use Rattle.ps_simulate.specs.Plans.{IsWithin, IsWorkedOut, variables, read}
@@ -111,8 +110,7 @@ module _ {c : CircuitData} {p : LanePlan} {values latches : List (List ℕ)} (t 
 
     in_plan : IsWorkedOut t.plan.rows.items (lane_of inputs lane) (lane_of latches lane) (length (variables c)) table
     in_plan =
-        subst (λ (n : ℕ). IsWorkedOut t.plan.rows.items (lane_of inputs lane) (lane_of latches lane) n table) size_is
-        (IsWorkedOut-unmoved t.is_lane_plan.are_moved t.plan.rows.items t.is_lane_plan.gates_are plan_rows
+        rw size_is at (IsWorkedOut-unmoved t.is_lane_plan.are_moved t.plan.rows.items t.is_lane_plan.gates_are plan_rows
         (omega (arith, t.is_lane_plan.front_is, length-lane inputs lane, length-lane latches lane, latches_many, many))
         (omega (arith, t.is_lane_plan.front_is, room)) worked)
 

@@ -1,12 +1,11 @@
 -- Runs of a circuit through letters, and their first repetition.
-use Rattle.std.proofs.Common.{◌≡◌, ◌≢◌, ℕ, zero, suc, ◌+◌, ◌-◌, ◌*◌, ◌^◌, ◌<◌, ◌≤◌, inl, inr, Bool, true, false, List}
+use Rattle.std.proofs.Common.{◌≡◌, ◌≢◌, ℕ, zero, suc, ◌+◌, ◌-◌, ◌*◌, ◌^◌, ◌<◌, ◌≤◌, inl, inr, Bool, false, List}
 use Rattle.std.proofs.Common.{[], ◌∷◌, ◌++◌, Option, None, Some, Vec, All, length, take, drop, get_or, map, refl, ap}
 use Rattle.std.proofs.Common.{sym, ◌∙◌, subst, arith, append_assoc, add-one}
 use Rattle.ps_hoa.specs.Files.{FileData}
 use Rattle.ps_automaton.specs.Acceptance.{IsAccepted}
 use Rattle.std.specs.Prelude.{◌==◌, ◌↔◌, IsTrue, ◌||◌}
 use Rattle.std.specs.Global.{Global}
-use Rattle.std.proofs.lemmas.Bool.{cases_lt}
 use Rattle.std.proofs.lemmas.List.{map-append, length-map, get_or-map, append-nil, take_more, map_push}
 use Rattle.std.proofs.Common.{length-append}
 use Rattle.std.proofs.Math.ListN.{get_or-append}
@@ -27,18 +26,18 @@ use Rattle.std.proofs.Math.Bool.{or-false}
 
 pub GoesOn-append : (c : CircuitData) (from between to : List Bool) (xs ys : List Moment) → GoesOn c from xs between →
     GoesOn c between ys to → GoesOn c from (xs ++ ys) to
-GoesOn-append c from between to [] ys on rest = subst (λ (latches : List Bool). GoesOn c latches ys to) (sym on) rest
+GoesOn-append c from between to [] ys on rest = rw on rest
 GoesOn-append c from between to (m ∷ ms) ys (next, at, step, on) rest =
     (next, at, step, GoesOn-append c next between to ms ys on rest)
 
 pub AreLetters-append : (names : List (List ℕ)) (c : CircuitData) (xs ys : List Moment) (us vs : List ℕ) →
     AreLetters names c xs us → AreLetters names c ys vs → AreLetters names c (xs ++ ys) (us ++ vs)
-AreLetters-append names c [] ys us vs a b = subst (λ (ls : List ℕ). AreLetters names c ys (ls ++ vs)) (sym a) b
+AreLetters-append names c [] ys us vs a b = rw a b
 AreLetters-append names c (m ∷ ms) ys [] vs a b = absurd a
 AreLetters-append names c (m ∷ ms) ys (u ∷ us) vs a b = (a.0, AreLetters-append names c ms ys us vs a.1 b)
 
-pub length_letters : (names : List (List ℕ)) (c : CircuitData) (ms : List Moment) (ls : List ℕ) → AreLetters names c ms ls →
-    length ls ≡ length ms
+pub length_letters : (names : List (List ℕ)) (c : CircuitData) (ms : List Moment) (ls : List ℕ) →
+    AreLetters names c ms ls → length ls ≡ length ms
 length_letters names c [] ls a = ap length a
 length_letters names c (m ∷ ms) [] a = absurd a
 length_letters names c (m ∷ ms) (u ∷ us) a = ap suc (length_letters names c ms us a.1)
@@ -63,7 +62,7 @@ pub letter_is : {c : CircuitData} {naming : Naming} (m : Moment) (letter : ℕ) 
     (bit_at_place m.inputs (get_or naming.inputs.items p None) || bit_at_place m.outputs
     (get_or naming.outputs.items p None))) → IsLetterOf (names_of naming) c m letter
 letter_is {naming} m letter h few bits = record {
-  few = subst (λ n. letter < 2 ^ n) (sym (length-map naming.names.now _)) few;
+  few = rw (length-map naming.names.now _) few;
   inputs = λ k p s. bits p
       ∙ ap (λ (o : Option ℕ). bit_at_place m.inputs o || bit_at_place m.outputs (get_or naming.outputs.items p None))
       (h.inputs_placed p k s)
@@ -97,7 +96,7 @@ ReadsWord-more : {names : List (List ℕ)} {c : CircuitData} {from between last 
 ReadsWord-more {names} {c} {from} {between} {last} {old} {m} {letter} h at step is = record {
   trace = h.trace ++ m ∷ [];
   goes_on = GoesOn-append c from between last h.trace (m ∷ []) h.goes_on
-      (last, at, subst (λ (latches : List Bool). Steps c latches m.inputs m.outputs last) at step, refl);
+      (last, at, rw at at step, refl);
   reads = map_push (λ (n : Moment). n.inputs) h.trace m ∙ ap (λ (w : List (List Bool)). w ++ m.inputs ∷ []) h.reads;
   letters = h.letters ++ letter ∷ [];
   are_letters = AreLetters-append names c h.trace (m ∷ []) h.letters (letter ∷ []) h.are_letters (is, refl);
@@ -110,10 +109,7 @@ pub ReadsWord-letter : {names : List (List ℕ)} {c : CircuitData} {from between
     ReadsWord names c from (letters_of (take i items)) old new between → Steps c m.latches m.inputs m.outputs last →
     IsLetterOf names c m letter → ReadsWord names c from (letters_of (take (i + 1) items)) old (new ++ letter ∷ []) last
 ReadsWord-letter {names} {c} {from} {between} {last} items i {item} {old} {new} {m} {letter} lt is same at
-    h step letters =
-    subst (λ (w : List (List Bool)). ReadsWord names c from w old (new ++ letter ∷ []) last)
-    (letters_more items i lt is same)
-    (ReadsWord-more h at step letters)
+    h step letters = rw (letters_more items i lt is same) at (ReadsWord-more h at step letters)
 
 -- ## Laps
 
@@ -154,13 +150,13 @@ length_trace stem lap trace k e = sym (length-map trace (λ (m : Moment). m.inpu
 -- ## The latches seen
 
 pub HasRead-start : {names : List (List ℕ)} {c : CircuitData} {stem : List (List Bool)} (lap : List (List Bool))
-    {old letters : List ℕ} {from last : List Bool} → old ≡ [] → from ≡ resets c → ReadsWord names c from stem old letters last → HasRead names c stem lap [] letters last
+    {old letters : List ℕ} {from last : List Bool} → old ≡ [] → from ≡ resets c →
+    ReadsWord names c from stem old letters last → HasRead names c stem lap [] letters last
 HasRead-start {names} {c} {stem} lap {last} none same h = record {
   trace = h.trace;
-  goes_on = subst (λ (latches : List Bool). GoesOn c latches h.trace last) same h.goes_on;
+  goes_on = rw same at h.goes_on;
   reads = h.reads ∙ sym (append-nil stem);
-  are_letters = subst (λ (ls : List ℕ). AreLetters names c h.trace ls) (sym
-      (h.new_is ∙ ap (λ (ls : List ℕ). ls ++ h.letters) none)) h.are_letters;
+  are_letters = rw (h.new_is ∙ ap (λ (ls : List ℕ). ls ++ h.letters) none) h.are_letters;
   seen_is = λ k lt. absurd (omega arith);
   wide = λ k lt. absurd (omega arith);
   differ = λ k l a b. absurd (omega arith);
@@ -168,8 +164,9 @@ HasRead-start {names} {c} {stem} lap {last} none same h = record {
 
 -- one more lap
 pub HasRead-lap : {names : List (List ℕ)} {c : CircuitData} {stem lap seen : List (List Bool)} {old new : List ℕ}
-    {from last : List Bool} → HasRead names c stem lap seen old from → ReadsWord names c from lap old new last → length from ≡ length c.latches
-    → ((k : ℕ) → k < length seen → get_or seen k [] ≢ from) → HasRead names c stem lap (seen ++ from ∷ []) new last
+    {from last : List Bool} → HasRead names c stem lap seen old from →
+    ReadsWord names c from lap old new last → length from ≡ length c.latches →
+    ((k : ℕ) → k < length seen → get_or seen k [] ≢ from) → HasRead names c stem lap (seen ++ from ∷ []) new last
 HasRead-lap {names} {c} {stem} {lap} {seen} {old} {from} {last} h r wide fresh =
     let n = length seen in
     let more : length (seen ++ from ∷ []) ≡ n + 1 = length-append seen (from ∷ []) in
@@ -181,8 +178,7 @@ HasRead-lap {names} {c} {stem} {lap} {seen} {old} {from} {last} h r wide fresh =
           ∙ ap (λ (w : List (List Bool)). w ++ map (λ (m : Moment). m.inputs) r.trace) h.reads
           ∙ ap (λ (w : List (List Bool)). (stem ++ laps_of lap n) ++ w) r.reads ∙ append_assoc stem (laps_of lap n) lap
           ∙ ap (λ k. stem ++ laps_of lap k) (sym (more ∙ add-one n));
-      are_letters = subst (λ (ls : List ℕ). AreLetters names c (h.trace ++ r.trace) ls) (sym r.new_is)
-          (AreLetters-append names c h.trace r.trace old r.letters h.are_letters r.are_letters);
+      are_letters = rw r.new_is (AreLetters-append names c h.trace r.trace old r.letters h.are_letters r.are_letters);
       seen_is = λ k lt. elim (at_push seen from [] k lt) [
         | inl old_one ↦ old_one.1 ∙ h.seen_is k old_one.0
             ∙ sym (along_more c h.trace r.trace from last (length stem + k * length lap) r.goes_on
@@ -214,7 +210,8 @@ HasRead-next seen' same at h s r wide =
 
 -- the lists of bits that are left grow fewer
 pub fewer : {names : List (List ℕ)} {c : CircuitData} {stem lap seen' : List (List Bool)} {new : List ℕ}
-    {last : List Bool} (seen : List (List Bool)) (latches : List Bool) → HasRead names c stem lap seen' new last → IsSeen seen seen' latches None →
+    {last : List Bool} (seen : List (List Bool)) (latches : List Bool) → HasRead names c stem lap seen' new last →
+    IsSeen seen seen' latches None →
     2 ^ length c.latches - length seen' < 2 ^ length c.latches - length seen
 fewer {c} {seen'} seen latches h s =
     let le = few_seen (length c.latches) seen' h.wide h.differ in
@@ -277,10 +274,8 @@ pub lap_within_items : {names : List (List ℕ)} {c : CircuitData} (stem lap : L
     {letters : List ℕ} (h : RepeatsBy names c (letters_of stem) (letters_of lap) i letters)
     → length stem + i * length lap + length lap ≤ length letters
 lap_within_items stem lap {i} {letters} h =
-    subst (λ n. n + i * length lap + length lap ≤ length letters) (length-map stem (λ (l : Vec Bool Global). l.items))
-    (subst (λ n. length (letters_of stem) + i * n + n ≤ length letters)
-    (length-map lap (λ (l : Vec Bool Global). l.items))
-    (lap_within h))
+    rw ((length-map lap (λ (l : Vec Bool Global). l.items)), (length-map stem (λ (l : Vec Bool Global). l.items))) at
+    (lap_within h)
 
 pub verdict : (file : FileData) {names all : List (List ℕ)} {c : CircuitData} (stem lap : List (Vec Bool Global))
     {letters before behind : List ℕ} {i : ℕ} (accepted : Bool) → names ≡ all → all ≡ file.names →
@@ -300,12 +295,10 @@ verdict file {names} {c} stem lap {letters} {before} {behind} {i} accepted same 
       trace = h.trace;
       letters = letters;
       repeats = h.repeats;
-      are_letters = subst (λ (ns : List (List ℕ)). AreLetters ns c h.trace letters) (same ∙ of_file) h.are_letters;
+      are_letters = rw (same ∙ of_file) at h.are_letters;
       stem_is = start;
       lap_is = lap_length (length behind) h (ap (λ n. length behind + n) (sym start) ∙ size);
-      accepted =
-          subst (λ (ls : List ℕ). IsTrue accepted ↔ IsAccepted file ls (drop (length stem + i * length lap) letters))
-          front (subst (λ (ls : List ℕ). IsTrue accepted ↔ IsAccepted file before ls) back asked);
+      accepted = rw (back, front) at asked;
     }
 
 pub not_empty : (n : ℕ) → (n == 0) ≡ false → 0 < n

@@ -53,15 +53,6 @@ slice_get-letters_in width (suc count) bits (suc i) lt =
     slice_get-letters_in width count (drop width bits) i (omega arith)
     ∙ ap (λ (l : List Bool). Some (take width l)) (drop-drop (i * width) width bits ∙ ap (λ (n : ℕ). drop n bits) next)
 
--- a text has no fewer bytes than lines
-pub few : (letters : List (List Bool)) → length letters ≤ extent (map digits_of letters)
-few [] = omega arith
-few (letter ∷ letters) = omega (
-  arith,
-  few letters,
-  sum_by-cons (λ (bytes : List ℕ). length bytes + 1) (digits_of letter) (map digits_of letters),
-)
-
 -- a letter's bits stand within those of all
 pub letter_within : (place count width : ℕ) {size : ℕ} → place < count → size ≡ count * width →
     place * width + width ≤ size

@@ -1,6 +1,6 @@
 -- The places of symbols at the propositions that they name.
 use Rattle.std.proofs.Common.{◌≡◌, ◌≢◌, ℕ, zero, suc, ◌+◌, ◌<◌, ◌⊎◌, inl, inr, Bool, true, false, not, cond, List, []}
-use Rattle.std.proofs.Common.{◌∷◌, length, get_or, set, Option, None, Some, Vec, Bor, map, refl, ap, sym, ◌∙◌, subst}
+use Rattle.std.proofs.Common.{◌∷◌, length, get_or, set, Option, None, Some, Vec, Bor, map, refl, ap, sym, ◌∙◌}
 use Rattle.std.proofs.Common.{arith}
 use Rattle.std.proofs.Math.Bool.{beq}
 use Rattle.std.specs.Global.{Global}
@@ -59,14 +59,11 @@ module _ (names : List (List ℕ)) (controllable : List ℕ) (wanted : Bool) (sy
 
   set_cases : (places : List (Option ℕ)) (p k q : ℕ) {j : ℕ} → p < length places →
       get_or (set places p (Some k)) q None ≡ Some j → ((q ≡ p) × (j ≡ k)) ⊎ (get_or places q None ≡ Some j)
-  set_cases places p k q {j} lt e = elim (cases_eq q p) [
-    | inl same ↦ inl (
-      same,
-      some_same j k (sym e ∙ ap (λ n. get_or (set places p (Some k)) n None) same
-          ∙ get_or-set_same places p (Some k) None lt),
-    )
-    | inr other ↦ inr (sym (get_or-set_other places p q (Some k) None other) ∙ e)
-  ]
+  set_cases places p k q lt e = grind (
+    arith,
+    get_or-set_same places p (Some k) None lt,
+    get_or-set_other places p q (Some k) None,
+  )
 
   pub put_step : {k : ℕ} (p : ℕ) {name : List ℕ} {places : List (Option ℕ)} →
       ArePut names controllable wanted symbols k places → get_or symbols k None ≡ Some name
@@ -81,7 +78,7 @@ module _ (names : List (List ℕ)) (controllable : List ℕ) (wanted : Bool) (sy
         put = λ j lj. elim (cases_eq j k) [
           | inl same ↦ (
             p,
-            subst (λ n. IsSymbol names symbols n p) (sym same) sym_k,
+            rw same sym_k,
             get_or-set_same places p (Some k) None lt ∙ ap (λ n. Some n) (sym same),
           )
           | inr other ↦ let old = h.put j (omega arith) in (
@@ -91,17 +88,13 @@ module _ (names : List (List ℕ)) (controllable : List ℕ) (wanted : Bool) (sy
                 (λ e. none_some (sym free ∙ sym (ap (λ n. get_or places n None) e) ∙ old.2)) ∙ old.2,
           )
         ];
-        before = λ q j e. elim (set_cases places p k q lt e) [
-          | inl same ↦ omega (arith, same.1)
-          | inr old ↦ let l = h.before q j old in omega (arith, l)
-        ];
+        before = λ q j e. grind (arith, set_cases places p k q lt e, h.before q j);
         is = λ q j e. elim (set_cases places p k q lt e) [
-          | inl same ↦ subst (λ n. IsSymbol names symbols n q) (sym same.1)
-              (subst (λ n. IsSymbol names symbols k n) (sym same.0) sym_k)
+          | inl same ↦ rw (same.1, same.0) sym_k
           | inr old ↦ h.is q j old
         ];
         side = λ q j e. elim (set_cases places p k q lt e) [
-          | inl same ↦ ap (λ n. is_among n controllable) same.0 ∙ sides
+          | inl same ↦ rw (same.0) sides
           | inr old ↦ h.side q j old
         ];
       }

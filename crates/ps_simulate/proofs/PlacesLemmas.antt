@@ -8,7 +8,7 @@ use Rattle.std.proofs.lemmas.List.Elements.{All-contains, Contains-get_or, Conta
 use Rattle.std.proofs.lemmas.Bool.{eq-eqb, ne_eqb}
 use Rattle.ps_circuit.specs.declared.parts.Latch.{Latch}
 use Rattle.ps_circuit.specs.declared.parts.Gate.{Gate}
-use Rattle.ps_circuit.specs.Circuits.{CircuitData, IsCircuit, IsDefinition, IsKnown, definitions, readings}
+use Rattle.ps_circuit.specs.Circuits.{CircuitData, IsCircuit, IsKnown, definitions, readings}
 use Rattle.ps_circuit.specs.Literals.{variable}
 use Rattle.ps_simulate.specs.Plans.{variables, place_of}
 

@@ -1,6 +1,6 @@
 -- The rows of a circuit.
-use Rattle.std.proofs.Common.{◌≡◌, ℕ, suc, ◌+◌, ◌<◌, inl, inr, List, [], ◌++◌, map, length}
-use Rattle.std.proofs.Common.{get_or, sym, ap, subst, ◌∙◌, arith, Some, length-append}
+use Rattle.std.proofs.Common.{◌≡◌, ℕ, suc, ◌+◌, ◌<◌, inl, inr, List, ◌++◌, map, length}
+use Rattle.std.proofs.Common.{get_or, sym, ap, ◌∙◌, arith, Some, length-append}
 use Rattle.std.proofs.lemmas.List.{length-map, get_or-map, get_or_append_left, get_or-append-add}
 use Rattle.std.proofs.lemmas.Option.{slice_get-get_or, get_or_from_slice_get, slice_get_within}
 use Rattle.ps_circuit.specs.declared.parts.Latch.{Latch}
@@ -136,7 +136,7 @@ module _ {c : CircuitData} (is : IsCircuit c) where
     pub IsWithin-row : (k : ℕ) → k < length rows → IsWithin (length (variables c)) (row rows k)
     IsWithin-row k lt =
         let sides = sides_known is (gate_place k) no_gate (gate_within k lt) in
-        subst (λ (r : Row). IsWithin (length (variables c)) r) (sym (row_is k lt)) (record {
+        rw (row_is k lt) (record {
           target = (place_known is _ (gate_known is (gate_place k) no_gate (gate_within k lt))).0;
           first = (place_known is _ sides.0).0;
           second = (place_known is _ sides.1).0;

@@ -1,12 +1,12 @@
 -- What a step reads from its table.
 use Rattle.std.proofs.Common.{◌≡◌, ℕ, suc, ◌<◌, Bool, false, List, [], ◌∷◌, map, length, get_or, refl, sym, ap, ap₂}
-use Rattle.std.proofs.Common.{subst, ◌∙◌, arith, All}
+use Rattle.std.proofs.Common.{◌∙◌, arith, All}
 use Rattle.std.proofs.lemmas.List.Elements.{All-from_get_or, All-map}
 use Rattle.ps_circuit.specs.declared.parts.Latch.{Latch}
 use Rattle.ps_circuit.specs.Circuits.{CircuitData, IsCircuit}
 use Rattle.ps_simulate.specs.declared.plan.Wire.{Wire}
 use Rattle.ps_simulate.specs.declared.plan.Plan.{Plan}
-use Rattle.ps_circuit.specs.Values.{AreValues, Steps, bit_of}
+use Rattle.ps_circuit.specs.Values.{Steps, bit_of}
 use Rattle.ps_simulate.specs.Plans.{IsPlan, IsWithin, IsWorkedOut, read, wire_of, variables}
 use Rattle.ps_simulate.specs.Tables.{IsTable}
 use Rattle.ps_simulate.proofs.PlacesLemmas.{place_known, output_known, next_known}
@@ -20,14 +20,13 @@ module _ {c : CircuitData} (is : IsCircuit c) {plan : Plan} (p : IsPlan c plan) 
       All-from_get_or (IsWithin (length (variables c))) plan.rows.items no_row (λ k lt. IsWithin-row is p.rows_are k lt)
 
   pub outputs_within : All (λ w. w.place < length (variables c)) plan.outputs.items
-  outputs_within = subst (λ (ws : List Wire). All (λ w. w.place < length (variables c)) ws) (sym p.outputs_are)
-      (All-map (λ w. w.place < length (variables c)) (wire_of c) c.outputs
+  outputs_within = rw p.outputs_are (All-map (λ w. w.place < length (variables c)) (wire_of c) c.outputs
       (All-from_get_or (λ l. (wire_of c l).place < length (variables c)) c.outputs 0
       (λ k lt. (place_known is _ (output_known is k 0 lt)).0)))
 
   pub nexts_within : All (λ w. w.place < length (variables c)) plan.nexts.items
-  nexts_within = subst (λ (ws : List Wire). All (λ w. w.place < length (variables c)) ws) (sym p.nexts_are)
-      (All-map (λ w. w.place < length (variables c)) (λ (l : Latch). wire_of c l.next) c.latches
+  nexts_within = rw p.nexts_are (All-map (λ w. w.place < length (variables c)) (λ (l : Latch). wire_of c l.next)
+      c.latches
       (All-from_get_or (λ (l : Latch). (wire_of c l.next).place < length (variables c)) c.latches no_latch
       (λ k lt. (place_known is _ (next_known is k no_latch lt)).0)))
 
@@ -48,8 +47,7 @@ pub Steps-worked_out : {c : CircuitData} → IsCircuit c → {plan : Plan} → I
 Steps-worked_out {c} is {plan} p {inputs} {latches} {values} many_inputs many_latches worked outputs_are next_are =
     record {
       values = values_by c values;
-      are_values = subst (λ (done : List Bool). AreValues c inputs latches (values_by c done)) (sym worked.done)
-          (AreValues-work_out is p.rows_are worked.each many_inputs many_latches worked.holds);
+      are_values = rw worked.done (AreValues-work_out is p.rows_are worked.each many_inputs many_latches worked.holds);
       outputs_are = outputs_are ∙ ap (map (read values)) p.outputs_are
           ∙ reads (λ l. l) (wire_of c) values (values_by c values) c.outputs 0
           (λ k lt. sym (bit_of-values_by is values _ (output_known is k 0 lt)));

@@ -24,12 +24,9 @@ pub record IsScheduled (rows : List Row) : Type 0 where
 
 IsScheduled-tail : {r : Row} {rows : List Row} → IsScheduled (r ∷ rows) → IsScheduled rows
 IsScheduled-tail s = record {
-  once = λ k l hk hl e. (let h : suc k ≡ suc l = s.once (suc k) (suc l) (omega arith) (omega arith) e in omega arith);
-  first_behind = λ k l hk hl e. (let h : suc l < suc k = s.first_behind (suc k) (suc l) (omega arith) (omega arith) e in
-      omega arith);
-  second_behind =
-      λ k l hk hl e. (let h : suc l < suc k = s.second_behind (suc k) (suc l) (omega arith) (omega arith) e in
-      omega arith);
+  once = λ k l hk hl e. omega (arith, s.once (suc k) (suc l) (omega arith) (omega arith) e);
+  first_behind = λ k l hk hl e. omega (arith, s.first_behind (suc k) (suc l) (omega arith) (omega arith) e);
+  second_behind = λ k l hk hl e. omega (arith, s.second_behind (suc k) (suc l) (omega arith) (omega arith) e);
 }
 
 pub length-work_out : (rows : List Row) (values : List Bool) → length (work_out rows values) ≡ length values

@@ -1,6 +1,6 @@
 -- The lines of a text, and what is wrong in one line.
-use Rattle.std.proofs.Common.{◌≡◌, ◌≢◌, ℕ, zero, suc, ◌+◌, ◌-◌, ◌<◌, ◌≤◌, ◌==◌, ◌⊎◌, inl, inr, Bool, true, false, cond}
-use Rattle.std.proofs.Common.{List, [], ◌∷◌, ◌++◌, length, get_or, take, drop, refl, sym, ap, subst, ◌∙◌, arith, Some}
+use Rattle.std.proofs.Common.{◌≡◌, ◌≢◌, ℕ, zero, suc, ◌+◌, ◌-◌, ◌<◌, ◌≤◌, ◌==◌, ◌⊎◌, inl, inr, Bool, true, false}
+use Rattle.std.proofs.Common.{List, [], ◌∷◌, ◌++◌, length, get_or, take, drop, refl, sym, ap, ◌∙◌, arith, Some}
 use Rattle.std.proofs.Common.{None, Option, slice_get, option_map, All, length-take, length-drop}
 use Rattle.std.proofs.lemmas.List.{length-map, get_or-take, get_or-drop, take-append-drop, drop-drop, drop_more}
 use Rattle.std.proofs.lemmas.List.{drop_all, take_all}
@@ -10,7 +10,7 @@ use Rattle.std.proofs.lemmas.Option.{slice_get-map, slice_get_within}
 use Rattle.std.proofs.lemmas.Bool.{ne_eqb}
 use Rattle.ps_simulate.specs.declared.fault.StimulusCause.{StimulusCause}
 use Rattle.ps_simulate.specs.declared.fault.StimulusCause.TheVariants.{Width, Stimulus}
-use Rattle.ps_simulate.specs.StimulusTexts.{put_byte, lines_of, start_of, digit_of, digits_of, divider, IsDigit}
+use Rattle.ps_simulate.specs.StimulusTexts.{lines_of, start_of, digit_of, digits_of, divider, IsDigit}
 use Rattle.ps_simulate.specs.StimulusTexts.{StandsInLine}
 
 -- ## Lines
@@ -20,16 +20,17 @@ NoNewline b = b ≢ 10
 
 lines_of-ended : (front rest : List ℕ) → All NoNewline front → lines_of (front ++ 10 ∷ rest) ≡ front ∷ lines_of rest
 lines_of-ended [] rest none = refl
-lines_of-ended (b ∷ front) rest none =
-    ap (λ t. cond t ([] ∷ lines_of (front ++ 10 ∷ rest)) (put_byte b (lines_of (front ++ 10 ∷ rest))))
-    (ne_eqb b 10 (All-head NoNewline b front none))
-    ∙ ap (put_byte b) (lines_of-ended front rest (All-tail NoNewline b front none))
+lines_of-ended (b ∷ front) rest none = rw (
+  ne_eqb b 10 (All-head NoNewline b front none),
+  lines_of-ended front rest (All-tail NoNewline b front none),
+)
 
 lines_of-last : (b : ℕ) (front : List ℕ) → All NoNewline (b ∷ front) → lines_of (b ∷ front) ≡ (b ∷ front) ∷ []
-lines_of-last b [] none = ap (λ t. cond t ([] ∷ []) (put_byte b [])) (ne_eqb b 10 (All-head NoNewline b [] none))
-lines_of-last b (c ∷ front) none = ap (λ t. cond t ([] ∷ lines_of (c ∷ front)) (put_byte b (lines_of (c ∷ front))))
-    (ne_eqb b 10 (All-head NoNewline b (c ∷ front) none))
-    ∙ ap (put_byte b) (lines_of-last c front (All-tail NoNewline b (c ∷ front) none))
+lines_of-last b [] none = rw (ne_eqb b 10 (All-head NoNewline b [] none))
+lines_of-last b (c ∷ front) none = rw (
+  ne_eqb b 10 (All-head NoNewline b (c ∷ front) none),
+  lines_of-last c front (All-tail NoNewline b (c ∷ front) none),
+)
 
 module _ (text : List ℕ) (start end : ℕ) (from : start ≤ end) (within : end ≤ length text)
     (none : (k : ℕ) → start ≤ k → k < end → get_or text k 0 ≢ 10) where
@@ -61,8 +62,8 @@ lines_of-drop_last text start lt none =
     take_all (length text - start) (drop start text) (omega (arith, length-drop start text)) in
     let past : drop (length text + 1) text ≡ [] = drop_all (length text + 1) text (omega arith) in
     last (drop start text) (omega (arith, length-drop start text))
-    (subst (λ (bytes : List ℕ). All NoNewline bytes) whole (front_has_none text start (length text) (omega arith)
-    (omega arith) none)) ∙ ap (λ line. line ∷ []) (sym whole)
+    (rw whole at (front_has_none text start (length text) (omega arith) (omega arith) none)) ∙ ap (λ line. line ∷ [])
+    (sym whole)
     ∙ ap (λ rest. take (length text - start) (drop start text) ∷ lines_of rest) (sym past)
   where
     last : (bytes : List ℕ) → 0 < length bytes → All NoNewline bytes → lines_of bytes ≡ bytes ∷ []
@@ -82,13 +83,13 @@ start_of-later [] k m there less within = absurd (omega arith)
 start_of-later (l ∷ lines) k zero there less within = absurd (omega arith)
 start_of-later (l ∷ lines) zero (suc m) {line} there less within =
     let same : l ≡ line = cc in
-    let more = sum_by-cons (λ (bytes : List ℕ). length bytes + 1) l (take m lines) in
-    omega (arith, more, ap length same)
-start_of-later (l ∷ lines) (suc k) (suc m) {line} there less within =
-    let rest = start_of-later lines k m there (omega arith) (omega arith) in
-    let here = sum_by-cons (λ (bytes : List ℕ). length bytes + 1) l (take k lines) in
-    let later = sum_by-cons (λ (bytes : List ℕ). length bytes + 1) l (take m lines) in
-    omega (arith, rest, here, later)
+    omega (arith, sum_by-cons (λ (bytes : List ℕ). length bytes + 1) l (take m lines), ap length same)
+start_of-later (l ∷ lines) (suc k) (suc m) {line} there less within = omega (
+  arith,
+  start_of-later lines k m there (omega arith) (omega arith),
+  sum_by-cons (λ (bytes : List ℕ). length bytes + 1) l (take k lines),
+  sum_by-cons (λ (bytes : List ℕ). length bytes + 1) l (take m lines),
+)
 
 -- ## One line
 
@@ -116,7 +117,7 @@ letter_none letter start Stimulus offset is each (j, byte, there, wrong, at) =
   where
     found : (o : Option Bool) → option_map digit_of o ≡ Some byte → ⊥
     found None e = cc
-    found (Some bit) e = wrong (let same : digit_of bit ≡ byte = cc in subst IsDigit same (digit_is bit))
+    found (Some bit) e = wrong (let same : digit_of bit ≡ byte = cc in rw same at (digit_is bit))
 
 -- where the causes of a line stand
 pub in_line_from : (line : List ℕ) (start width : ℕ) (cause : StimulusCause) (offset : ℕ) →

@@ -1,10 +1,10 @@
 -- Each text of a stimulus has an answer: its letters, or the first cause, line by line.
 use Rattle.std.proofs.Common.{◌≡◌, ℕ, zero, suc, ◌+◌, ◌<◌, ◌≤◌, ◌≢◌, ◌==◌, ◌⊎◌, inl, inr, Bool, true, false, cond, List}
-use Rattle.std.proofs.Common.{[], ◌∷◌, length, take, drop, refl, sym, ap, ap₂, subst, ◌∙◌, arith, Some, Ok, Err}
+use Rattle.std.proofs.Common.{[], ◌∷◌, length, take, drop, refl, sym, ap, ap₂, ◌∙◌, arith, Some, Ok, Err}
 use Rattle.std.proofs.Common.{slice_get, length-drop}
 use Rattle.std.proofs.lemmas.Bool.{cases_eq, cases_lt, eq-eqb, ne_eqb}
 use Rattle.std.proofs.lemmas.List.{drop-drop, length-take-le}
-use Rattle.ps_text.proofs.Decisions.{Decided, decide_one}
+use Rattle.ps_text.proofs.Decisions.{Decided, decide_as, decide_one}
 use Rattle.ps_simulate.specs.declared.fault.StimulusCause.{StimulusCause}
 use Rattle.ps_simulate.specs.declared.fault.StimulusCause.TheVariants.{Width, Stimulus}
 use Rattle.ps_simulate.specs.Faults.{rank}
@@ -36,7 +36,7 @@ letter_or_wrong (byte ∷ line) = go (decide_one (cases_eq byte 48) (cases_eq by
   where
     behind : IsDigit byte → (w : FirstWrong line) → (i b : ℕ) → slice_get (byte ∷ line) i ≡ Some b → ¬ IsDigit b →
         suc w.place ≤ i
-    behind d w zero b there wrong = absurd (wrong (subst IsDigit (let same : byte ≡ b = cc in same) d))
+    behind d w zero b there wrong = absurd (wrong (let same : byte ≡ b = cc in rw same at d))
     behind d w (suc i) b there wrong = omega (arith, w.least i b there wrong)
 
     go : Decided (IsDigit byte) → IsLetter line ⊎ FirstWrong line → IsLetter (byte ∷ line) ⊎ FirstWrong (byte ∷ line)
@@ -98,11 +98,7 @@ module _ (line : List ℕ) (start width : ℕ) where
 
 is_divider : (line : List ℕ) → Decided (line ≡ divider)
 is_divider [] = inr (λ e. cc)
-is_divider (b ∷ []) = go (cases_eq b 45)
-  where
-    go : Decided (b ≡ 45) → Decided (b ∷ [] ≡ divider)
-    go (inl e) = inl (ap (λ z. z ∷ []) e)
-    go (inr n) = inr (λ e. n (let same : b ≡ 45 = cc in same))
+is_divider (b ∷ []) = decide_as (λ e. cc) (λ e. cc) (cases_eq b 45)
 is_divider (b ∷ c ∷ line) = inr (λ e. cc)
 
 -- ## The text
@@ -173,7 +169,7 @@ module _ (text : List ℕ) (width : ℕ) (split : Bool) where
         let here = at_line h next ends in
         other (let same : line ≡ divider = cc in same)))) (line_answer line start width)
     by_line false true e x (inl is) = later true s (HasRead-divider
-        (subst (λ b. HasRead text width split b start s) e h) next ends is x)
+        (rw e at h) next ends is x)
 
   -- by recursion over how many bytes are left
   from_line : (n : ℕ) {in_lap : Bool} {start : ℕ} {s : StimulusData} → HasRead text width split in_lap start s →

@@ -1,6 +1,6 @@
 -- What the reader of stimuli keeps true, and the answers that it comes to.
 use Rattle.std.proofs.Common.{◌≡◌, ℕ, zero, suc, ◌+◌, ◌-◌, ◌<◌, ◌⊎◌, inl, inr, Bool, true, false, List, [], ◌∷◌, ◌++◌}
-use Rattle.std.proofs.Common.{map, length, refl, sym, ap, subst, ◌∙◌, arith, Some, None, Option, slice_get, option_map}
+use Rattle.std.proofs.Common.{map, length, refl, sym, ap, ◌∙◌, arith, Some, None, Option, slice_get, option_map}
 use Rattle.std.proofs.Common.{All}
 use Rattle.std.proofs.lemmas.List.{length-map, append_assoc}
 use Rattle.std.proofs.lemmas.Option.{slice_get-map, slice_get_within, get_or_from_slice_get}
@@ -25,7 +25,7 @@ slice_get-right (x ∷ xs) ys (suc k) m e = slice_get-right xs ys k m (omega ari
 
 All-slice_get : {X : Type 0} (P : X → Type 0) (xs : List X) (k : ℕ) {x : X} → All P xs → slice_get xs k ≡ Some x → P x
 All-slice_get P xs k {x} all there =
-    subst P (get_or_from_slice_get xs k x x there) (all k x (slice_get_within xs k x there))
+    rw (get_or_from_slice_get xs k x x there) at (all k x (slice_get_within xs k x there))
 
 -- a line of letters is the line of one of them
 pub mapped : (letters : List (List Bool)) (k : ℕ) {line : List ℕ} → slice_get (map digits_of letters) k ≡ Some line
@@ -35,7 +35,7 @@ mapped letters k {line} there = found (slice_get letters k) refl (sym (slice_get
     found : (o : Option (List Bool)) → slice_get letters k ≡ o → option_map digits_of o ≡ Some line
         → (letter : List Bool) × (slice_get letters k ≡ Some letter) × (line ≡ digits_of letter)
     found None is e = cc
-    found (Some letter) is e = (letter, is, (let same : digits_of letter ≡ line = cc in sym same))
+    found (Some letter) is e = (letter, is, cc)
 
 mapped_none : (letters : List (List Bool)) (width k start : ℕ) {line : List ℕ} (cause : StimulusCause) (offset : ℕ) →
     All (λ letter. length letter ≡ width) letters
@@ -82,7 +82,7 @@ no_cause {split} true s rest lines width is stem lap wanted k line start cause o
 
     which : (k ≡ length s.stem) ⊎ ((k < length s.stem) ⊎ (length s.stem < k)) → ⊥
     which (inl e) =
-        letter.letter (subst (λ (n : ℕ). Divides split lines n) (sym e) (divides_at s rest lines is (wanted refl)))
+        letter.letter (rw e (divides_at s rest lines is (wanted refl)))
     which (inr (inl less)) =
         mapped_none s.stem width k start cause offset stem (sym (slice_get-left (map digits_of s.stem)
         (divider ∷ map digits_of s.lap) k (omega (arith, less, length-map s.stem digits_of))) ∙ there) stands

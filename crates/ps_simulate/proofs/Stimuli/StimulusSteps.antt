@@ -108,7 +108,7 @@ module _ {text : List ℕ} {width : ℕ} {split in_lap : Bool} {start end : ℕ}
         k = here;
         line = line;
         is_letter = record { there = at_line; letter = letter };
-        in_line = subst (λ (n : ℕ). StandsInLine line n width cause offset) (sym start_here) first.stands;
+        in_line = rw start_here first.stands;
       });
       least =
           λ other there stands. elim stands [ inl l ↦ in_letter other there l | inr m ↦ inl (missing other there m) ];
@@ -135,9 +135,7 @@ module _ {text : List ℕ} {width : ℕ} {split in_lap : Bool} {start end : ℕ}
             which (inl e) =
                 (let same : l.line ≡ line = (let a = l.is_letter.there in let b = ap (slice_get (lines_of text)) e in
                 let c = at_line in cc) in
-                first.least other there (subst (λ (bytes : List ℕ). StandsInLine bytes start width other there) same
-                (subst (λ (n : ℕ). StandsInLine l.line n width other there)
-                (ap (start_of (lines_of text)) e ∙ start_here) l.in_line)))
+                first.least other there (rw ((ap (start_of (lines_of text)) e ∙ start_here), same) at l.in_line))
             which (inr (inl less)) =
                 absurd (no_cause in_lap s (line ∷ lines_of (drop (end + 1) text)) (lines_of text) width behind
                 h.stem_widths h.lap_widths h.wanted l.k l.line _ other there less l.is_letter l.in_line)
@@ -230,10 +228,7 @@ pub HasRead-same : (text : List ℕ) (width : ℕ) (split in_lap in_lap' : Bool)
     → HasRead text width split in_lap start (record { stem = stem; lap = lap }) →
     HasRead text width split in_lap' start (record { stem = stem'; lap = lap' })
 HasRead-same text width split in_lap in_lap' start stem stem' lap lap' same_side same_stem same_lap h =
-    let P : Bool → List (List Bool) → List (List Bool) → Type 0 =
-    λ b x y. HasRead text width split b start (record { stem = x; lap = y }) in
-    subst (λ (b : Bool). P b stem' lap') same_side (subst (λ (x : List (List Bool)). P in_lap x lap') same_stem
-    (subst (P in_lap stem) same_lap h))
+    rw (← same_side, ← same_stem, ← same_lap) h
 
 pub letters_of-push : (letters : List (Vec Bool Global)) (letter : Vec Bool Global) →
     letters_of (letters ++ letter ∷ []) ≡ letters_of letters ++ letter.items ∷ []

@@ -47,7 +47,7 @@ module _ {c : CircuitData} (is : IsCircuit c) {order : List ℕ}
   side_same : (literal : ℕ) → IsKnown (definitions c) literal
       → ((i : ℕ) → i < length c.gates → variable literal ≡ variable (get_or c.gates i no_gate).literal →
       Same (variable literal)) → Same (variable literal)
-  side_same literal (inl e) gate = subst Same (sym e) (a.constant ∙ sym b.constant)
+  side_same literal (inl e) gate = rw e (a.constant ∙ sym b.constant)
   side_same literal (inr (k, lt, e)) gate =
       which (cases_lt k (length c.inputs)) (cases_lt k (length c.inputs + length c.latches))
     where
@@ -63,63 +63,42 @@ module _ {c : CircuitData} (is : IsCircuit c) {order : List ℕ}
       which (inr behind) (inl second) = (let j = k - length c.inputs in
           let less : j < length c.latches = omega arith in
           let there : length c.inputs + j ≡ k = omega arith in
-          subst Same (ap variable (sym (definitions_latch c j less) ∙ ap (λ n. get_or (definitions c) n 0) there)
-          ∙ same) (latch_same j less))
+          rw (ap variable (sym (definitions_latch c j less) ∙ ap (λ n. get_or (definitions c) n 0) there) ∙ same) at
+          (latch_same j less))
       which (inr behind) (inr third) = (let i = k - (length c.inputs + length c.latches) in
           let less : i < length c.gates = omega (arith, within, length-definitions c) in
           let there : length c.inputs + length c.latches + i ≡ k = omega arith in
           gate i less (sym (ap variable (sym (definitions_gate c i less) ∙ ap (λ n. get_or (definitions c) n 0) there)
           ∙ same)))
 
-  at : (k : ℕ) → k < length order → slice_get order k ≡ Some (get_or order k 0)
-  at k lt = slice_get-get_or order k 0 lt
-
-  -- the first n gates of the order agree
-  gates_same : (n k : ℕ) → k < n → k < length order → Same (variable
-      (get_or c.gates (get_or order k 0) no_gate).literal)
-  gates_same zero k lt within = absurd (omega arith)
-  gates_same (suc n) k lt within = meets (gates_same n)
-    where
-      g_within : get_or order k 0 < length c.gates
-      g_within = is_order.within k _ (at k within)
-
-      meets : ((l : ℕ) → l < n → l < length order → Same (variable (get_or c.gates (get_or order l 0) no_gate).literal))
-          → Same (variable (get_or c.gates (get_or order k 0) no_gate).literal)
-      meets before = (let i = get_or order k 0 in
-          let g = get_or c.gates i no_gate in
-          let sides = sides_known is i no_gate g_within in
-          let earlier : (literal j : ℕ) → j < length c.gates → (variable g.first ≡ variable literal) ⊎
-          (variable g.second ≡ variable literal) → variable literal ≡ variable (get_or c.gates j no_gate).literal →
-          Same (variable literal) =
-          (λ literal j less side e.
-          let there = is_order.each j less in
-          let lower : there.0 < k = is_order.behind k there.0 i j (at k within) there.1 (record {
-            reader = g;
-            read = get_or c.gates j no_gate;
-            at_i = slice_get-get_or c.gates i no_gate g_within;
-            at_j = slice_get-get_or c.gates j no_gate less;
-            side = elim side [ inl x ↦ inl (x ∙ e) | inr x ↦ inr (x ∙ e) ];
-          }) in
-          let found : get_or order there.0 0 ≡ j = get_or_from_slice_get order there.0 j 0 there.1 in
-          subst Same (ap (λ m. variable (get_or c.gates m no_gate).literal) found ∙ sym e)
-          (before there.0 (omega arith) (slice_get_within order there.0 j there.1))) in
-          let first : bit_of values g.first ≡ bit_of others g.first =
-          bit_same g.first (side_same g.first sides.0 (λ j less e. earlier g.first j less (inl refl) e)) in
-          let second : bit_of values g.second ≡ bit_of others g.second =
-          bit_same g.second (side_same g.second sides.1 (λ j less e. earlier g.second j less (inr refl) e)) in
-          let here = length c.inputs + length c.latches + i in
-          at_definition here (omega (arith, g_within, length-definitions c)) (definitions_gate c i g_within)
-          (a.gates_are i no_gate g_within ∙ ap₂ ◌&&◌ first second ∙ sym (b.gates_are i no_gate g_within)))
+  -- the gates whose places in the order are among the first n agree
+  gates_same : (n i : ℕ) (less : i < length c.gates) → (is_order.each i less).0 < n →
+      Same (variable (get_or c.gates i no_gate).literal)
+  gates_same zero i less lt = absurd (omega arith)
+  gates_same (suc n) i less lt =
+      let g = get_or c.gates i no_gate in
+      let sides = sides_known is i no_gate less in
+      let here = is_order.each i less in
+      let earlier : (literal : ℕ) → (variable g.first ≡ variable literal) ⊎ (variable g.second ≡ variable literal) →
+      (j : ℕ) → j < length c.gates → variable literal ≡ variable (get_or c.gates j no_gate).literal →
+      Same (variable literal) = (λ literal side j within e.
+      let there = is_order.each j within in
+      let lower : there.0 < here.0 = is_order.behind here.0 there.0 i j here.1 there.1 (record {
+        reader = g;
+        read = get_or c.gates j no_gate;
+        at_i = slice_get-get_or c.gates i no_gate less;
+        at_j = slice_get-get_or c.gates j no_gate within;
+        side = elim side [ inl x ↦ inl (x ∙ e) | inr x ↦ inr (x ∙ e) ];
+      }) in rw e (gates_same n j within (omega arith))) in
+      let first = bit_same g.first (side_same g.first sides.0 (earlier g.first (inl refl))) in
+      let second = bit_same g.second (side_same g.second sides.1 (earlier g.second (inr refl))) in
+      at_definition (length c.inputs + length c.latches + i) (omega (arith, less, length-definitions c))
+      (definitions_gate c i less)
+      (a.gates_are i no_gate less ∙ ap₂ ◌&&◌ first second ∙ sym (b.gates_are i no_gate less))
 
   pub bit_of-one : (literal : ℕ) → IsKnown (definitions c) literal → bit_of values literal ≡ bit_of others literal
-  bit_of-one literal known = bit_same literal (side_same literal known gate)
-    where
-      gate : (i : ℕ) → i < length c.gates → variable literal ≡ variable (get_or c.gates i no_gate).literal →
-          Same (variable literal)
-      gate i less e = (let there = is_order.each i less in
-          let found : get_or order there.0 0 ≡ i = get_or_from_slice_get order there.0 i 0 there.1 in
-          subst Same (ap (λ m. variable (get_or c.gates m no_gate).literal) found ∙ sym e)
-          (gates_same (suc there.0) there.0 (omega arith) (slice_get_within order there.0 i there.1)))
+  bit_of-one literal known = bit_same literal (side_same literal known
+      (λ i less e. rw e (gates_same (suc (is_order.each i less).0) i less (omega arith))))
 
 pub HasOneValues-circuit : {c : CircuitData} → IsCircuit c → {order : List ℕ} →
     IsOrder (ReadsGate c.gates) (length c.gates) order → HasOneValues c

@@ -17,9 +17,6 @@ maps_agree f g (x ∷ xs) d same =
 
 -- ---- steps
 
-abbrev moment : List Bool → List Bool → List Bool → Moment
-moment latches inputs outputs = record { latches = latches; inputs = inputs; outputs = outputs }
-
 module _ (c : CircuitData) (is : IsCircuit c) (one : HasOneValues c) where
   -- what a step answers, and the latches behind it
   steps_agree : (latches inputs outputs next outputs' next' : List Bool) → Steps c latches inputs outputs next →

@@ -13,7 +13,7 @@ use Rattle.ps_circuit.specs.Values.{Moment, GoesOn, HasOneValues, resets}
 use Rattle.ps_simulate.specs.declared.role.Role.{Role}
 use Rattle.ps_simulate.specs.declared.lassos.Verdict.{Verdict}
 use Rattle.ps_simulate.specs.Symbols.{HasSymbols}
-use Rattle.ps_simulate.specs.Lassos.{AreLetters, laps_of, latches_along, latches_before, Repeats, IsVerdictOf}
+use Rattle.ps_simulate.specs.Lassos.{laps_of, latches_along, latches_before, Repeats, IsVerdictOf}
 use Rattle.ps_simulate.proofs.Uniqueness.OneTrace.{firsts_agree}
 use Rattle.ps_simulate.proofs.Uniqueness.OneLetter.{one_letters}
 use Rattle.ps_simulate.proofs.LassoLemmas.{along_more, at_end, length_trace}
@@ -45,7 +45,8 @@ module _ {c : CircuitData} (is_circuit : IsCircuit c) (one : HasOneValues c) whe
       let inputs : m.inputs ≡ n.inputs = cc in
       let tails : map (λ (m : Moment). m.inputs) ns ≡ map (λ (m : Moment). m.inputs) ms ++ more = cc in
       let first = firsts_agree c is_circuit one latches next next' m n at at' steps steps' inputs in
-      let others : Behind ms last ns last' more = goes_behind next last last' ms ns more rest (rw first.1 rest') tails in
+      let others : Behind ms last ns last' more =
+      goes_behind next last last' ms ns more rest (rw first.1 rest') tails in
       (others.0, cc (first.0, others.1), others.2, others.3)
 
   no_letters : (ms : List Moment) → map (λ m. m.inputs) ms ≡ [] → ms ≡ []
@@ -72,11 +73,6 @@ module _ {c : CircuitData} (is_circuit : IsCircuit c) (one : HasOneValues c) whe
         b.first i j a.earlier lt (at (length stem + i * length lap) (omega (arith, size, le)) ∙ a.returns
         ∙ sym (at_end ms a.last) ∙ sym (at (length ms) (omega arith))
         ∙ ap (λ t. get_or (latches_along ns b.last) t []) size)
-
-    one_first : (i i' j : ℕ) (ms : List Moment) → (a : Repeats c stem lap i j ms) (b : Repeats c stem lap i' j ms) →
-        a.last ≡ b.last → i < i' → ⊥
-    one_first i i' j ms a b same lt = a.first i i' lt b.earlier (a.returns ∙ same ∙ sym b.returns
-        ∙ ap (λ (ls : List Bool). latches_before stem lap ms ls i') (sym same))
 
     one_repetition : (i j i' j' : ℕ) (ms ns : List Moment) → Repeats c stem lap i j ms → Repeats c stem lap i' j' ns →
         (i ≡ i') × (j ≡ j') × (ms ≡ ns)
@@ -119,12 +115,12 @@ one_verdict {role} {file} {c} {stem} {lap} {v} {w} is one has a b =
     let same = one_repetition is one stem lap a.i a.j b.i b.j a.trace b.trace a.repeats b.repeats in
     let letters : a.letters ≡ b.letters =
     one_letters has b.trace a.letters b.letters
-    (subst (λ (ms : List Moment). AreLetters file.names c ms a.letters) same.2 a.are_letters) b.are_letters in
+    (rw same.2 at a.are_letters) b.are_letters in
     let stems : v.stem ≡ w.stem = a.stem_is ∙ ap (λ i. length stem + i * length lap) same.0 ∙ sym b.stem_is in
     let laps : v.lap ≡ w.lap = a.lap_is ∙ ap₂ (λ i j. (j - i) * length lap) same.0 same.1 ∙ sym b.lap_is in
     let asked : IsTrue v.accepted ↔ IsAccepted file (take w.stem b.letters) (drop w.stem b.letters) =
     subst (λ (ls : List ℕ). IsTrue v.accepted ↔ IsAccepted file (take w.stem ls) (drop w.stem ls)) letters
-    (subst (λ n. IsTrue v.accepted ↔ IsAccepted file (take n a.letters) (drop n a.letters)) stems a.accepted) in
+    (rw stems at a.accepted) in
     let truth : v.accepted ≡ w.accepted =
     one_truth v.accepted w.accepted (IsAccepted file (take w.stem b.letters) (drop w.stem b.letters))
     asked b.accepted in

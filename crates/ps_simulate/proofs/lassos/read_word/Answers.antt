@@ -1,11 +1,9 @@
-use Rattle.std.proofs.Common.{◌∙◌, ◌+◌, take, refl, ℕ, Bool, List, None, get_or, length, subst, sym, ap}
+use Rattle.std.proofs.Common.{◌∙◌, ◌+◌, refl, Bool, List, None, get_or, length, subst, sym, ap}
 use Rattle.std.specs.Prelude.{◌||◌}
 use Rattle.std.proofs.lemmas.List.{length-map}
 use Rattle.ps_circuit.specs.Circuits.{CircuitData}
 use Rattle.ps_circuit.specs.Values.{Moment, Steps}
 use Rattle.ps_simulate.specs.Lassos.{IsLetterOf}
-use Rattle.ps_simulate.specs.LassoRuns.{ReadsWord}
-use Rattle.ps_simulate.specs.Stimuli.{letters_of}
 use Rattle.ps_simulate.specs.Namings.{names_of, bit_at_place}
 use Rattle.ps_simulate.proofs.LassoLemmas.{letter_is, letter_fits, ReadsWord-letter}
 use Rattle.ps_simulate.proofs.lassos.read_word.Goals as goal
@@ -31,11 +29,9 @@ loop-letter-preserved c =
     subst (λ (e : CircuitData). Steps e m.latches m.inputs m.outputs c.step.new.self.latches)
     c.loop-letter.invariant.same c.step.ensures.steps in
     record {
-      reads = subst (λ (ls : List ℕ). ReadsWord (names_of naming) d c.args.simulator.now.latches
-          (letters_of (take (c.loop-letter.letter-index + 1) c.args.word.now)) c.args.letters.now.items ls
-          c.step.new.self.latches) (sym c.in_ok-push.ensures.items)
-          (ReadsWord-letter c.args.word.now c.loop-letter.letter-index c.loop-letter-test.true c.letter-item.is
-          c.deref.ensures.value refl c.loop-letter.invariant.reads step letter);
+      reads = rw c.in_ok-push.ensures.items (ReadsWord-letter c.args.word.now c.loop-letter.letter-index
+          c.loop-letter-test.true c.letter-item.is c.deref.ensures.value refl c.loop-letter.invariant.reads step
+          letter);
       same = c.step.ensures.circuit ∙ c.loop-letter.invariant.same;
       outputs_fit = ap length step.outputs_are ∙ length-map d.outputs _;
     }

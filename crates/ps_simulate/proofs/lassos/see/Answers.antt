@@ -1,5 +1,5 @@
-use Rattle.std.proofs.Common.{◌≡◌, ◌≢◌, ◌∙◌, ℕ, ◌+◌, ◌<◌, ◌++◌, ◌∷◌, [], Bool, List, None, Option, get_or, length, sym}
-use Rattle.std.proofs.Common.{subst, ap}
+use Rattle.std.proofs.Common.{◌≡◌, ◌≢◌, ◌∙◌, ℕ, ◌+◌, ◌<◌, ◌++◌, ◌∷◌, [], Bool, List, None, Option, sym}
+use Rattle.std.proofs.Common.{ap}
 use Rattle.std.specs.Prelude.{if◌then◌else◌, is_some}
 use Rattle.std.specs.BTreeMap.{btree_map_len, get}
 use Rattle.ps_simulate.specs.LassoRuns.{bits_cmp}
@@ -26,8 +26,7 @@ returns c = λ old have.
     let puts = c.in_ok-insert.ensures.updates.0 in (
       old ++ key.items ∷ [],
       (
-        subst (λ (l : List Bool). (k : ℕ) → k < length old → get_or old k [] ≢ l) c.in_ok-key.ensures.items
-            (not_seen c.insert.new.self have key size none more puts),
+        rw c.in_ok-key.ensures.items at (not_seen c.insert.new.self have key size none more puts),
         ap (λ (l : List Bool). old ++ l ∷ []) c.in_ok-key.ensures.items,
       ),
       places_push c.insert.new.self have key size none more puts,

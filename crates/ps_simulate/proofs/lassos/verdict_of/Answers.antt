@@ -1,4 +1,4 @@
-use Rattle.std.proofs.Common.{◌≡◌, ◌∙◌, ◌+◌, ◌*◌, ◌^◌, ◌<◌, ℕ, Bool, List, length, get_or, take, drop, ap, sym, subst}
+use Rattle.std.proofs.Common.{◌≡◌, ◌∙◌, ◌+◌, ◌*◌, ◌^◌, ◌<◌, ℕ, Bool, List, length, take, drop, ap}
 use Rattle.std.proofs.Common.{arith}
 use Rattle.std.specs.Prelude.{All}
 use Rattle.std.proofs.lemmas.List.Elements.{All-take, All-drop}
@@ -10,8 +10,7 @@ use Rattle.ps_simulate.proofs.lassos.verdict_of.Goals as goal
 -- the letters of which the automaton is asked
 few : {names all : List (List ℕ)} {c : CircuitData} {stem lap : List (List Bool)} {i : ℕ} {letters : List ℕ} →
     names ≡ all → RepeatsBy names c stem lap i letters → All (λ letter. letter < 2 ^ length all) letters
-few {names} {c} {letters} same h = λ k d lt. subst (λ (ns : List (List ℕ)). get_or letters k d < 2 ^ length ns) same
-    (few_letters names c h.trace letters h.are_letters k d lt)
+few {names} {c} {letters} same h = λ k d lt. rw same at (few_letters names c h.trace letters h.are_letters k d lt)
 
 pub overflow_mul-start : goal.overflow_mul-start
 overflow_mul-start c =
@@ -68,8 +67,8 @@ accepts-requires-clause-lap c =
 pub returns : goal.returns
 returns c = λ file chain built.
     let n = length c.args.stem.now + c.in_ok-repetition.repetition.first * length c.args.lap.now in
-    verdict file c.args.stem.now c.args.lap.now c.in_ok-accepts.field-0 c.requires.names built.names c.in_ok-repetition.ensures
-    (c.split_at.ensures.front ∙ ap (take n) c.as_slice-letters.ensures.value)
+    verdict file c.args.stem.now c.args.lap.now c.in_ok-accepts.field-0 c.requires.names built.names
+    c.in_ok-repetition.ensures (c.split_at.ensures.front ∙ ap (take n) c.as_slice-letters.ensures.value)
     (c.split_at.ensures.back ∙ ap (drop n) c.as_slice-letters.ensures.value)
     (c.split_at.ensures.back_len ∙ ap length c.as_slice-letters.ensures.value)
     (c.in_ok-accepts.ensures file chain built)

@@ -1,10 +1,9 @@
-use Rattle.std.proofs.Common.{◌≡◌, ◌∙◌, ◌+◌, ◌-◌, ◌*◌, ◌≤◌, ◌++◌, [], ◌∷◌, ℕ, suc, List, Bool, false, sym, ap, subst}
+use Rattle.std.proofs.Common.{◌≡◌, ◌∙◌, ◌+◌, ◌-◌, ◌*◌, ◌≤◌, ◌++◌, [], ◌∷◌, ℕ, suc, List, Bool, sym, ap}
 use Rattle.std.proofs.Common.{take, drop, length, arith}
 use Rattle.std.proofs.lemmas.Result.{err_from_is_err_and}
 use Rattle.std.proofs.lemmas.List.{length-map}
-use Rattle.ps_simulate.specs.Stimuli.{letters_in, stem_of}
+use Rattle.ps_simulate.specs.Stimuli.{letters_in}
 use Rattle.ps_simulate.specs.StimulusTexts.{digit_of}
-use Rattle.ps_simulate.specs.StimulusReading.{HasRead}
 use Rattle.ps_simulate.proofs.LetterLists.{letters_in-push, whole-push, IsLettersAnswer-line}
 use Rattle.ps_simulate.proofs.Stimuli.StimulusSteps.{HasRead-letter}
 use Rattle.ps_simulate.proofs.Stimuli.LineLemmas.{line_length}
@@ -41,9 +40,8 @@ loop-start-preserved c =
     ∙ letters_in-push count bits letter c.loop-start.invariant.whole fits in
     record {
       read =
-          subst (λ (letters : List (List Bool)). HasRead text width false false (end + 1) (stem_of letters)) (sym more)
-          (HasRead-letter c.loop-start.invariant.read c.line_end-end.ensures.lines ends letter c.in_ok-letter.ensures.0
-          c.in_ok-letter.ensures.1);
+          rw more (HasRead-letter c.loop-start.invariant.read c.line_end-end.ensures.lines ends letter
+          c.in_ok-letter.ensures.0 c.in_ok-letter.ensures.1);
       whole = ap length now ∙ whole-push count bits letter c.loop-start.invariant.whole fits
           ∙ ap (λ (n : ℕ). n * width) (sym next);
       few = omega (arith, c.line_end-end.ensures.from);

@@ -1,7 +1,6 @@
-use Rattle.std.proofs.Common.{◌≡◌, ◌≢◌, ◌<◌, ℕ, List, Bool, Bor, None, Option, map, length, get_or, sym, subst}
+use Rattle.std.proofs.Common.{◌≡◌, ◌≢◌, ◌<◌, ℕ, List, Bool, Bor, Option, map, length}
 use Rattle.std.specs.Option.{option_copied}
 use Rattle.std.proofs.lemmas.List.{length-map}
-use Rattle.ps_hoa.specs.Files.{is_among}
 use Rattle.ps_hoa.specs.Memory.{bytes_of}
 use Rattle.ps_simulate.specs.Namings.{ArePut}
 use Rattle.ps_simulate.proofs.NamingLemmas.{all_placed, all_once, missing}
@@ -12,9 +11,7 @@ put : {names : List (List ℕ)} {set : List ℕ} {wanted : Bool} (symbols : List
     {places : List (Option ℕ)} → ArePut names set wanted (map (option_copied {T = List ℕ}) symbols) (length symbols)
     places → ArePut names set wanted (map (option_copied {T = List ℕ}) symbols)
     (length (map (option_copied {T = List ℕ}) symbols)) places
-put {names} {set} {wanted} symbols {places} h =
-    subst (λ n. ArePut names set wanted (map (option_copied {T = List ℕ}) symbols) n places)
-    (sym (length-map symbols (option_copied {T = List ℕ}))) h
+put {names} {set} {wanted} symbols {places} h = rw (length-map symbols (option_copied {T = List ℕ})) h
 
 pub returns-in-Some-clause-places : goal.returns-in-Some-clause-places
 returns-in-Some-clause-places c = all_placed (map bytes_of c.args.names.now) c.args.controllable.now c.args.wanted
@@ -25,8 +22,7 @@ pub returns-in-Some-clause-names : goal.returns-in-Some-clause-names
 returns-in-Some-clause-names c = all_once (map bytes_of c.args.names.now) c.args.controllable.now c.args.wanted
     (map (option_copied {T = List ℕ}) c.args.symbols.now) c.requires
     (put c.args.symbols.now (rw c.in-Some.is at c.in_ok-places.ensures.put))
-    (subst (λ (ps : List (Option ℕ)). (p : ℕ) → p < length ps → is_among p c.args.controllable.now ≡ c.args.wanted →
-    get_or ps p None ≢ None) c.deref.ensures.value (c.is_full.ensures.full c.if-is_full.true))
+    (rw c.deref.ensures.value at (c.is_full.ensures.full c.if-is_full.true))
 
 pub returns-in_default-clause-none : goal.returns-in_default-clause-none
 returns-in_default-clause-none c = elim c.in_default.branch [
@@ -35,7 +31,7 @@ returns-in_default-clause-none c = elim c.in_default.branch [
       missing (map bytes_of c.args.names.now) c.args.controllable.now c.args.wanted
       (map (option_copied {T = List ℕ}) c.args.symbols.now) c.requires
       (put c.args.symbols.now (rw w.in-Some.is at c.in_ok-places.ensures.put))
-      g.0 (subst (λ (ps : List (Option ℕ)). g.0 < length ps) w.deref.ensures.value g.1) g.2
-      (subst (λ (ps : List (Option ℕ)). get_or ps g.0 None ≡ None) w.deref.ensures.value g.3)
+      g.0 (rw w.deref.ensures.value at g.1) g.2
+      (rw w.deref.ensures.value at g.3)
   | in_default-via-in_default w ↦ let h = w.in_default.is in rw h at c.in_ok-places.ensures.none
 ]

@@ -1,8 +1,7 @@
-use Rattle.std.proofs.Common.{◌≡◌, ◌<◌, ℕ, List, None, Some, Option, map, length, get_or, arith, subst}
+use Rattle.std.proofs.Common.{◌≡◌, ◌<◌, ℕ, List, None, Some, map, length, get_or, arith}
 use Rattle.std.specs.Option.{option_copied}
 use Rattle.std.proofs.lemmas.List.{length-map}
 use Rattle.ps_hoa.specs.Memory.{bytes_of}
-use Rattle.ps_simulate.specs.Namings.{IsPropositionOf}
 use Rattle.ps_simulate.proofs.NamingLemmas.{nameless, unknown, taken, put_step, symbol_at, is_free, is_full}
 use Rattle.ps_simulate.proofs.naming.put_places.Goals as goal
 use Rattle.ps_simulate.proofs.naming.put_places.Goals.{in_default-proposition_of-via-in-Some-proposition_of+else-is_none}
@@ -31,8 +30,7 @@ returns-in_default-proposition_of-clause-none c =
           (omega (arith, c.loop-k.invariant.size, e.0)) w.index.ensures w.is_none.ensures w.if-is_none.false)
       | in_default-proposition_of-via-in_default-proposition_of w ↦
           unknown names c.args.controllable.now c.args.wanted symbols c.loop-k.k lt there
-          (subst (λ (o : Option ℕ). IsPropositionOf names c.args.controllable.now c.args.wanted c.in-Some.name.now o)
-          w.in_default-proposition_of.is c.proposition_of.ensures)
+          (rw w.in_default-proposition_of.is at c.proposition_of.ensures)
     ]
 
 pub loop-k-preserved : goal.loop-k-preserved

@@ -1,4 +1,4 @@
-use Rattle.std.proofs.Common.{ℕ, List, Contains, subst, sym, take}
+use Rattle.std.proofs.Common.{ℕ, Contains, subst, sym, take}
 use Rattle.ps_ids.proofs.Members.{absent_before}
 use Rattle.ps_simulate.proofs.places.ids_of.Goals as goal
 
@@ -6,6 +6,4 @@ pub push-requires : goal.push-requires
 push-requires c =
     let variables = c.args.variables.now in
     let place = c.loop-variable.variable-index in
-    subst (λ (ids : List ℕ). Contains ids c.from.result → ⊥) (sym c.loop-variable.invariant)
-    (subst (λ (v : ℕ). Contains (take place variables) v → ⊥) (sym c.from.ensures)
-    (absent_before variables place c.requires c.loop-variable-test.true))
+    rw (c.loop-variable.invariant, c.from.ensures) (absent_before variables place c.requires c.loop-variable-test.true)

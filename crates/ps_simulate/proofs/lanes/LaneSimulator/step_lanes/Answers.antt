@@ -1,11 +1,9 @@
-use Rattle.std.proofs.Common.{◌≡◌, ◌∙◌, ◌++◌, ℕ, ◌/◌, ◌<◌, Bool, List, length, get_or, map, take, drop, All, ap, ap₂}
-use Rattle.std.proofs.Common.{subst, sym, arith}
+use Rattle.std.proofs.Common.{◌≡◌, ◌∙◌, ◌++◌, ℕ, ◌/◌, ◌<◌, List, length, take, drop, ap}
+use Rattle.std.proofs.Common.{sym, arith}
 use Rattle.std.proofs.lemmas.List.{take_at}
-use Rattle.ps_simulate.specs.declared.lane_plan.Operands.{Operands}
-use Rattle.ps_simulate.specs.LanePlans.{rows_from, wire_in}
-use Rattle.ps_simulate.specs.Lanes.{LaneSimulation, AreTables, lane_of}
-use Rattle.ps_simulate.specs.Plans.{IsWithin, IsWorkedOut, read}
-use Rattle.ps_circuit.specs.Values.{Steps}
+use Rattle.ps_simulate.specs.LanePlans.{rows_from}
+use Rattle.ps_simulate.specs.Lanes.{LaneSimulation, lane_of}
+use Rattle.ps_simulate.specs.Plans.{IsWorkedOut}
 use Rattle.ps_simulate.proofs.LaneStepLemmas.{room, latches_many, gates_fit, gates_within, outputs_in_table}
 use Rattle.ps_simulate.proofs.LaneStepLemmas.{nexts_in_table, outputs_many, nexts_many, constant_there, Steps-lane}
 use Rattle.ps_simulate.proofs.LaneStepLemmas.{IsTable-lane}
@@ -37,8 +35,8 @@ next_is c = take_at c.read_words-2.new.words _ _
     (omega (arith, c.read_words-2.auto.words, c.deref_mut-2.ensures.len))
 
 pub fill_words-requires-clause-within : goal.fill_words-requires-clause-within
-fill_words-requires-clause-within c = rw (c.deref.ensures.value, c.deref_mut.ensures.value, c.self.invariant.values_each)
-    (gates_within c.self.invariant)
+fill_words-requires-clause-within c =
+    rw (c.deref.ensures.value, c.deref_mut.ensures.value, c.self.invariant.values_each) (gates_within c.self.invariant)
 
 pub fill_words-requires-clause-fit : goal.fill_words-requires-clause-fit
 fill_words-requires-clause-fit c = omega (
@@ -126,10 +124,7 @@ returns-clause-steps c lane lt =
     let s = c.self.inside in
     let next =
     take s.latches.len (c.read_words-2.new.words ++ drop (length c.read_words-2.new.words) s.latches.items) in
-    subst (λ (v : LaneSimulation). Steps v.circuit (lane_of v.latches lane) (lane_of c.args.inputs.now lane)
-    (lane_of c.read_words.new.words lane) (lane_of next lane)) c.self.view_is
-    (Steps-lane c.self.invariant c.args.inputs.now c.fill_words.new.values lane lt (letters_fit b)
-    (worked a lane lt) c.read_words.new.words next
-    (rw (c.deref-4.ensures.value, table_is a, c.deref-3.ensures.value) at (c.read_words.ensures lane lt))
-    (ap (λ (ws : List (List ℕ)). lane_of ws lane) (next_is b)
-    ∙ rw (c.deref-6.ensures.value, table_is a, c.deref-5.ensures.value) at (c.read_words-2.ensures lane lt)))
+    rw (← c.self.view_is) (Steps-lane c.self.invariant c.args.inputs.now c.fill_words.new.values lane lt (letters_fit b)
+    (worked a lane lt) c.read_words.new.words next (rw (c.deref-4.ensures.value, table_is a, c.deref-3.ensures.value) at
+    (c.read_words.ensures lane lt)) (ap (λ (ws : List (List ℕ)). lane_of ws lane) (next_is b) ∙ rw
+    (c.deref-6.ensures.value, table_is a, c.deref-5.ensures.value) at (c.read_words-2.ensures lane lt)))

@@ -1,4 +1,4 @@
-use Rattle.std.proofs.Common.{◌<◌, ◌^◌, ℕ, Bool, Option, None, List, length, get_or, subst, ap, ◌∙◌}
+use Rattle.std.proofs.Common.{◌<◌, ◌^◌, ℕ, Bool, Option, None, List, length, get_or, ap, ◌∙◌}
 use Rattle.std.specs.Prelude.{◌||◌}
 use Rattle.std.proofs.lemmas.Nat.{or_lt}
 use Rattle.ps_label.specs.Truth.{is_in}
@@ -9,10 +9,9 @@ use Rattle.ps_simulate.proofs.naming.Naming.letter.Goals as goal
 pub returns-clause-few : goal.returns-clause-few
 returns-clause-few c =
     let n = length c.args.self.now.names.now in
-    or_lt n c.part_of.result c.part_of-2.result (subst (λ k. c.part_of.result < 2 ^ k)
-    (ap length c.deref.ensures.value ∙ c.requires.inputs_size) c.part_of.ensures.few)
-    (subst (λ k. c.part_of-2.result < 2 ^ k) (ap length c.deref-2.ensures.value ∙ c.requires.outputs_size)
-    c.part_of-2.ensures.few)
+    or_lt n c.part_of.result c.part_of-2.result (rw (ap length c.deref.ensures.value ∙ c.requires.inputs_size) at
+    c.part_of.ensures.few)
+    (rw (ap length c.deref-2.ensures.value ∙ c.requires.outputs_size) at c.part_of-2.ensures.few)
 
 pub returns-clause-bits : goal.returns-clause-bits
 returns-clause-bits c = λ p. in_or p c.part_of.result c.part_of-2.result

@@ -1,5 +1,4 @@
 use Rattle.std.proofs.Common.{◌≡◌, ◌∙◌, ◌==◌, ap, refl, subst, sym, position, List, Some, ℕ}
-use Rattle.std.specs.Prelude.{IsSome, Option}
 use Rattle.ps_circuit.specs.Circuits.{CircuitData, IsKnown, definitions}
 use Rattle.ps_circuit.specs.Literals.{is_negated, variable}
 use Rattle.ps_ids.proofs.IdPlaces.{position_here}
@@ -24,8 +23,7 @@ found c =
     (variables_once c.self.invariant.1) at.0 at.1 ∙ ap (λ (d : CircuitData). Some (place_of d v)) same
 
 pub unwrap-place-requires : goal.unwrap-place-requires
-unwrap-place-requires c =
-    subst (λ (o : Option ℕ). IsSome o) (sym (found (goal.at.unwrap-place-requires c).After-place)) refl
+unwrap-place-requires c = rw (found (goal.at.unwrap-place-requires c).After-place) refl
 
 pub returns : goal.returns
 returns c =

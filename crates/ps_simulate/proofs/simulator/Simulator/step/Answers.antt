@@ -1,12 +1,8 @@
-use Rattle.std.proofs.Common.{◌≡◌, ◌∙◌, ◌++◌, ℕ, ◌<◌, Bool, List, length, get_or, map, take, drop, All, ap, ap₂, subst}
+use Rattle.std.proofs.Common.{◌≡◌, ◌∙◌, ◌++◌, ◌<◌, length, take, drop, ap}
 use Rattle.std.proofs.Common.{sym, arith}
 use Rattle.std.proofs.lemmas.List.{take_at}
-use Rattle.ps_simulate.specs.declared.plan.Row.{Row}
-use Rattle.ps_simulate.specs.declared.plan.Wire.{Wire}
-use Rattle.ps_simulate.specs.Plans.{IsWithin, IsWorkedOut, variables, read}
+use Rattle.ps_simulate.specs.Plans.{IsWorkedOut, variables}
 use Rattle.ps_simulate.specs.Simulations.{Simulation}
-use Rattle.ps_simulate.specs.Tables.{IsTable}
-use Rattle.ps_circuit.specs.Values.{Steps}
 use Rattle.ps_simulate.proofs.StepLemmas.{rows_within, outputs_within, nexts_within, Steps-worked_out}
 use Rattle.ps_simulate.proofs.StepLemmas.{IsTable-worked_out}
 use Rattle.ps_simulate.proofs.simulator.Simulator.step.Goals as goal
@@ -64,9 +60,8 @@ returns-clause-steps c =
     let b = (goal.at.returns-clause-steps c).After-read_all-2 in
     let next = take c.self.inside.latches.len (c.read_all-2.new.bits ++
     drop (length c.read_all-2.new.bits) c.self.inside.latches.items) in
-    subst (λ (s : Simulation). Steps s.circuit s.latches c.args.inputs.now c.read_all.new.bits next) c.self.view_is
-    (Steps-worked_out c.self.invariant.is_circuit c.self.invariant.is_plan
+    rw (← c.self.view_is) (Steps-worked_out c.self.invariant.is_circuit c.self.invariant.is_plan
     (c.requires.inputs_fit ∙ sym (ap (λ (s : Simulation). length s.circuit.inputs) c.self.view_is))
-    c.self.invariant.latches_each (worked a)
-    (rw (c.deref-4.ensures.value, table_is a, c.deref-3.ensures.value) at c.read_all.ensures)
-    (next_is b ∙ rw (c.deref-6.ensures.value, table_is a, c.deref-5.ensures.value) at c.read_all-2.ensures))
+    c.self.invariant.latches_each (worked a) (rw (c.deref-4.ensures.value, table_is a, c.deref-3.ensures.value) at
+    c.read_all.ensures) (next_is b ∙ rw (c.deref-6.ensures.value, table_is a, c.deref-5.ensures.value) at
+    c.read_all-2.ensures))
