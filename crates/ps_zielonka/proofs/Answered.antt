@@ -1,11 +1,10 @@
 -- The last call that waits has its answer, or gets moves for it: nothing more is lost.
 use Rattle.std.proofs.Common.{◌≡◌, ◌≢◌, ℕ, ◌+◌, ◌-◌, ◌*◌, ◌<◌, ◌≤◌, ◌⊎◌, inl, inr, List, [], ◌∷◌, ◌++◌, true, length}
-use Rattle.std.proofs.Common.{get_or, Some, refl, sym, ap, ◌∙◌, arith}
+use Rattle.std.proofs.Common.{get_or, refl, sym, ap, ◌∙◌, arith, rules}
 use Rattle.std.specs.Prelude.{IsTrue}
 use Rattle.std.proofs.lemmas.Bool.{cases_eq, cases_lt, false≢true}
 use Rattle.ps_game.specs.Games.{ParityGame}
 use Rattle.ps_attractor.specs.Tables.{TablesData, FitsGame, level_of, moves_of}
-use Rattle.ps_zielonka.specs.declared.level.TheConstants.{UNPLACED}
 use Rattle.ps_zielonka.specs.declared.frame.Frame.{Frame}
 use Rattle.ps_zielonka.specs.Turns.{Solved}
 use Rattle.ps_zielonka.specs.Nests.{from, winner_of, StandsBetween, Waits, IsNest, IsMoved, IsKeptAt}
@@ -33,10 +32,7 @@ kept_nest {game} {old} {new} {winner} {order} frames frame {cursor} nest moved f
     let at_level = λ (v : ℕ). ap (λ xs. get_or xs v 0) moved.level in
     -- the vertices whose move changed are of the greatest priority
     let still = λ (v : ℕ) (not_top : ¬ IsTrue (turned.tops v)). (
-    let same : moves_of new v ≡ moves_of old v = elim (moved.moves v) [
-      | inl same ↦ ap Some same
-      | inr stands ↦ absurd (not_top (waits.only_tops v stands))
-    ] in
+    let same : moves_of new v ≡ moves_of old v = search rules in
     same) in
     let tops_open = λ (v : ℕ) (top : IsTrue (turned.tops v)). turned.within v (turned.closed.holds v top) in
     let turned_now = IsTurned-on (from old.level (a + 2))
@@ -47,10 +43,7 @@ kept_nest {game} {old} {new} {winner} {order} frames frame {cursor} nest moved f
     let progress_now = Progress-same (winner_of winner) (moves_of new) (λ v inside decided. refl)
     (λ v inside decided. still v (λ top. decided (tops_open v top))) waits.progress in
     let wins = λ (w : ℕ) (inside : IsTrue (from old.level (a + 2) w)). (
-    let below : get_or winner w 0 < 2 = elim (in_part_or_rest turned.left w inside) [
-      | inl pulled ↦ omega (arith, turned.given w pulled)
-      | inr left ↦ solved.winners w left (λ h. false≢true h)
-    ] in
+    let below : get_or winner w 0 < 2 = search (rules, in_part_or_rest, false≢true) in
     below) in
     let answer : Solved game (from old.level (a + 1)) (winner_of winner) (moves_of new) =
     frame_kept nest.sound.is_game waits.alive progress_now turned_now solved_now
@@ -69,15 +62,7 @@ kept_nest {game} {old} {new} {winner} {order} frames frame {cursor} nest moved f
       | inl same ↦ same
       | inr differ ↦ absurd (not_other (omega arith))
     ])) in
-    let agrees : Agrees (a + 1) old new winner winner = record {
-      sizes = ap length moved.level;
-      each = λ v. elim (moved.moves v) [
-        | inl same ↦ inl (record { level = at_level v; move = same; wins = refl })
-        | inr stands ↦ (
-            let high : a + 2 ≤ level_of old v = from_at old.level (a + 2) v (tops_open v (waits.only_tops v stands)) in
-            inr (omega arith, omega (arith, at_level v)))
-      ];
-    } in
+    let agrees : Agrees (a + 1) old new winner winner = search (rules, from_at) in
     record {
       sound = sound_on new nest.sound fits nest.sound.winners (λ v. inl (at_level v));
       waits = below_wait frames frame nest agrees
@@ -85,10 +70,7 @@ kept_nest {game} {old} {new} {winner} {order} frames frame {cursor} nest moved f
           (λ b t less before segment. segment_moved new moved.level moved.trail segment);
       rises = below_rise frames frame nest;
       searches = λ open_now. absurd (false≢true (sym open_now));
-      done = λ solved_now. record {
-        solved = rw moved.level answer;
-        placed = λ v. (let below : level_of old v < UNPLACED = done.placed v in omega (arith, at_level v));
-      };
+      done = search rules;
     }
 
 -- ## Moves at the greatest priority are written, and the last call waits still
@@ -97,19 +79,13 @@ abbrev with_moves : TablesData → List ℕ → TablesData
 with_moves old moves = record { level = old.level; moves = moves; trail = old.trail }
 
 with_moves_is : {old new : TablesData} (Changes : ℕ → Type 0) → IsMoved old new Changes → with_moves old new.moves ≡ new
-with_moves_is {old} {new} Changes moved =
-    ap (λ (levels : List ℕ). let t : TablesData = record { level = levels; moves = new.moves; trail = old.trail } in t)
-    (sym moved.level) ∙ ap (λ (trail : List ℕ). let t : TablesData = record
-    { level = new.level; moves = new.moves; trail = trail } in t) (sym moved.trail)
+with_moves_is {old} {new} Changes moved = search rules
 
 still_moves : {game : ParityGame} {old : TablesData} (moves : List ℕ) {winner order : List ℕ} {a : ℕ} {frame : Frame}
     (waits : Waits game old winner order a frame) → ((v : ℕ) →
     (get_or moves v 0 ≡ get_or old.moves v 0) ⊎ StandsBetween old frame.turn frame.top v) → (v : ℕ) →
     ¬ IsTrue (waits.prepared.tops v) → moves_of (with_moves old moves) v ≡ moves_of old v
-still_moves moves waits moved v not_top = elim (moved v) [
-  | inl same ↦ ap Some same
-  | inr stands ↦ absurd (not_top (waits.only_tops v stands))
-]
+still_moves moves waits moved v not_top = search rules
 
 moved_waits : {game : ParityGame} {old : TablesData} (moves : List ℕ) {winner order : List ℕ} {a : ℕ} {frame : Frame} →
     ((v : ℕ) → (get_or moves v 0 ≡ get_or old.moves v 0) ⊎ StandsBetween old frame.turn frame.top v) →
@@ -129,12 +105,7 @@ moved_waits {game} {old} moves {winner} {order} {a} {frame} moved waits =
       segment = segment_moved new refl refl waits.segment;
       some = waits.some;
       end = waits.end;
-      tops = λ v top. (let stands = waits.tops v top in record {
-        place = stands.place;
-        after = stands.after;
-        before = stands.before;
-        is = stands.is;
-      });
+      tops = search rules;
       only_tops = λ v stands. waits.only_tops v (record {
         place = stands.place;
         after = stands.after;
@@ -161,16 +132,7 @@ moved_nest {game} {old} {new} {winner} {order} frames frame {cursor} nest moved 
     (moves_of t) (λ v inside decided. refl) (λ v inside decided.
     still v (λ top. turned.left.outside v inside (turned.closed.holds v top))) solved in
     let depth : 2 * length (frames ++ frame ∷ []) + 1 ≡ a + 3 = omega (arith, frames_size frames frame) in
-    let agrees : Agrees (a + 1) old t winner winner = record {
-      sizes = refl;
-      each = λ v. elim (moved.moves v) [
-        | inl kept ↦ inl (record { level = refl; move = kept; wins = refl })
-        | inr stands ↦ (
-            let high : a + 2 ≤ level_of old v =
-            from_at old.level (a + 2) v (turned.within v (turned.closed.holds v (waits.only_tops v stands))) in
-            inr (omega arith, omega arith))
-      ];
-    } in
+    let agrees : Agrees (a + 1) old t winner winner = search (rules, from_at) in
     let done = nest.done refl in
     let below = below_wait frames frame nest agrees waits.segment.within
     (λ j before. refl) (λ b m less before segment. segment_moved t refl refl segment) in

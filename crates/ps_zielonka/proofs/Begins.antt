@@ -1,6 +1,6 @@
 -- A turn begins: the tops are placed, and what is attracted to them; the last call then waits for the next one, which
 -- looks for its own turn.
-use Rattle.std.proofs.Common.{◌≡◌, ℕ, ◌+◌, ◌*◌, ◌<◌, ◌≤◌, inl, inr, List, [], ◌∷◌, ◌++◌, length, get_or, Bool}
+use Rattle.std.proofs.Common.{◌≡◌, ℕ, ◌+◌, ◌*◌, ◌<◌, ◌≤◌, inl, inr, List, [], ◌∷◌, ◌++◌, length, get_or, Bool, rules}
 use Rattle.std.proofs.Common.{false, refl, sym, ap, ◌∙◌, arith}
 use Rattle.std.specs.Prelude.{IsTrue}
 use Rattle.std.proofs.lemmas.Bool.{cases_lt, cases_eq, false≢true}
@@ -63,9 +63,7 @@ module _ (b : Begun) where
 
   -- what is attracted was placed
   pulled_placed : (v : ℕ) → IsTrue (pulled b v) → IsPlaced b.aim b.old b.new v
-  pulled_placed v there =
-      let (inside, not_still) = placed_from b b.new v there in
-      elim (still_or_placed b v inside) [ inl still ↦ absurd (not_still still) | inr placed ↦ placed ]
+  pulled_placed v there = search (rules, placed_from, still_or_placed)
 
   -- the rest: what is not placed, of any level above that of the attractor
   rest_of_turn : (c : ℕ) → 2 * b.depth + 3 ≤ c → c ≤ UNPLACED →
@@ -76,14 +74,8 @@ module _ (b : Begun) where
       let there : IsTrue (undecided b v) = to_from b.new.level (2 * b.depth + 2) v (omega arith) in there) in
       record {
         within = into;
-        outside = λ v inside there. (
-            let high : c ≤ level_of b.new v = from_at b.new.level c v inside in
-            let placed = pulled_placed v there in
-            let h : ⊥ = omega arith in h);
-        all = λ v inside outside. elim (cases_eq (level_of b.new v) UNPLACED) [
-          | inl still ↦ to_from b.new.level c v (omega arith)
-          | inr placed ↦ absurd (outside (to_placed b b.new v inside placed))
-        ];
+        outside = search (rules, from_at, pulled_placed);
+        all = search (rules, cases_eq, to_from, to_placed);
       }
 
   -- ## The calls after it
@@ -114,8 +106,7 @@ module _ (b : Begun) where
         left = rest_of_turn (2 * b.depth + 3) (omega arith) (omega arith);
         closed = attracted.closed;
         falls = attracted.falls;
-        given = λ v there.
-            b.given.given v (stands_after (pulled_placed v there).stands (omega (arith, b.begin)));
+        given = search (rules, stands_after, pulled_placed);
       } in
       record {
         alive = subgame_below (2 * b.depth + 2) (agrees b) (omega arith) b.searches.alive;
@@ -123,15 +114,7 @@ module _ (b : Begun) where
             (agrees b) (omega arith) (omega arith) b.searches.progress;
         prepared = prepared;
         room = omega arith;
-        segment = record {
-          within = omega arith;
-          above = λ j after within. (let placed = grown.behind j after within in
-              omega arith);
-          stands = λ v high below. elim (still_or_placed b v (to_from b.new.level (2 * b.depth + 2) v high)) [
-            | inl still ↦ absurd (omega arith)
-            | inr placed ↦ placed.stands
-          ];
-        };
+        segment = search (rules, still_or_placed, to_from);
         some = b.placed.grown.longer;
         end = b.grown.longer;
         tops = λ v top. (
@@ -143,26 +126,13 @@ module _ (b : Begun) where
               before = within;
               is = b.grown.front placed.stands.place within ∙ placed.stands.is;
             });
-        only_tops = λ v stands.
-            rw (sym (b.grown.front stands.place stands.before) ∙ stands.is) at
-            (placed_tops b (b.placed.grown.behind stands.place stands.after stands.before));
-        front = record {
-          within = (let within : b.cursor < length b.order = b.within in omega arith);
-          below = λ j before. elim (cases_lt (get_or b.new.level (get_or b.order j 0) 0) (2 * b.depth + 2)) [
-            | inl less ↦ less
-            | inr high ↦ absurd (b.first j before (was_open b (get_or b.order j 0)
-                (to_from b.new.level (2 * b.depth + 2) (get_or b.order j 0) high)))
-          ];
-        };
+        only_tops = search (rules, placed_tops);
+        front = search (rules, cases_lt, was_open, to_from);
       }
 
   -- a vertex that is of a higher level than the attractor's is not placed
   still_high : (v : ℕ) → 2 * b.depth + 3 ≤ level_of b.new v → level_of b.new v ≡ UNPLACED
-  still_high v high = elim (still_or_placed b v (to_from b.new.level (2 * b.depth + 2) v (omega arith))) [
-    | inl still ↦ still
-    | inr placed ↦ (
-        absurd (omega arith))
-  ]
+  still_high v high = search (rules, still_or_placed, to_from)
 
   first_vertex : get_or b.order b.cursor 0 < length b.old.level
   first_vertex =
@@ -205,15 +175,10 @@ module _ (b : Begun) where
             | inr high ↦ (
                 let still : level_of b.new (get_or b.order j 0) ≡ UNPLACED =
                 still_high (get_or b.order j 0) (omega arith) in
-                let was : level_of b.old (get_or b.order j 0) ≡ UNPLACED =
-                was_open b (get_or b.order j 0) (to_from b.new.level (2 * b.depth + 2) (get_or b.order j 0)
-                (omega arith)) in
+                let was : level_of b.old (get_or b.order j 0) ≡ UNPLACED = search (rules, was_open, to_from) in
                 elim (cases_lt j b.cursor) [
                   | inl early ↦ absurd (b.first j early was)
-                  | inr late ↦ elim (b.grown.each (get_or b.order j 0)) [
-                    | inl same ↦ absurd (b.placed.all j late before (sym same.level ∙ still ∙ sym b.free))
-                    | inr placed ↦ absurd (differ b (sym placed.level ∙ still ∙ sym b.free))
-                  ]
+                  | inr late ↦ search (rules, differ)
                 ])
           ];
         };
@@ -227,16 +192,11 @@ module _ (b : Begun) where
       record {
         within = omega arith;
         above = λ j after within. elim (cases_lt j (length b.old.trail)) [
-          | inl less ↦ (
-              let at : AgreesAt b.old.level b.new.level (a + 2) (get_or b.old.trail j 0) =
-              agrees_at (a + 2) (agrees b) (omega arith) (get_or b.old.trail j 0) in
-              (rw (grown.front j less) (at.up (waits.segment.above j after less))))
-          | inr more ↦ (let placed = grown.behind j more within in
-              let level : level_of b.new (get_or b.new.trail j 0) ≡ b.aim.mark = placed.level in omega arith)
+          | inl less ↦ search (rules, AgreesAt, agrees_at, agrees)
+          | inr more ↦ search rules
         ];
         stands = λ v high low. elim (grown.each v) [
-          | inl same ↦ stands_longer grown.longer grown.front
-              (waits.segment.stands v (omega (arith, same.level)) (omega (arith, same.level)))
+          | inl same ↦ search (rules, stands_longer)
           | inr placed ↦ stands_after placed.stands waits.segment.within
         ];
       }
@@ -249,11 +209,7 @@ module _ (b : Begun) where
       (agrees b) below grown.front grown.longer waits.end (segment_later below waits) waits
 
   sound_now : IsSoundBoard b.game b.new b.winner_now b.order
-  sound_now =
-      sound_on b.new b.sound b.fits b.winners (λ v. elim ((grown_all b).each v) [
-        | inl same ↦ inl same.level
-        | inr placed ↦ inr (omega arith, omega (arith, low b))
-      ])
+  sound_now = search (rules, sound_on, grown_all, low)
 
   pub begun_nest : (frames : List Frame) (solved : Bool) → length frames ≡ b.depth → solved ≡ false
       → ((i : ℕ) → i < length frames → Waits b.game b.old b.winner b.order (2 * i) (frame_at frames i))
@@ -273,11 +229,7 @@ module _ (b : Begun) where
             let left : i < length frames = omega arith in
             let top = ap (λ (f : Frame). f.top) (frame_before frames (frame_of b) i left) in
             elim (cases_lt j (length frames)) [
-              | inl less ↦ omega (
-                arith,
-                rises i j before less,
-                ap (λ (f : Frame). f.turn) (frame_before frames (frame_of b) j less),
-              )
+              | inl less ↦ search (rules, frame_before)
               | inr more ↦
                   let last : j ≡ length frames = omega arith in
                   omega (

@@ -1,6 +1,6 @@
 -- A turn that begins: what is given of it, and which vertices are undecided and which of them its tops.
 use Rattle.std.proofs.Common.{◌≡◌, ◌≢◌, ℕ, ◌+◌, ◌*◌, ◌%◌, ◌<◌, ◌≤◌, ◌⊎◌, inl, inr, List, length, get_or, Bool, true}
-use Rattle.std.proofs.Common.{not, ◌&&◌, ◌==◌, refl, sym, ap, ◌∙◌, arith}
+use Rattle.std.proofs.Common.{not, ◌&&◌, ◌==◌, refl, sym, ap, ◌∙◌, arith, rules}
 use Rattle.std.specs.Prelude.{IsTrue}
 use Rattle.std.proofs.lemmas.Bool.{cases_lt, false≢true, eq-eqb, ne_eqb, and_parts, and_from, not-true, not_from_false}
 use Rattle.ps_game.specs.Games.{ParityGame, vertex_count, priority_of}
@@ -79,9 +79,7 @@ module _ (b : Begun) where
 
   -- what stands behind the old trail was placed
   placed_there : {v : ℕ} → StandsFrom b.new b.aim.begin v → IsPlaced b.aim b.old b.new v
-  placed_there stands =
-      let grown = grown_all in
-      rw stands.is at (grown.behind stands.place (omega arith) stands.within)
+  placed_there stands = search (rules, grown_all)
 
   pub agrees : Agrees (2 * b.depth + 2) b.old b.new b.winner b.winner_now
   agrees =
@@ -101,16 +99,10 @@ module _ (b : Begun) where
       }
 
   pub was_open : (v : ℕ) → IsTrue (undecided b v) → level_of b.old v ≡ UNPLACED
-  was_open v inside =
-      let at : AgreesAt b.old.level b.new.level (2 * b.depth + 2) v =
-      agrees_at (2 * b.depth + 2) agrees (omega arith) v in
-      b.searches.unplaced v (at.back (from_at b.new.level (2 * b.depth + 2) v inside))
+  was_open v inside = search (rules, AgreesAt, agrees_at, agrees, from_at)
 
   pub is_open : (v : ℕ) → level_of b.old v ≡ UNPLACED → IsTrue (undecided b v)
-  is_open v was =
-      let at : AgreesAt b.old.level b.new.level (2 * b.depth + 2) v =
-      agrees_at (2 * b.depth + 2) agrees (omega arith) v in
-      to_from b.new.level (2 * b.depth + 2) v (at.up (omega arith))
+  is_open v was = search (rules, AgreesAt, agrees_at, agrees, to_from)
 
   -- an undecided vertex is not placed still, or is attracted now
   pub still_or_placed : (v : ℕ) → IsTrue (undecided b v) →
@@ -125,17 +117,11 @@ module _ (b : Begun) where
   pub placed_from : (tables : TablesData) (v : ℕ) →
       IsTrue (undecided b v && not (level_of tables v == UNPLACED)) →
       IsTrue (undecided b v) × (level_of tables v ≢ UNPLACED)
-  placed_from tables v there =
-      let parts = and_parts (undecided b v) (not (level_of tables v == UNPLACED)) there in (
-        parts.0,
-        λ same. false≢true (sym (not-true (level_of tables v == UNPLACED) parts.1)
-            ∙ eq-eqb (level_of tables v) UNPLACED same),
-      )
+  placed_from tables v there = search (rules, and_parts, false≢true, not-true, eq-eqb)
 
   pub to_placed : (tables : TablesData) (v : ℕ) → IsTrue (undecided b v) → level_of tables v ≢ UNPLACED →
       IsTrue (undecided b v && not (level_of tables v == UNPLACED))
-  to_placed tables v inside placed = and_from (undecided b v) (not (level_of tables v == UNPLACED)) inside
-      (not_from_false (level_of tables v == UNPLACED) (ne_eqb (level_of tables v) UNPLACED placed))
+  to_placed tables v inside placed = search (rules, and_from, not_from_false, ne_eqb)
 
   pub tops_placed : (v : ℕ) → IsTrue (tops b v) → IsPlaced b.aim b.old b.mid v
   tops_placed v top =
@@ -146,8 +132,7 @@ module _ (b : Begun) where
       ]
 
   pub placed_tops : {v : ℕ} → IsPlaced b.aim b.old b.mid v → IsTrue (tops b v)
-  placed_tops {v} placed =
-      to_placed b.mid v (is_open v (placed.was_free ∙ b.free)) (λ same. omega arith)
+  placed_tops {v} placed = search (rules, to_placed, is_open)
 
   in_order : (v : ℕ) → IsTrue (undecided b v) → InOrder b v
   in_order v inside =

@@ -1,6 +1,6 @@
 -- What changes only above a level leaves the calls that wait below it.
-use Rattle.std.proofs.Common.{◌≡◌, ℕ, ◌+◌, ◌*◌, ◌<◌, ◌≤◌, ◌⊎◌, inl, inr, List, length, get_or, Bool, Option, Some}
-use Rattle.std.proofs.Common.{sym, ap, ◌∙◌, arith}
+use Rattle.std.proofs.Common.{◌≡◌, ℕ, ◌+◌, ◌*◌, ◌<◌, ◌≤◌, ◌⊎◌, List, length, get_or, Bool, Option, Some}
+use Rattle.std.proofs.Common.{sym, ap, ◌∙◌, arith, rules}
 use Rattle.std.specs.Prelude.{IsTrue}
 use Rattle.std.proofs.lemmas.Bool.{cases_lt}
 use Rattle.ps_game.specs.Games.{ParityGame, vertex_count}
@@ -29,24 +29,16 @@ pub record Agrees (c : ℕ) (old new : TablesData) (winner winner_now : List ℕ
 
 pub agrees_at : {c : ℕ} (b : ℕ) {old new : TablesData} {winner winner_now : List ℕ} →
     Agrees c old new winner winner_now → b ≤ c → (v : ℕ) → AgreesAt old.level new.level b v
-agrees_at b {old} {new} agrees less v = elim (agrees.each v) [
-  | inl still ↦ (
-      record { up = λ high. omega arith; back = λ high. omega arith })
-  | inr both ↦ record { up = λ high. omega (arith, both.1); back = λ high. omega (arith, both.0) }
-]
+agrees_at b {old} {new} agrees less v = search rules
 
 pub agrees_from : {c : ℕ} (b : ℕ) {old new : TablesData} {winner winner_now : List ℕ} →
     Agrees c old new winner winner_now → b ≤ c → from new.level b ≡ from old.level b
-agrees_from {c} b {old} {new} {winner} {winner_now} agrees less =
-    from-same old.level new.level b (agrees_at b agrees less)
+agrees_from {c} b {old} {new} {winner} {winner_now} agrees less = search (rules, from-same, agrees_at)
 
 -- below the level nothing changes
 pub still_below : {c : ℕ} {old new : TablesData} {winner winner_now : List ℕ} → Agrees c old new winner winner_now →
     (v : ℕ) → ¬ IsTrue (from old.level c v) → IsStill old new winner winner_now v
-still_below {c} {old} agrees v below = elim (agrees.each v) [
-  | inl still ↦ still
-  | inr both ↦ absurd (below (to_from old.level c v both.0))
-]
+still_below {c} {old} agrees v below = search (rules, to_from)
 
 pub progress_below : {game : ParityGame} {c : ℕ} (a b : ℕ) {old new : TablesData} {winner winner_now : List ℕ} →
     Agrees c old new winner winner_now → a ≤ c → b ≤ c → Progress game (from old.level a) (from old.level b)
@@ -54,8 +46,7 @@ pub progress_below : {game : ParityGame} {c : ℕ} (a b : ℕ) {old new : Tables
     (winner_of winner_now) (moves_of new)
 progress_below {game} {c} a b {old} {new} {winner} {winner_now} agrees low high progress =
     let below = λ (v : ℕ) (decided : ¬ IsTrue (from old.level b v)). (
-    let still : IsStill old new winner winner_now v = still_below agrees v (λ inside.
-    decided (to_from old.level b v (omega (arith, from_at old.level c v inside)))) in
+    let still : IsStill old new winner winner_now v = search (rules, still_below, to_from, from_at) in
     still) in
     rw (agrees_from b agrees high) (rw (agrees_from a agrees low) (Progress-same (winner_of winner_now) (moves_of new)
     (λ v inside decided. (below v decided).wins) (λ v inside decided. ap Some (below v decided).move) progress))
@@ -70,18 +61,7 @@ pub sound_on : {game : ParityGame} {old : TablesData} {winner winner_now order :
     IsSoundBoard game old winner order → FitsGame game new → length winner_now ≡ vertex_count game →
     ((v : ℕ) → (level_of new v ≡ level_of old v) ⊎ ((1 ≤ level_of new v) × (level_of new v ≤ UNPLACED))) →
     IsSoundBoard game new winner_now order
-sound_on new sound fits winners each = record {
-  is_game = sound.is_game;
-  fits = fits;
-  winners = winners;
-  is_order = sound.is_order;
-  high = sound.high;
-  levels = λ v is_vertex. elim (each v) [
-    | inl same ↦ omega (arith, sound.levels v is_vertex)
-    | inr bounds ↦ bounds.0
-  ];
-  most = λ v. elim (each v) [ inl same ↦ omega (arith, sound.most v) | inr bounds ↦ bounds.1 ];
-}
+sound_on new sound fits winners each = search rules
 
 -- a turn, with the same sets, and the same winners and moves in the attractor
 unfoldable pub IsTurned-on : {game : ParityGame} {open_part rest : ℕ → Bool} (open_now rest_now : ℕ → Bool) {player : ℕ}
@@ -144,26 +124,11 @@ IsTurned-on {game} {open_part} {rest} open_now rest_now win_now {table} table_no
 between_front : {old : TablesData} (new : TablesData) (m : ℕ) {from_place to_place v : ℕ} →
     ((j : ℕ) → j < m → get_or new.trail j 0 ≡ get_or old.trail j 0) → to_place ≤ m →
     StandsBetween old from_place to_place v → StandsBetween new from_place to_place v
-between_front new m {to_place} front end stands =
-    let before : stands.place < to_place = stands.before in
-    record {
-      place = stands.place;
-      after = stands.after;
-      before = stands.before;
-      is = front stands.place (omega arith) ∙ stands.is;
-    }
+between_front new m {to_place} front end stands = search rules
 
 cursor_below : {c b : ℕ} {old new : TablesData} {winner winner_now order : List ℕ} {cursor : ℕ} →
     Agrees c old new winner winner_now → b ≤ c → IsCursor order old.level cursor b → IsCursor order new.level cursor b
-cursor_below {c} {b} {old} {new} {winner} {winner_now} {order} agrees less front = record {
-  within = front.within;
-  below = λ j before. elim (cases_lt (get_or new.level (get_or order j 0) 0) b) [
-    | inl low ↦ low
-    | inr high ↦ (
-        let at : AgreesAt old.level new.level b (get_or order j 0) = agrees_at b agrees less (get_or order j 0) in
-        absurd (omega (arith, at.back high, front.below j before)))
-  ];
-}
+cursor_below {c} {b} {old} {new} {winner} {winner_now} {order} agrees less front = search (rules, cases_lt, AgreesAt, agrees_at)
 
 -- a call that waits below the level waits still
 pub waits_below : {game : ParityGame} {c a : ℕ} (m : ℕ) {old new : TablesData} {winner winner_now order : List ℕ}
@@ -175,12 +140,9 @@ waits_below {game} {c} {a} m {old} {new} {winner} {winner_now} {order} {frame} a
     segment waits =
     let prepared = waits.prepared in
     let still = λ (v : ℕ) (pulled : IsTrue (prepared.attracted v)). (
-    let there : IsStill old new winner winner_now v = still_below agrees v (λ inside.
-    prepared.left.outside v (to_from old.level (a + 3) v (omega (arith, from_at old.level c v inside))) pulled) in
+    let there : IsStill old new winner winner_now v = search (rules, still_below, to_from, from_at) in
     there) in
-    let size : size_from (a + 1) new.level ≡ size_from (a + 1) old.level =
-    size_from-same (a + 1) old.level new.level agrees.sizes (agrees_at (a + 1) agrees
-    (omega arith)) in
+    let size : size_from (a + 1) new.level ≡ size_from (a + 1) old.level = search (rules, size_from-same, agrees_at) in
     let room : a + 2 * size_from (a + 1) old.level ≤ 2 * length old.level = waits.room in
     record {
       alive = subgame_below (a + 2) agrees (omega arith) waits.alive;

@@ -1,7 +1,7 @@
 -- The parts of a step: what is kept at the vertices of the greatest priority, and what is taken off the trail and put
 -- back.
 use Rattle.std.proofs.Common.{◌≡◌, ◌≢◌, ℕ, ◌+◌, ◌-◌, ◌<◌, ◌≤◌, ◌⊎◌, inl, inr, List, [], ◌∷◌, length, get_or, take}
-use Rattle.std.proofs.Common.{refl, sym, ap, ◌∙◌, arith}
+use Rattle.std.proofs.Common.{refl, sym, ap, ◌∙◌, arith, rules}
 use Rattle.std.specs.Prelude.{slice_set}
 use Rattle.std.proofs.lemmas.Bool.{cases_eq, cases_lt}
 use Rattle.std.proofs.lemmas.List.{get_or_append_left, get_or_push, length_push, get_or-set_same, get_or-set_other}
@@ -20,38 +20,13 @@ use Rattle.ps_zielonka.specs.Nests.{StandsBetween, StandsBefore, IsKeptAt, IsMov
 pub moved_more : {old mid new : TablesData} (turn top place u : ℕ) → turn ≤ place → place < top →
     get_or old.trail place 0 ≡ u → IsMoved old mid (StandsBetween old turn top) → IsMoved mid new (λ v. v ≡ u) →
     IsMoved old new (StandsBetween old turn top)
-moved_more turn top place u after before at first second = record {
-  level = second.level ∙ first.level;
-  trail = second.trail ∙ first.trail;
-  choices = second.choices ∙ first.choices;
-  moves = λ v. elim (second.moves v) [
-    | inr same ↦ inr (record { place = place; after = after; before = before; is = at ∙ sym same })
-    | inl kept ↦ elim (first.moves v) [
-      | inl kept_first ↦ inl (kept ∙ kept_first)
-      | inr stands ↦ inr stands
-    ]
-  ];
-}
+moved_more turn top place u after before at first second = search rules
 
 -- what is kept at a vertex stays so where another one's move changes
 kept_on : {game : ParityGame} {mid new : TablesData} {winner : List ℕ} {level player other : ℕ} (u : ℕ) {v : ℕ} →
     IsMoved mid new (λ v. v ≡ u) → v ≢ u → IsKeptAt game mid winner level player other v →
     IsKeptAt game new winner level player other v
-kept_on {game} {mid} {new} {winner} {level} {player} u {v} moved differ kept =
-    let move : get_or new.moves v 0 ≡ get_or mid.moves v 0 =
-    elim (moved.moves v) [ inl same ↦ same | inr here ↦ absurd (differ here) ] in
-    let levels = λ (w : ℕ). ap (λ xs. get_or xs w 0) moved.level in
-    record {
-      own = λ owns. (
-          let step = kept.own owns in
-          let high : level < level_of new (get_or mid.moves v 0) = omega (arith, levels (get_or mid.moves v 0)) in
-          record {
-            edge = rw move step.edge;
-            above = rw move high;
-            won = rw move step.won;
-          });
-      foreign = λ others w edge above. kept.foreign others w edge (omega (arith, levels w));
-    }
+kept_on {game} {mid} {new} {winner} {level} {player} u {v} moved differ kept = search rules
 
 pub kept_more : {game : ParityGame} {old mid new : TablesData} {winner : List ℕ} {level player other turn : ℕ}
     (place : ℕ) {u : ℕ} → get_or old.trail place 0 ≡ u → IsMoved mid new (λ v. v ≡ u) →
@@ -74,15 +49,10 @@ kept_more {game} {old} {mid} {new} {winner} {level} {player} {other} place {u} a
 -- one more of the list
 one_more : {spare : List ℕ} (k u : ℕ) {v : ℕ} → get_or spare k 0 ≡ u → StandsBefore spare (k + 1) v →
     StandsBefore spare k v ⊎ (v ≡ u)
-one_more {spare} k u at_k stands = elim (cases_eq stands.place k) [
-  | inl same ↦ inr (sym stands.is ∙ ap (λ j. get_or spare j 0) same ∙ at_k)
-  | inr differ ↦ (let before : stands.place < k + 1 = stands.before in
-      inl (record { place = stands.place; before = omega arith; is = stands.is }))
-]
+one_more {spare} k u at_k stands = search (rules, cases_eq)
 
 one_longer : {spare : List ℕ} {k v : ℕ} → StandsBefore spare k v → StandsBefore spare (k + 1) v
-one_longer {k} stands = let before : stands.place < k = stands.before in
-    record { place = stands.place; before = omega arith; is = stands.is }
+one_longer {k} stands = search rules
 
 -- one more vertex is free again, or is put back
 reopened_more : {winner : List ℕ} {player level turn : ℕ} {spare : List ℕ} {k u : ℕ} {old mid new : TablesData} →
@@ -98,16 +68,11 @@ reopened_more : {winner : List ℕ} {player level turn : ℕ} {spare : List ℕ}
 reopened_more {winner = winner} {player = player} {turn = turn} {spare = spare} {k = k} {u = u} {mid = mid} {new = new}
     at_k kept longer front last lost free moves sizes so_far =
     let off_here : StandsBefore spare (k + 1) u = record { place = k; before = omega arith; is = at_k } in
-    let earlier : (v : ℕ) → v ≢ u → StandsBefore spare (k + 1) v → StandsBefore spare k v =
-    λ v differ off. elim (one_more k u at_k off) [ inl earlier ↦ earlier | inr same ↦ absurd (differ same) ] in
+    let earlier : (v : ℕ) → v ≢ u → StandsBefore spare (k + 1) v → StandsBefore spare k v = search (rules, one_more) in
     record {
       longer = omega arith;
       front = λ j before. front j (omega arith) ∙ so_far.front j before;
-      behind = λ j after before. elim (cases_lt j (length mid.trail)) [
-        | inl less ↦
-            let behind = so_far.behind j after less in rw (front j less) (one_longer behind.0, behind.1)
-        | inr more ↦ let (is, not_won) = last j more before in rw is (off_here, not_won)
-      ];
+      behind = search (rules, cases_lt, one_longer);
       lost = λ v off not_won. elim (cases_eq v u) [
         | inl same ↦ rw same (lost (rw same at not_won))
         | inr differ ↦
@@ -116,17 +81,8 @@ reopened_more {winner = winner} {player = player} {turn = turn} {spare = spare} 
               stands_longer longer front stands,
             )
       ];
-      freed = λ v off won. elim (cases_eq v u) [
-        | inl same ↦ rw same (free (rw same at won))
-        | inr differ ↦ kept v differ ∙ so_far.freed v (earlier v differ off) won
-      ];
-      same = λ v. elim (cases_eq v u) [
-        | inl same ↦ inr (rw same off_here)
-        | inr differ ↦ elim (so_far.same v) [
-          | inl still ↦ inl (kept v differ ∙ still)
-          | inr off ↦ inr (one_longer off)
-        ]
-      ];
+      freed = search (rules, cases_eq);
+      same = search (rules, cases_eq, one_longer);
       moves = moves ∙ so_far.moves;
       sizes = sizes ∙ so_far.sizes;
     }
@@ -138,11 +94,7 @@ pub reopened_free : {winner : List ℕ} {player level turn : ℕ} (spare : List 
     IsReopened winner player level turn (StandsBefore spare k) old mid →
     IsReopened winner player level turn (StandsBefore spare (k + 1)) old new
 reopened_free spare k u {mid = mid} new at_k within won levels moves trail so_far =
-    let size = ap length trail in
-    reopened_more at_k (λ v differ. rw levels (get_or-set_other mid.level u v UNPLACED 0 differ)) (omega arith)
-    (λ j less. ap (λ xs. get_or xs j 0) trail) (λ j more before. absurd (omega arith))
-    (λ not_won. absurd (not_won won)) (λ _. rw levels (get_or-set_same mid.level u UNPLACED 0 within)) moves
-    (ap length levels ∙ length-set mid.level u UNPLACED) so_far
+    search (rules, reopened_more, get_or-set_other, get_or-set_same, length-set)
 
 -- the next vertex was not won by the player
 pub reopened_lost : {winner : List ℕ} {player level turn : ℕ} (spare : List ℕ) (k u : ℕ) {old mid : TablesData}
@@ -170,35 +122,21 @@ pub reopened_end : {winner : List ℕ} {player level turn : ℕ} (k : ℕ) {spar
 reopened_end {turn} k {spare} old {new} within levels moves trail off all reopened =
     let to_old = λ (v : ℕ) (stands : StandsBefore spare k v). (
     let low : stands.place < k = stands.before in
-    let found : StandsFrom old turn v = record {
-      place = turn + stands.place;
-      after = omega arith;
-      within = omega arith;
-      is = sym (off.same stands.place (omega arith)) ∙ stands.is;
-    } in
+    let found : StandsFrom old turn v = search rules in
     found) in
     let to_spare = λ (v : ℕ) (stands : StandsFrom old turn v). (
     let low : stands.place < length old.trail = stands.within in
     let after : turn ≤ stands.place = stands.after in
     let back : turn + (stands.place - turn) ≡ stands.place = omega arith in
-    let found : StandsBefore spare k v = record {
-      place = stands.place - turn;
-      before = omega arith;
-      is = off.same (stands.place - turn) (omega arith) ∙ ap (λ j. get_or old.trail j 0) back ∙ stands.is;
-    } in
+    let found : StandsBefore spare k v = search rules in
     found) in
     record {
       longer = reopened.longer;
-      front =
-          λ j before. reopened.front j before ∙ ap (λ xs. get_or xs j 0) trail ∙ get_or-take turn old.trail j 0 before;
-      behind = λ j after before. (let behind = reopened.behind j after before in
-          (to_old (get_or new.trail j 0) behind.0, behind.1));
+      front = search (rules, get_or-take);
+      behind = search rules;
       lost = λ v stands. reopened.lost v (to_spare v stands);
       freed = λ v stands. reopened.freed v (to_spare v stands);
-      same = λ v. elim (reopened.same v) [
-        | inl kept ↦ inl (kept ∙ ap (λ xs. get_or xs v 0) levels)
-        | inr stands ↦ inr (to_old v stands)
-      ];
+      same = search rules;
       moves = reopened.moves ∙ moves;
       sizes = reopened.sizes ∙ ap length levels;
     }

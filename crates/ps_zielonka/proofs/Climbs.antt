@@ -1,7 +1,7 @@
 -- The last call that waited goes on: what the other player won in the next one, and all from where it can lead there,
 -- is decided.
-use Rattle.std.proofs.Common.{◌≡◌, ◌≢◌, ℕ, ◌+◌, ◌-◌, ◌*◌, ◌<◌, ◌≤◌, ◌⊎◌, inl, inr, List, Bool, length, get_or}
-use Rattle.std.proofs.Common.{Some, sym, ap, ◌∙◌, arith}
+use Rattle.std.proofs.Common.{◌≡◌, ◌≢◌, ℕ, ◌+◌, ◌-◌, ◌*◌, ◌<◌, ◌≤◌, ◌⊎◌, inl, inr, List, Bool, length, get_or, rules}
+use Rattle.std.proofs.Common.{Some, ap, ◌∙◌, arith}
 use Rattle.std.specs.Prelude.{IsTrue}
 use Rattle.std.proofs.lemmas.Bool.{cases_eq, cases_lt, false≢true}
 use Rattle.ps_game.specs.Games.{ParityGame, IsGame, vertex_count, owner_of}
@@ -43,60 +43,22 @@ module _ {game : ParityGame} {a : ℕ} {frame : Frame} {old mid new : TablesData
     (going : Going game a frame old mid new winner winner_now order) where
   -- what stood in the trail from the turn on was open, and what was open stood there
   pub was_open : {v : ℕ} → StandsFrom old frame.turn v → a + 2 ≤ level_of old v
-  was_open stands =
-      omega (
-        arith,
-        going.waits.segment.above stands.place stands.after stands.within,
-        ap (λ x. level_of old x) stands.is,
-      )
+  was_open stands = search rules
 
   stood : (v : ℕ) → a + 2 ≤ level_of old v → StandsFrom old frame.turn v
   stood v high = going.waits.segment.stands v high (going.placed v)
 
   -- a vertex that was not open is so still before the attractor, and is not free
   mid_still : (v : ℕ) → level_of old v < a + 2 → level_of mid v ≡ level_of old v
-  mid_still v low = elim (going.reopened.same v) [
-    | inl same ↦ same
-    | inr stands ↦ (let high = was_open stands in
-        absurd (omega arith))
-  ]
+  mid_still v low = search (rules, was_open)
 
   -- a vertex that stands in the trail from the turn on was open
   pub stands_open : {v : ℕ} → StandsFrom new frame.turn v → a + 2 ≤ level_of old v
-  stands_open {v} stands = elim (cases_lt stands.place (length mid.trail)) [
-    | inl less ↦ (
-        let there = (going.reopened.behind stands.place stands.after less).0 in
-        let high = was_open there in
-        omega (arith, ap (λ x. level_of old x) (sym (going.grown.front stands.place less) ∙ stands.is)))
-    | inr more ↦ (
-        let placed = going.grown.behind stands.place more stands.within in
-        let was_free : level_of mid v ≡ UNPLACED = ap (λ x. level_of mid x) (sym stands.is) ∙ placed.was_free in
-        elim (cases_lt (level_of old v) (a + 2)) [
-          | inl low ↦ (
-              let same = mid_still v low in
-              absurd (omega (arith, going.placed v)))
-          | inr high ↦ high
-        ])
-  ]
+  stands_open {v} stands = search (rules, cases_lt, was_open, mid_still)
 
   -- a vertex that was not open is as it was
   pub going_still : (v : ℕ) → level_of old v < a + 2 → IsStill old new winner winner_now v
-  going_still v low =
-      let same_mid : level_of mid v ≡ level_of old v = mid_still v low in
-      let below : level_of old v < UNPLACED = going.placed v in
-      let wins : get_or winner_now v 0 ≡ get_or winner v 0 = elim (going.given.kept v) [
-        | inl same ↦ same
-        | inr stands ↦ (let high = stands_open stands in
-            absurd (omega arith))
-      ] in
-      elim (going.grown.each v) [
-        | inl same ↦ record {
-          level = same.level ∙ same_mid;
-          move = same.move ∙ ap (λ xs. get_or xs v 0) going.reopened.moves;
-          wins = wins;
-        }
-        | inr placed ↦ absurd (omega arith)
-      ]
+  going_still v low = search (rules, mid_still, stands_open)
 
   -- a vertex that the other player won is decided
   pub going_lost : (v : ℕ) → a + 2 ≤ level_of old v → get_or winner v 0 ≢ frame.player →
@@ -104,11 +66,7 @@ module _ {game : ParityGame} {a : ℕ} {frame : Frame} {old mid new : TablesData
   going_lost v high lost = going.reopened.lost v (stood v high) lost
 
   lost_new : (v : ℕ) → level_of mid v ≡ a + 1 → (level_of new v ≡ a + 1) × (get_or new.moves v 0 ≡ get_or mid.moves v 0)
-  lost_new v there =
-      elim (going.grown.each v) [
-        | inl same ↦ (same.level ∙ there, same.move)
-        | inr placed ↦ absurd (omega arith)
-      ]
+  lost_new v there = search rules
 
   stands_on : {v : ℕ} → StandsFrom mid frame.turn v → StandsFrom new frame.turn v
   stands_on stands = stands_longer going.grown.longer going.grown.front stands
@@ -116,34 +74,10 @@ module _ {game : ParityGame} {a : ℕ} {frame : Frame} {old mid new : TablesData
   -- a vertex that was open is decided, or free again
   pub going_open : (v : ℕ) → a + 2 ≤ level_of old v → ((level_of new v ≡ a + 1) × StandsFrom new frame.turn v) ⊎
       (level_of new v ≡ UNPLACED)
-  going_open v high = elim (cases_eq (get_or winner v 0) frame.player) [
-    | inr lost ↦ (
-        let there = going_lost v high lost in
-        inl (
-          (lost_new v there.0).0,
-          stands_on there.1,
-        ))
-    | inl won ↦ (
-        let free : level_of mid v ≡ UNPLACED = going.reopened.freed v (stood v high) won in
-        elim (going.grown.each v) [
-          | inl same ↦ inr (same.level ∙ free)
-          | inr placed ↦ inl (placed.level, stands_after placed.stands going.reopened.longer)
-        ])
-  ]
+  going_open v high = search (rules, cases_eq, going_lost, lost_new, stands_on, stood, stands_after)
 
   pub going_agrees : Agrees (a + 1) old new winner winner_now
-  going_agrees = record {
-    sizes = going.sizes ∙ going.reopened.sizes;
-    each = λ v. elim (cases_lt (level_of old v) (a + 2)) [
-      | inl low ↦ inl (going_still v low)
-      | inr high ↦ (
-          let low : a + 2 < UNPLACED = going.low in
-          elim (going_open v high) [
-            | inl decided ↦ (inr (omega arith, omega arith))
-            | inr free ↦ inr (omega arith, omega arith)
-          ])
-    ];
-  }
+  going_agrees = search (rules, cases_lt, going_still, going_open)
 
   -- ## The sets of the turn
 
@@ -176,39 +110,15 @@ module _ {game : ParityGame} {a : ℕ} {frame : Frame} {old mid new : TablesData
   is_lost v high lost = loses.all v (to_from old.level (a + 2) v high) (λ won. lost (keeps.won v won))
 
   lost_is : (v : ℕ) → IsTrue (the_lost v) → (a + 2 ≤ level_of old v) × (get_or winner v 0 ≢ frame.player)
-  lost_is v there =
-      let inside = loses.within v there in (
-        from_at old.level (a + 2) v inside,
-        λ won. loses.outside v there (keeps.all v inside (λ h. false≢true h) won),
-      )
+  lost_is v there = search (rules, from_at, false≢true)
 
   gone_parts : IsWithout open_then the_gone open_now
-  gone_parts = record {
-    within = λ v inside. (
-        let high : a + 2 ≤ level_of new v = from_at new.level (a + 2) v inside in
-        elim (cases_lt (level_of old v) (a + 2)) [
-          | inl low ↦ (absurd (omega (arith, (going_still v low).level)))
-          | inr more ↦ to_from old.level (a + 2) v more
-        ]);
-    outside = λ v inside gone. goes.outside v gone inside;
-    all = λ v inside stays. elim (cases_lt (level_of new v) (a + 2)) [
-      | inl low ↦ absurd (stays (goes.all v inside (λ there.
-          absurd (omega (arith, from_at new.level (a + 2) v there)))))
-      | inr high ↦ to_from new.level (a + 2) v high
-    ];
-  }
+  gone_parts = search (rules, from_at, cases_lt, going_still, to_from)
 
   -- a vertex that is gone was open, and is decided
   gone_is : (v : ℕ) → IsTrue (the_gone v) →
       (a + 2 ≤ level_of old v) × ((level_of new v ≡ a + 1) × StandsFrom new frame.turn v)
-  gone_is v gone =
-      let high : a + 2 ≤ level_of old v = from_at old.level (a + 2) v (goes.within v gone) in (
-        high,
-        elim (going_open v high) [
-          | inl decided ↦ decided
-          | inr free ↦ absurd (goes.outside v gone (to_from new.level (a + 2) v (omega arith)))
-        ],
-      )
+  gone_is v gone = search (rules, from_at, going_open, to_from)
 
   going_posed : IsPosed game (on_aim a frame) mid open_then the_lost
   going_posed = record {
@@ -219,16 +129,9 @@ module _ {game : ParityGame} {a : ℕ} {frame : Frame} {old mid new : TablesData
           | inl won ↦ inl (going.reopened.freed v (stood v high) won)
           | inr lost ↦ inr (is_lost v high lost)
         ]);
-    frees = λ v is_vertex free. elim (cases_lt (level_of old v) (a + 2)) [
-      | inl low ↦ (
-          absurd (omega (arith, going.placed v, mid_still v low)))
-      | inr high ↦ to_from old.level (a + 2) v high
-    ];
+    frees = search (rules, cases_lt, mid_still, to_from);
     target_within = λ v there. to_from old.level (a + 2) v (lost_is v there).0;
-    target_placed = λ v there free. (
-        let is = lost_is v there in
-        let low : a + 2 < UNPLACED = going.low in
-        absurd (omega (arith, (going_lost v is.0 is.1).0)));
+    target_placed = search (rules, lost_is, going_lost);
     target_stands = λ v there. (let is = lost_is v there in
         (going_lost v is.0 is.1).1);
     only_target = λ j after within. (
@@ -237,16 +140,7 @@ module _ {game : ParityGame} {a : ℕ} {frame : Frame} {old mid new : TablesData
   }
 
   going_taken : IsTaken (on_aim a frame) new open_then the_gone
-  going_taken =
-      record {
-        within = goes.within;
-        placed = λ v gone free. (absurd (omega (arith, (gone_is v gone).1.0)));
-        all = λ v inside placed. elim (going_open v (from_at old.level (a + 2) v inside)) [
-          | inl decided ↦ goes.all v inside (λ there. let level : level_of new v ≡ a + 1 = decided.0 in
-              absurd (omega (arith, from_at new.level (a + 2) v there)))
-          | inr free ↦ absurd (placed free)
-        ];
-      }
+  going_taken = search (rules, gone_is, going_open, from_at)
 
   -- ## What is left open is searched
 
@@ -273,28 +167,14 @@ module _ {game : ParityGame} {a : ℕ} {frame : Frame} {old mid new : TablesData
       ap Some ((lost_new v (going_lost v is.0 is.1).0).1 ∙ ap (λ xs. get_or xs v 0) going.reopened.moves)))
       (λ v inside decided. ap Some (still v decided).move) in
       let size : size_from (a + 1) new.level ≡ size_from (a + 1) old.level =
-      size_from-same (a + 1) old.level new.level agrees.sizes (agrees_at (a + 1)
-      agrees (omega arith)) in
+      search (rules, size_from-same, agrees_at) in
       let room : a + 2 * size_from (a + 1) old.level ≤ 2 * length old.level = waits.room in
       record {
         alive = IsSubgame-left waits.alive attracted parted;
         progress = rw (agrees_from (a + 1) agrees (omega arith)) progress;
         room = omega (arith, agrees.sizes);
-        unplaced = λ v high. elim (cases_lt (level_of old v) (a + 2)) [
-          | inl low ↦ (absurd (omega (arith, (going_still v low).level)))
-          | inr more ↦ elim (going_open v more) [
-            | inl decided ↦ absurd (omega arith)
-            | inr free ↦ free
-          ]
-        ];
-        front = record {
-          within = waits.front.within;
-          below = λ j before. (
-              let low : level_of old (get_or order j 0) < a + 2 = waits.front.below j before in
-              let same : level_of new (get_or order j 0) ≡ level_of old (get_or order j 0) =
-              (going_still (get_or order j 0) low).level in
-              omega arith);
-        };
+        unplaced = search (rules, cases_lt, going_still, going_open);
+        front = search (rules, going_still);
       }
 
   -- ## Fewer vertices are left open

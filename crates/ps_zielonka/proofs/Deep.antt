@@ -1,6 +1,6 @@
 -- How many calls wait: as many priorities are there, since the rest of each turn lacks one.
 use Rattle.std.proofs.Common.{◌≡◌, ℕ, zero, suc, ◌+◌, ◌*◌, ◌<◌, inl, inr, List, length, get_or, Bool, true, false}
-use Rattle.std.proofs.Common.{max, refl, sym, ◌∙◌, arith}
+use Rattle.std.proofs.Common.{max, refl, sym, ◌∙◌, arith, rules}
 use Rattle.std.proofs.lemmas.Bool.{cases_lt, lt-ltb, false≢true}
 use Rattle.std.proofs.lemmas.List.{get_or_past}
 use Rattle.ps_game.specs.Games.{ParityGame, vertex_count}
@@ -18,9 +18,7 @@ use Rattle.ps_zielonka.proofs.Begins.{begun_left}
 chain : {game : ParityGame} (tables : TablesData) (winner order : List ℕ) (frames : List Frame) (j : ℕ) {m : ℕ} →
     ((i : ℕ) → i < j → Waits game tables winner order (2 * i) (frame_at frames i)) →
     HasPriorities game (from tables.level (2 * j + 1)) m → HasPriorities game (from tables.level 1) (m + j)
-chain {game} tables winner order frames zero {m} waits has_m =
-    let same : m ≡ m + 0 = omega arith in
-    rw same at has_m
+chain {game} tables winner order frames zero {m} waits has_m = search rules
 chain {game} tables winner order frames (suc j) {m} waits has_m =
     let wait = waits j (omega arith) in
     let level : 2 * suc j + 1 ≡ 2 * j + 3 = omega arith in
@@ -44,8 +42,7 @@ nest_priorities {game} {tables} {winner} {order} {frames} k calls nest =
     rw same at (HasPriorities-larger (is_vertex game)
     (λ v inside. lt-ltb v (vertex_count game) (elim (cases_lt v (length tables.level)) [
       | inl less ↦ omega arith
-      | inr past ↦ (
-          absurd (omega (arith, get_or_past tables.level v 0 past, from_at tables.level 1 v inside)))
+      | inr past ↦ search (rules, get_or_past, from_at)
     ]))
     (chain tables winner order frames k (λ i less. nest.waits i (omega arith)) one))
 
@@ -54,13 +51,7 @@ nest_priorities {game} {tables} {winner} {order} {frames} k calls nest =
 -- nothing has begun yet
 pub depth_start : (game : ParityGame) (levels : List ℕ) → ((v : ℕ) → v < vertex_count game →
     get_or levels v 0 ≡ UNPLACED) → IsDepthSoFar game levels 0 false 0
-depth_start game levels unplaced =
-    let fresh : IsFresh game levels 0 false = record { none = omega arith; unsolved = refl; unplaced = unplaced } in
-    record {
-      most = record { many = λ list all. omega arith };
-      some = λ v is_vertex. inr fresh;
-      two = λ set closed v is_vertex outside. inr (inl fresh);
-    }
+depth_start game levels unplaced = search rules
 
 -- what is known stays
 depth_stays : {game : ParityGame} (levels : List ℕ) (calls : ℕ) (solved : Bool) {depth : ℕ} → IsDepth game depth →
@@ -103,7 +94,7 @@ pub depth_climbs : {game : ParityGame} {levels : List ℕ} (now : List ℕ) {cal
     (is : Bool) {depth : ℕ} → solved ≡ true → IsDepthSoFar game levels calls solved depth →
     IsDepthSoFar game now left is depth
 depth_climbs {game} {levels} now {calls} left {solved} is {depth} is_solved so_far =
-    depth_stays now left is (depth_solved is_solved so_far)
+    search (rules, depth_stays, depth_solved)
 
 pub depth_kept : {game : ParityGame} {levels : List ℕ} (now : List ℕ) {calls : ℕ} (left : ℕ) {solved : Bool} (is : Bool)
     {depth : ℕ} (deep : ℕ) → deep ≡ depth → solved ≡ true → IsDepthSoFar game levels calls solved depth →

@@ -1,6 +1,6 @@
 -- How many priorities a subgame has, by the turns on it; and what the first turn leaves.
 use Rattle.std.proofs.Common.{◌≡◌, ◌≢◌, ℕ, zero, suc, ◌+◌, ◌%◌, ◌<◌, ◌≤◌, List, [], ◌∷◌, length, get_or, Bool, Option}
-use Rattle.std.proofs.Common.{sym, ap, ◌∙◌, arith}
+use Rattle.std.proofs.Common.{sym, ap, ◌∙◌, arith, rules}
 use Rattle.std.specs.Prelude.{IsTrue}
 use Rattle.std.specs.List.{Contains}
 use Rattle.std.proofs.lemmas.Bool.{ltb-true, lt-ltb}
@@ -38,16 +38,12 @@ Contains-drop_at (y ∷ ys) (suc k) x (suc j) within is other =
 
 -- a set with a vertex has a priority
 pub one_priority : (game : ParityGame) (set : ℕ → Bool) (v : ℕ) → IsTrue (set v) → HasPriorities game set 1
-one_priority game set v inside = record {
-  many = λ list all. let found = all v inside in omega (arith, found.1);
-}
+one_priority game set v inside = search rules
 
 -- a larger set has no fewer
 pub HasPriorities-larger : {game : ParityGame} {smaller : ℕ → Bool} (larger : ℕ → Bool) {n : ℕ} →
     IsWithin smaller larger → HasPriorities game smaller n → HasPriorities game larger n
-HasPriorities-larger larger within has_n = record {
-  many = λ list all. has_n.many list (λ v inside. all v (within v inside));
-}
+HasPriorities-larger larger within has_n = search rules
 
 -- one more than a part without one of its priorities
 HasPriorities-more : {game : ParityGame} {smaller : ℕ → Bool} (larger : ℕ → Bool) {n : ℕ} (top : ℕ) →
@@ -95,11 +91,8 @@ left_out {game} {whole} {set} {player} {table} v all only turned just tops below
     let there : LeadsInto game whole u w =
     record { edge = leads.edge; inside = all w (ltb-true w (vertex_count game) leads.inside) } in there) in
     let closed : IsClosed game whole player turned.tops set = record {
-      holds = λ u is_top. (
-          let is_vertex : u < vertex_count game = only u (turned.within u (turned.closed.holds u is_top)) in
-          tops.closed.holds u ((tops.is_target u is_vertex).1 (just u is_top ∙ same)));
-      own = λ u w inside owns leads in_set. tops.closed.own u w (lt-ltb u (vertex_count game) (only u inside))
-          (owns ∙ parity) (to_vertex u w leads) in_set;
+      holds = search rules;
+      own = search (rules, lt-ltb);
       other = λ u inside others leads. tops.closed.other u (lt-ltb u (vertex_count game) (only u inside))
           (λ owns. others (owns ∙ sym parity)) (λ w on. leads w (to_whole u w on));
     } in

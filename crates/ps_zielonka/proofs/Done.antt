@@ -1,6 +1,6 @@
 -- The present call has its answer; and at the end the whole game has.
-use Rattle.std.proofs.Common.{◌≡◌, ◌≢◌, ℕ, ◌+◌, ◌*◌, ◌<◌, ◌≤◌, inl, inr, List, length, get_or, Bool, true, false}
-use Rattle.std.proofs.Common.{sym, ap, ◌∙◌, arith}
+use Rattle.std.proofs.Common.{◌≡◌, ◌≢◌, ℕ, ◌+◌, ◌*◌, ◌<◌, ◌≤◌, inl, inr, List, length, get_or, Bool, true, false, rules}
+use Rattle.std.proofs.Common.{sym, ap, ◌∙◌}
 use Rattle.std.proofs.lemmas.Bool.{cases_lt, false≢true}
 use Rattle.ps_game.specs.Games.{ParityGame}
 use Rattle.ps_attractor.specs.Tables.{TablesData, level_of}
@@ -20,7 +20,7 @@ none_left {tables} {order} {a} {cursor} sound searches placed v high =
     let (j, within, is) = sound.is_order.all v (searches.alive.vertices v (to_from tables.level (a + 2) v high)) in
     let same : level_of tables (get_or order j 0) ≡ level_of tables v = ap (λ x. level_of tables x) is in
     elim (cases_lt j cursor) [
-      | inl less ↦ (let below : level_of tables (get_or order j 0) < a + 2 = searches.front.below j less in omega arith)
+      | inl less ↦ search rules
       | inr more ↦ placed j more within (same ∙ searches.unplaced v high)
     ]
 
@@ -39,10 +39,7 @@ done_nest {game} {tables} {winner} {order} {frames} {cursor} {solved} unsolved n
       searches = λ is. absurd (false≢true (sym is));
       done = λ is. record {
         solved = Solved-done searches.progress (λ v inside. none v (from_at tables.level (a + 2) v inside));
-        placed = λ v. elim (cases_lt (level_of tables v) UNPLACED) [
-          | inl less ↦ less
-          | inr more ↦ absurd (none v (omega arith))
-        ];
+        placed = search (rules, cases_lt);
       };
     }
 
@@ -50,12 +47,4 @@ done_nest {game} {tables} {winner} {order} {frames} {cursor} {solved} unsolved n
 pub solved_by : {game : ParityGame} {tables : TablesData} {winner order : List ℕ} {frames : List Frame} {cursor : ℕ}
     {solved : Bool} → solved ≡ true → length frames ≡ 0 → IsNest game tables winner order frames cursor solved →
     IsSolvedBy game tables winner
-solved_by {game} {tables} {winner} {solved} is_done empty nest =
-    let answer = rw empty at (nest.done is_done) in
-    record {
-      winners = nest.sound.winners;
-      levels = nest.sound.fits.levels;
-      choices = nest.sound.fits.choices;
-      all = nest.sound.levels;
-      solved = answer.solved;
-    }
+solved_by {game} {tables} {winner} {solved} is_done empty nest = search rules

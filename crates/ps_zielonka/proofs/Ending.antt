@@ -1,10 +1,10 @@
 -- The end: from a game that is solved to the region and the strategies by which both players hold.
-use Rattle.std.proofs.Common.{◌≡◌, ◌≢◌, ℕ, ◌<◌, inl, inr, List, length, get_or, Option, Some, None, Bool}
+use Rattle.std.proofs.Common.{◌≡◌, ◌≢◌, ℕ, ◌<◌, List, length, get_or, Option, Some, Bool, rules}
 use Rattle.std.proofs.Common.{arith}
 use Rattle.std.specs.Prelude.{IsTrue, IsSome}
 use Rattle.std.proofs.lemmas.Bool.{cases_eq, cases_lt, false≢true, not-true, not_from_false, false_from_ne_true}
 use Rattle.std.proofs.lemmas.List.{get_or_past}
-use Rattle.ps_game.specs.Games.{ParityGame, vertex_count, owner_of}
+use Rattle.ps_game.specs.Games.{ParityGame, vertex_count}
 use Rattle.ps_game.specs.Plays.{Holds}
 use Rattle.ps_game.specs.Regions.{has, move_at}
 use Rattle.ps_game.proofs.OnPaths.{Holds-HoldsWithin}
@@ -22,16 +22,7 @@ Holds-same : {game : ParityGame} {player : ℕ} {set : ℕ → Bool} (other : �
     ((v : ℕ) → v < vertex_count game → IsTrue (set v) → IsTrue (other v)) →
     ((v : ℕ) → v < vertex_count game → IsTrue (other v) → IsTrue (set v)) → Holds game player set table →
     Holds game player other table
-Holds-same other there back holds = record {
-  keeps = record {
-    moves = λ v is_vertex inside owns. holds.keeps.moves v is_vertex (back v is_vertex inside) owns;
-    stays = λ path is_path begins follows k within. there (get_or path k 0) (is_path.vertices k within)
-        (holds.keeps.stays path is_path (back (get_or path 0 0) (is_path.vertices 0 is_path.begins) begins)
-        follows k within);
-  };
-  wins = λ path i j is_path begins follows is_loop. holds.wins path i j is_path
-      (back (get_or path 0 0) (is_path.vertices 0 is_path.begins) begins) follows is_loop;
-}
+Holds-same other there back holds = search rules
 
 -- all vertices are solved
 pub record IsSolved (game : ParityGame) (winner moves : List ℕ) (whole : ℕ → Bool) : Type 0 where
@@ -54,33 +45,13 @@ holds_won {game} {winner} {whole} {player} {strategy} is_solved is_player given 
 -- the tables that solve the whole game
 IsSolved-tables : {game : ParityGame} {tables : TablesData} {winner : List ℕ} → IsSolvedBy game tables winner →
     IsSolved game winner tables.moves (from tables.level 1)
-IsSolved-tables {game} {tables} solved_by = record {
-  all = λ v is_vertex. to_from tables.level 1 v (solved_by.all v is_vertex);
-  only = λ v inside. elim (cases_lt v (length tables.level)) [
-    | inl less ↦ omega arith
-    | inr past ↦ (
-        absurd (omega (arith, get_or_past tables.level v 0 past, from_at tables.level 1 v inside)))
-  ];
-  solved = solved_by.solved;
-}
+IsSolved-tables {game} {tables} solved_by = search (rules, to_from, cases_lt, get_or_past, from_at)
 
 -- where a player has a move it wins and owns the vertex
 move_is_given : {game : ParityGame} {moves winner : List ℕ} {player n : ℕ} (v : ℕ) {strategy : List (Option ℕ)} →
     AreMovesTo game moves winner player n strategy → IsSome (move_at strategy v) →
     (v < n) × MovesAt game winner player v
-move_is_given {game} {winner} {player} {n} v {strategy} given some = elim (cases_lt v n) [
-  | inr past ↦ absurd (none_some (given.later v past))
-  | inl below ↦ elim (cases_eq (get_or winner v 0) player) [
-    | inr loses ↦ absurd (none_some (given.only v below (λ is. loses is.wins)))
-    | inl wins ↦ elim (cases_eq (owner_of game v) player) [
-      | inr foreign ↦ absurd (none_some (given.only v below (λ is. foreign is.owns)))
-      | inl owns ↦ (below, record { wins = wins; owns = owns })
-    ]
-  ]
-]
-  where
-    none_some : move_at strategy v ≡ None → ⊥
-    none_some none = false≢true (rw none at some)
+move_is_given {game} {winner} {player} {n} v {strategy} given some = search (rules, cases_lt, cases_eq, false≢true)
 
 -- a player holds a set by a strategy that moves at its own vertices of the set alone
 pub record IsPlayed (game : ParityGame) (player : ℕ) (set : ℕ → Bool) (strategy : List (Option ℕ)) : Type 0 where
@@ -108,10 +79,7 @@ module _ {game : ParityGame} {tables : TablesData} {winner read again : List ℕ
             Holds-same set (λ v is_vertex inside. all v is_vertex (won.won v inside))
             (λ v is_vertex inside. won.all v (is_solved.all v is_vertex) (λ h. false≢true h) (wins v is_vertex inside))
             (holds_won is_solved is_player moves);
-        moves = record {
-          within = λ v some. (let (below, is) = move_is_given v moves some in all v below is.wins);
-          owns = λ v some. (let (below, is) = move_is_given v moves some in is.owns);
-        };
+        moves = search (rules, move_is_given);
       }
 
   -- player 0 plays in the region

@@ -1,5 +1,5 @@
 -- The mathematics of a turn, in the forms that the steps of the stack cite.
-use Rattle.std.proofs.Common.{◌≡◌, ◌≢◌, ℕ, ◌-◌, ◌<◌, inl, inr, Option, IsSomeAnd, Bool, IsTrue, sym, ◌∙◌, arith}
+use Rattle.std.proofs.Common.{◌≡◌, ◌≢◌, ℕ, ◌-◌, ◌<◌, inl, inr, Option, IsSomeAnd, Bool, IsTrue, sym, ◌∙◌, arith, rules}
 use Rattle.std.proofs.lemmas.Bool.{false≢true}
 use Rattle.ps_game.specs.Games.{ParityGame, IsGame, owner_of, HasEdge}
 use Rattle.ps_game.specs.Subgames.{IsWithin, IsSubgame, LeadsInto}
@@ -13,13 +13,7 @@ use Rattle.ps_zielonka.proofs.Kept.{Solved-kept}
 -- nothing is decided yet
 pub progress_start : (game : ParityGame) (subgame open_part : ℕ → Bool) (win : ℕ → ℕ) (table : ℕ → Option ℕ) →
     IsWithin open_part subgame → IsWithin subgame open_part → Progress game subgame open_part win table
-progress_start game subgame open_part win table smaller larger = record {
-  within = smaller;
-  winners = λ v inside decided. absurd (decided (larger v inside));
-  away = λ v w from edge inside decided. absurd (decided (larger w inside));
-  held = λ player set is_player is_won. HoldsWithin-none game subgame player set table
-      (λ v inside. is_won.decided v inside (larger v (is_won.within v inside)));
-}
+progress_start game subgame open_part win table smaller larger = search (rules, HoldsWithin-none)
 
 -- a turn after which nothing more is lost: at each vertex of the greatest priority the player stays in what it wins
 pub frame_kept : {game : ParityGame} {subgame open_part rest : ℕ → Bool} {player : ℕ} {win : ℕ → ℕ}

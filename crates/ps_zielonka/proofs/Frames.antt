@@ -73,21 +73,12 @@ module _ {game : ParityGame} {tables : TablesData} {winner order : List ℕ} (fr
       waits.segment) waits
 
   pub below_rise : (i j : ℕ) → i < j → j < length frames → (frame_at frames i).top ≤ (frame_at frames j).turn
-  below_rise i j less below =
-      let rises = nest.rises i j less (omega (arith, frames_size frames frame)) in
-      omega (
-        arith,
-        ap (λ (f : Frame). f.top) (frame_before frames frame i (omega arith)),
-        ap (λ (f : Frame). f.turn) (frame_before frames frame j below),
-      )
+  below_rise i j less below = search (rules, frames_size, frame_before)
 
 pub last_solved : {game : ParityGame} {tables : TablesData} {winner order : List ℕ} (frames : List Frame)
     (frame : Frame) {cursor : ℕ} → IsNest game tables winner order (frames ++ frame ∷ []) cursor true →
     Solved game (from tables.level (2 * length frames + 3)) (winner_of winner) (moves_of tables)
-last_solved frames frame nest =
-    let depth : 2 * length (frames ++ frame ∷ []) + 1 ≡ 2 * length frames + 3 =
-    omega (arith, frames_size frames frame) in
-    rw depth at (nest.done refl).solved
+last_solved frames frame nest = search (rules, frames_size)
 
 -- ## Segments of the trail
 
@@ -99,63 +90,17 @@ pub segment_below : {b : ℕ} (c m : ℕ) {t : ℕ} {old : TablesData} (new : Ta
     ((c ≤ level_of new v) × (level_of new v < UNPLACED → StandsFrom new m v))) → IsSegment old t b → IsSegment new t b
 segment_below {b} c m {old} new less before inside within front behind each segment = record {
   within = omega arith;
-  above = λ j after below. elim (cases_lt j m) [
-    | inr more ↦ (let high : c ≤ level_of new (get_or new.trail j 0) = behind j more below in omega arith)
-    | inl small ↦ (
-        let v : ℕ = get_or old.trail j 0 in
-        let same : level_of new (get_or new.trail j 0) ≡ level_of new v = ap (λ x. level_of new x) (front j small) in
-        elim (each v) [
-          | inr high ↦ omega (arith, high.0)
-          | inl still ↦ (omega (
-            arith,
-            segment.above j after (omega (arith, segment.above j after (omega arith))),
-            still.0,
-          ))
-        ])
-  ];
+  above = search (rules, cases_lt);
   stands = λ v high low. elim (each v) [
     | inr changed ↦ stands_after (changed.1 low) before
-    | inl still ↦ (
-        let same : level_of new v ≡ level_of old v = still.0 in
-        let stands = segment.stands v (omega arith) (omega arith) in
-        elim (cases_lt stands.place m) [
-          | inl small ↦ record {
-            place = stands.place;
-            after = stands.after;
-            within = omega arith;
-            is = front stands.place small ∙ stands.is;
-          }
-          | inr more ↦ absurd (still.1 (record {
-            place = stands.place;
-            after = more;
-            within = stands.within;
-            is = stands.is;
-          }))
-        ])
+    | inl still ↦ search (rules, cases_lt)
   ];
 }
 
 -- a segment, where levels and trail stay
 pub segment_moved : {b t : ℕ} {old : TablesData} (new : TablesData) → new.level ≡ old.level → new.trail ≡ old.trail →
     IsSegment old t b → IsSegment new t b
-segment_moved {b} {t} {old} new level trail segment =
-    let size : length new.trail ≡ length old.trail = ap length trail in
-    let within : t ≤ length old.trail = segment.within in
-    let at = λ (j : ℕ). ap (λ xs. get_or xs j 0) trail in
-    let levels = λ (v : ℕ). ap (λ xs. get_or xs v 0) level in
-    record {
-      within = omega arith;
-      above = λ j after below. (
-          omega (
-            arith,
-            segment.above j after (omega (arith, segment.above j after (omega arith))),
-            levels (get_or new.trail j 0),
-            ap (λ x. level_of old x) (at j),
-          ));
-      stands = λ v high low.
-          stands_longer (omega arith) (λ j less. at j)
-          (segment.stands v (omega (arith, levels v)) (omega (arith, levels v)));
-    }
+segment_moved {b} {t} {old} new level trail segment = search (rules, stands_longer)
 
 -- ## No call waits yet
 
@@ -167,29 +112,11 @@ nest_start {game} tables winner is_game levels moves trail winners is_order high
     let n : ℕ = vertex_count game in
     let at = λ (v : ℕ) (below : v < n). ap (λ xs. get_or xs v 0) levels ∙ get_or-replicate n v UNPLACED 0 below in
     let size : length tables.level ≡ n = ap length levels ∙ length-replicate n UNPLACED in
-    let below : (v c : ℕ) → 0 < c → c ≤ level_of tables v → v < n = λ v c up there. elim (cases_lt v n) [
-      | inl less ↦ less
-      | inr past ↦ absurd (omega (arith, get_or_past tables.level v 0 (omega arith)))
-    ] in
+    let below : (v c : ℕ) → 0 < c → c ≤ level_of tables v → v < n = search (rules, cases_lt, get_or_past) in
     let inside : (v c : ℕ) → c ≤ UNPLACED → v < n → IsTrue (from tables.level c v) =
     λ v c low is_vertex. to_from tables.level c v (omega (arith, at v is_vertex)) in
     record {
-      sound = record {
-        is_game = is_game;
-        fits = record {
-          levels = size;
-          choices = ap length moves ∙ length-replicate n 0;
-          vertices = rw trail (search rules);
-        };
-        winners = winners;
-        is_order = is_order;
-        high = high;
-        levels = λ v is_vertex. omega (arith, at v is_vertex);
-        most = λ v. elim (cases_lt v n) [
-          | inl is_vertex ↦ omega (arith, at v is_vertex)
-          | inr past ↦ omega (arith, get_or_past tables.level v 0 (omega arith))
-        ];
-      };
+      sound = search (rules, length-replicate, cases_lt, get_or_past);
       waits = λ i there. absurd (omega arith);
       rises = λ i j less there. absurd (omega arith);
       searches = λ open_now. record {

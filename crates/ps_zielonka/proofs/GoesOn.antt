@@ -1,5 +1,5 @@
 -- The last call that waits goes on: the stack without it, and the steps that are left fall.
-use Rattle.std.proofs.Common.{◌≡◌, ℕ, ◌+◌, ◌-◌, ◌*◌, ◌<◌, ◌≤◌, inl, inr, List, [], ◌∷◌, ◌++◌, Bool, true}
+use Rattle.std.proofs.Common.{◌≡◌, ℕ, ◌+◌, ◌-◌, ◌*◌, ◌<◌, ◌≤◌, inl, inr, List, [], ◌∷◌, ◌++◌, Bool, true, rules}
 use Rattle.std.proofs.Common.{false, length, get_or, refl, sym, ap, ◌∙◌, arith}
 use Rattle.std.proofs.lemmas.Bool.{cases_lt, false≢true}
 use Rattle.std.proofs.lemmas.List.Elements.{All-get_or, All-from_get_or}
@@ -102,12 +102,8 @@ fits_reopened {game} {turn} {old} {new} within fits reopened =
       levels = reopened.sizes ∙ fits.levels;
       choices = ap length reopened.moves ∙ fits.choices;
       vertices = All-from_get_or (λ v. v < vertex_count game) new.trail 0 (λ j less. elim (cases_lt j turn) [
-        | inl before ↦ (let is : get_or old.trail j 0 < vertex_count game = below j (omega arith) in
-            omega (arith, reopened.front j before))
-        | inr after ↦ (
-            let stands = (reopened.behind j after less).0 in
-            let is : get_or old.trail stands.place 0 < vertex_count game = below stands.place stands.within in
-            omega (arith, stands.is))
+        | inl before ↦ search rules
+        | inr after ↦ search rules
       ]);
     }
 

@@ -1,6 +1,6 @@
 -- What a player holds within a subgame: by other moves, within a larger subgame, two sets together, and an attractor.
-use Rattle.std.proofs.Common.{◌≡◌, ◌≢◌, ℕ, ◌+◌, ◌%◌, ◌<◌, ◌≤◌, ◌⊎◌, inl, inr, Bool, false, Option, Some, None}
-use Rattle.std.proofs.Common.{IsSomeAnd, sym, ap, ◌∙◌, arith}
+use Rattle.std.proofs.Common.{◌≡◌, ◌≢◌, ℕ, ◌+◌, ◌%◌, ◌<◌, ◌≤◌, ◌⊎◌, inl, inr, Bool, false, Option, Some, rules}
+use Rattle.std.proofs.Common.{IsSomeAnd, sym, ◌∙◌, arith}
 use Rattle.std.specs.Prelude.{IsTrue}
 use Rattle.std.proofs.lemmas.Bool.{cases_eq, cases_Bool, false≢true}
 use Rattle.ps_game.specs.Games.{ParityGame, owner_of, priority_of, HasEdge}
@@ -9,19 +9,15 @@ use Rattle.ps_game.specs.Attractors.{LeadsDown, Falls}
 use Rattle.ps_zielonka.proofs.Walks.{no_descent, all_or_none, some_or_none}
 
 pub some_more : (P Q : ℕ → Type 0) (move : Option ℕ) → ((w : ℕ) → P w → Q w) → IsSomeAnd move P → IsSomeAnd move Q
-some_more P Q (Some w) more there = more w there
-some_more P Q None more there = absurd there
+some_more P Q move h1 h2 = search rules
 
 pub leads_more : (game : ParityGame) (set other : ℕ → Bool) (v : ℕ) → IsWithin set other → (move : Option ℕ) →
     IsSomeAnd move (LeadsInto game set v) → IsSomeAnd move (LeadsInto game other v)
-leads_more game set other v more move there = some_more (LeadsInto game set v) (LeadsInto game other v) move
-    (λ w leads. record { edge = leads.edge; inside = more w leads.inside }) there
+leads_more game set other v more move there = search (rules, some_more)
 
 pub leads_down : (game : ParityGame) (subgame set : ℕ → Bool) (rank : ℕ → ℕ) (v : ℕ) (move : Option ℕ) →
     IsSomeAnd move (LeadsDown game subgame set rank v) → IsSomeAnd move (LeadsInto game set v)
-leads_down game subgame set rank v move there =
-    some_more (LeadsDown game subgame set rank v) (LeadsInto game set v) move
-    (λ w down. record { edge = down.leads.edge; inside = down.inside }) there
+leads_down game subgame set rank v move there = search (rules, some_more)
 
 -- ## Rounds
 
@@ -31,32 +27,18 @@ not_in set v outside inside = false≢true (sym outside ∙ inside)
 -- the last place is the first one
 pub round_inside : {game : ParityGame} {player : ℕ} {set : ℕ → Bool} {table : ℕ → Option ℕ} {walk : ℕ → ℕ} {k : ℕ} →
     IsRound game player set table walk k → (t : ℕ) → t ≤ k → IsTrue (set (walk t))
-round_inside {set} {walk} {k} round t within = elim (cases_eq t k) [
-  | inl last ↦ (
-      let begins : IsTrue (set (walk 0)) = round.inside 0 round.some in
-      ap (λ n. set (walk n)) last ∙ ap set round.closes ∙ begins)
-  | inr before ↦ round.inside t (omega arith)
-]
+round_inside {set} {walk} {k} round t within = search (rules, cases_eq)
 
 pub round_within : {game : ParityGame} {player : ℕ} {set : ℕ → Bool} (other : ℕ → Bool) {table : ℕ → Option ℕ}
     {walk : ℕ → ℕ} {k : ℕ} → IsRound game player set table walk k → ((t : ℕ) → t < k → IsTrue (other (walk t))) →
     IsRound game player other table walk k
-round_within other round inside = record {
-  some = round.some;
-  closes = round.closes;
-  inside = inside;
-  edges = round.edges;
-  follows = round.follows;
-}
+round_within other round inside = search rules
 
 -- a step by the table from what is held within the subgame stays there
 pub held_step : {game : ParityGame} {subgame : ℕ → Bool} {player : ℕ} {set : ℕ → Bool} {table : ℕ → Option ℕ} →
     HoldsWithin game subgame player set table → (v w : ℕ) → HasEdge game v w →
     (owner_of game v ≡ player → table v ≡ Some w) → IsTrue (subgame w) → IsTrue (set v) → IsTrue (set w)
-held_step {game} {player} {set} {table} holds v w edge follows to from = elim (cases_eq (owner_of game v) player) [
-  | inl owns ↦ (rw (follows owns) at (holds.moves v from owns)).inside
-  | inr others ↦ holds.stays v w from others (record { edge = edge; inside = to })
-]
+held_step {game} {player} {set} {table} holds v w edge follows to from = search (rules, cases_eq)
 
 -- a round lies in what is held within the subgame, or beside it
 pub round_beside : {game : ParityGame} {subgame : ℕ → Bool} {player : ℕ} {set held : ℕ → Bool} {table : ℕ → Option ℕ}
@@ -101,15 +83,14 @@ pub HoldsWithin-same : {game : ParityGame} {subgame : ℕ → Bool} {player : �
     HoldsWithin game subgame player set table → HoldsWithin game subgame player other moves
 HoldsWithin-same {game} {set} other {table} moves there back same holds = record {
   within = λ v inside. holds.within v (back v inside);
-  moves = λ v inside owns. rw (same v (back v inside) owns)
-      (leads_more game set other v there (table v) (holds.moves v (back v inside) owns));
+  moves = search (rules, leads_more);
   stays = λ v w inside others leads. there w (holds.stays v w (back v inside) others leads);
   wins = λ walk k top round is_top. holds.wins walk k top (record {
     some = round.some;
     closes = round.closes;
     inside = λ t less. back (walk t) (round.inside t less);
     edges = round.edges;
-    follows = λ t less owns. sym (same (walk t) (back (walk t) (round.inside t less)) owns) ∙ round.follows t less owns;
+    follows = search rules;
   }) is_top;
 }
 
@@ -118,23 +99,12 @@ pub HoldsWithin-larger : {game : ParityGame} {smaller : ℕ → Bool} (larger : 
     {table : ℕ → Option ℕ} → IsWithin smaller larger → ((v w : ℕ) → IsTrue (set v) → owner_of game v ≢ player →
     LeadsInto game larger v w → IsTrue (smaller w)) → HoldsWithin game smaller player set table →
     HoldsWithin game larger player set table
-HoldsWithin-larger larger within lands holds = record {
-  within = λ v inside. within v (holds.within v inside);
-  moves = holds.moves;
-  stays = λ v w inside others leads. holds.stays v w inside others (record
-      { edge = leads.edge; inside = lands v w inside others leads });
-  wins = holds.wins;
-}
+HoldsWithin-larger larger within lands holds = search rules
 
 -- no vertex at all
 pub HoldsWithin-none : (game : ParityGame) (subgame : ℕ → Bool) (player : ℕ) (set : ℕ → Bool) (table : ℕ → Option ℕ) →
     ((v : ℕ) → ¬ IsTrue (set v)) → HoldsWithin game subgame player set table
-HoldsWithin-none game subgame player set table none = record {
-  within = λ v inside. absurd (none v inside);
-  moves = λ v inside owns. absurd (none v inside);
-  stays = λ v w inside others leads. absurd (none v inside);
-  wins = λ walk k top round is_top. absurd (none (walk 0) (round.inside 0 round.some));
-}
+HoldsWithin-none game subgame player set table none = search rules
 
 -- a set beside one that is held, where the other player's edges lead on in the smaller subgame or to the first set
 pub HoldsWithin-beside : {game : ParityGame} {smaller larger : ℕ → Bool} {player : ℕ} {first second : ℕ → Bool}
@@ -149,17 +119,8 @@ HoldsWithin-beside {game} {larger} {player} {first} {second} set {table} less ha
     [ inl one ↦ holds.within v one | inr two ↦ less v (also.within v two) ] in
     record {
       within = within;
-      moves = λ v inside owns. elim (split v inside) [
-        | inl one ↦ leads_more game first set v has_first (table v) (holds.moves v one owns)
-        | inr two ↦ leads_more game second set v has_second (table v) (also.moves v two owns)
-      ];
-      stays = λ v w inside others leads. elim (split v inside) [
-        | inl one ↦ has_first w (holds.stays v w one others leads)
-        | inr two ↦ elim (lands v w two others leads) [
-          | inl near ↦ has_second w (also.stays v w two others (record { edge = leads.edge; inside = near }))
-          | inr first ↦ has_first w first
-        ]
-      ];
+      moves = search (rules, leads_more);
+      stays = search rules;
       wins = λ walk k top round is_top. elim (round_beside holds within round) [
         | inl all ↦ holds.wins walk k top (round_within first round all) is_top
         | inr none ↦ also.wins walk k top (round_within second round
@@ -177,10 +138,7 @@ pub HoldsWithin-attracted : {game : ParityGame} {subgame : ℕ → Bool} {player
     HoldsWithin game subgame player set table
 HoldsWithin-attracted {game} {subgame} {player} {target} {set} {table} {rank} has_target within falls holds = record {
   within = within;
-  moves = λ v inside owns. elim (cases_Bool (target v)) [
-    | inl there ↦ leads_more game target set v has_target (table v) (holds.moves v there owns)
-    | inr outside ↦ leads_down game subgame set rank v (table v) (falls.own v inside (not_in target v outside) owns)
-  ];
+  moves = search (rules, cases_Bool, leads_more, leads_down, not_in);
   stays = λ v w inside others leads. elim (cases_Bool (target v)) [
     | inl there ↦ has_target w (holds.stays v w there others leads)
     | inr outside ↦ (falls.other v w inside (not_in target v outside) others leads).inside
@@ -203,26 +161,10 @@ pub HoldsWithin-all : {game : ParityGame} {subgame : ℕ → Bool} {player : ℕ
 HoldsWithin-all {game} {subgame} {player} {tops} {set} {rest} {table} {rank} above top_moves within falls split
     rest_within holds = record {
       within = λ v inside. inside;
-      moves = λ v inside owns. elim (split v inside) [
-        | inl in_set ↦ elim (cases_Bool (tops v)) [
-          | inl there ↦ top_moves v there owns
-          | inr outside ↦ leads_more game set subgame v within (table v)
-              (leads_down game subgame set rank v (table v) (falls.own v in_set (not_in tops v outside) owns))
-        ]
-        | inr in_rest ↦ leads_more game rest subgame v rest_within (table v) (holds.moves v in_rest owns)
-      ];
+      moves = search (rules, cases_Bool, leads_more, leads_down, not_in);
       stays = λ v w inside others leads. leads.inside;
       wins = λ walk k found round is_top. elim (some_or_none tops walk k) [
-        | inl met ↦ (
-            let (place, before, stands) = is_top.stands in
-            elim (cases_eq (found % 2) player) [
-              | inl same ↦ same
-              | inr other ↦ (
-                  let below : priority_of game (walk place) < priority_of game (walk met.0) =
-                  above (walk met.0) (walk place) met.2 (round.inside place before)
-                  (λ same. other (ap (λ n. n % 2) (sym stands) ∙ same)) in
-                  absurd (omega (arith, is_top.bounds met.0 met.1)))
-            ])
+        | inl met ↦ search (rules, cases_eq)
         | inr none ↦ elim (all_or_none set walk k round.closes
             (λ t less from. (falls_step (λ v inside. inside) falls round t less from (none t less)).inside)) [
               | inl all ↦ absurd (no_round_falls within falls (round_within set round all) none)

@@ -1,6 +1,6 @@
 -- A turn after which nothing of the subgame is left to decide: what the other player won of the rest goes to it, and
 -- the player gets all else.
-use Rattle.std.proofs.Common.{◌≡◌, ◌≢◌, ℕ, ◌<◌, ◌⊎◌, inl, inr, Bool, Option, IsSomeAnd, sym, ◌∙◌, arith}
+use Rattle.std.proofs.Common.{◌≡◌, ◌≢◌, ℕ, ◌<◌, ◌⊎◌, inl, inr, Bool, Option, IsSomeAnd, sym, ◌∙◌, rules}
 use Rattle.std.specs.Prelude.{IsTrue}
 use Rattle.std.proofs.lemmas.Bool.{cases_Bool, false≢true}
 use Rattle.ps_game.specs.Games.{ParityGame, IsGame, owner_of, HasEdge}
@@ -20,16 +20,7 @@ to_keeps rest lost v inside outside = let split = IsWithout-without rest lost in
 pub IsWon-without : (game : ParityGame) {rest lost : ℕ → Bool} {win : ℕ → ℕ} (table : ℕ → Option ℕ) (player : ℕ)
     {other : ℕ} → player < 2 → other < 2 → other ≢ player → IsWon rest nothing win other lost →
     Solved game rest win table → IsWon rest nothing win player (without rest lost)
-IsWon-without game {rest} {lost} {win} table player {other} is_player is_other differ is_won solved = record {
-  within = λ v inside. (kept_of rest lost v inside).0;
-  decided = λ v inside h. false≢true h;
-  won = λ v inside. (
-      let from = kept_of rest lost v inside in
-      let winner : win v < 2 = solved.winners v from.0 (λ h. false≢true h) in
-      let kept : win v ≢ other = λ same. from.1 (is_won.all v from.0 (λ h. false≢true h) same) in
-      omega arith);
-  all = λ v inside decided wins. to_keeps rest lost v inside (λ there. differ (sym (is_won.won v there) ∙ wins));
-}
+IsWon-without game {rest} {lost} {win} table player {other} is_player is_other differ is_won solved = search (rules, kept_of, false≢true, to_keeps)
 
 -- where no vertex of the other player at the greatest priority leads to what was lost, no other one does
 none_to_lost : {game : ParityGame} {open_part rest lost left : ℕ → Bool} {win : ℕ → ℕ} {table : ℕ → Option ℕ}
@@ -55,9 +46,7 @@ none_to_lost {game} {open_part} {rest} {lost} {win} {table} {player} {other} is_
           let kept_won = IsWon-without game table player is_player is_other differ is_won solved in
           let kept : HoldsWithin game rest player (without rest lost) table =
           solved.held player (without rest lost) is_player kept_won in
-          let stays : IsTrue (without rest lost w) =
-          kept.stays v w (to_keeps rest lost v from (parted.outside v still)) others
-          (record { edge = edge; inside = in_rest }) in
+          let stays : IsTrue (without rest lost w) = search (rules, to_keeps) in
           (kept_of rest lost w stays).1 there)
     ]
 
@@ -77,20 +66,14 @@ Solved-kept {game} {subgame} {open_part} {rest} {lost} {left} {win} {table} {pla
     (lost_held is_game is_player is_other differ turned is_won solved)
     progress in
     let kept_won = IsWon-without game table player is_player is_other differ is_won solved in
-    let pulled_left : IsWithin turned.attracted left = λ v pulled. parted.all v (turned.within v pulled) (λ there.
-    turned.left.outside v (is_won.within v there) pulled) in
+    let pulled_left : IsWithin turned.attracted left = search rules in
     let split = λ (v : ℕ) (still : IsTrue (left v)). elim (in_part_or_rest turned.left v
     (parted.within v still)) as (λ _. IsTrue (turned.attracted v) ⊎ IsTrue (without rest lost v)) [
       | inl pulled ↦ inl pulled
       | inr in_rest ↦ inr (to_keeps rest lost v in_rest (parted.outside v still))
     ] in
     let falls : Falls game left player turned.tops turned.attracted table turned.rank = record {
-      own = λ v pulled below owns. some_more (LeadsDown game open_part turned.attracted turned.rank v)
-          (LeadsDown game left turned.attracted turned.rank v) (table v) (λ w down. record {
-            leads = record { edge = down.leads.edge; inside = pulled_left w down.inside };
-            inside = down.inside;
-            falls = down.falls;
-          }) (turned.falls.own v pulled below owns);
+      own = search (rules, some_more);
       other = λ v w pulled below others leads. (
           let down : LeadsDown game open_part turned.attracted turned.rank v w =
           turned.falls.other v w pulled below others (record {

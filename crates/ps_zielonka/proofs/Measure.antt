@@ -1,14 +1,12 @@
 -- The steps that are left fall with each step.
-use Rattle.std.proofs.Common.{◌≡◌, ℕ, zero, suc, ◌+◌, ◌*◌, ◌<◌, ◌≤◌, List, true, false, refl, ap, arith}
+use Rattle.std.proofs.Common.{◌≡◌, ℕ, zero, suc, ◌+◌, ◌*◌, ◌<◌, ◌≤◌, List, true, false, refl, ap, arith, rules}
 use Rattle.ps_zielonka.specs.Nests.{size_from, steps, rest_of, waiting_steps, steps_left}
 
 some_step : (m : ℕ) → 1 ≤ steps m
-some_step zero = omega arith
-some_step (suc m) = omega arith
+some_step m = search rules
 
 some_rest : (m : ℕ) → 1 ≤ rest_of m
-some_rest zero = omega arith
-some_rest (suc m) = omega arith
+some_rest m = search rules
 
 steps-le : (z m : ℕ) → z ≤ m → steps z ≤ steps m
 steps-le zero m less = some_step m
@@ -16,18 +14,14 @@ steps-le (suc z) zero less = absurd (omega arith)
 steps-le (suc z) (suc m) less = omega (arith, steps-le z m (omega arith))
 
 opened : (z m : ℕ) → z < m → rest_of m + steps z < steps m
-opened z zero less = absurd (omega arith)
-opened z (suc m) less = omega (arith, steps-le z m (omega arith))
+opened z m h1 = search (rules, steps-le)
 
 gone_on : (z m : ℕ) → z < m → steps z < rest_of m
-gone_on z zero less = absurd (omega arith)
-gone_on z (suc m) less = omega (arith, steps-le z m (omega arith))
+gone_on z m h1 = search (rules, steps-le)
 
 pub waiting_steps-suc : (levels : List ℕ) (k n : ℕ) → n ≡ k + 1 →
     waiting_steps levels n ≡ waiting_steps levels k + rest_of (size_from (2 * k + 2) levels)
-waiting_steps-suc levels k zero next = absurd (omega arith)
-waiting_steps-suc levels k (suc n) next =
-    let same : n ≡ k = omega arith in ap (λ i. waiting_steps levels i + rest_of (size_from (2 * i + 2) levels)) same
+waiting_steps-suc levels k n h1 = search rules
 
 -- of calls whose sizes stay
 waiting_steps-same : (old new : List ℕ) (k : ℕ) → ((i : ℕ) → i < k →
@@ -56,15 +50,10 @@ falls_done levels k = let some = some_step (size_from (2 * k + 2) levels) in ome
 
 -- the last call that waited has its answer
 pub falls_kept : (old new : List ℕ) (k n : ℕ) → n ≡ k + 1 → new ≡ old → steps_left new k true < steps_left old n true
-falls_kept old new k n next same =
-    let before : waiting_steps new k ≡ waiting_steps old k = ap (λ l. waiting_steps l k) same in
-    let some = some_rest (size_from (2 * k + 2) old) in
-    omega (arith, waiting_steps-suc old k n next)
+falls_kept old new k n next same = search (rules, some_rest, waiting_steps-suc)
 
 -- the last call that waited goes on with fewer vertices
 pub falls_on : (old new : List ℕ) (k n : ℕ) → n ≡ k + 1 → ((i : ℕ) → i < k →
     size_from (2 * i + 2) new ≡ size_from (2 * i + 2) old) → size_from (2 * k + 2) new < size_from (2 * k + 2) old →
     steps_left new k false < steps_left old n true
-falls_on old new k n next sizes fewer =
-    let less = gone_on (size_from (2 * k + 2) new) (size_from (2 * k + 2) old) fewer in
-    omega (arith, waiting_steps-same old new k sizes, waiting_steps-suc old k n next)
+falls_on old new k n next sizes fewer = search (rules, gone_on, waiting_steps-same, waiting_steps-suc)

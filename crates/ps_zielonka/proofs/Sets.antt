@@ -1,6 +1,6 @@
 -- The vertices of a level or a higher one, as a set, and how many they are.
 use Rattle.std.proofs.Common.{◌≡◌, ℕ, zero, suc, ◌<◌, ◌≤◌, inl, inr, List, [], ◌∷◌, Bool, cond, length, get_or, sym, ap}
-use Rattle.std.proofs.Common.{◌∙◌, arith}
+use Rattle.std.proofs.Common.{◌∙◌, arith, rules}
 use Rattle.std.specs.Prelude.{IsTrue, nat_le}
 use Rattle.std.proofs.Math.Path.{fun_ext}
 use Rattle.std.proofs.lemmas.Bool.{cases_lt, leb-true, le-leb, lt-leb}
@@ -46,11 +46,7 @@ one_not : (c level : ℕ) → level < c → one c level ≡ 0
 one_not c level low = ap count_true (lt-leb c level low)
 
 one-le : (c d level now : ℕ) → (d ≤ now → c ≤ level) → one d now ≤ one c level
-one-le c d level now more = elim (cases_lt now d) [
-  | inl low ↦ omega (arith, one_not d now low)
-  | inr high ↦ (
-      omega (arith, one_is c level (more high), one_is d now high))
-]
+one-le c d level now more = search (rules, cases_lt, one_not, one_is)
 
 pub size_from-le : (c d : ℕ) (old new : List ℕ) → length new ≡ length old →
     ((v : ℕ) → v < length old → d ≤ get_or new v 0 → c ≤ get_or old v 0) → size_from d new ≤ size_from c old

@@ -1,6 +1,5 @@
 -- The turns: what is decided of a subgame, and how it grows until nothing is left to decide.
-use Rattle.std.proofs.Common.{◌≡◌, ◌≢◌, ℕ, ◌<◌, ◌⊎◌, inl, inr, Bool, false, not, ◌&&◌, ◌==◌, Option, sym, ◌∙◌}
-use Rattle.std.proofs.Common.{arith}
+use Rattle.std.proofs.Common.{◌≡◌, ◌≢◌, ℕ, ◌<◌, ◌⊎◌, inl, inr, Bool, false, not, ◌&&◌, ◌==◌, Option, ◌∙◌, rules}
 use Rattle.std.specs.Prelude.{IsTrue}
 use Rattle.std.proofs.lemmas.Bool.{cases_eq, cases_Bool, false≢true, eqb-true, eq-eqb, and_parts, and_from, not-true}
 use Rattle.std.proofs.lemmas.Bool.{not_from_false, false_from_ne_true}
@@ -14,10 +13,7 @@ use Rattle.ps_zielonka.proofs.Holding.{HoldsWithin-attracted}
 -- what is in the whole is in the part or in the rest
 pub in_part_or_rest : {whole part rest : ℕ → Bool} → IsWithout whole part rest → (v : ℕ) → IsTrue (whole v) →
     IsTrue (part v) ⊎ IsTrue (rest v)
-in_part_or_rest {part} left v inside = elim (cases_Bool (part v)) [
-  | inl there ↦ inl there
-  | inr outside ↦ inr (left.all v inside (not_in part v outside))
-]
+in_part_or_rest {part} left v inside = search (rules, cases_Bool, not_in)
 
 -- ## Where it begins and ends
 
@@ -45,16 +41,14 @@ pub Progress-same : {game : ParityGame} {subgame open_part : ℕ → Bool} {win 
     Progress game subgame open_part win table → Progress game subgame open_part other_win other_table
 Progress-same {win} other_win other_table same_win same_move progress = record {
   within = progress.within;
-  winners = λ v inside decided. let same : other_win v ≡ win v = same_win v inside decided in
-      omega (arith, progress.winners v inside decided);
-  away = λ v w from edge inside decided same. progress.away v w from edge inside decided
-      (same ∙ same_win w inside decided);
+  winners = search rules;
+  away = search rules;
   held = λ player set is_player is_won. HoldsWithin-same set other_table (λ v inside. inside) (λ v inside. inside)
       (λ v inside owns. same_move v (is_won.within v inside) (is_won.decided v inside))
       (progress.held player set is_player (record {
         within = is_won.within;
         decided = is_won.decided;
-        won = λ v inside. sym (same_win v (is_won.within v inside) (is_won.decided v inside)) ∙ is_won.won v inside;
+        won = search rules;
         all = λ v inside decided wins. is_won.all v inside decided (same_win v inside decided ∙ wins);
       }));
 }
@@ -70,20 +64,12 @@ pub Progress-taken : {game : ParityGame} {subgame open_part part left : ℕ → 
 Progress-taken {game} {subgame} {open_part} {part} {left} {win} {table} {player} is_game is_player without part_within
     given none_steps holds progress = record {
       within = λ v inside. progress.within v (without.within v inside);
-      winners = λ v inside decided. elim (cases_Bool (open_part v)) [
-        | inl was_open ↦ omega (arith, given v (taken v was_open decided))
-        | inr outside ↦ progress.winners v inside (not_in open_part v outside)
-      ];
-      away = λ v w from edge inside decided same. elim (cases_Bool (open_part w)) [
-        | inl was_open ↦
-            let there = taken w was_open decided in none_steps v w from (same ∙ given w there) edge there
-        | inr outside ↦ progress.away v w (without.within v from) edge inside (not_in open_part w outside) same
-      ];
+      winners = search (rules, cases_Bool, not_in);
+      away = search (rules, cases_Bool, not_in);
       held = λ holder set is_holder is_won. elim (cases_eq holder player) [
         | inr other ↦ progress.held holder set is_holder (record {
           within = is_won.within;
-          decided = λ v inside was_open. other (sym (is_won.won v inside)
-              ∙ given v (taken v was_open (is_won.decided v inside)));
+          decided = search rules;
           won = is_won.won;
           all = λ v inside decided wins. is_won.all v inside (λ still. decided (without.within v still)) wins;
         })
@@ -92,10 +78,7 @@ Progress-taken {game} {subgame} {open_part} {part} {left} {win} {table} {player}
     }
   where
     taken : (v : ℕ) → IsTrue (open_part v) → ¬ IsTrue (left v) → IsTrue (part v)
-    taken v was_open decided = elim (in_part_or_rest without v was_open) [
-      | inl there ↦ there
-      | inr still ↦ absurd (decided still)
-    ]
+    taken v was_open decided = search (rules, in_part_or_rest)
 
     taken_held : (set : ℕ → Bool) → IsWon subgame left win player set → HoldsWithin game subgame player set table
     taken_held set is_won =
@@ -107,8 +90,7 @@ Progress-taken {game} {subgame} {open_part} {part} {left} {win} {table} {player}
           within = λ v inside. is_won.within v (from_before v inside).0;
           decided = λ v inside. not_in open_part v (not-true (open_part v) (from_before v inside).1);
           won = λ v inside. is_won.won v (from_before v inside).0;
-          all = λ v inside decided wins. to_before v (is_won.all v inside (λ still. decided (without.within v still))
-              wins) (false_from_ne_true (open_part v) decided);
+          all = search (rules, false_from_ne_true);
         }) in
         HoldsWithin-beside {player = player} set progress.within (λ v inside. (from_before v inside).0)
         (λ v inside. is_won.all v (progress.within v (part_within v inside)) (λ still. without.outside v still inside)
@@ -117,12 +99,7 @@ Progress-taken {game} {subgame} {open_part} {part} {left} {win} {table} {player}
           | inr outside ↦ inl (to_before v inside outside)
         ]) (λ v w inside others leads. elim (cases_Bool (open_part w)) [
           | inl near ↦ inl near
-          | inr outside ↦ inr (
-              let decided = not_in open_part w outside in
-              let away = progress.away v w (part_within v inside) leads.edge leads.inside decided in
-              let same : win w ≡ player =
-              omega (arith, away, progress.winners w leads.inside decided, is_game.owners v leads.edge.0) in
-              to_before w (is_won.all w leads.inside (λ still. decided (without.within w still)) same) outside)
+          | inr outside ↦ search (rules, not_in)
         ])
         before_held holds
 
@@ -137,10 +114,7 @@ lost_held {game} {open_part} {rest} {lost} {player} {other} is_game is_player is
     HoldsWithin-larger open_part {player = other} turned.left.within
     (λ v w inside others leads. elim (in_part_or_rest turned.left w leads.inside) [
       | inr near ↦ near
-      | inl there ↦ (
-          let owns : owner_of game v ≡ player = omega (arith, is_game.owners v leads.edge.0) in
-          let from : IsTrue (rest v) = is_won.within v inside in
-          absurd (turned.left.outside v from (turned.closed.own v w (turned.left.within v from) owns leads there)))
+      | inl there ↦ search rules
     ])
     (solved.held other lost is_other is_won)
 
@@ -177,21 +151,11 @@ abbrev pub won_by : (ℕ → Bool) → (ℕ → ℕ) → ℕ → ℕ → Bool
 won_by set win player v = set v && (win v == player)
 
 pub IsWon-won_by : (set : ℕ → Bool) (win : ℕ → ℕ) (player : ℕ) → IsWon set nothing win player (won_by set win player)
-IsWon-won_by set win player = record {
-  within = λ v inside. (and_parts (set v) (win v == player) inside).0;
-  decided = λ v inside h. false≢true h;
-  won = λ v inside. eqb-true (win v) player (and_parts (set v) (win v == player) inside).1;
-  all = λ v inside decided wins. and_from (set v) (win v == player) inside (eq-eqb (win v) player wins);
-}
+IsWon-won_by set win player = search (rules, and_parts, false≢true, eqb-true, and_from, eq-eqb)
 
 -- what a set has and another one has not
 abbrev pub without : (ℕ → Bool) → (ℕ → Bool) → ℕ → Bool
 without whole part v = whole v && not (part v)
 
 pub IsWithout-without : (whole part : ℕ → Bool) → IsWithout whole part (without whole part)
-IsWithout-without whole part = record {
-  within = λ v inside. (and_parts (whole v) (not (part v)) inside).0;
-  outside = λ v inside. not_in part v (not-true (part v) (and_parts (whole v) (not (part v)) inside).1);
-  all = λ v inside outside. and_from (whole v) (not (part v)) inside
-      (not_from_false (part v) (false_from_ne_true (part v) outside));
-}
+IsWithout-without whole part = search (rules, and_parts, not_in, not-true, and_from, not_from_false, false_from_ne_true)

@@ -1,7 +1,7 @@
 -- Walks that come back to where they began: a number that never rises along their steps is the same at each place, and
 -- a set that no step leaves has all of their places or none.
-use Rattle.std.proofs.Common.{◌≡◌, ℕ, zero, suc, ◌+◌, ◌<◌, ◌≤◌, ◌⊎◌, inl, inr, Bool, true, false, cond, refl, ap, ◌∙◌}
-use Rattle.std.proofs.Common.{arith}
+use Rattle.std.proofs.Common.{◌≡◌, ℕ, zero, suc, ◌+◌, ◌<◌, ◌≤◌, ◌⊎◌, inl, inr, Bool, true, false, cond, ap, ◌∙◌}
+use Rattle.std.proofs.Common.{arith, rules}
 use Rattle.std.specs.Prelude.{IsTrue}
 use Rattle.std.proofs.lemmas.Bool.{cases_eq, cases_Bool}
 
@@ -34,15 +34,10 @@ abbrev distance : Bool → ℕ
 distance b = cond b 0 1
 
 distance-le : (a b : Bool) → (a ≡ true → b ≡ true) → distance b ≤ distance a
-distance-le true b more = omega (arith, ap distance (more refl))
-distance-le false true more = omega arith
-distance-le false false more = omega arith
+distance-le a b h1 = search rules
 
 distance-same : (a b : Bool) → distance a ≡ distance b → a ≡ b
-distance-same true true same = refl
-distance-same true false same = absurd (omega arith)
-distance-same false true same = absurd (omega arith)
-distance-same false false same = refl
+distance-same a b h1 = search rules
 
 -- a set that no step leaves has all places or none
 pub all_or_none : (set : ℕ → Bool) (walk : ℕ → ℕ) (k : ℕ) → walk k ≡ walk 0 →
@@ -65,9 +60,6 @@ some_or_none set walk (suc k) = elim (some_or_none set walk k) [
   | inl found ↦ inl (found.0, omega (arith, found.1), found.2)
   | inr none ↦ elim (cases_Bool (set (walk k))) [
     | inl here ↦ inl (k, omega arith, here)
-    | inr not_here ↦ inr (λ t less. elim (cases_eq t k) [
-      | inl is ↦ ap (λ n. set (walk n)) is ∙ not_here
-      | inr other ↦ none t (omega arith)
-    ])
+    | inr not_here ↦ search (rules, cases_eq)
   ]
 ]

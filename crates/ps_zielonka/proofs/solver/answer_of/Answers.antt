@@ -10,13 +10,3 @@ pub returns-clause-second_holds : goal.returns-clause-second_holds
 returns-clause-second_holds g c =
     (played_second c.deref.ensures.value c.deref-3.ensures.value c.requires c.in_ok-region.ensures.won
     c.in_ok-second.ensures.given).holds
-
-pub returns-clause-first_moves : goal.returns-clause-first_moves
-returns-clause-first_moves g c =
-    (played_first c.deref.ensures.value c.deref-2.ensures.value c.requires c.in_ok-region.ensures.won
-    c.in_ok-first.ensures.given).moves
-
-pub returns-clause-second_moves : goal.returns-clause-second_moves
-returns-clause-second_moves g c =
-    (played_second c.deref.ensures.value c.deref-3.ensures.value c.requires c.in_ok-region.ensures.won
-    c.in_ok-second.ensures.given).moves

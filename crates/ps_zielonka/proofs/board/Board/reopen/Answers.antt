@@ -23,18 +23,8 @@ loop-place-preserved g c =
     let size : length c.loop-place.self.spare ≡ length spare = ap length so_far.spare in
     let at : get_or spare place 0 ≡ u = ap (λ xs. get_or xs place 0) (sym so_far.spare) ∙ sym c.at-vertex.ensures in
     let same_level : length mid.level ≡ length old.level = so_far.reopened.sizes ∙ ap length c.take_off.ensures.level in
-    let within : u < length mid.level =
-    omega (
-      arith,
-      c.requires.vertices (turn + place) (omega (
-        arith,
-        c.requires.vertices (turn + place) (omega arith),
-      )),
-      at,
-      taken.same place below,
-    ) in
-    let who : get_or winner u 0 ≡ c.index.result.now = ap (λ xs. get_or xs u 0) (sym so_far.winner)
-    ∙ sym (get_or_read c.loop-place.self.winner.items u c.index.result.now (search rules) c.index.ensures 0) in
+    let within : u < length mid.level = search rules in
+    let who : get_or winner u 0 ≡ c.index.result.now = search (rules, get_or_read) in
     elim c.if-eq.branch [
       | then-eq w ↦ record {
         spare = ap (λ (b : Board g.row.W.Denot). b.spare) w.self-is ∙ so_far.spare;

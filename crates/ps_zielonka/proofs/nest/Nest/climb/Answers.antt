@@ -1,4 +1,4 @@
-use Rattle.std.proofs.Common.{◌≡◌, ◌+◌, ◌*◌, length, refl, ap}
+use Rattle.std.proofs.Common.{◌≡◌, ◌+◌, ◌*◌, length, refl, rules}
 use Rattle.std.proofs.Common.{◌∙◌, arith}
 use Rattle.std.proofs.lemmas.Result.{on_ok_weaker}
 use Rattle.std.proofs.lemmas.List.{length_push}
@@ -22,18 +22,10 @@ returns-then-is_kept-clause-stack g c =
     (rw depth at (c.if-is_kept.ensures.kept refl)))
 
 pub returns-then-is_kept-clause-falls : goal.returns-then-is_kept-clause-falls
-returns-then-is_kept-clause-falls g c =
-    let frames = c.pop.new.self.items in
-    let next = ap length c.in-Some.ensures.items ∙ length_push frames c.in-Some.frame in
-    rw c.requires.done (falls_kept c.args.self.now.board.tables.level c.is_kept.new.self.tables.level (length frames)
-    (length c.args.self.now.frames.items) next c.is_kept.ensures.moved.level)
+returns-then-is_kept-clause-falls g c = search (rules, length_push, falls_kept)
 
 pub returns-then-is_kept-clause-deep : goal.returns-then-is_kept-clause-deep
-returns-then-is_kept-clause-deep g c so_far = depth_climbs c.is_kept.new.self.tables.level (length c.pop.new.self.items)
-    c.args.self.now.solved c.requires.done so_far
+returns-then-is_kept-clause-deep g c so_far = search (rules, depth_climbs)
 
 pub returns-else-is_kept-clause-deep : goal.returns-else-is_kept-clause-deep
-returns-else-is_kept-clause-deep g c = on_ok_weaker c.go_on.result (λ same so_far.
-    depth_kept c.go_on.new.self.board.tables.level (length c.go_on.new.self.frames.items)
-    c.go_on.new.self.solved c.go_on.new.self.depth same c.requires.done so_far)
-    c.go_on.ensures.depth
+returns-else-is_kept-clause-deep g c = search (rules, on_ok_weaker, depth_kept)

@@ -1,4 +1,4 @@
-use Rattle.std.proofs.Common.{length, arith}
+use Rattle.std.proofs.Common.{arith, rules}
 use Rattle.ps_zielonka.proofs.Done.{done_nest}
 use Rattle.ps_zielonka.proofs.Measure.{falls_done}
 use Rattle.ps_zielonka.proofs.Deep.{depth_done}
@@ -10,8 +10,7 @@ returns-else-cursor-len-clause-stack g c =
     (λ j after within. c.first_unplaced-cursor.ensures.placed j after (omega (arith, c.len.ensures)))
 
 pub returns-else-cursor-len-clause-falls : goal.returns-else-cursor-len-clause-falls
-returns-else-cursor-len-clause-falls g c = rw c.requires.searches
-    (falls_done c.args.self.now.board.tables.level (length c.args.self.now.frames.items))
+returns-else-cursor-len-clause-falls g c = search (rules, falls_done)
 
 pub returns-else-cursor-len-clause-deep : goal.returns-else-cursor-len-clause-deep
 returns-else-cursor-len-clause-deep g c so_far =
