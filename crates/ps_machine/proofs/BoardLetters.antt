@@ -150,7 +150,7 @@ alike_more : (n : ℕ) (f g : ℕ → Bool) → ((q : ℕ) → q < n → f q ≡
 alike_more n f g h e q lt = search (rules, cases_lt)
 
 first_difference : (n : ℕ) {f g : ℕ → Bool} → ((q : ℕ) → q < n → f q ≡ g q) ⊎ Differ n f g
-first_difference zero = inl (λ q lt. absurd (omega (arith, lt)))
+first_difference zero = inl (λ q lt. absurd (omega arith))
 first_difference (suc n) {f} {g} = elim (first_difference n) [
   | inl h ↦ elim (bool_same (f n) (g n)) [
     | inl e ↦ inl (alike_more n f g h e)
@@ -181,7 +181,8 @@ not_before_itself b = true_is_not_false (sym b.is_true ∙ b.is_false)
 -- a letter is the second player's where what is the second player's in it doesn't come before it
 pub second_itself : (board : Board) (y : ℕ) → y < 2 ^ board.propositions → (IsBefore (second_of board y) y → ⊥) →
     IsSecondLetter board y
-second_itself board y lt never = search (rules, second_is, cases_lt, true_is_not_false, letter_is, no_bit, neither_before)
+second_itself board y lt never =
+    search (rules, second_is, cases_lt, true_is_not_false, letter_is, no_bit, neither_before)
 
 pub second_agrees : (board : Board) (mask y : ℕ) → IsMaskOf board mask → y < 2 ^ board.propositions →
     AgreeOff mask y (second_of board y)

@@ -42,11 +42,11 @@ two_path game v w is_game edge = record { begins = omega arith; vertices = place
     places : (k : ℕ) → k < 2 → get_or (v ∷ w ∷ []) k 0 < vertex_count game
     places zero within = edge.0
     places (suc zero) within = is_game.within v w edge
-    places (suc (suc k)) within = absurd (omega (arith, within))
+    places (suc (suc k)) within = absurd (omega arith)
 
     steps : (k : ℕ) → k + 1 < 2 → HasEdge game (get_or (v ∷ w ∷ []) k 0) (get_or (v ∷ w ∷ []) (k + 1) 0)
     steps zero within = edge
-    steps (suc k) within = absurd (omega (arith, within))
+    steps (suc k) within = absurd (omega arith)
 
 two_follows : (game : ParityGame) (player : ℕ) (table : ℕ → Option ℕ) (v w : ℕ) →
     (owner_of game v ≡ player → table v ≡ Some w) → Follows game player table (v ∷ w ∷ [])

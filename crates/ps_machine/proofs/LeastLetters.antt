@@ -42,11 +42,11 @@ bit_alike {b} {c} n r s e h = search rules
 rank_rises : (from n x y first : ℕ) → from ≤ first → first < from + n → is_in first x ≡ false → is_in first y ≡ true →
     ((p : ℕ) → p < first → is_in p x ≡ is_in p y) → rank from n x < rank from n y
 unfolding rank
-rank_rises from zero x y first low high one other same = absurd (omega (arith, low, high))
+rank_rises from zero x y first low high one other same = absurd (omega arith)
 rank_rises from (suc n) x y first low high one other same = elim (cases_eq from first) [
   | inl here ↦ search (rules, bit_decides, rank, rank_lt)
-  | inr later ↦ bit_alike n (rank (from + 1) n x) (rank (from + 1) n y) (same from (omega (arith, low, later)))
-      (rank_rises (from + 1) n x y first (omega (arith, low, later)) (omega (arith, high)) one other same)
+  | inr later ↦ bit_alike n (rank (from + 1) n x) (rank (from + 1) n y) (same from (omega arith))
+      (rank_rises (from + 1) n x y first (omega arith) (omega arith) one other same)
 ]
 
 true_is_within : (n y p : ℕ) → y < 2 ^ n → is_in p y ≡ true → p < n
@@ -57,12 +57,12 @@ before_ranks n {x} {y} within before = search (rules, true_is_within, rank_rises
 
 goes_down : (n : ℕ) (P : ℕ → Type 0) → ((y : ℕ) → P y → y < 2 ^ n) → ((y : ℕ) → IsLeast P y → ⊥) → (bound y : ℕ) → P y →
     rank 0 n y < bound → ⊥
-goes_down n P within none zero y here small = absurd (omega (arith, small))
+goes_down n P within none zero y here small = absurd (omega arith)
 goes_down n P within none (suc bound) y here small = none y (record {
   here = here;
   none_before = λ x at before.
       let lower = before_ranks n (within y here) before in
-      goes_down n P within none bound x at (omega (arith, small, lower));
+      goes_down n P within none bound x at (omega arith);
 })
 
 -- where a property of letters has no least one it has none at all
@@ -74,7 +74,7 @@ none_without_least n P within none y here = goes_down n P within none (rank 0 n 
 
 down_to_least : (n : ℕ) (P : ℕ → Type 0) → ((y : ℕ) → P y ⊎ (P y → ⊥)) → ((y : ℕ) → P y → y < 2 ^ n) → (bound y : ℕ) →
     P y → rank 0 n y < bound → (z : ℕ) × IsLeast P z
-down_to_least n P tell within zero y here small = absurd (omega (arith, small))
+down_to_least n P tell within zero y here small = absurd (omega arith)
 down_to_least n P tell within (suc bound) y here small =
     elim (some_or_none Lower lower_or_not (2 ^ n) (λ x lower. within x lower.0)) [
       | inl lower ↦ down_to_least n P tell within bound lower.0 lower.1.0 (omega (arith, small, lower.1.1))
@@ -113,7 +113,7 @@ by_halves : (n x y : ℕ) → x / 2 + y / 2 < 2 ^ n → x % 2 + y % 2 < 2 → x 
 by_halves n x y halves bits = omega (arith, twice n, halves, bits)
 
 pub sum_within : (n x y : ℕ) → x < 2 ^ n → y < 2 ^ n → ((p : ℕ) → is_in p x ≡ true → is_in p y ≡ false) → x + y < 2 ^ n
-sum_within zero x y a b apart = omega (arith, a, b)
+sum_within zero x y a b apart = omega arith
 sum_within (suc n) x y a b apart =
     let halves : x / 2 + y / 2 < 2 ^ n = sum_within n (x / 2) (y / 2) (half_within n x a) (half_within n y b)
     (λ p is. half_bit y p ∙ apart (suc p) (sym (half_bit x p) ∙ is)) in

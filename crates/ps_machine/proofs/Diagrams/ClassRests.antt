@@ -50,8 +50,8 @@ module _ (n mask class : ℕ) (small : mask < 2 ^ n) where
   joint_bit u p = elim (cases_lt p (n + u)) [
     | inl less ↦ letter_is (n + u) (bits u) p less
     | inr more ↦ no_bit (n + u) (joint u) p (letter_lt (n + u) (bits u)) more
-        ∙ sym (other_bit (is_in p class) (no_bit n mask p small (omega (arith, more)))
-        ∙ no_bit u u p (small_power u) (omega (arith, more)))
+        ∙ sym (other_bit (is_in p class) (no_bit n mask p small (omega arith))
+        ∙ no_bit u u p (small_power u) (omega arith))
   ]
 
   joint_on : (u : ℕ) → AgreeOn mask class (joint u)

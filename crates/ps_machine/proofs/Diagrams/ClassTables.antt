@@ -23,12 +23,6 @@ use Rattle.ps_machine.specs.declared.key.Order.{Order}
 use Rattle.ps_machine.proofs.BoardSteps.{class_different, class_leads, class_some, known_first, still_known}
 use Rattle.ps_machine.proofs.Diagrams.Remembering.{fit_kept}
 
-pub no_classes : {order : Order} {a : AutomatonData} {mask : ℕ} {t : Table} {rests : ℕ × ℕ → Option ℕ}
-    {classes : ℕ → Option Classes} {key : Key} → ((q : ℕ) → classes q ≡ None) → IsKnown order a mask t rests key →
-    KnowsMoves order a mask t rests classes key
-no_classes none is =
-    record { is_known = is; are = λ q c e. cc (none q) }
-
 -- what was known is known as the table grows
 module _ {order : Order} {a : AutomatonData} {mask : ℕ} {t u : Table} {rests now : ℕ × ℕ → Option ℕ}
     (keeps : Keeps t u) (before : (k : Key) → IsKnown order a mask t rests k → IsKnown order a mask u now k) where

@@ -98,7 +98,7 @@ used_more {game} {certificate} {w} u edge within chosen =
       follows =
           Follows-push game (winner certificate) (choice_of certificate) u.path w u.is_path.begins u.follows
           (subst Goes (sym u.ends) chosen);
-      ends = get_or_push u.path w 0 (length (u.path ++ w ∷ []) - 1) (omega (arith, long));
+      ends = get_or_push u.path w 0 (length (u.path ++ w ∷ []) - 1) (omega arith);
     }
 
 pub used_won : {game : ParityGame} {certificate : CertificateData} {v : ℕ} → IsClosed game certificate →
@@ -273,9 +273,6 @@ pub all_rows : (P : Row → Type 0) (eq : Row → Row → Bool) (old : List Row)
     new ≡ insert_key eq old row → All P old → P row → All P new
 all_rows P eq old row e all here =
     rw e (by_case (λ rows. All P rows) (list_any (eq row) old) old (old ++ row ∷ []) all (All-push P old row all here))
-
-pub keeps_rows_same : {rows : List Row} → KeepsRows rows rows
-keeps_rows_same = record { same = λ leaf r is. is }
 
 pub keeps_rows_trans : {one two three : List Row} → KeepsRows one two → KeepsRows two three → KeepsRows one three
 keeps_rows_trans k l = record { same = λ leaf r is. l.same leaf r (k.same leaf r is) }

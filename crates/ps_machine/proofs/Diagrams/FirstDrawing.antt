@@ -66,7 +66,7 @@ module _ {a : AutomatonData} {keys : List Key} {is_first : Bool} {board : Board}
       StandsFor is_first keys kept row.memory v (pair_of a leaf).state) →
       slice_get more leaf ≡ Some place → ((other i : ℕ) → other ≢ leaf → slice_get places other ≡ Some i →
       slice_get more other ≡ Some i) → AreNoted a keys is_first board kept letter found old rows more (n + 1)
-  note_more {rows} {places} {more} {n} {leaf} {place} {row} h is at plays next noted others = search (rules, cases_eq, noted)
+  note_more h is at plays next noted others = search (rules, cases_eq, noted)
 
 -- ## The move of a player who moves first
 
@@ -89,8 +89,6 @@ module _ {order : Order} {a : AutomatonData} {keys : List Key} {certificate : Ce
 
   pub to_class : (v : ℕ) {q p : ℕ} → Contains kept v → StandsAt keys v (First q p) → ToClass v q
   to_class v {q} {p} is_kept at =
-      let board = board_of order a in
-      let mover = mover_of order in
       let s = setting plan in
       let m = move_at s at (kept_used plan is_kept) (first_owner s v at ∙ mover_wins) in
       let c = class_at s v at m.edge in
@@ -140,8 +138,6 @@ module _ {order : Order} {a : AutomatonData} {keys : List Key} {certificate : Ce
       Left order a mask t q letter rest → AreLeaves t rest found →
       All (λ leaf. IsEntered order a keys certificate is_first kept marks leaf.0) found
   entered {mask} {t} {v} {q} {p} {letter} {rest} {found} is_kept at plays l are k d within =
-      let board = board_of order a in
-      let mover = mover_of order in
       let s = setting plan in
       let to = to_class v is_kept at in
       let same : to.chosen ≡ plays.chosen = some_nat to.chosen plays.chosen (sym to.choice ∙ plays.choice) in
@@ -211,7 +207,6 @@ module _ {order : Order} {a : AutomatonData} {keys : List Key} {certificate : Ce
       row_at : (x : ℕ) → IsSecondLetter (board_of order a) x → LeadsToRow true (board_of order a) keys kept certificate
           u rows made v q x
       row_at x second =
-          let board = board_of order a in
           let n = noted x second in
           let w = n.is_placed in
           let sum : letter + x ≡ x + w.row.letter = omega (arith, w.plays) in

@@ -86,7 +86,6 @@ module _ {order : Order} {a : AutomatonData} {keys : List Key} {certificate : Ce
   replies {q} {x} turn e is =
       let plan = e.plan in
       let game = plan.game in
-      let board = board_of order a in
       let mover = mover_of order in
       let s = setting plan in
       let loses : mover ≢ winner certificate = not_same mover (winner certificate) (sym plan.turn ∙ turn) in

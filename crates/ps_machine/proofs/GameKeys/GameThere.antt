@@ -69,7 +69,7 @@ module _ (n : ℕ) (P : ℕ → Type 0) (tell : (y : ℕ) → P y ⊎ (P y → �
             complete = λ y is low. elim (cases_eq (rank 0 n y) count) [
               | inl here ↦ subst (Contains (l.0 ++ found.0 ∷ [])) (same_rank found.0 y found.1.0 is
                   (found.1.1 ∙ sym here)) (Contains-push l.0 found.0)
-              | inr other ↦ Contains-append_left l.0 (found.0 ∷ []) y (l.1.complete y is (omega (arith, low, other)))
+              | inr other ↦ Contains-append_left l.0 (found.0 ∷ []) y (l.1.complete y is (omega arith))
             ];
             rising =
                 all_pairs_push IsBefore l.0 found.0 l.1.rising (λ k d inside.
@@ -87,7 +87,7 @@ module _ (n : ℕ) (P : ℕ → Type 0) (tell : (y : ℕ) → P y ⊎ (P y → �
       here_or_not y = search (rules, cases_eq, rank)
 
       raised : (letters : List ℕ) → All (λ y. rank 0 n y < count) letters → All (λ y. rank 0 n y < suc count) letters
-      raised letters low k d inside = (let less = low k d inside in omega (arith, less))
+      raised letters low k d inside = (let less = low k d inside in omega arith)
 
   pub letters_there : (letters : List ℕ) × AreListed P letters
   letters_there =
@@ -144,7 +144,7 @@ module _ (mover : ℕ) (old : DraftData) (key : Key) (next : List Key) where
         keys = old.keys;
         game = with_vertex old.game (owner_of_key mover key) (priority_of_key key);
       } in (now, visits_none refl refl))
-  visit_first (suc i) few = (let before = visit_first i (omega (arith, few)) in
+  visit_first (suc i) few = (let before = visit_first i (omega arith) in
       let k = get_or next i (First 0 0) in
       elim (came_or_not before.0.keys k) [
         | inl c ↦ more before.0 before.1 c.0 before.0.keys (Came
@@ -159,7 +159,7 @@ module _ (mover : ℕ) (old : DraftData) (key : Key) (next : List Key) where
           let new : DraftData = record { keys = keys; game = with_edge now.game (vertex_count old.game) number } in (
             new,
             subst (λ j. Visits mover old key (take j next) new) (add-one i)
-                (visits_next next i (omega (arith, few)) v is refl),
+                (visits_next next i (omega arith) v is refl),
           )
 
   visit_there : (new : DraftData) × Visits mover old key next new
@@ -192,7 +192,7 @@ module _ (board : Board) (mover : ℕ) (start : board.auto.start ≤ board.state
 
   at_letter : (q count letter : ℕ) → letter < count → Contains (keys_at q count)
       (First (board.auto.next q letter) (board.auto.priority q letter)) × Contains (keys_at q count) (Second q letter)
-  at_letter q zero letter less = absurd (omega (arith, less))
+  at_letter q zero letter less = absurd (omega arith)
   at_letter q (suc count) letter less = elim (cases_eq letter count) [
     | inl same ↦ (
       subst (λ l. Contains (keys_at q (suc count)) (First (board.auto.next q l) (board.auto.priority q l))) (sym same)
@@ -200,7 +200,7 @@ module _ (board : Board) (mover : ℕ) (start : board.auto.start ≤ board.state
       subst (λ l. Contains (keys_at q (suc count)) (Second q l)) (sym same) (1, omega arith, refl),
     )
     | inr other ↦
-        let before = at_letter q count letter (omega (arith, less, other)) in
+        let before = at_letter q count letter (omega arith) in
         let rest = keys_at q count in
         let one : Key = First (board.auto.next q count) (board.auto.priority q count) in (
           further one _ (Second q count ∷ rest) (further (Second q count) _ rest before.0),
@@ -210,11 +210,11 @@ module _ (board : Board) (mover : ℕ) (start : board.auto.start ≤ board.state
 
   below_state : (q count : ℕ) (k : Key) → q < count → Contains (keys_at q (2 ^ board.propositions)) k →
       Contains (keys_below count) k
-  below_state q zero k less c = absurd (omega (arith, less))
+  below_state q zero k less c = absurd (omega arith)
   below_state q (suc count) k less c = elim (cases_eq q count) [
     | inl same ↦ search (rules, Contains-append_left)
     | inr other ↦ Contains-append_right (keys_at count (2 ^ board.propositions)) (keys_below count) k
-        (below_state q count k (omega (arith, less, other)) c)
+        (below_state q count k (omega arith) c)
   ]
 
   -- a key that may come: of a state of the board, and with a letter of the first player
@@ -235,7 +235,7 @@ module _ (board : Board) (mover : ℕ) (start : board.auto.start ≤ board.state
     low,
     first,
     further (First board.auto.start 0) (Second q x) (keys_below (suc board.states))
-        (below_state q (suc board.states) (Second q x) (omega (arith, low))
+        (below_state q (suc board.states) (Second q x) (omega arith)
         (at_letter q (2 ^ board.propositions) x first.within).1),
   )
 
@@ -246,7 +246,7 @@ module _ (board : Board) (mover : ℕ) (start : board.auto.start ≤ board.state
       let k : Key = First (board.auto.next q letter) (board.auto.priority q letter) in (
         goes_on q letter low within,
         further (First board.auto.start 0) k (keys_below (suc board.states))
-            (below_state q (suc board.states) k (omega (arith, low))
+            (below_state q (suc board.states) k (omega arith)
             (at_letter q (2 ^ board.propositions) letter within).0),
       )
 
@@ -296,7 +296,7 @@ module _ (board : Board) (mover : ℕ) (start : board.auto.start ≤ board.state
         differ =
             pairs_map (λ x y. x ≢ y) key l.0 0 (λ i j less within e.
             (l.1.each j 0 within).none_before (get_or l.0 i 0) (
-              (l.1.each i 0 (omega (arith, less, within))).here.0,
+              (l.1.each i 0 (omega arith)).here.0,
               record { state = same_states e; priority = same_priorities e },
             ) (l.1.rising i j 0 less within));
       }
@@ -314,7 +314,7 @@ module _ (board : Board) (mover : ℕ) (start : board.auto.start ≤ board.state
   done draft v e all = search (rules, by_keys, slice_get_past)
 
   explore : (fuel : ℕ) (draft : DraftData) (v : ℕ) → Explored draft v → length all_keys ≤ v + fuel → SomeGame
-  explore zero draft v e enough = done draft v e (let few = few_keys draft v e in omega (arith, few, enough))
+  explore zero draft v e enough = done draft v e (let few = few_keys draft v e in omega arith)
   explore (suc fuel) draft v e enough = elim (cases_lt v (length draft.keys)) [
     | inr all ↦ done draft v e all
     | inl more ↦
@@ -323,7 +323,7 @@ module _ (board : Board) (mover : ℕ) (start : board.auto.start ≤ board.state
         let visit = visit_there mover draft key next.next in
         explore fuel visit.0 (v + 1) (explored_more e
         (slice_get-get_or draft.keys v (First 0 0) more) next.leads_to next.known next.some next.differ visit.1)
-        (omega (arith, enough))
+        (omega arith)
   ]
 
   pub board_game_there : SomeGame

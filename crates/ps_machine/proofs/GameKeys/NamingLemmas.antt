@@ -19,8 +19,8 @@ pub plain_decimal : (n : ℕ) → n < 2 ^ 64 → IsPlain (decimal n)
 plain_decimal n small k d lt e = let digit = (number_text n small).all k d lt in omega (arith, digit.0, e)
 
 pub plain_digit : (is_played is_true : Bool) → IsPlain (digit_if is_played is_true)
-plain_digit true true = plain_one 49 (λ e. omega (arith, e))
-plain_digit true false = plain_one 48 (λ e. omega (arith, e))
+plain_digit true true = plain_one 49 (λ e. omega arith)
+plain_digit true false = plain_one 48 (λ e. omega arith)
 plain_digit false b = All-nil (λ x. x ≢ quote)
 
 -- the digits of one more proposition

@@ -21,10 +21,6 @@ use Rattle.ps_machine.specs.declared.key.Key.TheVariants.{First}
 use Rattle.ps_machine.specs.declared.key.Order.{Order}
 use Rattle.ps_machine.proofs.GameKeys.NamingLemmas.{no_quote}
 
-pub known_start : {order : Order} {a b : AutomatonData} {mask : ℕ} {t : Table} {rests : ℕ × ℕ → Option ℕ} {q : ℕ} →
-    b ≡ a → IsFit order b mask t → q < a.states → IsKnown order b mask t rests (First q 0)
-known_start {q} same fit lt = search rules
-
 pub game_is : {order o : Order} {a b : AutomatonData} {q : ℕ} {keys : List Key} {game : ParityGame} → o ≡ order →
     b ≡ a → q ≡ a.start → IsGameByKeys (LeadsTo (board_of o b)) (mover_of order) (First q 0) keys game →
     IsNumbered game → IsGameOf (board_of order a) (mover_of order) keys game

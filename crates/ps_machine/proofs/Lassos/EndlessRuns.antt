@@ -47,11 +47,11 @@ next_in_lap lap n some = by (cases_lt (suc (n % lap)) lap)
 
     by : (suc k < lap) ⊎ (lap ≤ suc k) → ((suc n) % lap ≡ suc k) ⊎ ((suc k ≡ lap) × ((suc n) % lap ≡ 0))
     by (inl less) =
-        let is : q * lap + suc k ≡ suc n = omega (arith, parts) in
+        let is : q * lap + suc k ≡ suc n = omega arith in
         inl (ap (λ m. m % lap) (sym is) ∙ mod-mul-add q lap (suc k) less)
     by (inr more) =
         let full : suc k ≡ lap = omega (arith, more, mod-lt n some) in
-        let is : suc q * lap + 0 ≡ suc n = omega (arith, parts, full) in
+        let is : suc q * lap + 0 ≡ suc n = omega arith in
         inr (full, ap (λ m. m % lap) (sym is) ∙ mod-mul-add (suc q) lap 0 some)
 
 module _ {m : Behaviour} {stem lap : List ℕ} (l : IsLasso m stem lap) where
@@ -67,7 +67,8 @@ module _ {m : Behaviour} {stem lap : List ℕ} (l : IsLasso m stem lap) where
 
   letter_at : (t : ℕ) → slice_index (stem ++ lap) (at_place t) ≡ word stem lap t
   unfolding at_place
-  letter_at t = search (rules, cases_lt, folded_within, get_or-append, word_within, folded_behind, get_or-append-add, word_behind)
+  letter_at t =
+      search (rules, cases_lt, folded_within, get_or-append, word_within, folded_behind, get_or-append-add, word_behind)
 
   pub memories_on : ℕ → ℕ
   memories_on t = l.memories (at_place t)
@@ -90,20 +91,20 @@ module _ {m : Behaviour} {stem lap : List ℕ} (l : IsLasso m stem lap) where
       by (inl less) (inl next) =
           let here = folded_within u (length lap) less in
           let there = folded_within u (length lap) next in
-          let same : folded u (length lap) t + 1 ≡ folded u (length lap) (suc t) = omega (arith, here, there) in
+          let same : folded u (length lap) t + 1 ≡ folded u (length lap) (suc t) = omega arith in
           ap l.memories same
       by (inl less) (inr next) =
           let here = folded_within u (length lap) less in
           let there = folded_behind u (length lap) (suc t) next in
-          let none : suc t - u ≡ 0 * length lap + 0 = omega (arith, less) in
+          let none : suc t - u ≡ 0 * length lap + 0 = omega arith in
           let begin : (suc t - u) % length lap ≡ 0 = search (rules, mod-mul-add) in
           let same : folded u (length lap) t + 1 ≡ folded u (length lap) (suc t) =
-          omega (arith, here, there, begin, less, next) in
+          omega arith in
           ap l.memories same
       by (inr more) next =
           let here = folded_behind u (length lap) t more in
-          let there = folded_behind u (length lap) (suc t) (omega (arith, more)) in
-          let minus : suc t - u ≡ suc (t - u) = omega (arith, more) in
+          let there = folded_behind u (length lap) (suc t) (omega arith) in
+          let minus : suc t - u ≡ suc (t - u) = omega arith in
           ap (λ n. l.memories (n + 1)) here ∙ behind (t - u) (next_in_lap (length lap) (t - u) l.some)
           ∙ ap (λ n. l.memories (u + n % length lap)) (sym minus) ∙ ap l.memories (sym there)
 
@@ -160,8 +161,8 @@ module _ {m : Behaviour} (is_machine : IsMachine m) where
       l.memories t < m.memories
   memories_of_lasso l zero low = omega (arith, is_machine.some, l.begins)
   memories_of_lasso {stem} {lap} l (suc t) low =
-      let makes = l.makes t (omega (arith, low)) in
-      let next = is_machine.next_within (l.memories t) makes.input (memories_of_lasso l t (omega (arith, low))) in
+      let makes = l.makes t (omega arith) in
+      let next = is_machine.next_within (l.memories t) makes.input (memories_of_lasso l t (omega arith)) in
       let place : l.memories (t + 1) ≡ l.memories (suc t) = ap l.memories (add-one t) in
       omega (arith, next, makes.next_is, place)
 

@@ -47,14 +47,14 @@ module _ {file : FileData} {chain : Chain} {a : AutomatonData} (order : Order) {
     in_stem t d within =
         let both : length (stem ++ lap) ≡ length stem + length lap = length-append stem lap in
         let is : get_or (stem ++ lap) t 0 ≡ get_or stem t 0 = get_or-append stem lap 0 t within in
-        let less = each_letter t (omega (arith, both, within)) in
+        let less = each_letter t (omega arith) in
         subst (λ x. x < 2 ^ length file.names) (is ∙ get_or_default stem t 0 d within) less
 
     in_lap : All (λ letter. letter < 2 ^ length file.names) lap
     in_lap t d within =
         let both : length (stem ++ lap) ≡ length stem + length lap = length-append stem lap in
         let is : get_or (stem ++ lap) (length stem + t) 0 ≡ get_or lap t 0 = get_or-append-add stem lap t 0 in
-        let less = each_letter (length stem + t) (omega (arith, both, within)) in
+        let less = each_letter (length stem + t) (omega arith) in
         subst (λ x. x < 2 ^ length file.names) (is ∙ get_or_default lap t 0 d within) less
 
     others : (x : ℕ) → IsInput m x → IsOther m.is_first (board_of order a) x

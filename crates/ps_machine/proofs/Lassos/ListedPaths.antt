@@ -18,9 +18,9 @@ length-list_of f (suc n) = ap suc (length-list_of (λ k. f (suc k)) n)
 
 pub get_or-list_of : (f : ℕ → ℕ) (n k d : ℕ) → k < n → get_or (list_of f n) k d ≡ f k
 unfolding list_of
-get_or-list_of f zero k d within = absurd (omega (arith, within))
+get_or-list_of f zero k d within = absurd (omega arith)
 get_or-list_of f (suc n) zero d within = refl
-get_or-list_of f (suc n) (suc k) d within = get_or-list_of (λ i. f (suc i)) n k d (omega (arith, within))
+get_or-list_of f (suc n) (suc k) d within = get_or-list_of (λ i. f (suc i)) n k d (omega arith)
 
 module _ (game : ParityGame) (f : ℕ → ℕ) (edge : (k : ℕ) → HasEdge game (f k) (f (suc k))) (n : ℕ) where
   there : (k : ℕ) → k < suc n → slice_index (list_of f (suc n)) k ≡ f k
@@ -33,11 +33,11 @@ module _ (game : ParityGame) (f : ℕ → ℕ) (edge : (k : ℕ) → HasEdge gam
   list_is_path =
       let long = length-list_of f (suc n) in
       record {
-        begins = omega (arith, long);
+        begins = omega arith;
         vertices = search (rules, there);
         edges = λ k within. subst (λ v. HasEdge game v (slice_index (list_of f (suc n)) (k + 1)))
-            (sym (there k (omega (arith, long, within))))
-            (subst (λ w. HasEdge game (f k) w) (sym (next_there k (omega (arith, long, within)))) (edge k));
+            (sym (there k (omega arith)))
+            (subst (λ w. HasEdge game (f k) w) (sym (next_there k (omega arith))) (edge k));
       }
 
   pub list_follows : (player : ℕ) (table : ℕ → Option ℕ) → ((k : ℕ) → owner_of game (f k) ≡ player →
@@ -50,9 +50,9 @@ twice (suc n) = suc (suc (twice n))
 
 pub twice_rises : (m n : ℕ) → m < n → twice m < twice n
 unfolding twice
-twice_rises m zero less = absurd (omega (arith, less))
+twice_rises m zero less = absurd (omega arith)
 twice_rises zero (suc n) less = omega arith
-twice_rises (suc m) (suc n) less = (let before = twice_rises m n (omega (arith, less)) in omega (arith, before))
+twice_rises (suc m) (suc n) less = (let before = twice_rises m n (omega arith) in omega arith)
 
 pub greatest_shift : (f g : ℕ → ℕ) → ((t : ℕ) → f (suc t) ≡ g t) → (from count : ℕ) →
     greatest_from f (suc from) count ≡ greatest_from g from count

@@ -117,7 +117,7 @@ module _ {board : Board} {mover : ℕ} {keys : List Key} {game : ParityGame} {ce
     state = board.auto.start;
     priority = 0;
     here = search (rules, used_first, within_game);
-    least = λ w r p less. absurd (omega (arith, less));
+    least = λ w r p less. absurd (omega arith);
   }
 
   memory_of_start : slice_get made.kept 0 ≡ Some 0
@@ -210,16 +210,16 @@ module _ {board : Board} {mover : ℕ} {keys : List Key} {game : ParityGame} {ce
 
     place_below : (t n k : ℕ) → k < twice n → priority_of game (place t k) ≤ greatest_from priority_of_vertex t n
     unfolding place twice priority_of_vertex
-    place_below t zero k within = absurd (omega (arith, within))
+    place_below t zero k within = absurd (omega arith)
     place_below t (suc n) zero within = le-max_left (priority_of_vertex t) (greatest_from priority_of_vertex (t + 1) n)
-    place_below t (suc n) (suc zero) within = (let none = (round_at t).priority in omega (arith, none))
+    place_below t (suc n) (suc zero) within = (let none = (round_at t).priority in omega arith)
     place_below t (suc n) (suc (suc k)) within =
         let one : suc t ≡ t + 1 = sym (add-one t) in
-        let below = place_below (suc t) n k (omega (arith, within)) in
+        let below = place_below (suc t) n k (omega arith) in
         let same : greatest_from priority_of_vertex (suc t) n ≡ greatest_from priority_of_vertex (t + 1) n =
         ap (λ u. greatest_from priority_of_vertex u n) one in
         let right = le-max_right (priority_of_vertex t) (greatest_from priority_of_vertex (t + 1) n) in
-        omega (arith, below, same, right)
+        omega arith
 
     entered_priority : (t : ℕ) → priority_of_vertex (suc t) ≡ priority_at board.auto w t
     unfolding priority_of_vertex vertex_at entering
@@ -300,7 +300,7 @@ module _ {board : Board} {mover : ℕ} {keys : List Key} {game : ParityGame} {ce
           let (k, after, before, has) =
           loop_priority_stands game path 0 (twice count) is_loop.rises (omega (arith, path_long)) in
           let at_k : priority_of game (slice_index path k) ≡ priority_of game (place (suc from) k) =
-          ap (priority_of game) (path_at k (omega (arith, before))) in
+          ap (priority_of game) (path_at k (omega arith)) in
           let below : top ≤ great = omega (arith, has, at_k, place_below (suc from) count k before) in
           let above : great ≤ top =
           all_below priority_of_vertex (suc from) count top (λ t low high. at_vertex t low high) in
@@ -311,11 +311,12 @@ module _ {board : Board} {mover : ℕ} {keys : List Key} {game : ParityGame} {ce
               priority_of_vertex t ≤ loop_priority game path 0 (twice count)
           at_vertex t low high =
               let n = t - suc from in
-              let less : twice n < twice count = twice_rises n count (omega (arith, low, high)) in
+              let less : twice n < twice count = twice_rises n count (omega arith) in
               let bound =
               le-loop_priority game path 0 (twice count) (twice n) (omega arith) less (omega (arith, path_long)) in
-              let back_to : suc from + n ≡ t = omega (arith, low) in
-              let is : slice_index path (twice n) ≡ vertex_at t = search (rules, path_at, twice, place_even, vertex_at) in
+              let back_to : suc from + n ≡ t = omega arith in
+              let is : slice_index path (twice n) ≡ vertex_at t = search
+                  (rules, path_at, twice, place_even, vertex_at) in
               subst (λ v. priority_of game v ≤ loop_priority game path 0 (twice count)) is bound
 
       -- the greatest priority of the part has the winner's parity

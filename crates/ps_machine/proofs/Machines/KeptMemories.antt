@@ -49,7 +49,7 @@ module _ {is_first : Bool} {keys : List Key} {used kept marks : List ℕ} (m : A
         let within : h.memory < length kept =
         omega (arith, slice_get_within marks h.memory (mark_of is_first 0 q) h.is_marked, m.many) in
         let least : get_or kept 0 0 ≡ 0 = search (rules, cases_lt) in
-        slice_get-get_or kept 0 0 (omega (arith, within)) ∙ ap (λ n. Some n) least
+        slice_get-get_or kept 0 0 (omega arith) ∙ ap (λ n. Some n) least
 
     pub some_kept : (p q : ℕ) → StandsAt keys 0 (First q p) → Contains used 0 → 0 < length kept
     some_kept p q stands is_used = slice_get_within kept 0 0 (first_kept p q stands is_used)
@@ -67,7 +67,7 @@ module _ {is_first : Bool} {keys : List Key} {used kept marks : List ℕ} (m : A
                 (let h = m.found w r p ((are_used w).1 there.used) there.stands in
                 let same : h.memory ≡ memory = search (rules, one_memory, shares_mark) in
                 let behind : get_or kept memory 0 ≤ w = subst (λ i. get_or kept i 0 ≤ w) same h.behind in
-                omega (arith, behind, less));
+                omega arith);
           }
 
       pub all_kept : All (IsKept is_first keys game certificate) kept

@@ -21,10 +21,10 @@ among_last p [] = ap (λ (b : Bool). cond b true false) (eq-eqb p p refl)
 among_last p (m ∷ list) = ap (λ (b : Bool). cond (nat_eq p m) true b) (among_last p list) ∙ always (nat_eq p m)
 
 get_among : (list : List ℕ) (k d : ℕ) → k < length list → is_among (get_or list k d) list ≡ true
-get_among [] k d within = absurd (omega (arith, within))
+get_among [] k d within = absurd (omega arith)
 get_among (m ∷ list) zero d within = ap (λ (b : Bool). cond b true (is_among m list)) (eq-eqb m m refl)
 get_among (m ∷ list) (suc k) d within =
-    ap (λ (b : Bool). cond (nat_eq (get_or list k d) m) true b) (get_among list k d (omega (arith, within)))
+    ap (λ (b : Bool). cond (nat_eq (get_or list k d) m) true b) (get_among list k d (omega arith))
     ∙ always (nat_eq (get_or list k d) m)
 
 pub among_there : (p : ℕ) (list : List ℕ) → is_among p list ≡ true → Contains list p
@@ -58,7 +58,7 @@ listed_with {n} {is} {list} here e l =
       within = search (rules, cases_eq, among_push);
       are = λ p less. elim (cases_eq p n) [
         | inl same ↦ subst (λ q. is_among q (list ++ n ∷ []) ≡ is q) (sym same) (among_last n list ∙ sym here)
-        | inr other ↦ among_push p n list other ∙ l.are p (omega (arith, less, other))
+        | inr other ↦ among_push p n list other ∙ l.are p (omega arith)
       ];
     })
 

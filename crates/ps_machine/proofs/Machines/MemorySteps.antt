@@ -56,15 +56,15 @@ module _ (is_first : Bool) (keys : List Key) (used : List ℕ) where
   none_below {marks} k m =
       subst (λ l. AreMemoriesBelow l marks 0) (sym k) (subst (λ l. AreMemoriesBelow [] l 0) (sym m) (record {
         many = refl;
-        rising = λ i j d rises within. absurd (omega (arith, within));
-        different = λ i j d rises within. absurd (omega (arith, within));
+        rising = λ i j d rises within. absurd (omega arith);
+        different = λ i j d rises within. absurd (omega arith);
         below = All-nil (λ v. v < 0);
-        each = λ memory within. absurd (omega (arith, within));
-        found = λ v q p less. absurd (omega (arith, less));
+        each = λ memory within. absurd (omega arith);
+        found = λ v q p less. absurd (omega arith);
       }))
 
   all_less : (kept : List ℕ) (n : ℕ) → All (λ v. v < n) kept → All (λ v. v < n + 1) kept
-  all_less kept n below i d within = (let less = below i d within in omega (arith, less))
+  all_less kept n below i d within = (let less = below i d within in omega arith)
 
   -- a vertex without a memory: it is not used, or the first player does not move there
   pub below_skip : {kept marks : List ℕ} {n : ℕ} → ((q p : ℕ) → Contains used n → StandsAt keys n (First q p) → ⊥) →

@@ -31,11 +31,11 @@ module _ {game : ParityGame} {certificate : CertificateData} (valid : IsValid ga
   add_first : (xs old : List ℕ) (n : ℕ) → n ≤ length xs → (new : List ℕ) × Adds (Contains (take n xs)) old new
   add_first xs old zero few = (old, adds_none (λ w c. omega (arith, c.1)))
   add_first xs old (suc n) few =
-      let before = add_first xs old n (omega (arith, few)) in
+      let before = add_first xs old n (omega arith) in
       let new = insert_key nat_eq before.0 (get_or xs n 0) in (
         new,
         subst (λ i. Adds (Contains (take i xs)) old new) (add-one n)
-            (adds_next xs n (omega (arith, few)) refl refl before.1),
+            (adds_next xs n (omega arith) refl refl before.1),
       )
 
   add_next : (v : ℕ) (old : List ℕ) → IsUsed game certificate v →
@@ -62,14 +62,14 @@ module _ {game : ParityGame} {certificate : CertificateData} (valid : IsValid ga
       vertex_count game ≤ turn + fuel → (found : List ℕ) × AreUsed game certificate found
   search_on zero turn found s enough =
       (let few = search_bounded game certificate s in
-      (found, search_done game certificate s (omega (arith, few, enough))))
+      (found, search_done game certificate s (omega arith)))
   search_on (suc fuel) turn found s enough = elim (cases_lt turn (length found)) [
     | inr done ↦ (found, search_done game certificate s done)
     | inl more ↦
         let v = get_or found turn 0 in
         let at : Some v ≡ slice_get found turn = sym (slice_get-get_or found turn 0 more) in
         let next = add_next v found (used_at game certificate s at) in
-        search_on fuel (turn + 1) next.0 (search_next game certificate within s at next.1) (omega (arith, enough))
+        search_on fuel (turn + 1) next.0 (search_next game certificate within s at next.1) (omega arith)
   ]
 
   pub used_there : 0 < vertex_count game → (found : List ℕ) × AreUsed game certificate found
@@ -84,8 +84,8 @@ module _ (is_first : Bool) (keys : List Key) (used : List ℕ) where
       AreMemoriesBelow is_first keys used kept marks n
   memories_below zero few = ([], [], none_below is_first keys used refl refl)
   memories_below (suc n) few =
-      (let m = memories_below n (omega (arith, few)) in at m.0 m.1 m.2 (get_or keys n (First 0 0))
-      (slice_get-get_or keys n (First 0 0) (omega (arith, few))))
+      (let m = memories_below n (omega arith) in at m.0 m.1 m.2 (get_or keys n (First 0 0))
+      (slice_get-get_or keys n (First 0 0) (omega arith)))
     where
       at : (kept marks : List ℕ) → AreMemoriesBelow is_first keys used kept marks n → (key : Key) →
           StandsAt keys n key → (kept : List ℕ) × (marks : List ℕ) ×

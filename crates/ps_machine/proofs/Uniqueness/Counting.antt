@@ -63,11 +63,10 @@ last_one list x m e =
     let c = length (distinct list) in
     let long : c + 1 ≡ m = sym (length-append (distinct list) (x ∷ [])) ∙ ap length e ∙ length-range_with_len 0 m in
     let x_is : x ≡ c = sym (get_or-append_seam (distinct list) x [] 0) ∙ ap (λ l. get_or l c 0) e
-    ∙ get_or-range_with_len 0 m c 0 (omega (arith, long)) ∙ none c in
+    ∙ get_or-range_with_len 0 m c 0 (omega arith) ∙ none c in
     same_number_lists (distinct list) (range_with_len 0 x) (sym x_is ∙ sym (length-range_with_len 0 x))
     (λ k within. sym (get_or-append (distinct list) (x ∷ []) 0 k within) ∙ ap (λ l. get_or l k 0) e
-    ∙ get_or-range_with_len 0 m k 0 (omega (arith, within, long))
-    ∙ sym (get_or-range_with_len 0 x k 0 (omega (arith, within, x_is))))
+    ∙ get_or-range_with_len 0 m k 0 (omega arith) ∙ sym (get_or-range_with_len 0 x k 0 (omega arith)))
 
 counts_last : (list : List ℕ) (x m : ℕ) → Counts (list ++ x ∷ []) m → (Counts list m × (x < m)) ⊎ Counts list x
 counts_last list x m e = search (rules, cases_Bool, distinct-push, All-contains, counts_below, has_it, last_one)

@@ -61,7 +61,7 @@ module _ (order : Order) (file : FileData) (chain : Chain) where
     pub alike : (q letter : ℕ) → q ≤ file.states → letter < 2 ^ length file.names → StepAlike a b q letter
     alike q letter le lt = elim (cases_lt q file.states) [
       | inl low ↦ at_state q letter low lt
-      | inr ge ↦ (let sink : file.states ≡ q = omega (arith, le, ge) in
+      | inr ge ↦ (let sink : file.states ≡ q = omega arith in
           subst (λ p. StepAlike a b p letter) sink (at_sink letter lt))
     ]
 
@@ -153,7 +153,7 @@ module _ (order : Order) (file : FileData) (chain : Chain) where
     module _ {mover : ℕ} {keys : List Key} {game : ParityGame} (g : IsGameOf (on a) mover keys game) where
       has_come : (v : ℕ) → v < vertex_count game → Contains (listed game v) v
       has_come v lt =
-          let c = count_at (on a) mover keys game v g (omega (arith, lt)) in
+          let c = count_at (on a) mover keys game v g (omega arith) in
           has_it (listed game v) v (came (listed game v) c.0 v c.1 (ahead (on a) mover keys game v c.0 g lt c.1))
 
       first_fine : (w : ℕ) (key : Key) → Contains (0 ∷ []) w → StandsAt keys w key → IsFine key
@@ -163,11 +163,11 @@ module _ (order : Order) (file : FileData) (chain : Chain) where
           StandsAt keys w key → IsFine key
       listed_fine zero le w key c at = first_fine w key c at
       listed_fine (suc v) le w key c at = elim (Contains-append_cases (listed game v) (successors_of game v) w c) [
-        | inl before ↦ listed_fine v (omega (arith, le)) w key before at
+        | inl before ↦ listed_fine v (omega arith) w key before at
         | inr new ↦
-            (let lt : v < vertex_count game = omega (arith, le) in
+            (let lt : v < vertex_count game = omega arith in
             let vertex = g.by_keys.vertices v lt in
-            let fine = listed_fine v (omega (arith, le)) v vertex.key (has_come v lt) vertex.stands in
+            let fine = listed_fine v (omega arith) v vertex.key (has_come v lt) vertex.stands in
             All-contains IsFine vertex.next key (next_fine vertex.key vertex.next fine vertex.leads_to)
             (zipped keys (successors_of game v) vertex.next w key vertex.successors at new))
       ]
@@ -175,7 +175,7 @@ module _ (order : Order) (file : FileData) (chain : Chain) where
       pub key_fine : (v : ℕ) (key : Key) → StandsAt keys v key → IsFine key
       key_fine v key stands =
           let within : v < vertex_count game = omega (arith, slice_get_within keys v key stands, g.by_keys.count) in
-          listed_fine v (omega (arith, within)) v key (has_come v within) stands
+          listed_fine v (omega arith) v key (has_come v within) stands
 
       vertex_too : (v : ℕ) → v < vertex_count game → IsVertexOf (LeadsTo (on b)) mover keys game v
       vertex_too v lt =
@@ -187,7 +187,7 @@ module _ (order : Order) (file : FileData) (chain : Chain) where
             owner = vertex.owner;
             priority = vertex.priority;
             leads_to =
-                leads_too vertex.key vertex.next (listed_fine v (omega (arith, lt)) v vertex.key (has_come v lt)
+                leads_too vertex.key vertex.next (listed_fine v (omega arith) v vertex.key (has_come v lt)
                 vertex.stands) vertex.leads_to;
             successors = vertex.successors;
           }

@@ -96,7 +96,7 @@ module _ (first : Bool) (keys : List Key) (game : ParityGame) (certificate : Cer
   one_memory {i} {j} rises each a b =
       let below : i < j → ⊥ = λ less. not_lower rises each a b less in
       let above : j < i → ⊥ = λ less. not_lower rises each b a less in
-      omega (arith, below, above)
+      omega arith
 
 -- ## Letters
 

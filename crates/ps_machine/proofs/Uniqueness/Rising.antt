@@ -19,7 +19,7 @@ Within xs ys = (z : ℕ) → Contains xs z → Contains ys z
 -- of two numbers one comes before the other at most
 module _ (Before : ℕ → ℕ → Type 0) (one_way : (x y : ℕ) → Before x y → Before y x → ⊥) where
   rising_tail : (x : ℕ) (xs : List ℕ) → AllPairs Before (x ∷ xs) → AllPairs Before xs
-  rising_tail x xs r i j d less within = r (suc i) (suc j) d (omega (arith, less)) (omega (arith, within))
+  rising_tail x xs r i j d less within = r (suc i) (suc j) d (omega arith) (omega arith)
 
   before_others : (x z : ℕ) (xs : List ℕ) → AllPairs Before (x ∷ xs) → Contains xs z → Before x z
   before_others x z xs r c = subst (Before x) c.2 (r 0 (suc c.0) z (omega arith) (omega (arith, c.1)))
@@ -55,7 +55,7 @@ module _ (Before : ℕ → ℕ → Type 0) (one_way : (x y : ℕ) → Before x y
 -- ## Numbers
 
 one_below : (x y : ℕ) → x < y → y < x → ⊥
-one_below x y less more = omega (arith, less, more)
+one_below x y less more = omega arith
 
 pub same_numbers : {xs ys : List ℕ} → AllPairs (λ x y. x < y) xs → AllPairs (λ x y. x < y) ys →
     Within xs ys → Within ys xs → xs ≡ ys

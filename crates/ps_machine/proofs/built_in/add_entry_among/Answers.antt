@@ -5,7 +5,6 @@ use Rattle.ps_machine.proofs.built_in.add_entry_among.Goals as goal
 
 pub returns : goal.returns
 returns g c =
-    let game = g.A.Arena.game c.args.arena.now in
     let table = move_at c.args.strategy.now in
     record {
       entry = c.entry.result;

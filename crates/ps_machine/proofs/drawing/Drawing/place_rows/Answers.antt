@@ -14,13 +14,11 @@ use Rattle.ps_machine.proofs.drawing.Drawing.place_rows.Goals as goal
 
 pub returns-in_err-note-clause-same_rows : goal.returns-in_err-note-clause-same_rows
 returns-in_err-note-clause-same_rows c =
-    let row : Row = record { memory = c.memory_behind-memory.result; letter = c.args.letter } in
     (add_row (row_eq.eq-value).it c.loop-leaf.invariant.noted c.in_ok-place.ensures.keys (record
     { memory = c.memory_behind-memory.ensures.within; letter = c.requires.own })).same_rows
 
 pub returns-in_err-note-clause-rows : goal.returns-in_err-note-clause-rows
 returns-in_err-note-clause-rows c =
-    let row : Row = record { memory = c.memory_behind-memory.result; letter = c.args.letter } in
     (add_row (row_eq.eq-value).it c.loop-leaf.invariant.noted c.in_ok-place.ensures.keys (record
     { memory = c.memory_behind-memory.ensures.within; letter = c.requires.own })).each
 
@@ -29,7 +27,6 @@ loop-leaf-preserved c =
     let p = c.args.plan.now in
     let a = p.automaton.now in
     let keys = p.keys.now.keys in
-    let board = board_of p.order a in
     let kept = p.memories.now.kept.items in
     let leaves = c.args.leaves.now in
     let i = c.loop-leaf.leaf-index in

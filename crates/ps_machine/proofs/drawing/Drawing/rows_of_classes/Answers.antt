@@ -9,8 +9,6 @@ use Rattle.ps_machine.proofs.drawing.Drawing.rows_of_classes.Goals as goal
 
 pub returns-in_err-push-clause-same_rows : goal.returns-in_err-push-clause-same_rows
 returns-in_err-push-clause-same_rows c =
-    let old = c.loop-class.self.rows.keys in
-    let new = c.insert_full.new.self.keys in
     keeps_rows_trans c.loop-class.invariant.same_rows
     (keeps_rows (row_eq.eq-value).it c.in_ok-row.row c.in_ok-place.ensures.keys)
 
