@@ -30,9 +30,7 @@ number_is n x lt = search (rules, same_letter, letter_lt, letter_is)
 
 sum_is : (n x y : ℕ) → x < 2 ^ n → y < 2 ^ n → ((p : ℕ) → (is_in p x && is_in p y) ≡ false) →
     x + y ≡ letter_of n (λ p. is_in p x || is_in p y)
-sum_is n x y a b apart =
-    ap (λ k. k + y) (number_is n x a) ∙ ap (λ k. letter_of n (assignment x) + k) (number_is n y b)
-    ∙ sum_of n (assignment x) (assignment y) apart
+sum_is n x y a b apart = cc (number_is n x a, number_is n y b, sum_of n (assignment x) (assignment y) apart)
 
 and_false-right : (a : Bool) {b : Bool} → b ≡ false → (a && b) ≡ false
 and_false-right a h1 = search rules
@@ -119,7 +117,7 @@ module _ (board : Board) where
       p < board.propositions → is_in p u ≡ is_in p (x + second_of u)
   as_sum u p m hx on lt = elim (bool_cases (board.is_first p)) [
     | inl is ↦ sym (on p (m.is p lt ∙ is)) ∙ sym (sum_first p hx (second_is u) lt is)
-    | inr isnt ↦ sym (second_bit u p lt isnt) ∙ sym (sum_second p hx (second_is u) lt isnt)
+    | inr isnt ↦ cc (second_bit u p lt isnt, sum_second p hx (second_is u) lt isnt)
   ]
 
   -- the same with the second part of another letter that agrees outside the mask

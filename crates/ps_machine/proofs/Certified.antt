@@ -87,8 +87,7 @@ module _ {game : ParityGame} (is_game : IsGame game) {player : ℕ} {set : ℕ �
       let at : get_or priorities k 0 ≡ opposing_at c v k =
       ap (λ l. get_or l k 0) (sym listed ∙ ap (λ q. opposing c q) (sym s.winner)) in
       subst (λ p. K p (get_or (counts_of c v) k 0) (get_or (counts_of c w) k 0)) at
-      (subst (λ x. K (get_or priorities k 0) x (get_or (counts_of c w) k 0)) (sym (s.count k))
-      (subst (λ y. K (get_or priorities k 0) (count_of rows v k) y) (sym (t.count k)) keep))
+      (rw (s.count k, t.count k) keep)
 
   -- the counts of a valid certificate that differs in counts alone keep the rule on the edges of the table
   others_keep : (d : CertificateData) → IsValid game d → DiffersInCounts game c d → opposing d player ≡ priorities →
@@ -102,9 +101,8 @@ module _ {game : ParityGame} (is_game : IsGame game) {player : ℕ} {set : ℕ �
       (v k : ℕ) → IsSide game player set table priorities rows c v → k < length (counts_of c v) →
       get_or (counts_of c v) k 0 ≤ get_or (counts_of d v) k 0
   side_least d valid differs listed sides v k s inside =
-      let within = subst (λ n. k < n) s.long inside in
-      subst (λ x. x ≤ get_or (counts_of d v) k 0) (sym (s.count k))
-      ((ranks.columns k within).least (λ u. get_or (counts_of d u) k 0)
+      let within = rw s.long at inside in
+      rw (s.count k) ((ranks.columns k within).least (λ u. get_or (counts_of d u) k 0)
       (others_keep d valid differs listed sides k within) v)
 
   side_without_meaning : (v k : ℕ) → IsSide game player set table priorities rows c v → opposing c player ≡ priorities →
@@ -112,7 +110,7 @@ module _ {game : ParityGame} (is_game : IsGame game) {player : ℕ} {set : ℕ �
   side_without_meaning v k s listed inside below =
       let at : opposing_at c v k ≡ get_or priorities k 0 =
       ap (λ l. get_or l k 0) (ap (λ q. opposing c q) s.winner ∙ listed) in
-      s.count k ∙ (ranks.columns k (subst (λ n. k < n) s.long inside)).above v
+      s.count k ∙ (ranks.columns k (rw s.long at inside)).above v
       (subst (λ p. p < priority_of game v) at below)
 
 -- the two regions, and all that is known of them

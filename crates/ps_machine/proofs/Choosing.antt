@@ -51,11 +51,11 @@ module _ (n : ℕ) (mine : ℕ → Bool) where
 
   pub part_bit : (x p : ℕ) → p < n → mine p ≡ true → is_in p (part x) ≡ is_in p x
   unfolding part
-  part_bit x p less is = letter_is n (λ q. mine q && is_in q x) p less ∙ ap (λ b. b && is_in p x) is
+  part_bit x p less is = cc (letter_is n (λ q. mine q && is_in q x) p less, is)
 
   pub over_or_not : (y : ℕ) → IsOver n mine y ⊎ (IsOver n mine y → ⊥)
   over_or_not y = elim (cases_eq (part y) y) [
-    | inl same ↦ inl (subst (IsOver n mine) same (part_over y))
+    | inl same ↦ inl (rw same at (part_over y))
     | inr other ↦ inr (λ over. other (part_itself y over))
   ]
 

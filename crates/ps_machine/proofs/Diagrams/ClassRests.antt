@@ -108,7 +108,7 @@ module _ {order : Order} {a : AutomatonData} {mask : ℕ} {t : Table} {q : ℕ} 
       record {
         fit = f;
         is_rest = rw (← any.4.0, ← any.4.1) (class_rest f of any.0 at);
-        heeds_second = subst (λ n. Heeds order a t n) any.4.1 (class_heeds any.0 c at);
+        heeds_second = rw any.4.1 at (class_heeds any.0 c at);
       }
 
 -- the places by another name
@@ -141,5 +141,4 @@ module _ {order : Order} {a : AutomatonData} {keys : List Key} {t : Table} {clas
   pub left_behind : {letter rest : ℕ} → Any (λ (k : Class). (k.letter ≡ letter) × (k.rest ≡ rest)) l →
       Left order a d.mask t q letter rest
   left_behind {letter} {rest} any =
-      left d.fit are_classes (subst (λ (cs : List Class). Any (λ (k : Class). (k.letter ≡ letter) × (k.rest ≡ rest)) cs)
-      same any)
+      left d.fit are_classes (rw same at any)

@@ -86,7 +86,7 @@ module _ {order : Order} {a : AutomatonData} {mask : ℕ} {t : Table} {rests : �
   known_behind = search (rules, e)
 
   pub some_behind : 0 < length next
-  some_behind = subst (λ (keys : List Key). 0 < length keys) (sym e) (class_some known.is_known.fit of)
+  some_behind = rw e (class_some known.is_known.fit of)
 
   pub different_behind : AllPairs (λ x y. x ≢ y) next
   different_behind = rw e (class_different known.is_known.fit of)
@@ -128,7 +128,7 @@ pub is_divided : (o : Option Classes) (P : Classes → Type 0) → IsSomeAnd o P
 is_divided o P h1 = search rules
 
 pub classes_at : {o : Option Classes} (P : Classes → Type 0) {c : Classes} → IsSomeAnd o P → o ≡ Some c → P c
-classes_at P h e = subst (λ (x : Option Classes). IsSomeAnd x P) e h
+classes_at P h e = rw e at h
 
 -- the classes that are lent for the state of a vertex
 pub classes_there : {order : Order} {a : AutomatonData} {keys : List Key} {t : Table} {classes : ℕ → Option Classes}

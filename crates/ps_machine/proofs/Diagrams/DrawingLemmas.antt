@@ -52,7 +52,7 @@ pub has_key : (keys : List Key) (v : ℕ) (key : Key) → StandsAt keys v key �
     list_any ((key_eq.eq-value).it key) keys ≡ true
 has_key keys v key at =
     list_any_at ((key_eq.eq-value).it key) keys v key (slice_get_within keys v key at)
-    (subst (λ k. (key_eq.eq-value).it key k ≡ true) (sym (get_or_from_slice_get keys v key key at)) (key_same key))
+    (rw (get_or_from_slice_get keys v key key at) (key_same key))
 
 pub has_mark : (marks : List ℕ) (memory : ℕ) {mark : ℕ} → slice_get marks memory ≡ Some mark →
     list_any (eqb mark) marks ≡ true
@@ -90,14 +90,13 @@ pub used_more : {game : ParityGame} {certificate : CertificateData} {v : ℕ} {w
     → IsUsed game certificate w
 used_more {game} {certificate} {w} u edge within chosen =
     let long = length_push u.path w in
-    let Goes : ℕ → Type 0 = λ x. owner_of game x ≡ winner certificate → choice_of certificate x ≡ Some w in
     record {
       path = u.path ++ w ∷ [];
-      is_path = IsPath-push game u.path w u.is_path (subst (λ x. HasEdge game x w) (sym u.ends) edge) within;
+      is_path = IsPath-push game u.path w u.is_path (rw u.ends edge) within;
       begins = get_or_append_left u.path (w ∷ []) 0 0 u.is_path.begins ∙ u.begins;
       follows =
           Follows-push game (winner certificate) (choice_of certificate) u.path w u.is_path.begins u.follows
-          (subst Goes (sym u.ends) chosen);
+          (rw u.ends chosen);
       ends = get_or_push u.path w 0 (length (u.path ++ w ∷ []) - 1) (omega arith);
     }
 
@@ -122,12 +121,12 @@ module _ (keys : List Key) (key : ℕ → Key) (numbers : List ℕ) {P : ℕ →
       omega (arith, here.0, ap (λ (l : List Key). length l) are, length-map letters key) in
       let x = get_or letters c.0 0 in
       let is : get_or next c.0 (key 0) ≡ key x = search (rules, get_or-map) in
-      (x, listed.each c.0 0 within, subst (λ u. StandsAt keys u (key x)) c.2 (here.1 ∙ ap (λ k. Some k) is))
+      (x, listed.each c.0 0 within, rw c.2 at (here.1 ∙ ap (λ k. Some k) is))
 
   number_of_letter : {x : ℕ} → P x → (w : ℕ) × Contains numbers w × StandsAt keys w (key x)
   number_of_letter {x} is =
       let c = listed.complete x is in
-      let m = subst (λ l. Contains l (key x)) (sym are) (map_contains key letters c.0 c.1 c.2) in
+      let m = rw (← are) at (map_contains key letters c.0 c.1 c.2) in
       zip_vertex keys numbers next zip m
 
 -- a successor that stands for a key
@@ -168,7 +167,7 @@ module _ {board : Board} {mover : ℕ} {keys : List Key} {game : ParityGame} {ce
       let there =
       some_and (choice_of certificate v) (HasEdge game v) ((s.valid.closed.moves v within).own (own ∙ sym won)) in
       let next : there.0 < vertex_count game =
-      subst (λ o. IfSome o (λ w. w < vertex_count game)) there.1 (s.fits.choices v within) in
+      rw there.1 at (s.fits.choices v within) in
       record {
         chosen = there.0;
         choice = there.1;
@@ -182,7 +181,7 @@ module _ {board : Board} {mover : ℕ} {keys : List Key} {game : ParityGame} {ce
   next_keys v k at =
       let vertex = s.by_keys.vertices v (within_game s v at) in (
         vertex.next,
-        subst (λ l. LeadsTo board l vertex.next) (same_some (sym vertex.stands ∙ at)) vertex.leads_to,
+        rw (same_some (sym vertex.stands ∙ at)) at vertex.leads_to,
         vertex.successors,
       )
 
@@ -234,8 +233,8 @@ module _ {order : Order} {a : AutomatonData} {keys : List Key} {certificate : Ce
       record {
         state = m.state;
         priority = m.priority;
-        stands = subst (λ w. StandsAt keys w (First m.state m.priority)) same m.stands;
-        used = (plan.are_used v).0 (subst (λ w. Contains plan.used w) same m.is_used);
+        stands = rw same at m.stands;
+        used = (plan.are_used v).0 (rw same at m.is_used);
       }
 
   pub kept_used : {v : ℕ} → Contains kept v → IsUsed plan.game certificate v
@@ -246,7 +245,7 @@ module _ {order : Order} {a : AutomatonData} {keys : List Key} {certificate : Ce
 
   pub kept_stands : (v : ℕ) → Contains kept v → {q p : ℕ} → get_or keys v (First 0 0) ≡ First q p →
       StandsAt keys v (First q p)
-  kept_stands v c is = slice_get-get_or keys v (First 0 0) (kept_within v c) ∙ ap (λ k. Some k) is
+  kept_stands v c is = cc (slice_get-get_or keys v (First 0 0) (kept_within v c), is)
 
   pub kept_not_second : (v : ℕ) → Contains kept v → {q x : ℕ} → get_or keys v (First 0 0) ≡ Second q x → ⊥
   kept_not_second v c is =

@@ -141,7 +141,7 @@ module _ {order : Order} {a : AutomatonData} {keys : List Key} {certificate : Ce
       let s = setting plan in
       let to = to_class v is_kept at in
       let same : to.chosen ≡ plays.chosen = some_nat to.chosen plays.chosen (sym to.choice ∙ plays.choice) in
-      let used : IsUsed plan.game certificate plays.chosen = subst (λ n. IsUsed plan.game certificate n) same to.used in
+      let used : IsUsed plan.game certificate plays.chosen = rw same at to.used in
       let y = (get_or found k (0, 0)).1 in
       let leaf = (get_or found k (0, 0)).0 in
       let on = to_pair_of s letter y plays.stands (move_is l.fit l.is_rest are k within) in
@@ -155,12 +155,11 @@ module _ {order : Order} {a : AutomatonData} {keys : List Key} {certificate : Ce
         enters = record {
           plan = plan;
           vertex = on.vertex;
-          stands = subst (λ (x : Step). StandsAt keys on.vertex (First x.state x.priority)) there on.stands;
+          stands = rw there at on.stands;
           is_used = used_more used on.edge (within_game s on.vertex on.stands) (λ own. absurd (other own));
         };
       } in
-      subst (λ (x : ℕ × ℕ). IsEntered order a keys certificate is_first kept marks x.0)
-      (get_or_default found k (0, 0) d within) item
+      rw (get_or_default found k (0, 0) d within) at item
 
   module _ {mask : ℕ} {t : Table} {v q p letter rest : ℕ} {found : List (ℕ × ℕ)} {rows : List Row} {places : List ℕ}
       (is_kept : Contains kept v) (at : StandsAt keys v (First q p))
@@ -186,7 +185,7 @@ module _ {order : Order} {a : AutomatonData} {keys : List Key} {certificate : Ce
           leaf = there.0;
           is_leaf = is;
           is_step = ap (λ o. pair_of a (unwrap_or o (length a.steps))) there.1;
-          is_placed = subst (λ n. IsPlaced a keys is_first kept rows places letter n) same (placed any.0 any.1 any.2);
+          is_placed = rw same at (placed any.0 any.1 any.2);
           is_entered = rw (← same) (entered is_kept at plays l are any.0 any.1 any.2);
         }
 
@@ -199,7 +198,7 @@ module _ {order : Order} {a : AutomatonData} {keys : List Key} {certificate : Ce
         by (Some leaf) e =
             let any = are.each leaf x (below, e) in
             let same : (get_or found any.0 any.1).0 ≡ leaf = ap (λ (c : ℕ × ℕ). c.0) any.3 ∙ any.4 in
-            let is = subst (λ n. IsPlaced a keys is_first kept rows places letter n) same (placed any.0 any.1 any.2) in
+            let is = rw same at (placed any.0 any.1 any.2) in
             slice_get_within places leaf is.place is.is_noted
 
     module _ (u : Table) (made : ℕ) (held : IsNode u made) (named : (x : ℕ) →
@@ -223,7 +222,7 @@ module _ {order : Order} {a : AutomatonData} {keys : List Key} {certificate : Ce
 
       pub drawn_first : IsDrawn is_first (board_of order a) keys kept certificate u rows v made
       unfolding Heeds
-      drawn_first = subst (λ b. IsDrawn b (board_of order a) keys kept certificate u rows v made) (sym first) (record {
+      drawn_first = rw first (record {
         held = held;
         state = q;
         priority = p;

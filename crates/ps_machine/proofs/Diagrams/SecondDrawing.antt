@@ -59,7 +59,7 @@ pub found_at : (keys : List Key) (key : Key) {i : ℕ} → position ((key_eq.eq-
     StandsAt keys i key
 found_at keys key {i} e =
     let there = at_position ((key_eq.eq-value).it key) keys key e in
-    there.1 ∙ ap (λ k. Some k) (sym (same_key key there.0 there.2))
+    cc (there.1, same_key key there.0 there.2)
 
 abbrev pair : AutomatonData → ℕ → ℕ → Key
 pair a q l = step_key (step_of a q l)
@@ -112,7 +112,7 @@ module _ {order : Order} {a : AutomatonData} {keys : List Key} {certificate : Ce
 
   module _ {q x : ℕ} (r : Replies order a keys certificate is_first kept marks q x) where
     pub reply_choice : (at : ℕ) → StandsAt keys at (Second q x) → choice_of certificate at ≡ Some r.chosen
-    reply_choice at there = ap (choice_of certificate) (r.apart at r.at (Second q x) there r.stands) ∙ r.choice
+    reply_choice at there = cc (r.apart at r.at (Second q x) there r.stands, r.choice)
 
     -- what the table of keys has where the winner moves to
     pub reply_key : (at : ℕ) {chosen : ℕ} {slice : List Key} {k : Key} (d : Key) → StandsAt keys at (Second q x) →
@@ -185,7 +185,7 @@ module _ {order : Order} {a : AutomatonData} {mask : ℕ} {t : Table} {keys : Li
       let here : get_or found k (0, 0) ≡ leaf = get_or_default found k (0, 0) leaf within ∙ any.3 in
       let played : (get_or found k (0, 0)).1 ≡ letter = ap (λ (l : ℕ × ℕ). l.1) here ∙ any.4.1 in
       let named : pair_of a (get_or found k (0, 0)).0 ≡ step = ap (λ (l : ℕ × ℕ). pair_of a l.0) here ∙ any.4.0 in
-      let move = subst (λ y. IsMove (board_of order a) q x y) played (move_is f r are k within) in
+      let move = rw played at (move_is f r are k within) in
       let leads = ap (λ y. leaf_of a.store (node_of a q) (x + y)) (sym played) ∙ move_leaf f r are k within in
       answer_by letter memory class move (ap (λ o. pair_of a (unwrap_or o (length a.steps))) leads ∙ named) stands
 
@@ -196,7 +196,7 @@ pub answer_row : {is_first : Bool} {board : Board} {keys : List Key} {kept : Lis
     IsRow is_first board kept row
 answer_row {board} {kept} {row} turn answer =
     let at = answer 0 in
-    subst (λ b. IsRow b board kept row) (sym turn) (record {
+    rw turn (record {
       memory = slice_get_within kept row.memory at.next.vertex at.next.is_kept;
       letter = at.played.least.here.0;
     })
@@ -227,13 +227,11 @@ module _ {board : Board} {keys : List Key} {kept : List ℕ} {certificate : Cert
   named_next old new classes i d values more value {row} grown zip within is stored answer e =
       let k = keeps_rows (row_eq.eq-value).it row grown in
       let at : slice_get new value ≡ Some row = stored.1 ∙ ap (λ r. Some r) (sym (same_row stored.2)) in
-      let here = subst (λ (c : Class). IsReplyRow board keys kept certificate q c.letter row) is answer in
-      subst (λ l. AllZip (Names board keys kept certificate q new) (take (i + 1) classes) l) (sym e)
-      (subst (λ l. AllZip (Names board keys kept certificate q new) l (values ++ value ∷ []))
-      (sym (take_more classes i d within))
+      let here = rw is at answer in
+      rw (e, take_more classes i d within)
       (AllZip-push (Names board keys kept certificate q new) (take i classes) values (get_or classes i d) value
       (still_named board keys kept certificate q k (take i classes) values zip)
-      (record { row = row; is_row = at; is_answer = here })))
+      (record { row = row; is_row = at; is_answer = here }))
 
   -- letters that step alike have one row
   alike_row : {v x c : ℕ} {row : Row} → SameSteps board q x c → IsRowAt false board keys kept certificate v q c row →
@@ -277,8 +275,7 @@ module _ (keys : List Key) (kept : List ℕ) (certificate : CertificateData) (ro
         let alike = (of.are.alike x c (below_back f x hx.within) each.least.here.0).0 (m.is ∙ sym each.least.here.1) in
         let same = same_steps f q x c hx hc alike in
         let N = Names (board_of order a) keys kept certificate q rows in
-        let left = subst (λ o. MatchOption o (Unit {0}) (λ class. IsSomeAnd (slice_get values m.place) (N class))) m.at
-        (AllZip-left N list values named m.place) in
+        let left = rw m.at at (AllZip-left N list values named m.place) in
         let value = some_of (slice_get values m.place) (N m.class) left in
         record {
           leaf = value.0;
@@ -294,7 +291,7 @@ module _ (keys : List Key) (kept : List ℕ) (certificate : CertificateData) (ro
     heeds_first x y alike =
         let on : AgreeOn mask x y = λ p is. (let within = mask_below (board_of order a) mask p f.is_mask is in
         alike p within (sym (f.is_mask.is p within) ∙ is)) in
-        leaf x ∙ ap (λ o. option_map (λ k. slice_index values k) o) (of.are.read x y on) ∙ sym (leaf y)
+        cc (leaf x, of.are.read x y on, leaf y)
 
     pub drawn_second : (v p : ℕ) → StandsAt keys v (First q p) → IsNode u node →
         IsDrawn false (board_of order a) keys kept certificate u rows v node

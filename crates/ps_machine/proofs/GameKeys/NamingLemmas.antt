@@ -49,4 +49,4 @@ ids_differ n i j d less lt e = search (rules, length-range_with_len, get_or-rang
 
 pub range_more : (n : ℕ) {old new : List ℕ} → old ≡ range_with_len 0 n → new ≡ old ++ n ∷ [] →
     new ≡ range_with_len 0 (n + 1)
-range_more n e h = h ∙ ap (λ l. l ++ n ∷ []) e ∙ range-push n
+range_more n e h = cc (h, e, range-push n)

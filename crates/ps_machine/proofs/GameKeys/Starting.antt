@@ -25,9 +25,7 @@ pub game_is : {order o : Order} {a b : AutomatonData} {q : ℕ} {keys : List Key
     b ≡ a → q ≡ a.start → IsGameByKeys (LeadsTo (board_of o b)) (mover_of order) (First q 0) keys game →
     IsNumbered game → IsGameOf (board_of order a) (mover_of order) keys game
 game_is {order} {a} {b} {q} {keys} {game} same is start by_keys numbered = record {
-  by_keys = subst (λ k. IsGameByKeys (LeadsTo (board_of order a)) (mover_of order) (First k 0) keys game) start
-      (subst (λ d. IsGameByKeys (LeadsTo (board_of order d)) (mover_of order) (First q 0) keys game) is
-      (subst (λ p. IsGameByKeys (LeadsTo (board_of p b)) (mover_of order) (First q 0) keys game) same by_keys));
+  by_keys = rw start at (rw is at (rw same at by_keys));
   numbered = numbered;
 }
 
@@ -43,5 +41,5 @@ pub plain_names_more : (old new : List (Option (Vec ℕ Global))) (v : Vec ℕ G
     IsPlain v.items → All HasNoQuote (map name_bytes old) → All HasNoQuote (map name_bytes new)
 plain_names_more old new v e plain was =
     All-same HasNoQuote (map name_bytes new) (map name_bytes old ++ Some v.items ∷ [])
-    (ap (map name_bytes) e ∙ map_push name_bytes old (Some v))
+    (cc (e, map_push name_bytes old (Some v)))
     (All-push HasNoQuote (map name_bytes old) (Some v.items) was (no_quote v.items plain))

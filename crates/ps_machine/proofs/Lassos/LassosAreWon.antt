@@ -48,14 +48,14 @@ module _ {file : FileData} {chain : Chain} {a : AutomatonData} (order : Order) {
         let both : length (stem ++ lap) ≡ length stem + length lap = length-append stem lap in
         let is : get_or (stem ++ lap) t 0 ≡ get_or stem t 0 = get_or-append stem lap 0 t within in
         let less = each_letter t (omega arith) in
-        subst (λ x. x < 2 ^ length file.names) (is ∙ get_or_default stem t 0 d within) less
+        rw (is ∙ get_or_default stem t 0 d within) at less
 
     in_lap : All (λ letter. letter < 2 ^ length file.names) lap
     in_lap t d within =
         let both : length (stem ++ lap) ≡ length stem + length lap = length-append stem lap in
         let is : get_or (stem ++ lap) (length stem + t) 0 ≡ get_or lap t 0 = get_or-append-add stem lap t 0 in
         let less = each_letter (length stem + t) (omega arith) in
-        subst (λ x. x < 2 ^ length file.names) (is ∙ get_or_default lap t 0 d within) less
+        rw (is ∙ get_or_default lap t 0 d within) at less
 
     others : (x : ℕ) → IsInput m x → IsOther m.is_first (board_of order a) x
     others x = reads_other is_machine has x
@@ -79,10 +79,10 @@ module _ {file : FileData} {chain : Chain} {a : AutomatonData} (order : Order) {
     some_count = omega (arith, l.some)
 
     back : memories_on l (from + count) ≡ memories_on l from
-    back = ap (memories_on l) end_is ∙ memory_returns l ∙ ap (memories_on l) (sym from_is)
+    back = cc (end_is, memory_returns l, from_is)
 
     again : word stem lap (from + count) ≡ word stem lap from
-    again = ap (word stem lap) end_is ∙ letter_returns l ∙ ap (word stem lap) (sym from_is)
+    again = cc (end_is, letter_returns l, from_is)
 
     parity : greatest_from (priority_at (auto_of a) (word stem lap)) from count % 2 ≡ winner certificate
     parity = parity_of_part setting made others (endless l) from count some_count back again

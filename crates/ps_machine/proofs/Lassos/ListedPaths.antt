@@ -35,9 +35,7 @@ module _ (game : ParityGame) (f : ℕ → ℕ) (edge : (k : ℕ) → HasEdge gam
       record {
         begins = omega arith;
         vertices = search (rules, there);
-        edges = λ k within. subst (λ v. HasEdge game v (slice_index (list_of f (suc n)) (k + 1)))
-            (sym (there k (omega arith)))
-            (subst (λ w. HasEdge game (f k) w) (sym (next_there k (omega arith))) (edge k));
+        edges = λ k within. rw (there k (omega arith), next_there k (omega arith)) (edge k);
       }
 
   pub list_follows : (player : ℕ) (table : ℕ → Option ℕ) → ((k : ℕ) → owner_of game (f k) ≡ player →

@@ -72,12 +72,12 @@ module _ {board : Board} {mover : ℕ} {keys : List Key} {game : ParityGame} {ce
       let within = within_game v at in
       let vertex = s.by_keys.vertices v within in
       let from : LeadsTo board k vertex.next =
-      subst (λ key. LeadsTo board key vertex.next) (same_some (sym vertex.stands ∙ at)) vertex.leads_to in
+      rw (same_some (sym vertex.stands ∙ at)) at vertex.leads_to in
       let one : (u : ℕ) → StandsAt keys u l → u ≡ w = λ u is. same_place u w is there in (
         within,
         decided (successors_of game v) (λ none. leads vertex.next from (λ c.
             let there = zip_vertex keys (successors_of game v) vertex.next vertex.successors c in
-            none (subst (Contains (successors_of game v)) (one there.0 there.2) there.1))),
+            none (rw (one there.0 there.2) at there.1))),
       )
     where
       decided : (xs : List ℕ) → ((Contains xs w → ⊥) → ⊥) → Contains xs w
@@ -91,14 +91,13 @@ module _ {board : Board} {mover : ℕ} {keys : List Key} {game : ParityGame} {ce
       choice_of certificate v ≡ Some w → HasEdge game v w
   edge_by_move v k at own is =
       let moves = (s.valid.closed.moves v (within_game v at)).own own in
-      subst (λ o. IsSomeAnd o (HasEdge game v)) is moves
+      rw is at moves
 
   pub to_class : (v at q p : ℕ) {class : ℕ} → StandsAt keys v (First q p) → StandsAt keys at (Second q class) →
       IsClass board q class → HasEdge game v at
   to_class v at q p {class} here there is = edge_by_key v at (First q p) (Second q class) here there (λ next leads none.
       let c = leads.1.complete class is in
-      none (subst (λ l. Contains l (Second q class)) (sym leads.2)
-      (map_contains (λ x. Second q x) leads.0 c.0 c.1 c.2)))
+      none (rw leads.2 (map_contains (λ x. Second q x) leads.0 c.0 c.1 c.2)))
 
   to_pair : (at w q class y : ℕ) → StandsAt keys at (Second q class) → IsSecondLetter board y →
       GoesTo keys board q (class + y) w → HasEdge game at w
@@ -114,8 +113,7 @@ module _ {board : Board} {mover : ℕ} {keys : List Key} {game : ParityGame} {ce
       } in
       let c = leads.1.complete z move in
       let same : pair z ≡ pair y = ap₂ (λ a b. First a b) least.here.1.state least.here.1.priority in
-      none (subst (λ l. Contains l (pair y)) (sym leads.2) (subst (λ k. Contains (map pair leads.0) k) same
-      (map_contains pair leads.0 c.0 c.1 c.2)))) y itself)
+      none (rw leads.2 (rw same at (map_contains pair leads.0 c.0 c.1 c.2)))) y itself)
 
   pub first_owner : (v : ℕ) {q p : ℕ} → StandsAt keys v (First q p) → owner_of game v ≡ mover
   first_owner v {q} {p} at = owner_at v at

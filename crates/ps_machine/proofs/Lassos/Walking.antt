@@ -71,7 +71,7 @@ module _ {board : Board} {mover : ℕ} {keys : List Key} {game : ParityGame} {ce
       Round game certificate v w
   round_by true is v u q p x letter w same here at played other goes =
       round_first s v q p x letter w (eqb-true mover (winner certificate) (sym is))
-      here at (subst (λ n. IsPlayed true board keys certificate n q x letter) (same refl) played) other goes
+      here at (rw (same refl) at played) other goes
   round_by false is v u q p x letter w same here at played other goes =
       let loses = eqb-false mover (winner certificate) (sym is) in
       let edge = to_class s v played.at q p at played.stands played.is_class in
@@ -97,9 +97,9 @@ module _ {board : Board} {mover : ℕ} {keys : List Key} {game : ParityGame} {ce
       let state : step.state ≡ q = same_state p step.priority f at step.is_kept step.stands in
       let letter = m.plays memory x in
       let played : IsPlayed m.is_first board keys certificate step.vertex q x letter =
-      subst (λ n. IsPlayed m.is_first board keys certificate step.vertex n x letter) state step.played in
+      rw state at step.played in
       let goes : GoesTo keys board q (x + letter) step.entered =
-      subst (λ n. GoesTo keys board n (x + letter) step.entered) state step.goes in
+      rw state at step.goes in
       let round = round_by m.is_first made.is_first v step.vertex q p x letter step.entered
       (same_vertex m.is_first f step.is_kept) here at played (others x input) goes in
       record {
@@ -161,7 +161,7 @@ module _ {board : Board} {mover : ℕ} {keys : List Key} {game : ParityGame} {ce
     walk zero = record {
       vertex = 0;
       stands = s.by_keys.begins;
-      at_memory = subst (λ k. StandsFor m.is_first keys made.kept k 0 board.auto.start) (sym e.begins) (record {
+      at_memory = rw e.begins (record {
         vertex = 0;
         state = board.auto.start;
         priority = 0;
@@ -234,8 +234,7 @@ module _ {board : Board} {mover : ℕ} {keys : List Key} {game : ParityGame} {ce
           let a = board.auto in
           let here = walk from in
           let there = walk (from + count) in
-          let f = subst (λ k. StandsFor m.is_first keys made.kept k there.vertex (state_at a w (from + count))) back
-          there.at_memory in
+          let f = rw back at there.at_memory in
           let h = here.at_memory in
           let kept_state : h.state ≡ state_at a w from =
           same_state (entering a w from) h.priority h here.stands h.is_kept h.stands in
@@ -252,7 +251,7 @@ module _ {board : Board} {mover : ℕ} {keys : List Key} {game : ParityGame} {ce
           let same : first_key (state_at a w (from + count)) (w (from + count)) ≡ first_key (state_at a w from) (w from)
           = ap₂ first_key state_returns again in
           let there : StandsAt keys (vertex_at (suc (from + count))) (first_key (state_at a w from) (w from)) =
-          subst (λ k. StandsAt keys (vertex_at (suc (from + count))) k) same (walk (suc (from + count))).stands in
+          rw same at (walk (suc (from + count))).stands in
           ap vertex_at (sym place_is) ∙ same_place s (vertex_at (suc (from + count)))
           (vertex_at (suc from)) there (walk (suc from)).stands
 
@@ -286,7 +285,7 @@ module _ {board : Board} {mover : ℕ} {keys : List Key} {game : ParityGame} {ce
           let holds = BothHold-from_valid game certificate s.fits s.valid player small_winner in
           let region : IsTrue (winner_of certificate (slice_index path 0) == player) =
           eq-eqb (winner_of certificate (slice_index path 0)) player
-          (ap (winner_of certificate) path_begins ∙ (walk (suc from)).won) in
+          (cc (path_begins, (walk (suc from)).won)) in
           holds.wins path 0 (twice count) (list_is_path game (place (suc from)) (place_goes (suc from)) (twice count))
           region
           (list_follows game (place (suc from)) (place_goes (suc from)) (twice count) player (choice_of certificate)
@@ -316,9 +315,9 @@ module _ {board : Board} {mover : ℕ} {keys : List Key} {game : ParityGame} {ce
               le-loop_priority game path 0 (twice count) (twice n) (omega arith) less (omega (arith, path_long)) in
               let back_to : suc from + n ≡ t = omega arith in
               let is : slice_index path (twice n) ≡ vertex_at t = search
-                  (rules, path_at, twice, place_even, vertex_at) in
-              subst (λ v. priority_of game v ≤ loop_priority game path 0 (twice count)) is bound
+              (rules, path_at, twice, place_even, vertex_at) in
+              rw is at bound
 
       -- the greatest priority of the part has the winner's parity
       pub parity_of_part : greatest_from (priority_at board.auto w) from count % 2 ≡ winner certificate
-      parity_of_part = ap (λ n. n % 2) (sym top_is) ∙ won_loop
+      parity_of_part = cc (top_is, won_loop)

@@ -63,7 +63,7 @@ module _ {order : Order} {a : AutomatonData} {keys : List Key} {certificate : Ce
       map bytes_of p.names.items ≡ a.names → HasRoles first (board_of order a) p.inputs.items p.outputs.items →
       d.store.propositions ≡ length a.names → AreDrawn first (board_of order a) keys kept certificate d.store
       d.rows.keys d.nodes.items (length kept) → n ≡ machine_of player first p d → IsMade n
-  made p d few sound names roles letters drawn is = subst IsMade (sym is) (record {
+  made p d few sound names roles letters drawn is = rw is (record {
     is_machine = is_machine assembled;
     has = record { names_are = names; as_many = refl; reads = roles.read.are };
     of = record {

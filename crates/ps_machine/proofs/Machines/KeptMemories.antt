@@ -66,13 +66,13 @@ module _ {is_first : Bool} {keys : List Key} {used kept marks : List ℕ} (m : A
             least = λ w r p less there shares.
                 (let h = m.found w r p ((are_used w).1 there.used) there.stands in
                 let same : h.memory ≡ memory = search (rules, one_memory, shares_mark) in
-                let behind : get_or kept memory 0 ≤ w = subst (λ i. get_or kept i 0 ≤ w) same h.behind in
+                let behind : get_or kept memory 0 ≤ w = rw same at h.behind in
                 omega arith);
           }
 
       pub all_kept : All (IsKept is_first keys game certificate) kept
       all_kept memory d within =
-          subst (IsKept is_first keys game certificate) (get_or_default kept memory 0 d within) (kept_at memory within)
+          rw (get_or_default kept memory 0 d within) at (kept_at memory within)
 
       -- a used vertex that is the least of those that share a memory with it is the one that is kept
       pub each_kept : (v : ℕ) → IsKept is_first keys game certificate v → Contains kept v

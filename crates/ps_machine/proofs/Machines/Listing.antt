@@ -18,7 +18,7 @@ among_push p n (m ∷ list) other = ap (λ (b : Bool). cond (nat_eq p m) true b)
 
 among_last : (p : ℕ) (list : List ℕ) → is_among p (list ++ p ∷ []) ≡ true
 among_last p [] = ap (λ (b : Bool). cond b true false) (eq-eqb p p refl)
-among_last p (m ∷ list) = ap (λ (b : Bool). cond (nat_eq p m) true b) (among_last p list) ∙ always (nat_eq p m)
+among_last p (m ∷ list) = cc (among_last p list, always (nat_eq p m))
 
 get_among : (list : List ℕ) (k d : ℕ) → k < length list → is_among (get_or list k d) list ≡ true
 get_among [] k d within = absurd (omega arith)
@@ -36,7 +36,7 @@ among_there p (m ∷ list) among = elim (cases_eq p m) [
 ]
 
 there_among : (p : ℕ) (list : List ℕ) → Contains list p → is_among p list ≡ true
-there_among p list c = subst (λ q. is_among q list ≡ true) c.2 (get_among list c.0 p c.1)
+there_among p list c = rw c.2 at (get_among list c.0 p c.1)
 
 -- the numbers below n that are so are listed in one way
 pub one_listed : {n : ℕ} {is : ℕ → Bool} {xs ys : List ℕ} → AreListedBelow n is xs → AreListedBelow n is ys → xs ≡ ys
@@ -51,13 +51,13 @@ listed_none is = search (rules, true_is_not_false)
 pub listed_with : {n : ℕ} {is : ℕ → Bool} {list new : List ℕ} → is n ≡ true → new ≡ list ++ n ∷ [] →
     AreListedBelow n is list → AreListedBelow (n + 1) is new
 listed_with {n} {is} {list} here e l =
-    subst (AreListedBelow (n + 1) is) (sym e) (record {
+    rw e (record {
       rising =
           all_pairs_push (λ p q. p < q) list n l.rising (λ k d within.
           l.within (get_or list k d) (get_among list k d within));
       within = search (rules, cases_eq, among_push);
       are = λ p less. elim (cases_eq p n) [
-        | inl same ↦ subst (λ q. is_among q (list ++ n ∷ []) ≡ is q) (sym same) (among_last n list ∙ sym here)
+        | inl same ↦ rw same (among_last n list ∙ sym here)
         | inr other ↦ among_push p n list other ∙ l.are p (omega arith)
       ];
     })

@@ -94,7 +94,7 @@ module _ {board : Board} {keys : List Key} {kept : List ℕ} {certificate : Cert
       let there = slice_get_within m.rows l.leaf l.row l.is_row in
       let is : step_of m memory x ≡ row_of m l.leaf =
       ap (λ o. row_of m (unwrap_or o (length m.rows))) (leaf_is memory x (drawn_at memory within)) in
-      subst (λ (r : Row). (r.memory < length m.nodes) × IsOutput (behaviour m) r.letter) (sym is) (row_is l.leaf there)
+      rw is (row_is l.leaf there)
 
   leaf_heeds : (memory x y : ℕ) → memory < length m.nodes → AreSameOn m.inputs x y →
       leaf_of m.store (slice_index m.nodes memory) x ≡ leaf_of m.store (slice_index m.nodes memory) y
@@ -129,8 +129,7 @@ module _ {board : Board} {keys : List Key} {kept : List ℕ} {certificate : Cert
     leaves = λ memory x within.
         (let d = drawn_at memory within in
         let l = leads memory x d in
-        subst (λ o. IsSomeAnd o (λ leaf. leaf < length m.rows)) (sym (leaf_is memory x d))
-        (slice_get_within m.rows l.leaf l.row l.is_row));
+        rw (leaf_is memory x d) (slice_get_within m.rows l.leaf l.row l.is_row));
     reads = leaf_heeds;
     rows = row_is;
   }

@@ -217,8 +217,7 @@ module _ (names : List (List ℕ)) {board : Board} {mover : ℕ} {keys : List Ke
         let state : other.state ≡ one.state = one_state keys v other.priority one.priority other.stands one.stands in
         one_letter first board keys certificate v one.state (read (read x)) (read (read y)) (row memory x).letter
         (row memory y).letter is one.right.played
-        (subst (λ q. IsPlayed first board keys certificate v q (read (read y)) (row memory y).letter) state
-        other.right.played)
+        (rw state at other.right.played)
 
     does : IsMachine made
     unfolding made
@@ -254,9 +253,9 @@ module _ (names : List (List ℕ)) {board : Board} {mover : ℕ} {keys : List Ke
           priority = r.priority;
           is_kept = slice_get-get_or kept memory 0 within;
           stands = r.stands;
-          played = subst (λ z. IsPlayed first board keys certificate v r.state z letter) same r.right.played;
+          played = rw same at r.right.played;
           entered = r.right.entered;
-          goes = subst (λ z. GoesTo keys board r.state (z + letter) r.right.entered) same r.right.goes;
+          goes = rw same at r.right.goes;
           next = search (rules, row);
         }
 

@@ -54,14 +54,14 @@ module _ (is_first : Bool) (keys : List Key) (used : List ℕ) where
 
   pub none_below : {kept marks : List ℕ} → kept ≡ [] → marks ≡ [] → AreMemoriesBelow kept marks 0
   none_below {marks} k m =
-      subst (λ l. AreMemoriesBelow l marks 0) (sym k) (subst (λ l. AreMemoriesBelow [] l 0) (sym m) (record {
+      rw (k, m) (record {
         many = refl;
         rising = λ i j d rises within. absurd (omega arith);
         different = λ i j d rises within. absurd (omega arith);
         below = All-nil (λ v. v < 0);
         each = λ memory within. absurd (omega arith);
         found = λ v q p less. absurd (omega arith);
-      }))
+      })
 
   all_less : (kept : List ℕ) (n : ℕ) → All (λ v. v < n) kept → All (λ v. v < n + 1) kept
   all_less kept n below i d within = (let less = below i d within in omega arith)
@@ -105,7 +105,7 @@ module _ (is_first : Bool) (keys : List Key) (used : List ℕ) where
         record {
           memory = h.memory;
           is_marked = slice_get-left marks (new_mark ∷ []) h.memory h.is_marked;
-          behind = subst (λ w. w ≤ v) (sym (kept_left h.memory within)) h.behind;
+          behind = rw (kept_left h.memory within) h.behind;
         }
 
     has_last : HasMemory new_kept new_marks n new_mark
@@ -118,8 +118,8 @@ module _ (is_first : Bool) (keys : List Key) (used : List ℕ) where
         record {
           state = old.state;
           priority = old.priority;
-          stands = subst (λ w. StandsAt keys w (First old.state old.priority)) same old.stands;
-          is_used = subst (λ w. Contains used w) same old.is_used;
+          stands = rw same at old.stands;
+          is_used = rw same at old.is_used;
           mark = rw (← same) (slice_get-left marks (new_mark ∷ []) memory old.mark);
         }
 
@@ -127,8 +127,8 @@ module _ (is_first : Bool) (keys : List Key) (used : List ℕ) where
     memory_last = record {
       state = q;
       priority = p;
-      stands = subst (λ w. StandsAt keys w (First q p)) (sym kept_last) stands;
-      is_used = subst (λ w. Contains used w) (sym kept_last) is_used;
+      stands = rw kept_last stands;
+      is_used = rw kept_last is_used;
       mark = rw (kept_last, ← m.many) (slice_get-seam marks);
     }
 

@@ -34,8 +34,7 @@ module _ {game : ParityGame} {certificate : CertificateData} (valid : IsValid ga
       let before = add_first xs old n (omega arith) in
       let new = insert_key nat_eq before.0 (get_or xs n 0) in (
         new,
-        subst (λ i. Adds (Contains (take i xs)) old new) (add-one n)
-            (adds_next xs n (omega arith) refl refl before.1),
+        rw (add-one n) at (adds_next xs n (omega arith) refl refl before.1),
       )
 
   add_next : (v : ℕ) (old : List ℕ) → IsUsed game certificate v →
@@ -95,23 +94,20 @@ module _ (is_first : Bool) (keys : List Key) (used : List ℕ) where
         | inr not_used ↦ (
           kept,
           marks,
-          subst (AreMemoriesBelow is_first keys used kept marks) (add-one n)
-              (below_skip is_first keys used (λ r o is_used other. not_used is_used) m),
+          rw (add-one n) at (below_skip is_first keys used (λ r o is_used other. not_used is_used) m),
         )
         | inl is_used ↦ elim (contained_or_not marks (mark_of is_first n q)) [
           | inl came ↦ (
             kept,
             marks,
-            subst (AreMemoriesBelow is_first keys used kept marks) (add-one n)
-                (below_more is_first keys used q p m stands is_used (Stays came refl refl)),
+            rw (add-one n) at (below_more is_first keys used q p m stands is_used (Stays came refl refl)),
           )
           | inr comes ↦
               let more = kept ++ n ∷ [] in
               let others = marks ++ mark_of is_first n q ∷ [] in (
                 more,
                 others,
-                subst (AreMemoriesBelow is_first keys used more others) (add-one n)
-                    (below_more is_first keys used q p m stands is_used (Grows comes refl refl)),
+                rw (add-one n) at (below_more is_first keys used q p m stands is_used (Grows comes refl refl)),
               )
         ]
       ]
@@ -131,7 +127,7 @@ listed_there is zero = ([], listed_none is)
 listed_there is (suc n) = (let l = listed_there is n in elim (cases_Bool (is n)) [
   | inl here ↦ (
     l.0 ++ n ∷ [],
-    subst (λ k. AreListedBelow k is (l.0 ++ n ∷ [])) (add-one n) (listed_with here refl l.1),
+    rw (add-one n) at (listed_with here refl l.1),
   )
-  | inr isnt ↦ (l.0, subst (λ k. AreListedBelow k is l.0) (add-one n) (listed_without isnt refl l.1))
+  | inr isnt ↦ (l.0, rw (add-one n) at (listed_without isnt refl l.1))
 ])

@@ -25,10 +25,10 @@ all_unfiltered P x [] here all = All-nil P
 all_unfiltered P x (z ∷ zs) here all = elim (cases_eq x z) [
   | inl same ↦
       (let drops : filter (λ y. not (x == y)) (z ∷ zs) ≡ filter (λ y. not (x == y)) zs = search (rules, eq-eqb) in
-      All-cons P z zs (subst P same here) (all_unfiltered P x zs here (subst (λ l. All P l) drops all)))
+      All-cons P z zs (rw same at here) (all_unfiltered P x zs here (rw drops at all)))
   | inr other ↦
       (let keeps : filter (λ y. not (x == y)) (z ∷ zs) ≡ z ∷ filter (λ y. not (x == y)) zs = search (rules, ne_eqb) in
-      let kept : All P (z ∷ filter (λ y. not (x == y)) zs) = subst (λ l. All P l) keeps all in
+      let kept : All P (z ∷ filter (λ y. not (x == y)) zs) = rw keeps at all in
       All-cons P z zs (All-head P z (filter (λ y. not (x == y)) zs) kept)
       (all_unfiltered P x zs here (All-tail P z (filter (λ y. not (x == y)) zs) kept)))
 ]
@@ -41,8 +41,8 @@ all_from_distinct P (x ∷ xs) all =
     (All-tail P x (filter (λ y. not (x == y)) (distinct xs)) all)))
 
 pub counts_below : (list : List ℕ) (c : ℕ) → Counts list c → All (λ w. w < c) list
-counts_below list c e = all_from_distinct (λ w. w < c) list (subst (λ l. All (λ w. w < c) l) (sym e)
-    (λ k d within. (let small : k < c = omega (arith, within, length-range_with_len 0 c) in
+counts_below list c e = all_from_distinct (λ w. w < c) list
+    (rw e (λ k d within. (let small : k < c = omega (arith, within, length-range_with_len 0 c) in
     omega (arith, get_or-range_with_len 0 c k d small, small))))
 
 pub has_it : (xs : List ℕ) (y : ℕ) → list_any (λ z. z == y) xs ≡ true → Contains xs y
@@ -72,17 +72,15 @@ counts_last : (list : List ℕ) (x m : ℕ) → Counts (list ++ x ∷ []) m → 
 counts_last list x m e = search (rules, cases_Bool, distinct-push, All-contains, counts_below, has_it, last_one)
 
 pub counts_front : (list more : List ℕ) (m : ℕ) → Counts (list ++ more) m → (c : ℕ) × Counts list c
-counts_front list [] m e = (m, subst (λ l. Counts l m) (append-nil list) e)
+counts_front list [] m e = (m, rw (append-nil list) at e)
 counts_front list (y ∷ more) m e =
-    let first =
-    counts_front (list ++ y ∷ []) more m (subst (λ l. Counts l m) (sym (append_assoc list (y ∷ []) more)) e) in
+    let first = counts_front (list ++ y ∷ []) more m (rw (append_assoc list (y ∷ []) more) e) in
     elim (counts_last list y first.0 first.1) [ inl old ↦ (first.0, old.0) | inr new ↦ (y, new) ]
 
 pub old_or_next : (list more : List ℕ) (x c m : ℕ) → Counts list c → Counts (list ++ x ∷ more) m → (x < c) ⊎ (x ≡ c)
 old_or_next list more x c m e all =
-    let first =
-    counts_front (list ++ x ∷ []) more m (subst (λ l. Counts l m) (sym (append_assoc list (x ∷ []) more)) all) in
+    let first = counts_front (list ++ x ∷ []) more m (rw (append_assoc list (x ∷ []) more) all) in
     elim (counts_last list x first.0 first.1) [
-      | inl old ↦ inl (subst (λ n. x < n) (counts_one list old.0 e) old.1)
+      | inl old ↦ inl (rw (counts_one list old.0 e) at old.1)
       | inr new ↦ inr (counts_one list new e)
     ]

@@ -62,7 +62,7 @@ module _ (order : Order) (file : FileData) (chain : Chain) where
     alike q letter le lt = elim (cases_lt q file.states) [
       | inl low ↦ at_state q letter low lt
       | inr ge ↦ (let sink : file.states ≡ q = omega arith in
-          subst (λ p. StepAlike a b p letter) sink (at_sink letter lt))
+          rw sink at (at_sink letter lt))
     ]
 
   -- ## Letters, classes and moves
@@ -228,9 +228,8 @@ pub one_game_of_file : (order : Order) (file : FileData) (game other : NamedGame
     IsGameOfFile order file other → game ≡ other
 one_game_of_file order file game other a b =
     named_same game other same.1
-    (a.are_named.ids ∙ ap (λ (keys : List Key). range_with_len 0 (length keys)) same.0 ∙ sym b.are_named.ids)
-    (a.are_named.names ∙ names_too order file a.auto b.auto a.keys
-    ∙ ap (key_names (board_of_file order file b.auto)) same.0 ∙ sym b.are_named.names)
+    (cc (a.are_named.ids, same.0, b.are_named.ids))
+    (cc (a.are_named.names, names_too order file a.auto b.auto a.keys, same.0, b.are_named.names))
   where
     is : IsAutoOf file b.chain a.auto
     is = one_chain a b

@@ -35,7 +35,7 @@ module _ (order : Order) {file : FileData} {chain : Chain} {a b : Auto} (is : Is
       GoesTo keys other q letter w
   goes_too {q} {letter} {w} low lt goes =
       let steps = alike order file chain is too q letter low lt in
-      record { stands = subst (StandsAt keys w) (ap₂ (λ (s p : ℕ). First s p) steps.next steps.priority) goes.stands }
+      record { stands = rw (ap₂ (λ (s p : ℕ). First s p) steps.next steps.priority) at goes.stands }
 
   other_too : (first : Bool) (x : ℕ) → IsOther first other x → IsOther first one x
   other_too first x h1 = search (rules, second_too, first_too)
@@ -65,7 +65,7 @@ module _ (order : Order) {file : FileData} {chain : Chain} {a b : Auto} (is : Is
     played = record { chosen = s.chosen; choice = s.choice; stands = s.stands };
     within =
         (let key = key_fine order file chain is too g s.chosen (Second q letter) s.stands in
-        subst (λ n. n < 2 ^ length file.names) (turned letter x) (sum_within before key.1 second));
+        rw (turned letter x) at (sum_within before key.1 second));
   }
 
   plays_second : {v q x letter : ℕ} → q ≤ file.states → IsFirstLetter before x →
@@ -125,7 +125,7 @@ module _ (order : Order) {file : FileData} {chain : Chain} {a b : Auto} (is : Is
         played = p.played;
         entered = s.entered;
         goes = goes_too order is too g low p.within s.goes;
-        next = subst (StandsFor m.is_first keys kept (m.next memory x) s.entered) steps.next s.next;
+        next = rw steps.next at s.next;
       }
 
   machine_too : (m : Behaviour) → IsMachineOf before mover keys game certificate m →
@@ -145,8 +145,7 @@ pub one_machine_of_file : (order : Order) (file : FileData) (game : NamedGameDat
 one_machine_of_file order file game first second certificate m o machine other has also of and =
     one_machine file.names board mover second.keys game.game certificate second.is_game m o machine other
     (propositions_too order is second.is_auto first.is_game certificate m has) also
-    (subst (λ (keys : List Key). IsMachineOf board mover keys game.game certificate m) same.0
-    (machine_too order is second.is_auto first.is_game certificate m of)) and
+    (rw same.0 at (machine_too order is second.is_auto first.is_game certificate m of)) and
   where
     board : Board
     board = board_of_file order file second.auto

@@ -119,7 +119,7 @@ listed_front game v (suc k) =
     )
 
 gap : (v n : ℕ) → v ≤ n → (k : ℕ) × (v + k ≡ n)
-gap v n le = (n - v, omega arith)
+gap v n le = (n - v, omega (arith, le))
 
 pub zipped : (keys : List Key) (numbers : List ℕ) (next : List Key) (w : ℕ) (key : Key) →
     AllZip (StandsAt keys) numbers next → StandsAt keys w key → Contains numbers w → Contains next key
@@ -160,22 +160,22 @@ module _ (board : Board) (mover : ℕ) where
   behind : (keys : List Key) (game : ParityGame) (k v c : ℕ) → IsIt keys game → v + suc k ≡ vertex_count game →
       Counts (listed game v) c → c ≤ v → ⊥
   behind keys game zero v c is e counts le =
-      let lt : v < vertex_count game = omega arith in
-      let end : suc v ≡ vertex_count game = omega arith in
+      let lt : v < vertex_count game = omega (arith, e) in
+      let end : suc v ≡ vertex_count game = omega (arith, e) in
       let whole : Counts (listed game (suc v)) (vertex_count game) = search rules in
       let few = still keys game v c (vertex_count game) is lt counts le whole in
-      omega arith
+      omega (arith, few, lt)
   behind keys game (suc k) v c is e counts le =
-      let lt : v < vertex_count game = omega arith in
-      let next = count_at keys game (suc v) is (omega arith) in
+      let lt : v < vertex_count game = omega (arith, e) in
+      let next = count_at keys game (suc v) is (omega (arith, e)) in
       let few = still keys game v c next.0 is lt counts le next.1 in
-      behind keys game k (suc v) next.0 is (omega arith) next.1 (omega arith)
+      behind keys game k (suc v) next.0 is (omega (arith, e)) next.1 (omega (arith, few))
 
   pub ahead : (keys : List Key) (game : ParityGame) (v c : ℕ) → IsIt keys game → v < vertex_count game →
       Counts (listed game v) c → v < c
   ahead keys game v c is lt counts = elim (cases_lt v c) [
     | inl less ↦ less
-    | inr le ↦ absurd (let k = gap (suc v) (vertex_count game) (omega arith) in
+    | inr le ↦ absurd (let k = gap (suc v) (vertex_count game) (omega (arith, lt)) in
         behind keys game k.0 v c is (omega (arith, k.1)) counts le)
   ]
 
@@ -191,7 +191,7 @@ module _ (board : Board) (mover : ℕ) where
   front_counts : (keys : List Key) (game : ParityGame) (v : ℕ) → IsIt keys game → v < vertex_count game →
       (more : List ℕ) × (Counts (listed game v ++ (successors_of game v ++ more)) (vertex_count game))
   front_counts keys game v is lt =
-      let k = gap (suc v) (vertex_count game) (omega arith) in
+      let k = gap (suc v) (vertex_count game) (omega (arith, lt)) in
       let front = listed_front game (suc v) k.0 in (
         front.0,
         ap distinct (sym (append_assoc (listed game v) (successors_of game v) front.0) ∙ sym front.1
@@ -205,7 +205,7 @@ module _ (board : Board) (mover : ℕ) where
       count = 1;
       counts = refl;
       agree = search rules;
-      successors = λ u lt. absurd (omega arith);
+      successors = λ u lt. absurd (omega (arith, lt));
     }
 
     alike_next : (v : ℕ) → v < vertex_count game → v < vertex_count same → Alike one other game same v →
@@ -252,14 +252,14 @@ module _ (board : Board) (mover : ℕ) where
     alike : (v : ℕ) → v ≤ vertex_count game → v ≤ vertex_count same → Alike one other game same v
     alike zero le also = alike_first
     alike (suc v) le also =
-        alike_next v (omega arith) (omega arith) (alike v (omega arith) (omega arith))
+        alike_next v (omega (arith, le)) (omega (arith, also)) (alike v (omega (arith, le)) (omega (arith, also)))
 
     not_fewer : vertex_count game < vertex_count same → ⊥
     not_fewer less =
-        let at = alike (vertex_count game) (omega arith) (omega arith) in
+        let at = alike (vertex_count game) (omega arith) (omega (arith, less)) in
         let whole = counts_one (listed game (vertex_count game)) at.counts is.numbered in
         let more = ahead other same (vertex_count game) at.count too less (ap distinct (sym at.lists) ∙ at.counts) in
-        omega arith
+        omega (arith, whole, more)
 
   vertex_same : {x y : VertexData} → x.owner ≡ y.owner → x.priority ≡ y.priority → x.successors ≡ y.successors → x ≡ y
   vertex_same {x} {y} a b c = search rules
@@ -273,7 +273,7 @@ module _ (board : Board) (mover : ℕ) where
       count_same = omega (arith, not_fewer one other game same is too, not_fewer other one same game too is)
 
       at : Alike one other game same (vertex_count game)
-      at = alike one other game same is too (vertex_count game) (omega arith) (omega arith)
+      at = alike one other game same is too (vertex_count game) (omega arith) (omega (arith, count_same))
 
       whole : at.count ≡ vertex_count game
       whole = counts_one (listed game (vertex_count game)) at.counts is.numbered
@@ -286,12 +286,12 @@ module _ (board : Board) (mover : ℕ) where
       each : (k : ℕ) → k < vertex_count game → get_or game k no_vertex ≡ get_or same k no_vertex
       each k lt =
           let a = is.by_keys.vertices k lt in
-          let b = too.by_keys.vertices k (omega arith) in
-          let key = same_some (sym a.stands ∙ at.agree k (omega arith) ∙ b.stands) in
+          let b = too.by_keys.vertices k (omega (arith, lt, count_same)) in
+          let key = same_some (sym a.stands ∙ at.agree k (omega (arith, lt, whole)) ∙ b.stands) in
           vertex_same (a.owner ∙ ap (owner_of_key mover) key ∙ sym b.owner)
           (a.priority ∙ ap priority_of_key key ∙ sym b.priority) (at.successors k lt)
 
       games_same : game ≡ same
       games_same = same_lists game same count_same
           (λ k d within. sym (get_or_default game k no_vertex d within) ∙ each k within
-          ∙ get_or_default same k no_vertex d (omega arith))
+          ∙ get_or_default same k no_vertex d (omega (arith, within, count_same)))

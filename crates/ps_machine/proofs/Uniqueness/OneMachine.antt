@@ -70,11 +70,11 @@ module _ (first : Bool) (keys : List Key) (game : ParityGame) (certificate : Cer
       IsUsedFirst keys game certificate v q p → mark_of first v q ≡ mark_of first u r → v < u → ⊥
   none_below {v} {q} {p} u r o k stands used same less =
       k.least v q p less used (mark_shares first u k.state v q
-      (ap (mark_of first u) (one_state keys u k.priority o k.here.stands stands) ∙ sym same))
+      (cc (one_state keys u k.priority o k.here.stands stands, same)))
 
   kept_at : (kept : List ℕ) (memory : ℕ) {v : ℕ} → All Kept kept → slice_get kept memory ≡ Some v → Kept v
   kept_at kept memory {v} each at =
-      subst Kept (get_or_from_slice_get kept memory v v at) (each memory v (slice_get_within kept memory v at))
+      rw (get_or_from_slice_get kept memory v v at) at (each memory v (slice_get_within kept memory v at))
 
   -- of two memories that stand at one vertex the first is not the lower one
   not_lower : {kept : List ℕ} {i j w r : ℕ} → AllPairs (λ v w. v < w) kept → All Kept kept →
@@ -115,11 +115,10 @@ module _ (board : Board) (keys : List Key) (certificate : CertificateData) (diff
   one_played true v q x {one} {other} s t = one_letter true board keys certificate v q x x one other refl s t
   one_played false v q x {one} s t =
       let class = one_class q x s.class t.class s.is_class t.is_class s.same t.same in
-      let at = one_place keys differ s.at t.at (subst (λ c. StandsAt keys s.at (Second q c)) class s.stands) t.stands in
+      let at = one_place keys differ s.at t.at (rw class at s.stands) t.stands in
       let chosen = some_nat s.chosen t.chosen (sym s.choice ∙ ap (choice_of certificate) at ∙ t.choice) in
-      let P : ℕ → ℕ → ℕ → Type 0 = λ c w y. IsSecondLetter board y × GoesTo keys board q (c + y) w in
       one_least board.propositions s.least.here.0.within t.least.here.0.within
-      (subst (λ c. IsLeast (P c t.chosen) one) class (subst (λ w. IsLeast (P s.class w) one) chosen s.least)) t.least
+      (rw class at (rw chosen at s.least)) t.least
 
 -- ## Machines
 
@@ -134,12 +133,12 @@ module _ (names : List (List ℕ)) (board : Board) (mover : ℕ) (keys : List Ke
 
     same_kept : other.kept ≡ of.kept
     same_kept = one_kept m.is_first keys game certificate other.rising of.rising
-        (subst (λ b. All (IsKept b keys game certificate) other.kept) same_first other.each) of.each
-        (subst (λ b. (v : ℕ) → IsKept b keys game certificate v → Contains other.kept v) same_first other.complete)
+        (rw same_first at other.each) of.each
+        (rw same_first at other.complete)
         of.complete
 
     same_memories : m.memories ≡ o.memories
-    same_memories = of.memories ∙ ap length (sym same_kept) ∙ sym other.memories
+    same_memories = cc (of.memories, same_kept, other.memories)
 
     -- the step of the other machine, by the memories of the first
     record Steps (memory x : ℕ) : Type 0 where
@@ -156,7 +155,7 @@ module _ (names : List (List ℕ)) (board : Board) (mover : ℕ) (keys : List Ke
     other_step : (memory x : ℕ) → memory < m.memories → IsOther m.is_first board x → Steps memory x
     other_step memory x within is_other =
         let t = other.steps memory x (omega (arith, within, same_memories))
-        (subst (λ b. IsOther b board x) (sym same_first) is_other) in
+        (rw same_first is_other) in
         let q = board.auto.next t.state (x + o.plays memory x) in
         record {
           vertex = t.vertex;
@@ -181,10 +180,9 @@ module _ (names : List (List ℕ)) (board : Board) (mover : ℕ) (keys : List Ke
         let t = other_step memory x within is_other in
         let vertex = some_nat t.vertex s.vertex (sym t.is_kept ∙ s.is_kept) in
         let state = one_state keys s.vertex t.priority s.priority
-        (subst (λ v. StandsAt keys v (First t.state t.priority)) vertex t.stands) s.stands in
+        (rw vertex at t.stands) s.stands in
         let played = one_played board keys certificate differ m.is_first s.vertex s.state x
-        (subst (λ v. IsPlayed m.is_first board keys certificate v s.state x (o.plays memory x)) vertex
-        (subst (λ q. IsPlayed m.is_first board keys certificate t.vertex q x (o.plays memory x)) state t.played))
+        (rw vertex at (rw state at t.played))
         s.played in
         let goes : GoesTo keys board s.state (x + m.plays memory x) t.entered = search rules in
         let entered = one_place keys differ t.entered s.entered goes.stands s.goes.stands in
@@ -200,13 +198,12 @@ module _ (names : List (List ℕ)) (board : Board) (mover : ℕ) (keys : List Ke
     same_inputs : m.inputs ≡ o.inputs
     same_inputs =
         one_listed (reads_listed is has)
-        (subst (λ b. AreListedBelow board.propositions (is_others b board) o.inputs) same_first (reads_listed too also))
+        (rw same_first at (reads_listed too also))
 
     same_outputs : m.outputs ≡ o.outputs
     same_outputs =
         one_listed (plays_listed is has)
-        (subst (λ b. AreListedBelow board.propositions (λ p. not (is_others b board p)) o.outputs) same_first
-        (plays_listed too also))
+        (rw same_first at (plays_listed too also))
 
     -- what is read of any letter
     read : ℕ → ℕ
@@ -222,7 +219,7 @@ module _ (names : List (List ℕ)) (board : Board) (mover : ℕ) (keys : List Ke
         let there : memory < o.memories = omega (arith, within, same_memories) in
         let here = same_step memory (read x) within (over_other m.is_first board
         (part_over board.propositions (is_others m.is_first board) x)) in
-        let same : AreSameOn o.inputs x (read x) = subst (λ l. AreSameOn l x (read x)) same_inputs (read_same x) in (
+        let same : AreSameOn o.inputs x (read x) = rw same_inputs at (read_same x) in (
           is.next_heeds memory x (read x) within (read_same x) ∙ here.0
               ∙ sym (too.next_heeds memory x (read x) there same),
           is.plays_heeds memory x (read x) within (read_same x) ∙ here.1

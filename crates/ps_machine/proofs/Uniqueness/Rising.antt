@@ -22,7 +22,7 @@ module _ (Before : ℕ → ℕ → Type 0) (one_way : (x y : ℕ) → Before x y
   rising_tail x xs r i j d less within = r (suc i) (suc j) d (omega arith) (omega arith)
 
   before_others : (x z : ℕ) (xs : List ℕ) → AllPairs Before (x ∷ xs) → Contains xs z → Before x z
-  before_others x z xs r c = subst (Before x) c.2 (r 0 (suc c.0) z (omega arith) (omega (arith, c.1)))
+  before_others x z xs r c = rw c.2 at (r 0 (suc c.0) z (omega arith) (omega (arith, c.1)))
 
   heads_same : (x y : ℕ) (xs ys : List ℕ) → AllPairs Before (x ∷ xs) → AllPairs Before (y ∷ ys) →
       Within (x ∷ xs) (y ∷ ys) → Within (y ∷ ys) (x ∷ xs) → x ≡ y

@@ -21,6 +21,5 @@ loop-vertex-preserved g c = by (has c.args.won.now c.loop-vertex.vertex) refl
         (move_at c.args.second.now) c.args.first_rows.now c.args.second_rows.now c.loop-vertex.invariant is added.is)
     by false is =
         let added = c.in_ok-add_entry.ensures.lost is in
-        subst Entries (sym added.added)
-        (entries_lost (g.A.Arena.game c.args.arena.now) c.args.won.now (move_at c.args.first.now)
+        rw added.added (entries_lost (g.A.Arena.game c.args.arena.now) c.args.won.now (move_at c.args.first.now)
         (move_at c.args.second.now) c.args.first_rows.now c.args.second_rows.now c.loop-vertex.invariant is added.is)

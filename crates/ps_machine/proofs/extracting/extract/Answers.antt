@@ -14,19 +14,14 @@ machine_of_certificate-requires c =
     record {
       game = c.in_ok-keyed.ensures.game;
       classes = c.in_ok-keyed.ensures.classes;
-      fits = subst (λ g. Fits g c.args.certificate.now) same c.requires.fits;
-      valid = subst (λ g. IsValid g c.args.certificate.now) same c.requires.valid;
+      fits = rw same at c.requires.fits;
+      valid = rw same at c.requires.valid;
     }
 
 pub returns-clause-machine : goal.returns-clause-machine
 returns-clause-machine c =
-    let board = board_of c.args.order c.args.automaton.now in
-    let mover = mover_of c.args.order in
     let made = c.in_ok-keyed.keyed in
-    let game = c.args.game.now.game in
     let certificate = c.args.certificate.now in
     IfOk-weaker c.machine_of_certificate.result _ _
     (λ m of keys is. (let one = one_game_of _ _ _ _ _ _ c.in_ok-keyed.ensures.game is in
-    subst (λ ks. IsMachineOf board mover ks game certificate (behaviour m)) one.0
-    (subst (λ g. IsMachineOf board mover made.keys.keys g certificate (behaviour m)) one.1 of)))
-    c.machine_of_certificate.ensures.machine
+    rw one.0 at (rw one.1 at of))) c.machine_of_certificate.ensures.machine

@@ -25,9 +25,7 @@ returns-clause-machine c game is =
     let m = made c.requires.plan c.winner-player.ensures c.in_ok-propositions.propositions
     c.in_ok-diagrams.diagrams said.few said.sound said.names said.roles c.in_ok-diagrams.ensures.letters
     c.in_ok-diagrams.ensures.drawn c.new.ensures in
-    let p = c.args.plan.now in
-    subst (λ g. IsMachineOf (board_of p.order p.automaton.now) (mover_of p.order) p.keys.now.keys g p.certificate.now
-    (behaviour c.new.result)) (one_game_of _ _ _ _ _ _ c.requires.plan.is_game is).1 m.of
+    rw (one_game_of _ _ _ _ _ _ c.requires.plan.is_game is).1 at m.of
 
 pub returns-clause-won : goal.returns-clause-won
 returns-clause-won c file chain built =

@@ -26,7 +26,5 @@ returns-clause-classes c =
     let are : AreDivided c.args.order c.args.automaton.now keys n.divided.store (get nat_eq n.divided.classes) =
     all_divided (First c.start.result 0) (ap (λ (p : Order × AutomatonData). p.0) said.kept ∙ e.order)
     (ap (λ (p : Order × AutomatonData). p.1) said.kept ∙ e.automaton) said.by_keys.begins
-    (λ v k at. subst (HasAnswered n.order n.automaton.now n.mask n.divided.store (get nat_eq n.divided.classes))
-    (get_or_from_slice_get keys v k k at) (said.answered v k (slice_get_within keys v k at))) in
-    subst (λ (d : Divided). AreDivided c.args.order c.args.automaton.now keys d.store (get nat_eq d.classes))
-    (sym c.into_divided.ensures) are
+    (λ v k at. rw (get_or_from_slice_get keys v k k at) at (said.answered v k (slice_get_within keys v k at))) in
+    rw c.into_divided.ensures are

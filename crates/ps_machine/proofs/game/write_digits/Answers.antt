@@ -12,7 +12,7 @@ loop-proposition-preserved c =
     record {
       bytes =
           digits_more board c.args.letter p c.args.out.now.items
-          (c.is_first-is_played.ensures ∙ ap (λ xs. is_first_of c.args.order xs p) c.controllable.ensures.controllable)
+          (cc (c.is_first-is_played.ensures, c.controllable.ensures.controllable))
           (ap (λ n. nat_eq n 1) (shr_and_one c.args.letter p)) c.loop-proposition.invariant.bytes
           c.in_ok-write_digit.ensures.bytes;
       plain = plain_more board c.args.letter p c.loop-proposition.invariant.plain;

@@ -19,21 +19,15 @@ loop-vertex-preserved c =
     let keys = c.args.keys.now in
     let used = c.args.used.now.keys in
     let n = c.loop-vertex.vertex-counter in
-    let old = c.loop-vertex.memories in
     let stands : StandsAt keys n (First c.in-First.state c.in-First.priority) =
     slice_get-get_or keys n (First 0 0) c.loop-vertex-test.true ∙ ap (λ k. Some k) c.in-First.is in
     let told = c.contains.ensures in
     elim c.if-contains.branch [
       | then-contains+in_ok-keep w ↦
-          (let now = w.keep.new.self in
-          let keeps =
-          subst (λ mark. KeepsAt old.kept.items old.marks.keys n mark now.kept.items now.marks.keys) w.mark.ensures
-          w.in_ok-keep.ensures in
-          subst (λ (m : Memories). AreMemoriesBelow first keys used m.kept.items m.marks.keys (n + 1))
-          (sym w.memories-is) (below_more first keys used c.in-First.state c.in-First.priority
+          (let keeps = rw w.mark.ensures at w.in_ok-keep.ensures in
+          rw w.memories-is (below_more first keys used c.in-First.state c.in-First.priority
           c.loop-vertex.invariant stands (is_there used n told w.if-contains.true) keeps))
-      | else-contains w ↦ subst (λ (m : Memories). AreMemoriesBelow first keys used m.kept.items m.marks.keys (n + 1))
-          (sym w.memories-is) (below_skip first keys used
+      | else-contains w ↦ rw w.memories-is (below_skip first keys used
           (λ q p is_used stands. is_absent used n told w.if-contains.false is_used) c.loop-vertex.invariant)
     ]
 

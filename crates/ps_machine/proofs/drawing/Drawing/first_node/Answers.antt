@@ -24,16 +24,13 @@ place_rows-requires-clause-entered c =
     let at = c.requires.stands.1 in
     let plays = c.letter_at-letter.ensures c.args.state c.requires.stands.0 at in
     let l = left_behind c.args.vertex c.requires.divided at c.of.ensures c.deref.ensures.value c.rest_of-rest.ensures in
-    let are = subst (λ (f : List (ℕ × ℕ)). AreLeaves c.args.plan.now.divided.now.store c.rest_of-rest.result f)
-    (sym c.deref-2.ensures.value) c.in_ok-leaves.ensures in
+    let are = rw (← c.deref-2.ensures.value) at c.in_ok-leaves.ensures in
     entered c.requires.plan c.requires.turn c.requires.kept at plays l are
 
 pub place_rows-requires-clause-own : goal.place_rows-requires-clause-own
 place_rows-requires-clause-own c =
-    let p = c.args.plan.now in
     let plays = c.letter_at-letter.ensures c.args.state c.requires.stands.0 c.requires.stands.1 in
-    subst (λ b. IsOwn b (board_of p.order p.automaton.now) c.letter_at-letter.result) (sym c.requires.turn)
-    plays.is_class.here.0
+    rw c.requires.turn plays.is_class.here.0
 
 pub relabel_from-requires-clause-held : goal.relabel_from-requires-clause-held
 relabel_from-requires-clause-held c =
@@ -47,8 +44,7 @@ relabel_from-requires-clause-within c =
     let plays = c.letter_at-letter.ensures c.args.state c.requires.stands.0 at in
     let l = left_behind c.args.vertex c.requires.divided at c.of.ensures c.deref.ensures.value c.rest_of-rest.ensures in
     let t = c.args.plan.now.divided.now.store in
-    let are = subst (λ (f : List (ℕ × ℕ)). AreLeaves t c.rest_of-rest.result f) (sym c.deref-2.ensures.value)
-    c.in_ok-leaves.ensures in
+    let are = rw (← c.deref-2.ensures.value) at c.in_ok-leaves.ensures in
     renamed_within t c.rest_of-rest.result c.deref-3.ensures.value
     (all_noted c.requires.plan c.requires.turn c.requires.kept at plays l are c.in_ok-place_rows.ensures.placed)
 
@@ -58,8 +54,7 @@ returns-clause-drawn c =
     let plays = c.letter_at-letter.ensures c.args.state c.requires.stands.0 at in
     let l = left_behind c.args.vertex c.requires.divided at c.of.ensures c.deref.ensures.value c.rest_of-rest.ensures in
     let t = c.args.plan.now.divided.now.store in
-    let are = subst (λ (f : List (ℕ × ℕ)). AreLeaves t c.rest_of-rest.result f) (sym c.deref-2.ensures.value)
-    c.in_ok-leaves.ensures in
+    let are = rw (← c.deref-2.ensures.value) at c.in_ok-leaves.ensures in
     let w = c.place_rows.new.self in
     let u = c.relabel_from.new.self in
     both_ok _ _ (IsDrawnBy c.args.plan.now u w.rows.keys c.args.vertex) c.relabel_from.result

@@ -23,15 +23,13 @@ offset_bounds-as_slice-vertex c = record {
 pub first_node-requires-clause-stands : goal.first_node-requires-clause-stands
 first_node-requires-clause-stands c = (
   c.in-First.priority,
-  kept_stands c.requires.plan c.args.vertex c.requires.kept
-      (ap (λ (l : List Key). get_or l c.args.vertex (First 0 0)) (sym c.as_slice.ensures.keys) ∙ c.in-First.is),
+  kept_stands c.requires.plan c.args.vertex c.requires.kept (cc (c.as_slice.ensures.keys, c.in-First.is)),
 )
 
 pub second_node-requires-clause-stands : goal.second_node-requires-clause-stands
 second_node-requires-clause-stands c = (
   c.in-First.priority,
-  kept_stands c.requires.plan c.args.vertex c.requires.kept
-      (ap (λ (l : List Key). get_or l c.args.vertex (First 0 0)) (sym c.as_slice.ensures.keys) ∙ c.in-First.is),
+  kept_stands c.requires.plan c.args.vertex c.requires.kept (cc (c.as_slice.ensures.keys, c.in-First.is)),
 )
 
 pub unreachable-requires : goal.unreachable-requires

@@ -24,10 +24,6 @@ returns-in_err-note-clause-rows c =
 
 pub loop-leaf-preserved : goal.loop-leaf-preserved
 loop-leaf-preserved c =
-    let p = c.args.plan.now in
-    let a = p.automaton.now in
-    let keys = p.keys.now.keys in
-    let kept = p.memories.now.kept.items in
     let leaves = c.args.leaves.now in
     let i = c.loop-leaf.leaf-index in
     let leaf = (get_or leaves i (0, 0)).0 in
@@ -38,9 +34,7 @@ loop-leaf-preserved c =
     (record { memory = c.memory_behind-memory.ensures.within; letter = c.requires.own }) in
     let stored = c.in_ok-place.ensures.stored in
     let at : slice_get new c.in_ok-place.place ≡ Some row = stored.1 ∙ ap (λ r. Some r) (sym (same_row stored.2)) in
-    let Next : Step → Type 0 = λ s. (v : ℕ) → StandsAt keys v (First s.state s.priority) →
-    StandsFor p.moves_first keys kept c.memory_behind-memory.result v s.state in
-    let next = subst Next c.pair-step.ensures.pair c.memory_behind-memory.ensures.stands in
+    let next = rw c.pair-step.ensures.pair at c.memory_behind-memory.ensures.stands in
     record {
       store = c.loop-leaf.invariant.store;
       noted =

@@ -29,8 +29,7 @@ rows_of_classes-requires-clause-classes c =
 pub rows_of_classes-requires-clause-rests : goal.rows_of_classes-requires-clause-rests
 rows_of_classes-requires-clause-rests c =
     let d = c.requires.divided in
-    subst (λ (l : List Class). All (λ (x : Class). IsRestBy c.args.plan.now c.args.state x.letter x.rest) l)
-    (sym c.deref.ensures.value) (λ i x within. (
+    rw c.deref.ensures.value (λ i x within. (
       d.mask,
       d.fit,
       class_rests d.fit (classes_there c.args.vertex d c.requires.stands.1 c.of-classes.ensures) i x within,
@@ -61,7 +60,6 @@ returns-clause-drawn c =
     let u = c.relabel_from.new.self in
     both_ok _ _ (IsDrawnBy plan u rows c.args.vertex) c.relabel_from.result c.relabel_from.ensures.held
     c.relabel_from.ensures.leaf (λ node held leaf.
-    subst (λ b. IsDrawn b (board_by plan) plan.keys.now.keys plan.memories.now.kept.items plan.certificate.now u rows
-    c.args.vertex node) (sym c.requires.turn)
-    (drawn_second plan.keys.now.keys plan.memories.now.kept.items plan.certificate.now rows c.deref-2.result.now
+    rw c.requires.turn (drawn_second plan.keys.now.keys plan.memories.now.kept.items plan.certificate.now rows
+    c.deref-2.result.now
     c.requires.divided.fit of named u node leaf c.args.vertex c.requires.stands.0 c.requires.stands.1 held))

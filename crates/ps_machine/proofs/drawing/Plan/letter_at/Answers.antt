@@ -33,4 +33,4 @@ pub returns : goal.returns
 returns c =
     plays_class c.requires.plan c.requires.turn c.args.vertex c.unwrap-chosen.result c.in-Second.state
     c.in-Second.letter c.requires.kept (sym c.choice.ensures ∙ c.unwrap-chosen.ensures)
-    (ap (λ (l : List Key). get_or l c.unwrap-chosen.result (First 0 0)) (sym c.as_slice.ensures.keys) ∙ c.in-Second.is)
+    (cc (c.as_slice.ensures.keys, c.in-Second.is))

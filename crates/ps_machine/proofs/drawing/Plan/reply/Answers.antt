@@ -16,7 +16,7 @@ unwrap-chosen-requires c =
     let r = replies c.requires.turn c.requires.entered.1 c.requires.class in
     let at = found_at c.args.self.now.keys.now.keys (Second c.args.state c.args.letter)
     (sym c.get_index_of.ensures.index ∙ c.unwrap-at.ensures) in
-    subst IsSome (sym (c.choice.ensures ∙ reply_choice r c.unwrap-at.result at)) refl
+    rw (c.choice.ensures ∙ reply_choice r c.unwrap-at.result at) refl
 
 pub unreachable-requires : goal.unreachable-requires
 unreachable-requires c =
