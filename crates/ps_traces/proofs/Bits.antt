@@ -1,6 +1,6 @@
 -- Bits of letters: of sums of letters that share none, and of the letter that has given bits at given propositions.
 use Rattle.std.proofs.Common.{◌≡◌, ℕ, zero, suc, ◌+◌, ◌/◌, ◌%◌, ◌^◌, ◌<◌, ◌≤◌, ◌⊎◌, inl, inr, Bool, true, false, cond}
-use Rattle.std.proofs.Common.{List, [], ◌∷◌, length, get_or, nat_eq, refl, ap, ap₂, sym, ◌∙◌, subst, arith}
+use Rattle.std.proofs.Common.{List, [], ◌∷◌, length, get_or, nat_eq, refl, ap, sym, ◌∙◌, subst, arith, rules}
 use Rattle.std.specs.Int.{bit_at}
 use Rattle.std.specs.List.{AllPairs}
 use Rattle.std.proofs.lemmas.Bool.{cases_eq, cases_lt, eq-eqb, ne_eqb, eqb-true}
@@ -16,8 +16,7 @@ use Rattle.ps_aiger.specs.Encoded.{letter_over}
 -- ## Single bits
 
 pub same_letter : (a b : ℕ) → ((p : ℕ) → is_in p a ≡ is_in p b) → a ≡ b
-same_letter a b same =
-    same_from_bits a b (λ p. same_bit (bit_at a p) (bit_at b p) (bit_at-lt a p) (bit_at-lt b p) (same p))
+same_letter a b same = search (rules, same_from_bits, same_bit, bit_at-lt)
 
 -- no bit from n on
 pub few_bits : (n x : ℕ) → ((p : ℕ) → n ≤ p → is_in p x ≡ false) → x < 2 ^ n
@@ -104,19 +103,15 @@ in_letter_over q (p ∷ ps) (bit ∷ bits) h =
     let rest = letter_over ps bits in
     let later : (r : ℕ) → is_in r rest ≡ bit_with r ps bits = λ r. in_letter_over r ps bits rises.rising in
     let off_here : is_in p rest ≡ false = later p ∙ lower_off p p ps bits (omega arith) rises in
-    let off_there : (r : ℕ) → (r ≡ p → ⊥) → is_in r power ≡ false = λ r other. power_in r p bit
-    ∙ ap (λ (b : Bool). cond b bit false) (ne_eqb r p other) in
+    let off_there : (r : ℕ) → (r ≡ p → ⊥) → is_in r power ≡ false = search (rules, power_in, ne_eqb) in
     let apart =
     are_apart power rest (λ r. elim (cases_eq r p) [
       | inl same ↦ inr (ap (λ k. is_in k rest) same ∙ off_here)
       | inr other ↦ inl (off_there r other)
     ]) in
     elim (cases_eq q p) [
-      | inl same ↦ in_sum_left q power rest apart (ap (λ k. is_in k rest) same ∙ off_here) ∙ power_in q p bit
-          ∙ ap (λ (b : Bool). cond b bit false) (eq-eqb q p same)
-          ∙ sym (ap (λ (b : Bool). cond b bit (bit_with q ps bits)) (eq-eqb q p same))
-      | inr other ↦ in_sum_right q power rest apart (off_there q other) ∙ later q
-          ∙ sym (ap (λ (b : Bool). cond b bit (bit_with q ps bits)) (ne_eqb q p other))
+      | inl same ↦ search (rules, in_sum_left, power_in, eq-eqb)
+      | inr other ↦ search (rules, in_sum_right, ne_eqb)
     ]
 
 pub bit_with_at : (ps : List ℕ) (bits : List Bool) (k : ℕ) → AllPairs (λ p q. p < q) ps → k < length ps →

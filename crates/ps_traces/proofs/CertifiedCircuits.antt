@@ -1,7 +1,7 @@
 -- The circuit of a certificate's machine.
-use Rattle.std.proofs.Common.{◌≡◌, ℕ, zero, suc, ◌<◌, ◌==◌, Bool, true, false, List, length, ap, refl, ◌∙◌, arith}
-use Rattle.std.specs.Prelude.{not}
-use Rattle.ps_hoa.specs.Files.{FileData, is_among}
+use Rattle.std.proofs.Common.{rules}
+use Rattle.std.proofs.Common.{◌≡◌, ℕ, ◌<◌, ◌==◌, ◌∙◌, arith}
+use Rattle.ps_hoa.specs.Files.{FileData}
 use Rattle.ps_automaton.specs.Automata.{AutomatonData, IsBuiltFrom}
 use Rattle.ps_automaton.specs.Chains.{Chain}
 use Rattle.ps_machine.specs.BuiltBoards.{board_of}
@@ -9,7 +9,6 @@ use Rattle.ps_machine.specs.Extracting.{HasPropositions, is_others}
 use Rattle.ps_machine.specs.Keys.{mover_of}
 use Rattle.ps_machine.specs.Behaviours.{Behaviour}
 use Rattle.ps_machine.specs.declared.key.Order.{Order}
-use Rattle.ps_machine.specs.declared.key.Order.TheVariants.{Mealy, Moore}
 use Rattle.ps_traces.specs.Answers.{role_of}
 use Rattle.ps_traces.specs.Roles.{IsMachineFor, is_read_by}
 use Rattle.ps_traces.specs.Shapes.{moves_first}
@@ -25,11 +24,4 @@ reads_as order a player p lt = grind arith
 pub is_for : (order : Order) (file : FileData) (chain : Chain) (a : AutomatonData) (m : Behaviour) →
     IsBuiltFrom file chain a → HasPropositions a.names (board_of order a) m
     → m.is_first ≡ (mover_of order == m.player) → m.player < 2 → IsMachineFor order (role_of m.player) file m
-is_for order file chain a m built has turn two = record {
-  names = has.names_are ∙ built.names;
-  reads = λ p lt.
-      has.reads p (let size : length a.names ≡ length file.names = ap length built.names in omega (arith, size, lt))
-      ∙ ap (λ (b : Bool). is_others b (board_of order a) p) turn ∙ reads_as order a m.player p two
-      ∙ ap (λ (ps : List ℕ). is_read_by (role_of m.player) ps p) built.controllable;
-  turn = turn ∙ turn_is order m.player two;
-}
+is_for order file chain a m built has turn two = search (rules, reads_as, turn_is)

@@ -1,6 +1,6 @@
 -- A stem and laps come back to their latches.
-use Rattle.std.proofs.Common.{◌≡◌, ℕ, zero, suc, ◌+◌, ◌-◌, ◌^◌, ◌<◌, Bool, List, [], ◌++◌, length, refl, ap, ap₂, sym}
-use Rattle.std.proofs.Common.{◌∙◌, subst, arith, add-zero}
+use Rattle.std.proofs.Common.{◌≡◌, ℕ, zero, suc, ◌+◌, ◌-◌, ◌^◌, ◌<◌, Bool, List, [], ◌++◌, length, refl, ap₂, sym}
+use Rattle.std.proofs.Common.{◌∙◌, arith, rules}
 use Rattle.std.proofs.Math.Nat.{mul-le-mul_right}
 use Rattle.std.proofs.lemmas.List.{length-map, map-append}
 use Rattle.ps_circuit.specs.Circuits.{CircuitData}
@@ -60,15 +60,8 @@ module _ (c : CircuitData) (one : HasOneValues c) (stem lap : List (List Bool)) 
         some = b.some;
         stem_moments = stem_run.moments ++ laps 0 b.to;
         lap_moments = laps b.from b.count;
-        trace = record {
-          some = omega (arith, size, many, some);
-          back = latches_at b.to;
-          goes_there = GoesOn-append c (resets c) stem_run.last (latches_at b.to) stem_run.moments (laps 0 b.to)
-              stem_run.goes_on b.goes_there;
-          comes_back = b.comes_back;
-        };
-        stem_reads = map-append (λ (m : Moment). m.inputs) stem_run.moments (laps 0 b.to)
-            ∙ ap₂ (λ (xs ys : List (List Bool)). xs ++ ys) stem_run.reads (laps_read 0 b.to);
+        trace = search (rules, GoesOn-append);
+        stem_reads = search (rules, map-append, laps_read);
         lap_reads = laps_read b.from b.count;
       }
 

@@ -1,6 +1,6 @@
 -- Each moment has one letter.
 use Rattle.std.proofs.Common.{◌≡◌, ℕ, ◌<◌, ◌≤◌, ◌⊎◌, inl, inr, Bool, false, List, [], ◌∷◌, length, get_or, Option, refl}
-use Rattle.std.proofs.Common.{ap, sym, ◌∙◌, arith}
+use Rattle.std.proofs.Common.{ap, sym, ◌∙◌, arith, rules}
 use Rattle.std.proofs.lemmas.Bool.{cases_lt}
 use Rattle.ps_diagram.specs.Letters.{letter_of}
 use Rattle.ps_diagram.proofs.Letters.{letter_is, letter_lt}
@@ -54,13 +54,7 @@ module _ {role : Role} {names : List (List ℕ)} {controllable : List ℕ} {c : 
 
   letter_of_moment : (m : Moment) → IsLetterOf names c m (letter m)
   unfolding letter
-  letter_of_moment m =
-      let bit : ℕ → Bool = λ p. (bit_of m p).0 in
-      record {
-        few = letter_lt (length names) bit;
-        inputs = λ k p s. letter_is (length names) bit p s.within ∙ (bit_of m p).1 k s;
-        outputs = λ k p s. letter_is (length names) bit p s.within ∙ (bit_of m p).2 k s;
-      }
+  letter_of_moment m = search (rules, bit_of, letter_lt, letter_is)
 
   letters : (ms : List Moment) → (ls : List ℕ) × AreLetters names c ms ls
   letters [] = ([], refl)

@@ -1,11 +1,11 @@
 -- The meeting of a circuit with a finite-state controller: it goes on, in one way, and comes back.
-use Rattle.std.proofs.Common.{◌≡◌, ℕ, zero, suc, ◌+◌, ◌-◌, ◌*◌, ◌^◌, ◌<◌, Bool, false, List, [], ◌∷◌, map, length, refl}
-use Rattle.std.proofs.Common.{ap, sym, ◌∙◌, subst, arith, add-zero}
+use Rattle.std.proofs.Common.{◌≡◌, ℕ, zero, suc, ◌+◌, ◌-◌, ◌*◌, ◌^◌, ◌<◌, Bool, false, List, [], ◌∷◌, length, refl}
+use Rattle.std.proofs.Common.{ap, sym, ◌∙◌, arith, rules}
 use Rattle.std.specs.Prelude.{replicate}
 use Rattle.std.proofs.lemmas.List.{length-map, length-replicate}
 use Rattle.std.proofs.lemmas.Nat.{mul-add-lt, same_from_place}
 use Rattle.ps_circuit.specs.Circuits.{CircuitData}
-use Rattle.ps_circuit.specs.Values.{Moment, GoesOn, HasOneValues, Steps, bit_of, resets}
+use Rattle.ps_circuit.specs.Values.{Moment, HasOneValues, Steps, resets}
 use Rattle.ps_machine.specs.declared.key.Order.{Order}
 use Rattle.ps_machine.specs.declared.key.Order.TheVariants.{Mealy, Moore}
 use Rattle.ps_simulate.specs.declared.role.Role.TheVariants.{Environment}
@@ -15,7 +15,7 @@ use Rattle.ps_traces.specs.Meetings.{MeetsInLasso}
 use Rattle.ps_simulate.proofs.CountLemmas.{code, code_lt, code_same}
 use Rattle.ps_simulate.proofs.LassoLemmas.{GoesOn-append}
 use Rattle.ps_traces.proofs.Returns.{come_back, legs, legs_go}
-use Rattle.ps_traces.proofs.Runs.{IsWide, step}
+use Rattle.ps_traces.proofs.Runs.{step}
 use Rattle.std.proofs.Common.{◌++◌, length-append}
 
 -- a step at which the controller's letter is its answer
@@ -37,9 +37,7 @@ joint_mealy c k one in_time is latches memory held within =
     step c one latches (replicate (length c.inputs) false) held (length-replicate (length c.inputs) false) in
     let inputs = k.plays memory before.outputs in
     let now = step c one latches inputs held (is.plays_wide memory before.outputs within before.outputs_wide) in
-    let same : before.outputs ≡ now.outputs =
-    in_time refl latches (replicate (length c.inputs) false) inputs before.outputs now.outputs before.next now.next
-    before.steps now.steps in
+    let same : before.outputs ≡ now.outputs = search rules in
     record {
       inputs = inputs;
       outputs = now.outputs;
@@ -73,8 +71,7 @@ joint_moore c k one is latches memory held within =
 pub joint_step : (order : Order) (c : CircuitData) (k : FiniteController) → HasOneValues c →
     IsInTime order Environment c → IsController order c k → (latches : List Bool) (memory : ℕ)
     → length latches ≡ length c.latches → memory < k.size → JointStep c k latches memory
-joint_step Mealy c k one in_time is latches memory held within =
-    joint_mealy c k one in_time is latches memory held within
+joint_step Mealy c k one in_time is latches memory held within = search (rules, joint_mealy)
 joint_step Moore c k one in_time is latches memory held within = joint_moore c k one is latches memory held within
 
 module _ (order : Order) (c : CircuitData) (k : FiniteController) (one : HasOneValues c)
@@ -132,16 +129,10 @@ module _ (order : Order) (c : CircuitData) (k : FiniteController) (one : HasOneV
       (a.0, answers_both (k.next memory x.outputs) between last xs ys a.1 b)
 
   join : (r s t : At) (xs ys : List Moment) → Goes r xs s → Goes s ys t → Goes r (xs ++ ys) t
-  join r s t xs ys a b = record {
-    goes_on = GoesOn-append c r.0 s.0 t.0 xs ys a.goes_on b.goes_on;
-    answers = answers_both r.1 s.1 t.1 xs ys a.answers b.answers;
-  }
+  join r s t xs ys a b = search (rules, GoesOn-append, answers_both)
 
   goes : (t : ℕ) → Goes (at t) (moment t) (at (suc t))
-  goes t = record {
-    goes_on = ((step_at (place t)).next, refl, (step_at (place t)).steps, refl);
-    answers = ((step_at (place t)).answers, refl);
-  }
+  goes t = search (rules, step_at)
 
   abbrev moments : ℕ → ℕ → List Moment
   moments from count = legs Goes stay join at moment goes from count

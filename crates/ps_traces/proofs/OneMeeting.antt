@@ -1,13 +1,9 @@
 -- The meeting goes on in one way.
-use Rattle.std.proofs.Common.{◌≡◌, ℕ, ◌<◌, Bool, List, [], ◌∷◌, ◌++◌, map, flat_map, length, refl, ap, ap₂, sym, ◌∙◌}
-use Rattle.std.proofs.Common.{subst, arith}
-use Rattle.std.specs.Prelude.{All}
+use Rattle.std.proofs.Common.{◌≡◌, ℕ, ◌<◌, Bool, List, [], ◌∷◌, ◌++◌, length, refl, ap, sym, ◌∙◌}
+use Rattle.std.proofs.Common.{arith, rules}
 use Rattle.std.proofs.lemmas.List.{length-map}
-use Rattle.std.proofs.lemmas.List.Elements.{All-cons, All-head, All-tail}
-use Rattle.ps_circuit.specs.declared.parts.Gate.{Gate}
-use Rattle.ps_circuit.specs.declared.parts.Latch.{Latch}
-use Rattle.ps_circuit.specs.Circuits.{CircuitData, IsCircuit, IsKnown, definitions}
-use Rattle.ps_circuit.specs.Values.{Moment, GoesOn, HasOneValues, Steps, bit_of, resets}
+use Rattle.ps_circuit.specs.Circuits.{CircuitData, IsCircuit}
+use Rattle.ps_circuit.specs.Values.{Moment, GoesOn, HasOneValues, Steps, bit_of}
 use Rattle.ps_machine.specs.declared.key.Order.{Order}
 use Rattle.ps_machine.specs.declared.key.Order.TheVariants.{Mealy, Moore}
 use Rattle.ps_simulate.specs.declared.role.Role.TheVariants.{Environment}
@@ -57,11 +53,7 @@ module _ (c : CircuitData) (is_circuit : IsCircuit c) (one : HasOneValues c) whe
             moments = found.0;
             many = found.1;
             meeting = found.2;
-            no_other =
-                λ others many meets. one_way (resets c) found.2.latches meets.latches k.first
-                found.2.memory meets.memory
-                found.0 others is.first_within (found.1 ∙ sym many)
-                found.2.goes.goes_on found.2.goes.answers meets.goes.goes_on meets.goes.answers;
+            no_other = search (rules, one_way);
           }
 
 pub meeting_is_one : (order : Order) (c : CircuitData) (k : FiniteController) (count : ℕ) → IsCircuit c →

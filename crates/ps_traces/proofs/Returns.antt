@@ -2,8 +2,8 @@
 --     comes_again      of numbers below a bound
 --     legs, legs_go      the moments of some steps from a place on, and where they lead
 --     come_back      where numbers below a bound tell the places apart, moments lead to a place and back to it
-use Rattle.std.proofs.Common.{◌≡◌, ℕ, zero, suc, ◌+◌, ◌-◌, ◌<◌, List, [], ◌++◌, length, map, get_or, ap, sym, ◌∙◌}
-use Rattle.std.proofs.Common.{subst, arith, add-zero}
+use Rattle.std.proofs.Common.{◌≡◌, ℕ, zero, suc, ◌+◌, ◌-◌, ◌<◌, List, [], ◌++◌, length, map, get_or, ap, ◌∙◌}
+use Rattle.std.proofs.Common.{subst, arith, add-zero, rules}
 use Rattle.std.specs.List.{range_with_len}
 use Rattle.std.proofs.Math.Nat.{add-suc}
 use Rattle.std.proofs.lemmas.List.FromFn.{get_or-map-range_with_len, length-map-range_with_len}
@@ -28,8 +28,7 @@ comes_again f bound below =
       one = found.0;
       other = found.1;
       rises = found.2.rises;
-      same = sym (at found.0 0 (omega (arith, found.2.rises, found.2.within, many))) ∙ found.2.same
-          ∙ at found.1 0 (omega (arith, found.2.within, many));
+      same = search rules;
     }
 
 -- moments lead from each place to the next

@@ -1,8 +1,8 @@
 -- An automaton and a circuit with the symbols of its role have a verdict on each stem and lap: laps are read until
 -- latches come again, and the automaton's states come again under the letters of the laps between.
-use Rattle.std.proofs.Common.{◌≡◌, ◌∙◌, ℕ, zero, suc, ◌+◌, ◌-◌, ◌*◌, ◌^◌, ◌<◌, ◌≤◌, ◌⊎◌, ◌↔◌, inl, inr, Bool, true}
-use Rattle.std.proofs.Common.{false, List, [], ◌∷◌, ◌++◌, length, get_or, take, drop, IsTrue, Some, None, refl, sym, ap}
-use Rattle.std.proofs.Common.{ap₂, subst, arith, length-drop, length-append}
+use Rattle.std.proofs.Common.{◌≡◌, ◌∙◌, ℕ, zero, suc, ◌+◌, ◌-◌, ◌*◌, ◌^◌, ◌<◌, ◌≤◌, ◌⊎◌, ◌↔◌, inl, inr, Bool}
+use Rattle.std.proofs.Common.{List, [], ◌∷◌, ◌++◌, length, get_or, take, drop, IsTrue, Some, refl, sym, ap}
+use Rattle.std.proofs.Common.{arith, length-drop, rules}
 use Rattle.std.specs.List.{All}
 use Rattle.std.proofs.lemmas.List.{length-map}
 use Rattle.std.proofs.lemmas.List.Elements.{All-head, All-tail, All-take, All-drop}
@@ -97,15 +97,7 @@ module _ (role : Role) (file : FileData) (c : CircuitData) (stem lap : List (Lis
       record {
         new = old ++ l.letters;
         last = r.last;
-        reads =
-            record {
-              trace = r.moments;
-              goes_on = r.goes_on;
-              reads = r.reads;
-              letters = l.letters;
-              are_letters = l.are_letters;
-              new_is = refl;
-            };
+        reads = search rules;
         held = r.wide;
       }
 
@@ -120,11 +112,7 @@ module _ (role : Role) (file : FileData) (c : CircuitData) (stem lap : List (Lis
       → 2 ^ length c.latches - length seen < fuel → HasRepetition
   search_on zero seen letters last h held le = absurd (omega arith)
   search_on (suc fuel) seen letters last h held le = elim (seen_or_not seen last) [
-    | inl f ↦ record {
-      i = f.0;
-      letters = letters;
-      repeats_by = repeats f.0 some h f.1.0 f.1.1;
-    }
+    | inl f ↦ search (rules, repeats)
     | inr none ↦
         let w = word_of last lap letters held wide.lap_is in
         let fresh : (k : ℕ) → k < length seen → get_or seen k [] ≢ last = λ k lt e. none (k, (lt, e)) in

@@ -1,8 +1,9 @@
 -- The words of a circuit's lasso traces are those of the machine that it encodes.
-use Rattle.std.proofs.Common.{◌≡◌, ◌≢◌, ℕ, zero, suc, ◌+◌, ◌<◌, ◌≤◌, ◌⊎◌, inl, inr, Bool, true, false, cond, List, []}
-use Rattle.std.proofs.Common.{◌∷◌, ◌++◌, length, get_or, Option, None, Some, refl, ap, sym, ◌∙◌, subst, arith, add-one}
+use Rattle.std.proofs.Common.{rules}
+use Rattle.std.proofs.Common.{◌≡◌, ◌≢◌, ℕ, zero, suc, ◌+◌, ◌<◌, ◌≤◌, ◌⊎◌, inl, inr, Bool, true, false, List, []}
+use Rattle.std.proofs.Common.{◌∷◌, ◌++◌, length, get_or, Option, refl, ap, sym, ◌∙◌, subst, arith, add-one}
 use Rattle.std.specs.Prelude.{All}
-use Rattle.std.proofs.lemmas.Bool.{cases_lt, le-ltb, lt-ltb}
+use Rattle.std.proofs.lemmas.Bool.{cases_lt}
 use Rattle.std.proofs.lemmas.List.{get_or-map}
 use Rattle.std.proofs.lemmas.List.Elements.{All-head, All-tail}
 use Rattle.ps_label.specs.Truth.{is_in}
@@ -70,8 +71,7 @@ module _ (m : Behaviour) (is : IsMachine m) where
   module _ (c : CircuitData) (encodes : Encodes m c) where
     symbol_at : {symbols : List (Option (List ℕ))} (ps : List ℕ) → symbols ≡ symbols_of m.names ps → (k : ℕ) →
         k < length ps → get_or ps k 0 < length m.names → IsSymbol m.names symbols k (get_or ps k 0)
-    symbol_at ps e k lt within =
-        record { within = within; is = rw e (get_or-map (λ p. Some (get_or m.names p [])) ps k 0 None lt) }
+    symbol_at ps e k lt within = search (rules, get_or-map)
 
     module _ (s : Moment) (letter : ℕ) (next : List Bool) (steps : Steps c s.latches s.inputs s.outputs next)
         (is_letter : IsLetterOf m.names c s letter) where
@@ -94,10 +94,7 @@ module _ (m : Behaviour) (is : IsMachine m) where
       input_off p none = in_input p ∙ bit_with_none p m.inputs s.inputs none
 
       input_high : (p : ℕ) → length m.names ≤ p → is_in p input ≡ false
-      input_high p le = elim (cases_Bool (is_among p m.inputs)) [
-        | inl e ↦ absurd (omega (arith, (is.each p).1 (inl e), le))
-        | inr e ↦ input_off p e
-      ]
+      input_high p le = search (rules, cases_Bool, input_off)
 
       is_output : IsOutput m output
       is_output = is.plays_own memory input (memory_below s.latches)
@@ -122,17 +119,13 @@ module _ (m : Behaviour) (is : IsMachine m) where
           ∙ ap (λ q. is_in q output) at.is
 
       apart : AreApart input output
-      apart = are_apart input output (λ p. elim (cases_Bool (is_among p m.inputs)) [
-        | inl e ↦ inr (is_output.own p (is.apart p e))
-        | inr e ↦ inl (input_off p e)
-      ])
+      apart = search (rules, are_apart, cases_Bool, input_off)
 
       joined : letter ≡ input + output
       joined = same_letter letter (input + output) (λ p. elim (cases_lt p (length m.names)) [
         | inl lt ↦ elim (some_side p lt) [
           | inl read ↦ read_bit p lt read ∙ sym (in_sum_left p input output apart (is_output.own p (is.apart p read)))
-          | inr played ↦ played_bit p lt played ∙ sym (in_sum_right p input output apart
-              (input_off p (not_both p played)))
+          | inr played ↦ search (rules, played_bit, in_sum_right, apart, input_off, not_both)
         ]
         | inr le ↦ no_bit (length m.names) letter p is_letter.few le
             ∙ sym (in_sum_left p input output apart (no_bit (length m.names) output p is_output.within le)
@@ -156,22 +149,16 @@ module _ (m : Behaviour) (is : IsMachine m) where
       moments = word.stem_moments ++ word.lap_moments
 
       goes_on : GoesOn c (resets c) moments word.trace.back
-      goes_on =
-          GoesOn-append c (resets c) word.trace.back word.trace.back word.stem_moments word.lap_moments
-          word.trace.goes_there word.trace.comes_back
+      goes_on = search (rules, GoesOn-append)
 
       are_letters : AreLetters m.names c moments (stem ++ lap)
-      are_letters =
-          AreLetters-append m.names c word.stem_moments word.lap_moments stem lap word.stem_letters word.lap_letters
+      are_letters = search (rules, AreLetters-append)
 
       abbrev memory_at : ℕ → ℕ
       memory_at t = memory_of m (get_or (latches_along moments word.trace.back) t [])
 
       begins : memory_at 0 ≡ 0
-      begins =
-          let none : number_of (resets c) ≡ 0 = none_number (resets c) encodes.resets_are in
-          ap (memory_of m) (first_along c (resets c) word.trace.back moments goes_on)
-          ∙ code_is (resets c) 0 none is.some
+      begins = search (rules, none_number, first_along, goes_on, code_is)
 
       stem_size : length stem ≡ length word.stem_moments
       stem_size = length_letters m.names c word.stem_moments stem word.stem_letters
@@ -189,8 +176,7 @@ module _ (m : Behaviour) (is : IsMachine m) where
           ∙ ap memory_at (sym whole_size)
 
       some : 0 < length lap
-      some = let size = length_letters m.names c word.lap_moments lap word.lap_letters in let long = word.trace.some in
-          omega (arith, size, long)
+      some = search (rules, length_letters)
 
       pub is_lasso : IsLasso m stem lap
       is_lasso = record {

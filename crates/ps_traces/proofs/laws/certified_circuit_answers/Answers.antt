@@ -1,5 +1,5 @@
 -- The machine is that of its player, its words are won, and so the circuit is the player's answer.
-use Rattle.std.proofs.Common.{◌≡◌, ℕ, ◌==◌, ap, subst, sym, ◌∙◌}
+use Rattle.std.proofs.Common.{◌≡◌, ℕ, ◌==◌, subst, ◌∙◌, rules}
 use Rattle.ps_machine.specs.Keys.{mover_of}
 use Rattle.ps_traces.specs.Answers.{IsWitness}
 use Rattle.ps_traces.proofs.Answering.{is_answer}
@@ -9,8 +9,7 @@ use Rattle.ps_traces.proofs.laws.certified_circuit_answers.Goals as goal
 pub returns : goal.returns
 returns c = λ file chain a order keys game certificate m circuit built is_game fits valid is has of encodes.
     let won = c.lassos_won.ensures file chain a order keys game certificate m built is_game fits valid is has of in
-    let turn : m.is_first ≡ (mover_of order == m.player) = of.is_first
-    ∙ ap (λ (player : ℕ). mover_of order == player) (sym of.player) in
+    let turn : m.is_first ≡ (mover_of order == m.player) = search rules in
     subst (λ (player : ℕ). IsWitness order file player circuit) of.player
     (is_answer order file m circuit (c.circuit_has_one_values.ensures circuit encodes.is_circuit) is
     (is_for order file chain a m built has turn is.player) encodes won)
