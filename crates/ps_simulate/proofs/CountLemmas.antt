@@ -1,6 +1,6 @@
 -- Lists of bits that differ are no more than the numbers of as many bits.
 use Rattle.std.proofs.Common.{◌≡◌, ◌≢◌, ℕ, suc, ◌+◌, ◌*◌, ◌^◌, ◌<◌, ◌≤◌, Bool, true, false, List, [], ◌∷◌, length}
-use Rattle.std.proofs.Common.{get_or, map, refl, sym, ◌∙◌, subst, arith}
+use Rattle.std.proofs.Common.{get_or, map, refl, ◌∙◌, subst, arith, rules}
 use Rattle.std.specs.Prelude.{◌||◌}
 use Rattle.std.proofs.Math.Nat.{pow-suc}
 use Rattle.std.proofs.Math.Dec.{eqb}
@@ -60,9 +60,7 @@ few_seen n seen wide differ =
     let at : (k : ℕ) → k < length seen → (d : ℕ) → get_or codes k d ≡ code (get_or seen k []) =
     λ k lt d. get_or-map code seen k [] d lt in
     let apart : (i j d : ℕ) → i < j → j < length codes → eqb (get_or codes i d) (get_or codes j d) ≡ false =
-    λ i j d lt within. ne_eqb (get_or codes i d) (get_or codes j d) (λ e. differ i j lt (omega arith)
-    (code_same (get_or seen i []) (get_or seen j []) (wide i (omega arith) ∙ sym (wide j (omega arith)))
-    (sym (at i (omega arith) d) ∙ e ∙ at j (omega arith) d))) in
+    search (rules, ne_eqb, code_same) in
     let le : length codes ≤ 2 ^ n = length-le_from_distinct_below codes (2 ^ n) (IsDistinct-from_apart eqb codes apart)
     (below (2 ^ n) codes (λ k lt. rw (at k (omega arith) 0) (subst (λ m. code (get_or seen k []) < 2 ^ m)
     (wide k (omega arith)) (code_lt (get_or seen k []))))) in

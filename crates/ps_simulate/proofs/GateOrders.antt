@@ -1,6 +1,6 @@
 -- Numbers below n, of which none leads back to itself, stand in an order; so do the gates of a circuit.
 use Rattle.std.proofs.Common.{◌≡◌, ◌≢◌, ℕ, zero, suc, ◌+◌, ◌<◌, ◌⊎◌, inl, inr, List, [], ◌∷◌, ◌++◌, length, get_or, sym}
-use Rattle.std.proofs.Common.{ap, ◌∙◌, subst, arith, Some, length-append}
+use Rattle.std.proofs.Common.{ap, ◌∙◌, subst, arith, Some, length-append, rules}
 use Rattle.std.specs.Prelude.{slice_get}
 use Rattle.std.proofs.Math.Seq.{get_or-append_seam}
 use Rattle.std.proofs.lemmas.Bool.{cases_lt, cases_eq}
@@ -41,55 +41,22 @@ module _ (R : ℕ → ℕ → Type 0) (n : ℕ) (to_within : (i j : ℕ) → R i
 
   push : {xs : List ℕ} (i : ℕ) → IsPart xs → i < n → (Stands xs i → ⊥) → ((j : ℕ) → R i j → Stands xs j) →
       IsPart (xs ++ i ∷ [])
-  push {xs} i is lt absent sides = record {
-    below = λ k k_lt. elim (at_push xs i 0 k k_lt) [
-      | inl old ↦ rw old.1 (is.below k old.0)
-      | inr new ↦ rw new.1 lt
-    ];
-    once = λ k l less l_lt e. elim (at_push xs i 0 k (omega (arith, less, l_lt))) [
-      | inl old ↦ elim (at_push xs i 0 l l_lt) [
-        | inl both ↦ is.once k l less both.0 (sym old.1 ∙ e ∙ both.1)
-        | inr new ↦ absent (k, old.0, sym old.1 ∙ e ∙ new.1)
-      ]
-      | inr new ↦ absurd (omega (arith, less, l_lt, new.0, length-append xs (i ∷ [])))
-    ];
-    behind = λ k j k_lt r. elim (at_push xs i 0 k k_lt) [
-      | inl old ↦ (let b = is.behind k j old.0 (rw old.1 at r) in
-          (b.0, b.1, get_or_append_left xs (i ∷ []) 0 b.0 (omega (arith, b.1, old.0)) ∙ b.2))
-      | inr new ↦ (let s = sides j (rw new.1 at r) in
-          (s.0, omega (arith, s.1, new.0), get_or_append_left xs (i ∷ []) 0 s.0 s.1 ∙ s.2))
-    ];
-  }
+  push {xs} i is lt absent sides = search (rules, at_push, get_or_append_left)
 
   -- all of a kind that are below m, where each can be put into a part
   each_below : (P : ℕ → Type 0) → ((j : ℕ) → Decided (P j)) →
       ((j : ℕ) → P j → (xs : List ℕ) → IsPart xs → Grown xs (λ k. j ≡ k))
       → (m : ℕ) (xs : List ℕ) → IsPart xs → Grown xs (λ k. (k < m) × P k)
-  each_below P is_or_not one zero xs is =
-      record { new = xs; is_part = is; keeps = λ j s. s; has = λ j p. absurd (omega (arith, p.0)) }
+  each_below P is_or_not one zero xs is = search rules
   each_below P is_or_not one (suc m) xs is =
       let before = each_below P is_or_not one m xs is in
       elim (is_or_not m) [
-        | inr isnt ↦ record {
-          new = before.new;
-          is_part = before.is_part;
-          keeps = before.keeps;
-          has = λ j p. before.has j (
-            elim (cases_lt j m) [
-              | inl less ↦ less
-              | inr ge ↦ absurd (isnt (let e : j ≡ m = omega (arith, p.0) in rw e at p.1))
-            ],
-            p.1,
-          );
-        }
+        | inr isnt ↦ search (rules, cases_lt)
         | inl holds ↦ (let more = one m holds before.new before.is_part in record {
           new = more.new;
           is_part = more.is_part;
           keeps = λ j s. more.keeps j (before.keeps j s);
-          has = λ j p. elim (cases_lt j m) [
-            | inl less ↦ more.keeps j (before.has j (less, p.1))
-            | inr ge ↦ more.has j (omega (arith, p.0))
-          ];
+          has = search (rules, cases_lt);
         })
       ]
 
@@ -126,12 +93,7 @@ module _ (R : ℕ → ℕ → Type 0) (n : ℕ) (to_within : (i j : ℕ) → R i
       let sides = each_below (R i) (decide i) (λ j r. visit fuel (i ∷ path) (longer j is_path lt r)
       (omega (arith, many)) (to_within i j r)) n xs is in
       elim (stands_or_not sides.new i) [
-        | inl there ↦ record {
-          new = sides.new;
-          is_part = sides.is_part;
-          keeps = sides.keeps;
-          has = λ k e. rw (← e) there;
-        }
+        | inl there ↦ search rules
         | inr absent ↦ record {
           new = sides.new ++ i ∷ [];
           is_part = push i sides.is_part lt absent (λ j r. sides.has j (to_within i j r, r));
@@ -167,11 +129,7 @@ module _ (R : ℕ → ℕ → Type 0) (n : ℕ) (to_within : (i j : ℕ) → R i
       let apart : (k l i : ℕ) → slice_get xs k ≡ Some i → slice_get xs l ≡ Some i → k < l → ⊥ =
       λ k l i e f less. is.once k l less (slice_get_within xs l i f) (read k i e ∙ sym (read l i f)) in
       let once : (k l i : ℕ) → slice_get xs k ≡ Some i → slice_get xs l ≡ Some i → k ≡ l =
-      λ k l i e f. elim (cases_order k l) [
-        | inl same ↦ same
-        | inr (inl less) ↦ absurd (apart k l i e f less)
-        | inr (inr more) ↦ absurd (apart l k i f e more)
-      ] in (
+      search (rules, cases_order) in (
         xs,
         record {
           within = λ k i e. rw (read k i e) at (is.below k (slice_get_within xs k i e));
@@ -182,9 +140,7 @@ module _ (R : ℕ → ℕ → Type 0) (n : ℕ) (to_within : (i j : ℕ) → R i
           ));
           behind = λ k l i j e f r.
               (let b = is.behind k j (slice_get_within xs k i e) (rw (read k i e) r) in
-              let there : slice_get xs b.0 ≡ Some j =
-              slice_get-get_or xs b.0 0 (omega (arith, b.1, slice_get_within xs k i e))
-              ∙ ap (λ (x : ℕ). Some x) b.2 in
+              let there : slice_get xs b.0 ≡ Some j = search (rules, slice_get-get_or, slice_get_within) in
               omega (arith, once b.0 l j there f, b.1));
         },
       )
@@ -199,6 +155,4 @@ reads_or_not gates i j =
 
 pub gates_in_order : {c : CircuitData} → IsCircuit c → (order : List ℕ) ×
     IsOrder (ReadsGate c.gates) (length c.gates) order
-gates_in_order {c} is =
-    order_exists (ReadsGate c.gates) (length c.gates) (λ i j r. slice_get_within c.gates j r.read r.at_j)
-    (reads_or_not c.gates) is.acyclic
+gates_in_order {c} is = search (rules, order_exists, slice_get_within, reads_or_not)

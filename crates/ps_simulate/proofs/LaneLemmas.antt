@@ -1,13 +1,12 @@
 -- Lanes of words: each goes as the plain table goes.
-use Rattle.std.proofs.Common.{◌≡◌, ℕ, zero, suc, ◌+◌, ◌/◌, ◌%◌, ◌<◌, ◌&&◌, ◌==◌, Bool, true, false, not, cond, List, []}
-use Rattle.std.proofs.Common.{◌∷◌, ◌++◌, map, take, drop, length, get_or, refl, sym, ap, ap₂, ◌∙◌, arith}
+use Rattle.std.proofs.Common.{◌≡◌, ℕ, ◌+◌, ◌/◌, ◌%◌, ◌<◌, ◌&&◌, ◌==◌, Bool, true, false, not, cond, List, []}
+use Rattle.std.proofs.Common.{◌∷◌, ◌++◌, map, take, drop, length, get_or, sym, ap, ap₂, ◌∙◌, arith, rules}
 use Rattle.std.specs.Prelude.{◌^◌, replicate, slice_set, slice_get, Some}
-use Rattle.std.specs.Option.{option_map}
 use Prim.Native.Nat.{min}
 use Rattle.std.specs.Int.{bit_at}
 use Rattle.std.specs.Int.Bits.{bit_and, bit_xor}
 use Rattle.std.specs.Simd.Lanes.{zip2}
-use Rattle.std.proofs.Math.Seq.{drop-cons, take-suc}
+use Rattle.std.proofs.Math.Seq.{drop-cons}
 use Rattle.std.proofs.lemmas.List.{get_or-map, map-set, map-append, length-map, take_more, take_more_set}
 use Rattle.std.proofs.lemmas.Option.{slice_get-map, slice_get_read}
 use Rattle.std.proofs.lemmas.Nat.Bits.{bit_at-lt, bit_at_and, bit_at_xor, bit_at_ones, bit_at-zero, shr_and_one}
@@ -33,18 +32,10 @@ mask_bit false i lt = bit_at-zero i
 
 pub bit_in-and : (a b : List ℕ) (lane : ℕ) → lane < 256 → length a ≡ 4 → length b ≡ 4
     → bit_in (zip2 bit_and a b) lane ≡ (bit_in a lane && bit_in b lane)
-bit_in-and a b lane lt la lb =
-    let word = lane / 64 in
-    let i = lane % 64 in
-    ap (λ n. bit_at n i == 1) (get_or-zip2 bit_and a b word 0 0 0 (omega (arith, la)) (omega (arith, lb)))
-    ∙ ap (λ n. n == 1) (bit_at_and (get_or a word 0) (get_or b word 0) i)
-    ∙ both (bit_at (get_or a word 0) i) (bit_at (get_or b word 0) i) (bit_at-lt (get_or a word 0) i)
-    (bit_at-lt (get_or b word 0) i)
+bit_in-and a b lane lt la lb = search (rules, get_or-zip2, bit_at_and, both, bit_at-lt)
 
 pub bit_in-mask : (b : Bool) (lane : ℕ) → lane < 256 → bit_in (replicate 4 (all_or_none b)) lane ≡ b
-bit_in-mask b lane lt =
-    ap (λ n. bit_at n (lane % 64) == 1) (get_or-replicate 4 (lane / 64) (all_or_none b) 0 (omega arith))
-    ∙ ap (λ n. n == 1) (mask_bit b (lane % 64) (omega arith)) ∙ grind arith
+bit_in-mask b lane lt = search (rules, get_or-replicate, mask_bit)
 
 -- words, all of them changed by a mask
 bit_in-flipped : (a : List ℕ) (b : Bool) (lane : ℕ) → lane < 256 → length a ≡ 4
@@ -62,11 +53,7 @@ bit_in-flipped a b lane lt le =
 pub bit_in-read : (values : List (List ℕ)) (wire : Wire) {m : ℕ} (lane : ℕ) → lane < 256 → wire.place < length values →
     length (get_or values wire.place []) ≡ 4 → m ≡ all_or_none wire.is_negated →
     bit_in (zip2 bit_xor (get_or values wire.place []) (replicate 4 m)) lane ≡ read (lane_of values lane) wire
-bit_in-read values wire lane lt place four e =
-    let a = get_or values wire.place [] in
-    ap (λ n. bit_in (zip2 bit_xor a (replicate 4 n)) lane) e ∙ bit_in-flipped a wire.is_negated lane lt four
-    ∙ sym (ap (λ (bit : Bool). cond wire.is_negated (not bit) bit)
-    (get_or-map (λ ws. bit_in ws lane) values wire.place [] false place))
+bit_in-read values wire lane lt place four e = search (rules, bit_in-flipped, get_or-map)
 
 -- a row that is worked out in all lanes
 pub worked_on : (rows : List Row) (values initial : List (List ℕ)) (a b : List ℕ) (k lane : ℕ) → lane < 256 →
@@ -76,16 +63,7 @@ pub worked_on : (rows : List Row) (values initial : List (List ℕ)) (a b : List
     work_out (drop (k + 1) rows) (lane_of (slice_set values (get_or rows k no_row).target (zip2 bit_and a b)) lane) ≡
     work_out rows (lane_of initial lane)
 worked_on rows values initial a b k lane less lt la lb first second before =
-    let row = get_or rows k no_row in
-    let f : List ℕ → Bool = λ ws. bit_in ws lane in
-    let next : k + 1 ≡ suc k = omega arith in
-    let here : bit_in (zip2 bit_and a b) lane ≡ (read (lane_of values lane) row.first &&
-    read (lane_of values lane) row.second) =
-    bit_in-and a b lane less la lb ∙ ap₂ ◌&&◌ first second in
-    ap (λ n. work_out (drop n rows) (lane_of (slice_set values row.target (zip2 bit_and a b)) lane)) next
-    ∙ ap (work_out (drop (suc k) rows)) (map-set f values row.target (zip2 bit_and a b)
-    ∙ ap (slice_set (lane_of values lane) row.target) here)
-    ∙ sym (ap (λ (all : List Row). work_out all (lane_of values lane)) (drop-cons rows k no_row lt)) ∙ before
+    search (rules, no_row, bit_in-and, map-set, drop-cons)
 
 -- the literals in front of a place, and one more
 pub read_on : (literals : List ℕ) (values table : List (List ℕ)) (words : List ℕ) (k lane : ℕ) → k < length literals →
@@ -117,9 +95,7 @@ reset_on latches words {m} k lane lt room is grown before =
 -- the lanes of two tables agree where their words do
 pub same_lane : (xs ys : List (List ℕ)) (p q lane : ℕ) → p < length xs → q < length ys → get_or xs p [] ≡ get_or ys q []
     → get_or (lane_of xs lane) p false ≡ get_or (lane_of ys lane) q false
-same_lane xs ys p q lane hp hq e =
-    let f : List ℕ → Bool = λ ws. bit_in ws lane in
-    get_or-map f xs p [] false hp ∙ ap f e ∙ sym (get_or-map f ys q [] false hq)
+same_lane xs ys p q lane hp hq e = search (rules, get_or-map)
 
 pub length-lane : (xs : List (List ℕ)) (lane : ℕ) → length (lane_of xs lane) ≡ length xs
 length-lane xs lane = let f : List ℕ → Bool = λ ws. bit_in ws lane in length-map xs f
@@ -128,7 +104,4 @@ length-lane xs lane = let f : List ℕ → Bool = λ ws. bit_in ws lane in lengt
 pub latch_is : (rows : List (List ℕ)) {words : List ℕ} (number lane : ℕ) → number < length rows →
     words ≡ get_or rows number words
     → slice_get (lane_of rows lane) number ≡ Some (bit_and (get_or words (lane / 64) 0 / 2 ^ (lane % 64)) 1 == 1)
-latch_is rows {words} number lane lt e =
-    let f : List ℕ → Bool = λ ws. bit_in ws lane in
-    slice_get-map f rows number ∙ ap (option_map f) (slice_get_read rows (length rows) number words refl lt e)
-    ∙ ap (λ n. Some (n == 1)) (sym (shr_and_one (get_or words (lane / 64) 0) (lane % 64)))
+latch_is rows {words} number lane lt e = search (rules, slice_get-map, slice_get_read, shr_and_one)

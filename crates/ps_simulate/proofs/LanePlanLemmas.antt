@@ -1,6 +1,6 @@
 -- The plan of the lanes: where a circuit's rows are moved.
 use Rattle.std.proofs.Common.{◌≡◌, ℕ, zero, suc, ◌+◌, ◌-◌, ◌/◌, ◌^◌, ◌⊎◌, ◌<◌, ◌≤◌, Bool, inl, inr, List, [], ◌∷◌, ◌++◌}
-use Rattle.std.proofs.Common.{map, take, drop, length, get_or, refl, sym, ap, ap₂, ◌∙◌, arith, All, Some}
+use Rattle.std.proofs.Common.{map, take, drop, length, get_or, refl, sym, ap, ap₂, ◌∙◌, arith, All, rules}
 use Rattle.std.proofs.Common.{get_or-set_same, get_or-set_other}
 use Rattle.std.specs.Prelude.{slice_set}
 use Rattle.std.specs.Int.Bits.{bit_and}
@@ -9,8 +9,7 @@ use Rattle.std.proofs.lemmas.List.{length-map, length-take-le, map-append, get_o
 use Rattle.std.proofs.lemmas.List.Elements.{All-from_get_or}
 use Rattle.std.proofs.lemmas.Bool.{cases_lt}
 use Rattle.std.proofs.lemmas.Option.{slice_get-get_or}
-use Rattle.ps_circuit.specs.Circuits.{CircuitData, IsCircuit, IsDefinition, definitions}
-use Rattle.ps_circuit.specs.Literals.{variable}
+use Rattle.ps_circuit.specs.Circuits.{CircuitData, IsCircuit}
 use Rattle.ps_simulate.specs.declared.plan.Wire.{Wire}
 use Rattle.ps_simulate.specs.declared.plan.Row.{Row}
 use Rattle.ps_simulate.specs.declared.lane_plan.Operands.{Operands}
@@ -29,16 +28,11 @@ use Rattle.std.proofs.lemmas.List.{take_more}
 module _ {c : CircuitData} (is : IsCircuit c) where
   -- a circuit has no more variables than literals have room for
   variables_below : (k : ℕ) → k < length (variables c) → get_or (variables c) k 0 < c.most + 1
-  variables_below zero lt = omega arith
-  variables_below (suc k) lt =
-      let within : k < length (definitions c) = omega (arith, length-map (definitions c) variable) in
-      let is_definition : IsDefinition c.most (get_or (definitions c) k 0) = is.draft.defined k 0 within in
-      omega (arith, variables_at is k 0 within, is_definition.2)
+  variables_below k h1 = search (rules, length-map, variables_at)
 
   pub few_variables : length (variables c) ≤ 2 ^ 31
   few_variables =
-      let le : length (variables c) ≤ c.most + 1 =
-      few_below (c.most + 1) (variables c) variables_below (λ k l d lt within. variables_once is k l d lt within) in
+      let le : length (variables c) ≤ c.most + 1 = search (rules, few_below, variables_below, variables_once) in
       omega (arith, is.draft.limit)
 
   module _ (rows : List Row) (are : AreRows c rows) where
@@ -48,11 +42,7 @@ module _ {c : CircuitData} (is : IsCircuit c) where
     -- there is a row for each gate, and no other
     pub few_rows : length rows ≤ length c.gates
     few_rows =
-        let le : length are.order ≤ length c.gates =
-        few_below (length c.gates) are.order (λ k lt. are.is_order.within k _ (slice_get-get_or are.order k 0 lt))
-        (λ k l d lt within e. absurd (let same : k ≡ l = are.is_order.once k l (get_or are.order l d)
-        (slice_get-get_or are.order k d (omega arith) ∙ ap Some e) (slice_get-get_or are.order l d within) in
-        omega arith)) in
+        let le : length are.order ≤ length c.gates = search (rules, few_below, slice_get-get_or) in
         omega (arith, length-rows is are)
 
     pub gate_row : (k : ℕ) → k < length rows → IsGateRow front (length (variables c)) (row rows k)
@@ -99,8 +89,7 @@ module _ {c : CircuitData} (is : IsCircuit c) where
         ]
         | inr v ↦ elim (whose q hq) [
           | inl lq ↦ absurd (omega (arith, kept q lq, goes v.0 v.1 v.2, same))
-          | inr w ↦ (let h : v.0 ≡ w.0 = omega (arith, goes v.0 v.1 v.2, goes w.0 w.1 w.2, same) in
-              cc (v.2, w.2, ap (λ n. (row rows n).target) h))
+          | inr w ↦ search (rules, goes, row)
         ]
       ]
 
@@ -110,18 +99,14 @@ module _ {c : CircuitData} (is : IsCircuit c) where
     -- the same for what stands for the circuit's
     pub gate_rows_at : {size f : ℕ} {given : List Row} → size ≡ length (variables c) → f ≡ front → given ≡ rows →
         All (IsGateRow f size) given
-    gate_rows_at size_is front_is e k d lt =
-        let r = gate_rows k d (omega (arith, ap length e)) in
-        let same = ap (λ (rs : List Row). (get_or rs k d).target) e in
-        record { behind = omega (arith, r.behind, same, front_is); within = omega (arith, r.within, same, size_is) }
+    gate_rows_at size_is front_is e k d lt = search (rules, gate_rows)
 
     pub rows_once_at : {given : List Row} → given ≡ rows → AreOnce given
     rows_once_at e = rw e rows_once
 
     pub AreMoved_at : {size f : ℕ} {given : List Row} {places : List ℕ} → size ≡ length (variables c) → f ≡ front →
         given ≡ rows → length places ≡ size → AreKept f places → AreInOrder f places given → AreMoved size f places
-    AreMoved_at {places} size_is front_is e each kept in_order = rw (size_is, front_is)
-        (AreMoved-rows places (each ∙ size_is) (rw front_is at kept) (rw (e, front_is) at in_order))
+    AreMoved_at {places} size_is front_is e each kept in_order = search (rules, AreMoved-rows)
 
 pub moved_small : {size front : ℕ} {places : List ℕ} → AreMoved size front places → size ≤ 2 ^ 31 →
     All (λ p. p < 2 ^ 31) places
@@ -168,11 +153,8 @@ pub rows_more : (rows : List Row) (places : List ℕ) (gates : List Operands) {m
 rows_more rows places gates first second front k lt in_order at_first at_second grown before =
     let r = get_or rows k no_row in
     let g : Operands = record { first = first; second = second } in
-    let many : length gates ≡ k = sym (length-rows_from front gates) ∙ ap length before
-    ∙ length-map (take k rows) (move_row places) ∙ length-take-le k rows (omega arith) in
-    let here : row_of_operands (front + length gates) g ≡ move_row places r =
-    ap (λ n. row_of_operands n g) (ap (λ n. front + n) many ∙ sym (in_order k no_row lt))
-    ∙ ap₂ (λ a b. row_of_wires (moved places r.target) a b) at_first at_second in
+    let many : length gates ≡ k = search (rules, length-rows_from, length-map, length-take-le) in
+    let here : row_of_operands (front + length gates) g ≡ move_row places r = search (rules, no_row) in
     ap (rows_from front) grown ∙ rows_from-append front gates g
     ∙ ap₂ (λ (xs : List Row) (x : Row). xs ++ x ∷ []) before here
     ∙ sym (ap (map (move_row places)) (take_more rows k no_row lt)
@@ -186,8 +168,7 @@ module _ (rows : List Row) (places : List ℕ) (front : ℕ) {size : ℕ} (n : �
     this_row = gates n no_row lt
 
     pub kept_more : AreKept front places → AreKept front (slice_set places target (front + n))
-    kept_more kept p less =
-        get_or-set_other places target p (front + n) 0 (λ same. omega (arith, this_row.behind, e, same)) ∙ kept p less
+    kept_more kept p less = search rules
 
     pub order_more : AreOnce rows → ((k : ℕ) (d : Row) → k < n → moved places (get_or rows k d).target ≡ front + k)
         → (k : ℕ) (d : Row) → k < n + 1 → moved (slice_set places target (front + n))
@@ -246,6 +227,4 @@ gates_end front size gates rows places e fit =
 pub all_done : (front : ℕ) (gates : List Operands) (k : ℕ) → length gates ≤ k → (values initial : List Bool)
     → work_out (drop k (rows_from front gates)) values ≡ work_out (rows_from front gates) initial →
     values ≡ work_out (rows_from front gates) initial
-all_done front gates k le values initial e =
-    sym (ap (λ (rows : List Row). work_out rows values) (drop_all k (rows_from front gates)
-    (omega (arith, length-rows_from front gates)))) ∙ e
+all_done front gates k le values initial e = search (rules, drop_all, length-rows_from)

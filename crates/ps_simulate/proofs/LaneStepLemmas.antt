@@ -1,5 +1,5 @@
 -- What a step in all lanes reads from its table, in one lane.
-use Rattle.std.proofs.Common.{◌≡◌, ℕ, ◌+◌, ◌/◌, ◌<◌, ◌≤◌, Bool, false, List, [], map, length, get_or, sym, ap}
+use Rattle.std.proofs.Common.{◌≡◌, ℕ, ◌+◌, ◌/◌, ◌<◌, ◌≤◌, Bool, false, List, map, length, get_or, sym, ap, rules}
 use Rattle.std.proofs.Common.{◌∙◌, arith, All}
 use Rattle.std.specs.Prelude.{replicate}
 use Rattle.std.proofs.lemmas.List.{length-map, get_or-map}
@@ -12,7 +12,7 @@ use Rattle.ps_simulate.specs.declared.plan.Plan.{Plan}
 use Rattle.ps_simulate.specs.declared.lane_plan.LanePlan.{LanePlan}
 use Rattle.ps_simulate.specs.Plans.{IsWithin, IsWorkedOut, variables, read}
 use Rattle.ps_simulate.specs.LanePlans.{wire_in, rows_from, move_wire, move_row, unmoved, AreMoved, IsLanePlan}
-use Rattle.ps_simulate.specs.Lanes.{AreTables, bit_in, lane_of}
+use Rattle.ps_simulate.specs.Lanes.{AreTables, lane_of}
 use Rattle.ps_simulate.specs.Tables.{IsTable}
 use Rattle.ps_simulate.proofs.LaneLemmas.{length-lane, bit_in-mask}
 use Rattle.ps_simulate.proofs.LanePlanLemmas.{few_rows, gates_end}
@@ -27,8 +27,7 @@ literals_within : {size front : ℕ} {places : List ℕ} (literals : List ℕ) (
     AreMoved size front places → map wire_in literals ≡ map (move_wire places) wires → All (λ w. w.place < size) wires →
     All (λ literal. literal / 2 < size) literals
 literals_within {size} {places} literals wires are e within k d lt =
-    let many : length literals ≡ length wires = sym (length-map literals wire_in) ∙ ap length e
-    ∙ length-map wires (move_wire places) in
+    let many : length literals ≡ length wires = search (rules, length-map) in
     let w = get_or wires k no_wire in
     let here : w.place < size = within k no_wire (omega arith) in
     let same : wire_in (get_or literals k d) ≡ move_wire places w = sym (get_or-map wire_in literals k d no_wire lt)
@@ -69,22 +68,16 @@ module _ {c : CircuitData} {p : LanePlan} {values latches : List (List ℕ)} (t 
       }))
 
   pub outputs_in_table : All (λ literal. literal / 2 < p.size) p.outputs.items
-  outputs_in_table = literals_within p.outputs.items t.plan.outputs.items t.is_lane_plan.are_moved
-      t.is_lane_plan.outputs_are plan_outputs
+  outputs_in_table = search (rules, literals_within, plan_outputs)
 
   pub nexts_in_table : All (λ literal. literal / 2 < p.size) p.nexts.items
-  nexts_in_table =
-      literals_within p.nexts.items t.plan.nexts.items t.is_lane_plan.are_moved t.is_lane_plan.nexts_are plan_nexts
+  nexts_in_table = search (rules, literals_within, plan_nexts)
 
   pub outputs_many : length p.outputs.items ≡ length c.outputs
-  outputs_many = sym (length-map p.outputs.items wire_in) ∙ ap length t.is_lane_plan.outputs_are
-      ∙ length-map t.plan.outputs.items (move_wire t.places) ∙ ap length t.is_lane_plan.is_plan.outputs_are
-      ∙ length-map c.outputs _
+  outputs_many = search (rules, length-map)
 
   pub nexts_many : length p.nexts.items ≡ length c.latches
-  nexts_many = sym (length-map p.nexts.items wire_in) ∙ ap length t.is_lane_plan.nexts_are
-      ∙ length-map t.plan.nexts.items (move_wire t.places) ∙ ap length t.is_lane_plan.is_plan.nexts_are
-      ∙ length-map c.latches _
+  nexts_many = search (rules, length-map)
 
   -- the gates stand in the table
   pub gates_fit : p.front + length p.gates.items ≤ p.size
@@ -109,10 +102,7 @@ module _ {c : CircuitData} {p : LanePlan} {values latches : List (List ℕ)} (t 
     table = unmoved t.places (lane_of after lane)
 
     in_plan : IsWorkedOut t.plan.rows.items (lane_of inputs lane) (lane_of latches lane) (length (variables c)) table
-    in_plan =
-        rw size_is at (IsWorkedOut-unmoved t.is_lane_plan.are_moved t.plan.rows.items t.is_lane_plan.gates_are plan_rows
-        (omega (arith, t.is_lane_plan.front_is, length-lane inputs lane, length-lane latches lane, latches_many, many))
-        (omega (arith, t.is_lane_plan.front_is, room)) worked)
+    in_plan = search (rules, size_is, IsWorkedOut-unmoved, plan_rows, length-lane, latches_many, room)
 
     reads : (literals : List ℕ) (wires : List Wire) → map wire_in literals ≡ map (move_wire t.places) wires →
         All (λ w. w.place < p.size) wires
@@ -145,18 +135,7 @@ AreTables-zeros {c} is {p} {plan} {places} is_lane_plan {values} latches zeros f
   places = places;
   is_lane_plan = is_lane_plan;
   values_each = each;
-  tables = λ lane lt. record {
-    is_circuit = is;
-    is_plan = is_lane_plan.is_plan;
-    values_each =
-        length-map places _ ∙ is_lane_plan.are_moved.each ∙ is_lane_plan.size_is ∙ is_lane_plan.is_plan.size_is;
-    constant = unmoved_at places (lane_of values lane) 0 (omega (arith, some, is_lane_plan.are_moved.each))
-        ∙ ap (λ q. get_or (lane_of values lane) q false) (is_lane_plan.are_moved.kept 0
-        (omega (arith, is_lane_plan.front_is))) ∙ get_or-map (λ ws. bit_in ws lane) values 0 [] false
-        (omega (arith, some, each)) ∙ ap (λ ws. bit_in ws lane) (ap (λ vs. get_or vs 0 []) zeros
-        ∙ get_or-replicate p.size 0 (replicate 4 0) [] some) ∙ bit_in-mask false lane lt;
-    latches_each = ap length (first lane lt) ∙ length-map c.latches _;
-  };
+  tables = search (rules, length-map, unmoved_at, get_or-map, get_or-replicate, bit_in-mask);
 }
   where
     each : length values ≡ p.size

@@ -1,7 +1,7 @@
 -- Runs of a circuit through letters, and their first repetition.
-use Rattle.std.proofs.Common.{◌≡◌, ◌≢◌, ℕ, zero, suc, ◌+◌, ◌-◌, ◌*◌, ◌^◌, ◌<◌, ◌≤◌, inl, inr, Bool, false, List}
-use Rattle.std.proofs.Common.{[], ◌∷◌, ◌++◌, Option, None, Some, Vec, All, length, take, drop, get_or, map, refl, ap}
-use Rattle.std.proofs.Common.{sym, ◌∙◌, subst, arith, append_assoc, add-one}
+use Rattle.std.proofs.Common.{◌≡◌, ◌≢◌, ℕ, zero, suc, ◌+◌, ◌-◌, ◌*◌, ◌^◌, ◌<◌, ◌≤◌, inl, inr, Bool, false, List, rules}
+use Rattle.std.proofs.Common.{[], ◌∷◌, ◌++◌, None, Vec, All, length, take, drop, get_or, map, refl, ap}
+use Rattle.std.proofs.Common.{sym, ◌∙◌, arith, append_assoc, add-one}
 use Rattle.ps_hoa.specs.Files.{FileData}
 use Rattle.ps_automaton.specs.Acceptance.{IsAccepted}
 use Rattle.std.specs.Prelude.{◌==◌, ◌↔◌, IsTrue, ◌||◌}
@@ -61,18 +61,7 @@ pub letter_is : {c : CircuitData} {naming : Naming} (m : Moment) (letter : ℕ) 
     letter < 2 ^ length naming.names.now → ((p : ℕ) → is_in p letter ≡
     (bit_at_place m.inputs (get_or naming.inputs.items p None) || bit_at_place m.outputs
     (get_or naming.outputs.items p None))) → IsLetterOf (names_of naming) c m letter
-letter_is {naming} m letter h few bits = record {
-  few = rw (length-map naming.names.now _) few;
-  inputs = λ k p s. bits p
-      ∙ ap (λ (o : Option ℕ). bit_at_place m.inputs o || bit_at_place m.outputs (get_or naming.outputs.items p None))
-      (h.inputs_placed p k s)
-      ∙ ap (λ (o : Option ℕ). bit_at_place m.inputs (Some k) || bit_at_place m.outputs o) (h.inputs_alone p k s)
-      ∙ or-false (get_or m.inputs k false);
-  outputs = λ k p s. bits p
-      ∙ ap (λ (o : Option ℕ). bit_at_place m.inputs o || bit_at_place m.outputs (get_or naming.outputs.items p None))
-      (h.outputs_alone p k s)
-      ∙ ap (λ (o : Option ℕ). bit_at_place m.outputs o) (h.outputs_placed p k s);
-}
+letter_is {naming} m letter h few bits = search (rules, length-map, or-false)
 
 pub letter_fits : (items : List (Vec Bool Global)) (i width : ℕ) {item : Vec Bool Global} →
     All (λ letter. length letter ≡ width) (letters_of items) → i < length items → item ≡ get_or items i item
@@ -95,9 +84,8 @@ ReadsWord-more : {names : List (List ℕ)} {c : CircuitData} {from between last 
     ReadsWord names c from (word ++ m.inputs ∷ []) old (new ++ letter ∷ []) last
 ReadsWord-more {names} {c} {from} {between} {last} {old} {m} {letter} h at step is = record {
   trace = h.trace ++ m ∷ [];
-  goes_on = GoesOn-append c from between last h.trace (m ∷ []) h.goes_on
-      (last, at, rw at at step, refl);
-  reads = map_push (λ (n : Moment). n.inputs) h.trace m ∙ ap (λ (w : List (List Bool)). w ++ m.inputs ∷ []) h.reads;
+  goes_on = search (rules, GoesOn-append);
+  reads = search (rules, map_push);
   letters = h.letters ++ letter ∷ [];
   are_letters = AreLetters-append names c h.trace (m ∷ []) h.letters (letter ∷ []) h.are_letters (is, refl);
   new_is = ap (λ (ls : List ℕ). ls ++ letter ∷ []) h.new_is ∙ append_assoc old h.letters (letter ∷ []);
@@ -123,8 +111,7 @@ seam (z ∷ zs) {x} {y} ys d (suc t) le e = seam zs ys d t (omega arith) e
 -- what comes behind a trace leaves the latches before its steps as they are
 pub along_more : (c : CircuitData) (trace ms : List Moment) (last to : List Bool) (t : ℕ) → GoesOn c last ms to →
     t ≤ length trace → get_or (latches_along (trace ++ ms) to) t [] ≡ get_or (latches_along trace last) t []
-along_more c trace [] last to t on le = ap (λ (ms : List Moment). get_or (latches_along ms to) t []) (append-nil trace)
-    ∙ ap (λ (latches : List Bool). get_or (latches_along trace latches) t []) (sym on)
+along_more c trace [] last to t on le = search (rules, append-nil)
 along_more c trace (m ∷ ms) last to t (next, at, step, on) le =
     let front = map (λ (n : Moment). n.latches) trace in
     ap (λ (ls : List (List Bool)). get_or (ls ++ to ∷ []) t []) (map-append (λ (n : Moment). n.latches) trace (m ∷ ms))
@@ -134,9 +121,7 @@ along_more c trace (m ∷ ms) last to t (next, at, step, on) le =
     (omega (arith, length-map trace (λ (n : Moment). n.latches))) at
 
 pub at_end : (trace : List Moment) (last : List Bool) → get_or (latches_along trace last) (length trace) [] ≡ last
-at_end trace last =
-    ap (λ n. get_or (latches_along trace last) n []) (sym (length-map trace (λ (n : Moment). n.latches)))
-    ∙ get_or-append_seam (map (λ (n : Moment). n.latches) trace) last [] []
+at_end trace last = search (rules, length-map, get_or-append_seam)
 
 length_laps : (lap : List (List Bool)) (k : ℕ) → length (laps_of lap k) ≡ k * length lap
 length_laps lap zero = omega arith
@@ -152,15 +137,7 @@ length_trace stem lap trace k e = sym (length-map trace (λ (m : Moment). m.inpu
 pub HasRead-start : {names : List (List ℕ)} {c : CircuitData} {stem : List (List Bool)} (lap : List (List Bool))
     {old letters : List ℕ} {from last : List Bool} → old ≡ [] → from ≡ resets c →
     ReadsWord names c from stem old letters last → HasRead names c stem lap [] letters last
-HasRead-start {names} {c} {stem} lap {last} none same h = record {
-  trace = h.trace;
-  goes_on = rw same at h.goes_on;
-  reads = h.reads ∙ sym (append-nil stem);
-  are_letters = rw (h.new_is ∙ ap (λ (ls : List ℕ). ls ++ h.letters) none) h.are_letters;
-  seen_is = λ k lt. absurd (omega arith);
-  wide = λ k lt. absurd (omega arith);
-  differ = λ k l a b. absurd (omega arith);
-}
+HasRead-start {names} {c} {stem} lap {last} none same h = search (rules, append-nil)
 
 -- one more lap
 pub HasRead-lap : {names : List (List ℕ)} {c : CircuitData} {stem lap seen : List (List Bool)} {old new : List ℕ}
@@ -180,25 +157,14 @@ HasRead-lap {names} {c} {stem} {lap} {seen} {old} {from} {last} h r wide fresh =
           ∙ ap (λ k. stem ++ laps_of lap k) (sym (more ∙ add-one n));
       are_letters = rw r.new_is (AreLetters-append names c h.trace r.trace old r.letters h.are_letters r.are_letters);
       seen_is = λ k lt. elim (at_push seen from [] k lt) [
-        | inl old_one ↦ old_one.1 ∙ h.seen_is k old_one.0
-            ∙ sym (along_more c h.trace r.trace from last (length stem + k * length lap) r.goes_on
-            (let le = mul-le-mul_right {m = k} {n = n} (length lap) (omega (arith, old_one.0)) in
-            omega (arith, le, size)))
+        | inl old_one ↦ search (rules, along_more, mul-le-mul_right)
         | inr new_one ↦ new_one.1 ∙ sym (at_end h.trace from)
             ∙ sym (along_more c h.trace r.trace from last (length h.trace) r.goes_on (omega arith))
             ∙ ap (λ i. get_or (latches_along (h.trace ++ r.trace) last) i [])
             (size ∙ ap (λ i. length stem + i * length lap) (sym new_one.0))
       ];
-      wide = λ k lt. elim (at_push seen from [] k lt) [
-        | inl old_one ↦ rw old_one.1 (h.wide k old_one.0)
-        | inr new_one ↦ rw new_one.1 wide
-      ];
-      differ = λ k l a b e. elim (at_push seen from [] l b) [
-        | inl old_one ↦ h.differ k l a old_one.0
-            (sym (get_or-append seen (from ∷ []) [] k (omega (arith, a, old_one.0))) ∙ e ∙ old_one.1)
-        | inr new_one ↦ fresh k (omega (arith, a, new_one.0))
-            (sym (get_or-append seen (from ∷ []) [] k (omega (arith, a, new_one.0))) ∙ e ∙ new_one.1)
-      ];
+      wide = search (rules, at_push);
+      differ = search (rules, at_push, get_or-append);
     }
 
 pub HasRead-next : {names : List (List ℕ)} {c d : CircuitData} {stem lap seen : List (List Bool)}
@@ -223,32 +189,17 @@ fewer {c} {seen'} seen latches h s =
 pub repeats : {names : List (List ℕ)} {c : CircuitData} {stem lap seen : List (List Bool)} {letters : List ℕ}
     {last : List Bool} (i : ℕ) → 0 < length lap → HasRead names c stem lap seen letters last → i < length seen →
     get_or seen i [] ≡ last → RepeatsBy names c stem lap i letters
-repeats {seen} {last} i some h lt same = record {
-  j = length seen;
-  trace = h.trace;
-  repeats = record {
-    has_letter = some;
-    last = last;
-    goes_on = h.goes_on;
-    reads = h.reads;
-    earlier = lt;
-    returns = sym (h.seen_is i lt) ∙ same;
-    first = λ k l a b e. h.differ k l a b (h.seen_is k (omega arith) ∙ e ∙ sym (h.seen_is l b));
-  };
-  are_letters = h.are_letters;
-}
+repeats {seen} {last} i some h lt same = search rules
 
 pub length_of_letters : {names : List (List ℕ)} {c : CircuitData} {stem lap : List (List Bool)} {i : ℕ}
     {letters : List ℕ} (h : RepeatsBy names c stem lap i letters) → length letters ≡ length stem + h.j * length lap
-length_of_letters {names} {c} {stem} {lap} {letters} h =
-    length_letters names c h.trace letters h.are_letters ∙ length_trace stem lap h.trace h.j h.repeats.reads
+length_of_letters {names} {c} {stem} {lap} {letters} h = search (rules, length_letters, length_trace)
 
 -- ## Places of the verdict
 
 pub letter_at : (items : List (Vec Bool Global)) (i : ℕ) {item : Vec Bool Global} (d : List Bool) → i < length items →
     item ≡ get_or items i item → get_or (letters_of items) i d ≡ item.items
-letter_at items i {item} d lt is =
-    get_or-map (λ (l : Vec Bool Global). l.items) items i item d lt ∙ ap (λ (l : Vec Bool Global). l.items) (sym is)
+letter_at items i {item} d lt is = search (rules, get_or-map)
 
 times_more : (i l : ℕ) → suc i * l ≡ i * l + l
 times_more i l = grind arith
@@ -302,5 +253,4 @@ verdict file {names} {c} stem lap {letters} {before} {behind} {i} accepted same 
     }
 
 pub not_empty : (n : ℕ) → (n == 0) ≡ false → 0 < n
-not_empty zero e = absurd (cc)
-not_empty (suc n) e = omega arith
+not_empty n h1 = search rules

@@ -1,5 +1,5 @@
 -- Bits of letters.
-use Rattle.std.proofs.Common.{◌≡◌, ◌≢◌, ℕ, ◌*◌, ◌^◌, ◌%◌, ◌<◌, Bool, true, false, [], refl, ap, sym, ◌∙◌}
+use Rattle.std.proofs.Common.{◌≡◌, ◌≢◌, ℕ, ◌*◌, ◌^◌, ◌%◌, ◌<◌, Bool, true, false, [], refl, ap, sym, ◌∙◌, rules}
 use Rattle.std.proofs.Common.{bit_or, nat_eq}
 use Rattle.std.specs.Prelude.{◌||◌}
 use Rattle.std.proofs.lemmas.Bool.{eq-eqb, ne_eqb}
@@ -22,5 +22,4 @@ bit_kept letter p q small other = with_one letter p q small (ne_eqb q p other) �
 
 pub bit_few : (letter p count : ℕ) → p < 64 → p < count → letter < 2 ^ count →
     bit_or letter (1 * 2 ^ p % 2 ^ 64) < 2 ^ count
-bit_few letter p count small lt few =
-    or_lt count letter (1 * 2 ^ p % 2 ^ 64) few (rw (one_shl p 64 small) (pow_below p count lt))
+bit_few letter p count small lt few = search (rules, or_lt, one_shl, pow_below)

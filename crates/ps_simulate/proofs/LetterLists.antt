@@ -1,14 +1,13 @@
 -- Letters whose bits stand one behind another.
-use Rattle.std.proofs.Common.{◌≡◌, ℕ, zero, suc, ◌+◌, ◌*◌, ◌<◌, ◌≤◌, Bool, List, [], ◌∷◌, ◌++◌, map, length, take, drop}
-use Rattle.std.proofs.Common.{refl, sym, ap, ap₂, ◌∙◌, arith, Some, slice_get, length-drop, length-append, zero-mul}
-use Rattle.std.proofs.Common.{false, inr, Err}
+use Rattle.std.proofs.Common.{◌≡◌, ℕ, zero, suc, ◌+◌, ◌*◌, ◌<◌, ◌≤◌, Bool, List, [], ◌∷◌, ◌++◌, length, take, drop}
+use Rattle.std.proofs.Common.{refl, ap, ap₂, ◌∙◌, arith, Some, slice_get, length-drop, length-append}
+use Rattle.std.proofs.Common.{false, inr, Err, rules}
 use Rattle.std.proofs.Math.Nat.{mul-le-mul_right}
 use Rattle.std.proofs.lemmas.List.{take-append-le, drop-append-le, take_all, drop-drop, nil_from_length}
-use Rattle.std.proofs.lemmas.List.Sums.{sum_by-cons}
 use Rattle.ps_text.specs.declared.faults.Fault.TheVariants.{Text, OutOfMemory}
 use Rattle.ps_simulate.specs.Faults.{StimulusFault}
 use Rattle.ps_simulate.specs.Stimuli.{StimulusData, letters_in}
-use Rattle.ps_simulate.specs.StimulusTexts.{lines_of, digits_of, extent, IsLettersAnswer}
+use Rattle.ps_simulate.specs.StimulusTexts.{lines_of, IsLettersAnswer}
 use Rattle.ps_simulate.specs.StimulusReading.{HasRead, ReadsLine}
 use Rattle.ps_simulate.proofs.Stimuli.StimulusSteps.{IsStimulusAnswer-line}
 
@@ -33,10 +32,7 @@ whole-push {width} count bits letter whole fits = omega (arith, length-append bi
 -- one more letter
 pub letters_in-push : {width : ℕ} (count : ℕ) (bits letter : List Bool) → length bits ≡ count * width →
     length letter ≡ width → letters_in width (suc count) (bits ++ letter) ≡ letters_in width count bits ++ letter ∷ []
-letters_in-push {width} zero bits letter whole fits =
-    let none : bits ≡ [] = nil_from_length bits (whole ∙ zero-mul width) in
-    ap (λ (front : List Bool). take width (front ++ letter) ∷ []) none
-    ∙ ap (λ (l : List Bool). l ∷ []) (take_all width letter (omega arith))
+letters_in-push {width} zero bits letter whole fits = search (rules, nil_from_length, take_all)
 letters_in-push {width} (suc count) bits letter whole fits =
     let rest = rest_length width count bits whole in
     ap₂ ◌∷◌ (take-append-le width bits letter rest.1) (ap (letters_in width (suc count))
@@ -46,8 +42,7 @@ letters_in-push {width} (suc count) bits letter whole fits =
 pub slice_get-letters_in : (width count : ℕ) (bits : List Bool) (i : ℕ) → i < count →
     slice_get (letters_in width count bits) i ≡ Some (take width (drop (i * width) bits))
 slice_get-letters_in width zero bits i lt = absurd (omega arith)
-slice_get-letters_in width (suc count) bits zero lt =
-    ap (λ (n : ℕ). Some (take width (drop n bits))) (sym (zero-mul width))
+slice_get-letters_in width (suc count) bits zero lt = search rules
 slice_get-letters_in width (suc count) bits (suc i) lt =
     let next : width + i * width ≡ suc i * width = grind arith in
     slice_get-letters_in width count (drop width bits) i (omega arith)
@@ -56,10 +51,7 @@ slice_get-letters_in width (suc count) bits (suc i) lt =
 -- a letter's bits stand within those of all
 pub letter_within : (place count width : ℕ) {size : ℕ} → place < count → size ≡ count * width →
     place * width + width ≤ size
-letter_within place count width lt is =
-    let next : place * width + width ≡ suc place * width = grind arith in
-    let below : suc place * width ≤ count * width = mul-le-mul_right width (omega arith) in
-    omega arith
+letter_within place count width lt is = search (rules, mul-le-mul_right)
 
 -- the fault of a line is the answer to the text
 pub IsLettersAnswer-line : {text : List ℕ} {width start end : ℕ} {s : StimulusData} →

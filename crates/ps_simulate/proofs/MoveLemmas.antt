@@ -1,7 +1,6 @@
 -- Rows that are worked out in a table whose places were moved.
-use Rattle.std.proofs.Common.{◌≡◌, ◌≢◌, ℕ, suc, ◌+◌, ◌⊎◌, ◌<◌, ◌≤◌, ◌&&◌, Bool, false, not, cond, inl, inr, List, []}
-use Rattle.std.proofs.Common.{◌∷◌, map, length, get_or, refl, sym, ap, ap₂, ◌∙◌, arith, All, length-set}
-use Rattle.std.proofs.Common.{get_or-set_same, get_or-set_other}
+use Rattle.std.proofs.Common.{◌≡◌, ◌≢◌, ℕ, suc, ◌+◌, ◌⊎◌, ◌<◌, ◌≤◌, ◌&&◌, Bool, false, not, cond, List, []}
+use Rattle.std.proofs.Common.{◌∷◌, map, length, get_or, refl, sym, ap, ap₂, ◌∙◌, arith, All, length-set, rules}
 use Rattle.std.specs.Prelude.{slice_set}
 use Rattle.std.proofs.lemmas.Bool.{cases_eq}
 use Rattle.std.proofs.lemmas.List.{length-map, get_or-map, ext_get_or}
@@ -39,22 +38,7 @@ module _ {size front : ℕ} {places : List ℕ} (are : AreMoved size front place
     where
       at : (k : ℕ) → k < size → get_or (unmoved places (slice_set values (moved places t) x)) k false ≡ get_or
           (slice_set (unmoved places values) t x) k false
-      at k less = go (cases_eq k t)
-        where
-          there : get_or (unmoved places (slice_set values (moved places t) x)) k false ≡ get_or
-              (slice_set values (moved places t) x) (moved places k) false
-          there = unmoved_at places (slice_set values (moved places t) x) k (omega (arith, are.each))
-
-          go : (k ≡ t) ⊎ (k ≢ t) → get_or (unmoved places (slice_set values (moved places t) x)) k false ≡ get_or
-              (slice_set (unmoved places values) t x) k false
-          go (inl e) = there ∙ ap (λ n. get_or (slice_set values (moved places t) x) (moved places n) false) e
-              ∙ get_or-set_same values (moved places t) x false (omega (arith, are.within t lt))
-              ∙ sym (ap (λ n. get_or (slice_set (unmoved places values) t x) n false) e
-              ∙ get_or-set_same (unmoved places values) t x false (omega
-              (arith, are.each, length-unmoved places values)))
-          go (inr differ) = there ∙ get_or-set_other values (moved places t) (moved places k) x false
-              (λ e. differ (are.once k t less lt e)) ∙ sym (get_or-set_other (unmoved places values) t k x false differ
-              ∙ unmoved_at places values k (omega (arith, are.each)))
+      at k less = search (rules, cases_eq, unmoved_at, length-unmoved)
 
   pub work_out-unmoved : (rows : List Row) (values : List Bool) → length values ≡ size → All (IsWithin size) rows
       → unmoved places (work_out (map (move_row places) rows) values) ≡ work_out rows (unmoved places values)
@@ -73,18 +57,4 @@ module _ {size front : ℕ} {places : List ℕ} (are : AreMoved size front place
       moved_rows ≡ map (move_row places) rows → All (IsWithin size) rows
       → 1 + length inputs + length latches ≤ front → front ≤ size → IsWorkedOut moved_rows inputs latches size values →
       IsWorkedOut rows inputs latches size (unmoved places values)
-  IsWorkedOut-unmoved rows {inputs} e within room fit worked = record {
-    table = unmoved places worked.table;
-    each = length-unmoved places worked.table ∙ are.each;
-    holds = record {
-      constant = at 0 (omega arith) ∙ worked.holds.constant;
-      inputs_there = λ k lt. at (1 + k) (omega arith) ∙ worked.holds.inputs_there k lt;
-      latches_there = λ k lt. at (1 + length inputs + k) (omega arith) ∙ worked.holds.latches_there k lt;
-    };
-    done = ap (unmoved places) (worked.done ∙ ap (λ rs. work_out rs worked.table) e)
-        ∙ work_out-unmoved rows worked.table worked.each within;
-  }
-    where
-      at : (p : ℕ) → p < front → get_or (unmoved places worked.table) p false ≡ get_or worked.table p false
-      at p lt = unmoved_at places worked.table p (omega (arith, are.each))
-          ∙ ap (λ q. get_or worked.table q false) (are.kept p lt)
+  IsWorkedOut-unmoved rows {inputs} e within room fit worked = search (rules, length-unmoved, work_out-unmoved, unmoved_at)

@@ -1,6 +1,6 @@
 -- The places of symbols at the propositions that they name.
 use Rattle.std.proofs.Common.{◌≡◌, ◌≢◌, ℕ, zero, suc, ◌+◌, ◌<◌, ◌⊎◌, inl, inr, Bool, true, false, not, cond, List, []}
-use Rattle.std.proofs.Common.{◌∷◌, length, get_or, set, Option, None, Some, Vec, Bor, map, refl, ap, sym, ◌∙◌}
+use Rattle.std.proofs.Common.{◌∷◌, length, get_or, set, Option, None, Some, Vec, Bor, map, refl, ap, sym, ◌∙◌, rules}
 use Rattle.std.proofs.Common.{arith}
 use Rattle.std.proofs.Math.Bool.{beq}
 use Rattle.std.specs.Global.{Global}
@@ -15,7 +15,6 @@ use Rattle.ps_hoa.specs.Files.{is_among}
 use Rattle.ps_hoa.specs.Header.{is_name_among}
 use Rattle.ps_hoa.specs.Sound.{AreNames}
 use Rattle.ps_simulate.specs.declared.role.Role.{Role}
-use Rattle.ps_simulate.specs.declared.role.Role.TheVariants.{Controller, Environment}
 use Rattle.ps_simulate.specs.Symbols.{IsSymbol, AreNamesOnce, reads_controllable, sets_controllable}
 use Rattle.ps_simulate.specs.Namings.{ArePut, ArePlacesOf, IsPropositionOf}
 
@@ -49,21 +48,14 @@ none_some e = cc
 
 -- what is there stands within
 pub within : {X : Type 0} (xs : List (Option X)) (k : ℕ) (x : X) → get_or xs k None ≡ Some x → k < length xs
-within xs k x e = elim (cases_lt k (length xs)) [
-  | inl lt ↦ lt
-  | inr le ↦ absurd (none_some (sym (get_or_past xs k None le) ∙ e))
-]
+within xs k x e = search (rules, cases_lt, none_some, get_or_past)
 
 module _ (names : List (List ℕ)) (controllable : List ℕ) (wanted : Bool) (symbols : List (Option (List ℕ))) where
   -- ## One symbol more
 
   set_cases : (places : List (Option ℕ)) (p k q : ℕ) {j : ℕ} → p < length places →
       get_or (set places p (Some k)) q None ≡ Some j → ((q ≡ p) × (j ≡ k)) ⊎ (get_or places q None ≡ Some j)
-  set_cases places p k q lt e = grind (
-    arith,
-    get_or-set_same places p (Some k) None lt,
-    get_or-set_other places p q (Some k) None,
-  )
+  set_cases places p k q lt e = search (rules, get_or-set_same, get_or-set_other)
 
   pub put_step : {k : ℕ} (p : ℕ) {name : List ℕ} {places : List (Option ℕ)} →
       ArePut names controllable wanted symbols k places → get_or symbols k None ≡ Some name
@@ -76,11 +68,7 @@ module _ (names : List (List ℕ)) (controllable : List ℕ) (wanted : Bool) (sy
       record {
         size = length-set places p (Some k) ∙ h.size;
         put = λ j lj. elim (cases_eq j k) [
-          | inl same ↦ (
-            p,
-            rw same sym_k,
-            get_or-set_same places p (Some k) None lt ∙ ap (λ n. Some n) (sym same),
-          )
+          | inl same ↦ search (rules, get_or-set_same)
           | inr other ↦ let old = h.put j (omega arith) in (
             old.0,
             old.1,
@@ -93,10 +81,7 @@ module _ (names : List (List ℕ)) (controllable : List ℕ) (wanted : Bool) (sy
           | inl same ↦ rw (same.1, same.0) sym_k
           | inr old ↦ h.is q j old
         ];
-        side = λ q j e. elim (set_cases places p k q lt e) [
-          | inl same ↦ rw (same.0) sides
-          | inr old ↦ h.side q j old
-        ];
+        side = search (rules, set_cases);
       }
 
   -- ## Symbols that are not the names, each once
@@ -132,9 +117,7 @@ module _ (names : List (List ℕ)) (controllable : List ℕ) (wanted : Bool) (sy
     placed : (p k : ℕ) → IsSymbol names symbols k p → get_or places p None ≡ Some k
     placed p k s =
         let at = h.put k (within symbols k (get_or names p []) s.is) in
-        let same : at.0 ≡ p =
-        names_differ names differ at.0 p at.1.within s.within (some_same (get_or names at.0 []) (get_or names p [])
-        (sym at.1.is ∙ s.is)) in
+        let same : at.0 ≡ p = search (rules, names_differ, some_same) in
         ap (λ n. get_or places n None) (sym same) ∙ at.2
 
     pub all_placed : ArePlacesOf names controllable wanted symbols places
@@ -142,9 +125,7 @@ module _ (names : List (List ℕ)) (controllable : List ℕ) (wanted : Bool) (sy
 
     pub missing : (p : ℕ) → p < length places → is_among p controllable ≡ wanted → get_or places p None ≡ None →
         ¬ AreNamesOnce names controllable wanted symbols
-    missing p lt sides e once =
-        let s = once.each p (omega (arith, h.size)) sides in
-        none_some (sym e ∙ placed p s.0 s.1)
+    missing p lt sides e once = search (rules, none_some, placed)
 
     pub all_once : ((p : ℕ) → p < length places → is_among p controllable ≡ wanted → get_or places p None ≢ None) →
         AreNamesOnce names controllable wanted symbols
@@ -169,13 +150,11 @@ beq_other a b e = grind arith
 
 pub is_free : (places : List (Option ℕ)) (p : ℕ) (there : Option ℕ) {b : Bool} → p < length places →
     there ≡ get_or places p there → is_some there ≡ not b → b ≡ true → get_or places p None ≡ None
-is_free places p None lt at e free = sym at
-is_free places p (Some k) lt at e free = cc
+is_free places p there h1 h2 h3 h4 = search rules
 
 pub is_full : (places : List (Option ℕ)) (p : ℕ) (there : Option ℕ) {b : Bool} → p < length places →
     there ≡ get_or places p there → is_some there ≡ not b → b ≡ false → get_or places p None ≢ None
-is_full places p None lt at e no_one free = cc
-is_full places p (Some k) lt at e no_one free = cc (get_or_default places p None (Some k) lt)
+is_full places p there h1 h2 h3 h4 = search (rules, get_or_default)
 
 pub name_at : (names : List (Vec ℕ Global)) (p : ℕ) {name : Vec ℕ Global} → p < length names →
     name ≡ get_or names p name → get_or (map bytes_of names) p [] ≡ name.items
@@ -184,8 +163,7 @@ name_at names p {name} lt at = get_or-map bytes_of names p name [] lt ∙ ap byt
 pub symbol_at : (symbols : List (Option (Bor (List ℕ)))) (k : ℕ) {symbol : Option (Bor (List ℕ))} → k < length symbols →
     get_or symbols k None ≡ symbol
     → get_or (map (option_copied {T = List ℕ}) symbols) k None ≡ option_copied {T = List ℕ} symbol
-symbol_at symbols k lt at =
-    get_or-map (option_copied {T = List ℕ}) symbols k None None lt ∙ ap (option_copied {T = List ℕ}) at
+symbol_at symbols k lt at = search (rules, get_or-map)
 
 -- ## Both sides
 
@@ -200,5 +178,4 @@ apart {rest} differ a b {p} {k} s = go (get_or rest p None) refl
     go (Some j) e = absurd (differ (sym (a.side p k (a.placed p k s)) ∙ b.side p j e))
 
 pub role_apart : (role : Role) → reads_controllable role ≢ sets_controllable role
-role_apart Controller e = cc
-role_apart Environment e = cc
+role_apart role = search rules

@@ -1,6 +1,6 @@
 -- The places of a circuit's variables.
 use Rattle.std.proofs.Common.{◌≡◌, ◌≢◌, ℕ, zero, suc, ◌<◌, inl, inr, List, [], ◌∷◌, ◌++◌, map, length, get_or, refl}
-use Rattle.std.proofs.Common.{sym, ap, subst, ◌∙◌, arith, nat_eq, AllPairs, Contains}
+use Rattle.std.proofs.Common.{sym, ap, ◌∙◌, arith, nat_eq, AllPairs, Contains, rules}
 use Rattle.std.specs.List.{flat_map}
 use Rattle.std.proofs.lemmas.List.{length-map, get_or-map, get_or_default}
 use Rattle.std.proofs.lemmas.List.Sums.{position_or_len_is}
@@ -22,16 +22,7 @@ module _ {c : CircuitData} (is : IsCircuit c) where
 
   -- no variable has two places
   pub variables_once : AllPairs (λ v w. v ≢ w) (variables c)
-  variables_once i zero d less lt e = absurd (omega arith)
-  variables_once zero (suc j) d less lt e =
-      let within : j < length (definitions c) = omega (arith, many) in
-      let at = variables_at j d within in
-      let is_definition = is.draft.defined j d within in
-      omega (arith, at, is_definition.1)
-  variables_once (suc i) (suc j) d less lt e =
-      let within : j < length (definitions c) = omega (arith, many) in
-      let first : i < length (definitions c) = omega arith in
-      is.draft.once i j d (omega arith) within (sym (variables_at i d first) ∙ e ∙ variables_at j d within)
+  variables_once = search (rules, many, variables_at)
 
   pub place_of-at : (k : ℕ) → k < length (variables c) → place_of c (get_or (variables c) k 0) ≡ k
   place_of-at k lt = position_or_len_is (λ w. nat_eq w (get_or (variables c) k 0)) (variables c) k 0 (omega arith)
@@ -40,10 +31,7 @@ module _ {c : CircuitData} (is : IsCircuit c) where
   known_at : (literal k : ℕ) → k < length (variables c) → get_or (variables c) k 0 ≡ variable literal
       → (place_of c (variable literal) < length (variables c)) ×
       (get_or (variables c) (place_of c (variable literal)) 0 ≡ variable literal)
-  known_at literal k lt e =
-      let P : ℕ → Type 0 = λ v. (place_of c v < length (variables c)) × (get_or (variables c) (place_of c v) 0 ≡ v) in
-      let here = place_of-at k lt in
-      subst P e (omega (arith, here), ap (λ p. get_or (variables c) p 0) here)
+  known_at literal k lt e = search (rules, place_of-at)
 
   -- the place of a literal whose variable is 0 or defined
   pub place_known : (literal : ℕ) → IsKnown (definitions c) literal

@@ -1,5 +1,5 @@
 -- The rows of a circuit.
-use Rattle.std.proofs.Common.{◌≡◌, ℕ, suc, ◌+◌, ◌<◌, inl, inr, List, ◌++◌, map, length}
+use Rattle.std.proofs.Common.{◌≡◌, ℕ, suc, ◌+◌, ◌<◌, List, ◌++◌, map, length, rules}
 use Rattle.std.proofs.Common.{get_or, sym, ap, ◌∙◌, arith, Some, length-append}
 use Rattle.std.proofs.lemmas.List.{length-map, get_or-map, get_or_append_left, get_or-append-add}
 use Rattle.std.proofs.lemmas.Option.{slice_get-get_or, get_or_from_slice_get, slice_get_within}
@@ -65,8 +65,7 @@ module _ {c : CircuitData} (is : IsCircuit c) where
   -- two literals at one place have one variable
   pub place_of-same : (l m : ℕ) → IsKnown (definitions c) l → IsKnown (definitions c) m →
       place_of c (variable l) ≡ place_of c (variable m) → variable l ≡ variable m
-  place_of-same l m kl km e =
-      sym (place_known is l kl).1 ∙ ap (λ p. get_or (variables c) p 0) e ∙ (place_known is m km).1
+  place_of-same l m kl km e = search (rules, place_known)
 
   module _ {rows : List Row} (are : AreRows c rows) where
     -- the place of the gate of a row
@@ -77,8 +76,7 @@ module _ {c : CircuitData} (is : IsCircuit c) where
     length-rows = ap length are.each ∙ length-map are.order (row_at c)
 
     pub row_is : (k : ℕ) → k < length rows → row rows k ≡ row_at c (gate_place k)
-    row_is k lt =
-        ap (λ rs. get_or rs k no_row) are.each ∙ get_or-map (row_at c) are.order k 0 no_row (omega (arith, length-rows))
+    row_is k lt = search (rules, no_row, get_or-map, length-rows)
 
     pub gate_within : (k : ℕ) → k < length rows → gate_place k < length c.gates
     gate_within k lt = are.is_order.within k _ (slice_get-get_or are.order k 0 (omega (arith, length-rows)))
@@ -119,25 +117,17 @@ module _ {c : CircuitData} (is : IsCircuit c) where
         read = _;
         at_i = gate_at k hk;
         at_j = gate_at l hl;
-        side = inl (reads k l _ hk hl (sides_known is (gate_place k) no_gate (gate_within k hk)).0
-            (sym (ap (λ (r : Row). r.first.place) (row_is k hk)) ∙ e));
+        side = search (rules, reads, sides_known, gate_within, row_is);
       });
       second_behind = λ k l hk hl e. are.is_order.behind k l (gate_place k) (gate_place l) (at k hk) (at l hl) (record {
         reader = _;
         read = _;
         at_i = gate_at k hk;
         at_j = gate_at l hl;
-        side = inr (reads k l _ hk hl (sides_known is (gate_place k) no_gate (gate_within k hk)).1
-            (sym (ap (λ (r : Row). r.second.place) (row_is k hk)) ∙ e));
+        side = search (rules, reads, sides_known, gate_within, row_is);
       });
     }
 
     -- rows stay within the table
     pub IsWithin-row : (k : ℕ) → k < length rows → IsWithin (length (variables c)) (row rows k)
-    IsWithin-row k lt =
-        let sides = sides_known is (gate_place k) no_gate (gate_within k lt) in
-        rw (row_is k lt) (record {
-          target = (place_known is _ (gate_known is (gate_place k) no_gate (gate_within k lt))).0;
-          first = (place_known is _ sides.0).0;
-          second = (place_known is _ sides.1).0;
-        })
+    IsWithin-row k lt = search (rules, sides_known, gate_within, row_is, place_known, gate_known)

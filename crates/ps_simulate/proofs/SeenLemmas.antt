@@ -1,18 +1,14 @@
 -- A map that has the place of each of the latches seen.
-use Rattle.std.proofs.Common.{◌≡◌, ◌≢◌, ℕ, zero, suc, ◌+◌, ◌<◌, ◌⊎◌, inl, inr, Bool, true, false, cond, List, [], ◌∷◌}
-use Rattle.std.proofs.Common.{◌++◌, None, Some, Ordering, Vec, length, get_or, refl, ap, sym, ◌∙◌, length-append}
-use Rattle.std.proofs.Common.{slice_get}
+use Rattle.std.proofs.Common.{◌≡◌, ◌≢◌, ℕ, ◌+◌, ◌<◌, ◌⊎◌, Bool, true, cond, List, [], ◌∷◌}
+use Rattle.std.proofs.Common.{◌++◌, None, Some, Vec, length, get_or, refl, ap, sym, ◌∙◌, length-append, rules}
 use Rattle.std.specs.BTreeMap.{BTreeMap, btree_map_len, get, IsEmpty}
 use Rattle.std.specs.Cmp.{bool_cmp_total}
 use Rattle.std.specs.Cmp.Lexicographic.{slice_cmp}
 use Rattle.std.specs.Global.{Global}
-use Rattle.std.specs.Map.{lookup}
-use Rattle.std.specs.Ordering.{bool_cmp, is_eq, ordering_then}
-use Rattle.std.specs.declared.cmp.Ordering.TheVariants.{Less, Equal, Greater}
-use Rattle.std.proofs.lemmas.Bool.{cases_Bool}
+use Rattle.std.specs.Ordering.{bool_cmp, is_eq}
 use Rattle.std.proofs.lemmas.Cmp.{lists_total, tied_itself}
 use Rattle.std.proofs.lemmas.Option.{slice_get_within, slice_get-get_or, get_or_from_slice_get}
-use Rattle.ps_text.proofs.Simple.{none_is_some, same_some}
+use Rattle.ps_text.proofs.Simple.{none_is_some}
 use Rattle.ps_simulate.specs.LassoRuns.{IsSeen, HavePlaces, bits_cmp}
 use Rattle.std.proofs.Common.{arith}
 use Rattle.ps_automaton.proofs.Distinct.{at_end, at_last, at_left}
@@ -31,11 +27,7 @@ bits_own xs = ap is_eq (tied_itself (lists_total bool_cmp_total) xs)
 -- ## Places
 
 pub places_start : (places : BTreeMap (Vec Bool Global) ℕ) → IsEmpty places → HavePlaces [] places
-places_start places empty = record {
-  each = ap length empty;
-  sound = λ key place e. absurd (none_is_some place (sym (ap (lookup (λ k. is_eq (bits_cmp key k))) empty) ∙ e));
-  whole = λ key place e. absurd (none_is_some key.items e);
-}
+places_start places empty = search (rules, none_is_some)
 
 pub seen_before : {seen : List (List Bool)} {places : BTreeMap (Vec Bool Global) ℕ} → HavePlaces seen places →
     (key : Vec Bool Global) {latches : List Bool} → key.items ≡ latches →

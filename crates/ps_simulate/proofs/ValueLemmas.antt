@@ -1,6 +1,6 @@
 -- A table of values by places, and the values of the circuit.
-use Rattle.std.proofs.Common.{◌≡◌, ℕ, suc, ◌+◌, ◌%◌, ◌<◌, ◌&&◌, ◌==◌, Bool, false, not, cond, inl, inr, List, ◌∷◌, ◌++◌}
-use Rattle.std.proofs.Common.{map, length, get_or, refl, sym, ap, ap₂, subst, ◌∙◌, arith, length-append}
+use Rattle.std.proofs.Common.{◌≡◌, ℕ, suc, ◌+◌, ◌%◌, ◌<◌, ◌&&◌, ◌==◌, Bool, false, not, inl, inr, List, ◌∷◌, ◌++◌}
+use Rattle.std.proofs.Common.{map, length, get_or, refl, sym, ap, ap₂, subst, ◌∙◌, arith, length-append, rules}
 use Rattle.std.specs.Prelude.{replicate}
 use Rattle.std.specs.List.{range_with_len}
 use Rattle.std.proofs.lemmas.List.{length-map, get_or-map, ext_get_or, get_or_append_left, get_or-append-add}
@@ -8,7 +8,7 @@ use Rattle.std.proofs.lemmas.List.FromFn.{get_or-map-range_with_len, length-map-
 use Rattle.std.proofs.lemmas.List.Elements.{All-from_get_or}
 use Rattle.std.proofs.lemmas.Bool.{ne_eqb}
 use Rattle.ps_circuit.specs.declared.parts.Latch.{Latch}
-use Rattle.ps_circuit.specs.Circuits.{CircuitData, IsCircuit, IsDefinition, IsKnown, definitions}
+use Rattle.ps_circuit.specs.Circuits.{CircuitData, IsCircuit, IsKnown, definitions}
 use Rattle.ps_circuit.specs.Literals.{variable}
 use Rattle.ps_simulate.specs.declared.plan.Row.{Row}
 use Rattle.ps_circuit.specs.Values.{AreValues, MeetsGate, value_of, bit_of}
@@ -36,18 +36,12 @@ module _ {c : CircuitData} (is : IsCircuit c) where
   -- a literal reads the table as it reads the values
   pub bit_of-values_by : (table : List Bool) (literal : ℕ) → IsKnown (definitions c) literal
       → bit_of (values_by c table) literal ≡ read table (wire_of c literal)
-  bit_of-values_by table literal known = ap (λ (b : Bool). cond (literal % 2 == 1) (not b) b)
-      (get_or-map-range_with_len (λ v. get_or table (place_of c v) false) 0 (c.most + 1) (variable literal)
-      (variable literal) false (variable-le_most literal known) (omega arith))
+  bit_of-values_by table literal known = search (rules, get_or-map-range_with_len, variable-le_most)
 
   -- a literal that defines a variable is not negated
   pub bit_of-definition : (values : List Bool) (k : ℕ) {literal : ℕ} → k < length (definitions c) →
       get_or (definitions c) k 0 ≡ literal → bit_of values literal ≡ value_of values (variable literal)
-  bit_of-definition values k {literal} lt e =
-      let is_definition = is.draft.defined k 0 lt in
-      let even : literal % 2 ≡ 0 = ap (λ n. n % 2) (sym e) ∙ is_definition.0 in
-      ap (λ (t : Bool). cond t (not (value_of values (variable literal))) (value_of values (variable literal)))
-      (ne_eqb (literal % 2) 1 (λ one. omega arith))
+  bit_of-definition values k {literal} lt e = search (rules, ne_eqb)
 
   value_at : (table : List Bool) (k : ℕ) {literal : ℕ} → k < length (definitions c) →
       get_or (definitions c) k 0 ≡ literal → bit_of (values_by c table) literal ≡ get_or table (suc k) false
@@ -98,9 +92,7 @@ module _ {c : CircuitData} (is : IsCircuit c) where
         let all = work_out rows table in
         let is_row : row rows there.0 ≡ row_at c i = row_is is are there.0 there.1 ∙ ap (row_at c) there.2 in
         let work : get_or all (row rows there.0).target false ≡ (read all (row rows there.0).first &&
-        read all (row rows there.0).second) =
-        work_out-row rows table there.0 (IsScheduled-rows is are)
-        (λ l less. omega (arith, each, (IsWithin-row is are l less).target)) there.1 in
+        read all (row rows there.0).second) = search (rules, work_out-row, IsScheduled-rows, IsWithin-row) in
         let P : Row → Type 0 = λ r. get_or all r.target false ≡ (read all r.first && read all r.second) in
         let work_there : get_or all (place_of c (variable g.literal)) false ≡
         (read all (wire_of c g.first) && read all (wire_of c g.second)) = subst P is_row work in
@@ -115,10 +107,7 @@ module _ {c : CircuitData} (is : IsCircuit c) where
     pub AreValues-work_out : AreValues c inputs latches (values_by c (work_out rows table))
     AreValues-work_out = record {
       each = length-map-range_with_len (λ v. get_or (work_out rows table) (place_of c v) false) 0 (c.most + 1);
-      constant =
-          get_or-map-range_with_len (λ v. get_or (work_out rows table) (place_of c v) false) 0 (c.most + 1) 0 0 false
-          (omega arith) refl ∙ ap (λ p. get_or (work_out rows table) p false)
-          (place_of-at is 0 (omega (arith, length-variables c))) ∙ kept 0 (omega arith) ∙ holds.constant;
+      constant = search (rules, get_or-map-range_with_len, place_of-at, length-variables, kept);
       inputs_are = inputs_hold;
       latches_are = latches_hold;
       gates_are = All-from_get_or (MeetsGate (values_by c (work_out rows table))) c.gates no_gate gate_holds;

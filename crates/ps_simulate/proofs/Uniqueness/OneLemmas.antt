@@ -1,11 +1,11 @@
 -- A circuit has values, and no others.
 use Rattle.std.proofs.Common.{◌≡◌, ℕ, zero, suc, ◌+◌, ◌-◌, ◌⊎◌, ◌%◌, ◌<◌, ◌≤◌, ◌&&◌, ◌==◌, Bool, false, not, cond, inl}
-use Rattle.std.proofs.Common.{inr, List, ◌++◌, length, get_or, refl, sym, ap, ap₂, subst, ◌∙◌, arith, Some}
+use Rattle.std.proofs.Common.{inr, List, ◌++◌, length, get_or, refl, sym, ap, ap₂, subst, ◌∙◌, arith, rules}
 use Rattle.std.proofs.Common.{length-append}
-use Rattle.std.specs.Prelude.{slice_get, replicate}
+use Rattle.std.specs.Prelude.{replicate}
 use Rattle.std.proofs.lemmas.List.{length-map, length-replicate, get_or-map}
 use Rattle.std.proofs.lemmas.Bool.{cases_lt}
-use Rattle.std.proofs.lemmas.Option.{slice_get-get_or, get_or_from_slice_get, slice_get_within}
+use Rattle.std.proofs.lemmas.Option.{slice_get-get_or}
 use Rattle.ps_circuit.specs.declared.parts.Latch.{Latch}
 use Rattle.ps_components.specs.Orders.{IsOrder}
 use Rattle.ps_circuit.specs.Circuits.{CircuitData, IsCircuit, IsKnown, ReadsGate, definitions}
@@ -29,8 +29,7 @@ module _ {c : CircuitData} (is : IsCircuit c) {order : List ℕ}
   -- literals that define variables agree where their bits do
   at_definition : (k : ℕ) {literal : ℕ} → k < length (definitions c) → get_or (definitions c) k 0 ≡ literal →
       bit_of values literal ≡ bit_of others literal → Same (variable literal)
-  at_definition k {literal} lt e same =
-      sym (bit_of-definition is values k lt e) ∙ same ∙ bit_of-definition is others k lt e
+  at_definition k {literal} lt e same = search (rules, bit_of-definition)
 
   input_same : (k : ℕ) → k < length c.inputs → Same (variable (get_or c.inputs k 0))
   input_same k lt = at_definition k (omega (arith, length-definitions c)) (definitions_input c k lt)

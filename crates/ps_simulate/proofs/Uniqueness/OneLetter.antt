@@ -1,23 +1,19 @@
 -- A moment has one letter at most.
-use Rattle.std.proofs.Common.{◌≡◌, ◌∙◌, ℕ, zero, suc, ◌<◌, ◌⊎◌, inl, inr, Bool, true, false, List, [], ◌∷◌, length}
-use Rattle.std.proofs.Common.{nat_eq, refl, sym, ap₂, arith}
+use Rattle.std.proofs.Common.{◌≡◌, ◌∙◌, ℕ, ◌<◌, ◌⊎◌, inl, inr, Bool, List, [], ◌∷◌, length}
+use Rattle.std.proofs.Common.{sym, rules}
 use Rattle.std.specs.Int.{bit_at}
 use Rattle.std.proofs.lemmas.Nat.Bits.{same_from_bits_below, bit_at-lt}
 use Rattle.ps_hoa.specs.Files.{is_among}
 use Rattle.ps_circuit.specs.Circuits.{CircuitData}
 use Rattle.ps_circuit.specs.Values.{Moment}
 use Rattle.ps_simulate.specs.declared.role.Role.{Role}
-use Rattle.ps_simulate.specs.declared.role.Role.TheVariants.{Controller, Environment}
 use Rattle.ps_simulate.specs.Symbols.{HasSymbols, reads_controllable, sets_controllable}
 use Rattle.ps_simulate.specs.Lassos.{IsLetterOf, AreLetters}
 use Rattle.ps_automaton.proofs.Bits.{same_bit}
 
 -- a proposition is an input's or an output's
 pub side : (role : Role) (b : Bool) → (b ≡ reads_controllable role) ⊎ (b ≡ sets_controllable role)
-side Controller true = inr refl
-side Controller false = inl refl
-side Environment true = inl refl
-side Environment false = inr refl
+side role b = search rules
 
 module _ {role : Role} {names : List (List ℕ)} {controllable : List ℕ} {c : CircuitData}
     (has : HasSymbols role names controllable c) where

@@ -1,6 +1,6 @@
 -- A circuit has one verdict at most.
-use Rattle.std.proofs.Common.{◌≡◌, ◌∙◌, ℕ, zero, suc, ◌+◌, ◌-◌, ◌*◌, ◌<◌, ◌≤◌, inl, inr, Bool, true, false, List, []}
-use Rattle.std.proofs.Common.{◌∷◌, ◌++◌, map, get_or, take, drop, length, refl, sym, ap, ap₂, subst, arith}
+use Rattle.std.proofs.Common.{◌≡◌, ◌∙◌, ℕ, zero, suc, ◌+◌, ◌-◌, ◌*◌, ◌<◌, ◌≤◌, inl, inr, Bool, List, []}
+use Rattle.std.proofs.Common.{◌∷◌, ◌++◌, map, get_or, take, drop, length, refl, sym, ap, ap₂, subst, arith, rules}
 use Rattle.std.proofs.Common.{append_assoc}
 use Rattle.std.specs.Prelude.{◌↔◌, IsTrue}
 use Rattle.std.proofs.lemmas.Bool.{cases_order, cases_eq}
@@ -21,8 +21,7 @@ use Rattle.ps_simulate.proofs.LassoLemmas.{along_more, at_end, length_trace}
 -- fewer laps come first
 laps_front : (lap : List (List Bool)) (j n : ℕ) → j ≤ n → (more : List (List Bool)) ×
     (laps_of lap n ≡ laps_of lap j ++ more)
-laps_front lap j zero le =
-    let none : 0 ≡ j = omega arith in ([], ap (laps_of lap) none ∙ sym (append-nil (laps_of lap j)))
+laps_front lap j zero le = search (rules, append-nil)
 laps_front lap j (suc n) le = elim (cases_eq j (suc n)) [
   | inl same ↦ ([], ap (laps_of lap) (sym same) ∙ sym (append-nil (laps_of lap j)))
   | inr other ↦ let rest = laps_front lap j n (omega arith) in
@@ -38,8 +37,7 @@ module _ {c : CircuitData} (is_circuit : IsCircuit c) (one : HasOneValues c) whe
   goes_behind : (latches last last' : List Bool) (ms ns : List Moment) (more : List (List Bool)) →
       GoesOn c latches ms last → GoesOn c latches ns last'
       → map (λ m. m.inputs) ns ≡ map (λ m. m.inputs) ms ++ more → Behind ms last ns last' more
-  goes_behind latches last last' [] ns more a b same =
-      (ns, refl, rw a at b, same)
+  goes_behind latches last last' [] ns more a b same = search rules
   goes_behind latches last last' (m ∷ ms) [] more a b same = cc
   goes_behind latches last last' (m ∷ ms) (n ∷ ns) more (next, at, steps, rest) (next', at', steps', rest') same =
       let inputs : m.inputs ≡ n.inputs = cc in
@@ -67,9 +65,7 @@ module _ {c : CircuitData} (is_circuit : IsCircuit c) (one : HasOneValues c) whe
         let size = length_trace stem lap ms j a.reads in
         let le = mul-le-mul_right {m = i} {n = j} (length lap) (omega (arith, a.earlier)) in
         let at : (t : ℕ) → t ≤ length ms → get_or (latches_along ns b.last) t [] ≡ get_or
-        (latches_along ms a.last) t [] =
-        λ t within. ap (λ (ls : List Moment). get_or (latches_along ls b.last) t []) behind.1
-        ∙ along_more c ms behind.0 a.last b.last t behind.2 within in
+        (latches_along ms a.last) t [] = search (rules, along_more) in
         b.first i j a.earlier lt (at (length stem + i * length lap) (omega (arith, size, le)) ∙ a.returns
         ∙ sym (at_end ms a.last) ∙ sym (at (length ms) (omega arith))
         ∙ ap (λ t. get_or (latches_along ns b.last) t []) size)
@@ -83,45 +79,31 @@ module _ {c : CircuitData} (is_circuit : IsCircuit c) (one : HasOneValues c) whe
           | inr (inr more) ↦ absurd (not_earlier i' j' i j ns ms b a more)
         ] in
         let reads : map (λ (m : Moment). m.inputs) ns ≡ map (λ (m : Moment). m.inputs) ms ++ [] =
-        b.reads ∙ ap (λ n. stem ++ laps_of lap n) (sym laps) ∙ sym a.reads
-        ∙ sym (append-nil (map (λ (m : Moment). m.inputs) ms)) in
+        search (rules, append-nil) in
         let behind : Behind ms a.last ns b.last [] =
         goes_behind (resets c) a.last b.last ms ns [] a.goes_on b.goes_on reads in
         let none : behind.0 ≡ [] = no_letters behind.0 behind.3 in
         let traces : ns ≡ ms = behind.1 ∙ ap (λ (ls : List Moment). ms ++ ls) none ∙ append-nil ms in
         let lasts : a.last ≡ b.last = subst (λ (ls : List Moment). GoesOn c a.last ls b.last) none behind.2 in
-        let there : (last : List Bool) × (latches_before stem lap ms last i' ≡ last) × (last ≡ b.last) =
-        (b.last, ap (λ (ls : List Moment). latches_before stem lap ls b.last i') (sym traces) ∙ b.returns, refl) in
+        let there : (last : List Bool) × (latches_before stem lap ms last i' ≡ last) × (last ≡ b.last) = search rules in
         let back : latches_before stem lap ms a.last i' ≡ a.last =
         ap (λ (ls : List Bool). latches_before stem lap ms ls i') lasts ∙ there.1 ∙ sym lasts in
-        let firsts : i ≡ i' = elim (cases_order i i') [
-          | inl same ↦ same
-          | inr (inl less) ↦ absurd (a.first i i' less (omega (arith, b.earlier, laps)) (a.returns ∙ sym back))
-          | inr (inr more) ↦ absurd (a.first i' i more a.earlier (back ∙ sym a.returns))
-        ] in
+        let firsts : i ≡ i' = search (rules, cases_order) in
         (firsts, laps, sym traces)
 
 -- ---- the verdict
 
 one_truth : (a b : Bool) (P : Type 0) → (IsTrue a ↔ P) → (IsTrue b ↔ P) → a ≡ b
-one_truth true b P h k = sym (k.1 (h.0 refl))
-one_truth false true P h k = h.1 (k.0 refl)
-one_truth false false P h k = refl
+one_truth a b P h1 h2 = search rules
 
 pub one_verdict : {role : Role} {file : FileData} {c : CircuitData} {stem lap : List (List Bool)} {v w : Verdict} →
     IsCircuit c → HasOneValues c → HasSymbols role file.names file.controllable c → IsVerdictOf file c stem lap v →
     IsVerdictOf file c stem lap w → v ≡ w
 one_verdict {role} {file} {c} {stem} {lap} {v} {w} is one has a b =
     let same = one_repetition is one stem lap a.i a.j b.i b.j a.trace b.trace a.repeats b.repeats in
-    let letters : a.letters ≡ b.letters =
-    one_letters has b.trace a.letters b.letters
-    (rw same.2 at a.are_letters) b.are_letters in
+    let letters : a.letters ≡ b.letters = search (rules, one_letters) in
     let stems : v.stem ≡ w.stem = a.stem_is ∙ ap (λ i. length stem + i * length lap) same.0 ∙ sym b.stem_is in
     let laps : v.lap ≡ w.lap = a.lap_is ∙ ap₂ (λ i j. (j - i) * length lap) same.0 same.1 ∙ sym b.lap_is in
-    let asked : IsTrue v.accepted ↔ IsAccepted file (take w.stem b.letters) (drop w.stem b.letters) =
-    subst (λ (ls : List ℕ). IsTrue v.accepted ↔ IsAccepted file (take w.stem ls) (drop w.stem ls)) letters
-    (rw stems at a.accepted) in
-    let truth : v.accepted ≡ w.accepted =
-    one_truth v.accepted w.accepted (IsAccepted file (take w.stem b.letters) (drop w.stem b.letters))
-    asked b.accepted in
+    let asked : IsTrue v.accepted ↔ IsAccepted file (take w.stem b.letters) (drop w.stem b.letters) = search rules in
+    let truth : v.accepted ≡ w.accepted = search (rules, one_truth) in
     λ k. record { accepted = truth k; stem = stems k; lap = laps k }
