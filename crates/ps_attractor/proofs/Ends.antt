@@ -1,5 +1,5 @@
 -- The end of the walk: what is no more free is the attractor.
-use Rattle.std.proofs.Common.{◌≡◌, ◌≢◌, ℕ, ◌+◌, ◌-◌, ◌<◌, ◌≤◌, ◌⊎◌, inl, inr, Bool, IsTrue, length, get_or, drop, subst}
+use Rattle.std.proofs.Common.{◌≡◌, ◌≢◌, ℕ, ◌+◌, ◌-◌, ◌<◌, ◌≤◌, ◌⊎◌, inl, inr, Bool, IsTrue, length, get_or, drop}
 use Rattle.std.proofs.Common.{sym, ap, ◌∙◌, arith}
 use Rattle.std.proofs.lemmas.Bool.{cases_eq, cases_lt}
 use Rattle.std.proofs.lemmas.List.{get_or-drop, length-drop}
@@ -8,7 +8,7 @@ use Rattle.ps_game.specs.Subgames.{IsWithin}
 use Rattle.ps_game.specs.Attractors.{IsClosed, LeadsDown, Falls}
 use Rattle.ps_attractor.specs.declared.aim.Aim.{Aim}
 use Rattle.ps_attractor.specs.Tables.{TablesData, level_of, moves_of, place_in}
-use Rattle.ps_attractor.specs.Aims.{StandsFrom, IsPosed, IsTaken, StaysOut, IsAttracted, IsPlaced, rank_of}
+use Rattle.ps_attractor.specs.Aims.{StandsFrom, IsPosed, IsTaken, StaysOut, IsAttracted, rank_of}
 use Rattle.ps_attractor.specs.Steps.{StandsBefore, LeadsBack, Reaching, From}
 use Rattle.ps_attractor.proofs.PlaceIn.{place_in-le, place_in-at}
 use Rattle.ps_attractor.proofs.Reaching.{stands_now}

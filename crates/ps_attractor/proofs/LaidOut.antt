@@ -1,6 +1,6 @@
 -- The levels and the trail that the public function begins with, and what is read off at the end.
 use Rattle.std.proofs.Common.{◌≡◌, ◌≢◌, ℕ, ◌+◌, ◌<◌, ◌≤◌, ◌⊎◌, inl, inr, List, [], ◌∷◌, ◌++◌, Bool, true, false, cond}
-use Rattle.std.proofs.Common.{eqb, IsTrue, Option, Some, None, IsSome, IsSomeAnd, length, get_or, drop, refl}
+use Rattle.std.proofs.Common.{eqb, IsTrue, Option, None, IsSome, length, get_or, drop, refl}
 use Rattle.std.proofs.Common.{below_more, sym, ap, ◌∙◌, arith}
 use Rattle.std.specs.Prelude.{slice_set}
 use Rattle.std.proofs.lemmas.Bool.{cases_eq, cases_lt, false≢true, eq-eqb}

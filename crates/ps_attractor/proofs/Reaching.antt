@@ -10,8 +10,8 @@ use Rattle.ps_attractor.specs.Sources.{sources_of, IsSourcesOf}
 use Rattle.ps_attractor.specs.declared.aim.Aim.{Aim}
 use Rattle.ps_attractor.specs.Tables.{TablesData, level_of}
 use Rattle.ps_attractor.specs.Aims.{StandsFrom, IsGrown}
-use Rattle.ps_attractor.specs.Steps.{HasFree, Look, NotFree, Escapes, Own, Others, CanGoOn, StandsBefore, LeadsBack}
-use Rattle.ps_attractor.specs.Steps.{Reaching, From, FromSource, StandsAmong, with_placed, with_move}
+use Rattle.ps_attractor.specs.Steps.{HasFree, Look, NotFree, Escapes, Own, Others, CanGoOn, LeadsBack}
+use Rattle.ps_attractor.specs.Steps.{Reaching, From, FromSource, with_placed}
 use Rattle.ps_attractor.proofs.Placing.{Places, trail_before, trail_last, trail_length, not_it, still_free, grown_on}
 use Rattle.ps_attractor.proofs.Placing.{leads_back_on, stands_after, stands_longer}
 
@@ -21,28 +21,6 @@ grown_start aim tables = record {
   front = λ j within. refl;
   each = λ v. inl (record { level = refl; move = refl });
   behind = λ j after within. absurd (omega arith);
-}
-
-pub reaching_start : (game : ParityGame) (aim : Aim) (tables : TablesData) →
-    Reaching game aim tables tables (From aim.begin)
-reaching_start game aim tables = record {
-  grown = grown_start aim tables;
-  own = λ v j is_free owns after within edge. after;
-  other = λ v is_free other goes. record {
-    to = goes.to;
-    edge = goes.edge;
-    there = elim goes.there [
-      | inl free ↦ inl free
-      | inr stands ↦ inr (record {
-        place = stands.place;
-        after = stands.after;
-        within = stands.within;
-        is = stands.is;
-        pending = stands.after;
-      })
-    ];
-  };
-  back = λ j after within. absurd (omega arith);
 }
 
 -- a vertex can go on where what is pending for P is pending for Q

@@ -1,7 +1,7 @@
 -- The sources of one vertex, one after another.
 use Rattle.std.proofs.Common.{◌≡◌, ◌≢◌, ℕ, ◌+◌, ◌<◌, ◌≤◌, List, length, get_or, sym, ap, ◌∙◌, arith}
 use Rattle.std.proofs.lemmas.List.Elements.{Contains-get_or}
-use Rattle.ps_game.specs.Games.{ParityGame, vertex_count, HasEdge}
+use Rattle.ps_game.specs.Games.{ParityGame, HasEdge}
 use Rattle.ps_attractor.specs.Sources.{sources_of, IsSourcesOf}
 use Rattle.ps_attractor.specs.declared.aim.Aim.{Aim}
 use Rattle.ps_attractor.specs.Tables.{TablesData, FitsGame}

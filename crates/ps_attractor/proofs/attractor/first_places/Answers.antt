@@ -1,8 +1,5 @@
-use Rattle.std.proofs.Common.{◌≡◌, ◌+◌, ◌-◌, ◌<◌, ℕ, length, get_or, drop, subst, sym, ◌∙◌, arith}
-use Rattle.std.specs.Prelude.{slice_set}
+use Rattle.std.proofs.Common.{◌≡◌, ◌+◌, ◌-◌, ◌<◌, ℕ, length, ◌∙◌, arith}
 use Rattle.std.proofs.lemmas.List.{length-set}
-use Rattle.ps_attractor.specs.Tables.{place_in}
-use Rattle.ps_attractor.specs.Aims.{StandsFrom}
 use Rattle.ps_attractor.proofs.LaidOut.{first_place_more}
 use Rattle.ps_attractor.proofs.attractor.first_places.Goals as goal
 

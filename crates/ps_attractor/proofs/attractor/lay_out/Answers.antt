@@ -1,9 +1,7 @@
-use Rattle.std.proofs.Common.{◌≡◌, ◌+◌, ◌<◌, length, get_or, subst, sym, ap, ◌∙◌, refl, arith}
+use Rattle.std.proofs.Common.{◌<◌, length, sym, ap, ◌∙◌, refl, arith}
 use Rattle.std.proofs.Math.Nat.{le_refl}
 use Rattle.std.proofs.lemmas.Bool.{false≢true}
 use Rattle.std.proofs.lemmas.List.{get_or-set_same, get_or-set_other, length-set}
-use Rattle.ps_attractor.specs.Tables.{TablesData}
-use Rattle.ps_attractor.specs.Results.{AreLaidOut}
 use Rattle.ps_attractor.proofs.LaidOut.{laid_placed, laid_kept}
 use Rattle.ps_attractor.proofs.attractor.lay_out.Goals as goal
 use Rattle.ps_attractor.proofs.attractor.lay_out.Goals.{then-contains+in_ok-place, else-contains+then-contains-2}

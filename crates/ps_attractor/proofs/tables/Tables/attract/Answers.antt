@@ -1,4 +1,4 @@
-use Rattle.std.proofs.Common.{◌≡◌, ◌≤◌, ℕ, length, subst, arith}
+use Rattle.std.proofs.Common.{◌≡◌, ℕ, length, subst, arith}
 use Rattle.ps_attractor.specs.Steps.{Reaching, From}
 use Rattle.ps_attractor.proofs.Ends.{attracted}
 use Rattle.ps_attractor.proofs.tables.Tables.attract.Goals as goal

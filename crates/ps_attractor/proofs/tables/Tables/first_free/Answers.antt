@@ -1,5 +1,5 @@
-use Rattle.std.proofs.Common.{◌<◌, length, get_or, arith}
-use Rattle.ps_game.specs.Games.{vertex_count, successors_of}
+use Rattle.std.proofs.Common.{◌<◌, length, arith}
+use Rattle.ps_game.specs.Games.{successors_of}
 use Rattle.std.proofs.lemmas.List.Elements.{Contains-get_or}
 use Rattle.ps_attractor.proofs.tables.Tables.first_free.Goals as goal
 

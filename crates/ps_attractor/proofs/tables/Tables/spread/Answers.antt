@@ -1,6 +1,5 @@
 use Rattle.std.proofs.Common.{◌≡◌, ◌<◌, ◌≤◌, ℕ, List, length, map, get_or, sym, ap, ◌∙◌, refl, arith}
 use Rattle.std.proofs.lemmas.List.{get_or-map, length-map}
-use Rattle.ps_game.specs.Games.{vertex_count}
 use Rattle.ps_attractor.specs.Sources.{sources_of}
 use Rattle.ps_attractor.proofs.Reaching.{reaching_leave}
 use Rattle.ps_attractor.proofs.FreeCounts.{keeps_look}
