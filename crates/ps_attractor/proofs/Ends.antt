@@ -1,6 +1,6 @@
 -- The end of the walk: what is no more free is the attractor.
-use Rattle.std.proofs.Common.{◌≡◌, ◌≢◌, ℕ, ◌+◌, ◌-◌, ◌<◌, ◌≤◌, ◌⊎◌, inl, inr, Bool, IsTrue, length, get_or, drop}
-use Rattle.std.proofs.Common.{sym, ap, ◌∙◌, arith}
+use Rattle.std.proofs.Common.{◌≡◌, ◌≢◌, ℕ, ◌+◌, ◌-◌, ◌<◌, ◌≤◌, ◌⊎◌, inl, inr, Bool, IsTrue, length, get_or, drop, rules}
+use Rattle.std.proofs.Common.{sym, ◌∙◌, arith}
 use Rattle.std.proofs.lemmas.Bool.{cases_eq, cases_lt}
 use Rattle.std.proofs.lemmas.List.{get_or-drop, length-drop}
 use Rattle.ps_game.specs.Games.{ParityGame, IsGame, vertex_count, owner_of, HasEdge}
@@ -38,9 +38,7 @@ rank_before aim new end w within stands =
     let before : stands.place < end = stands.before in
     let there : aim.begin + (stands.place - aim.begin) ≡ stands.place = omega arith in
     let low : place_in (drop aim.begin new.trail) w ≤ stands.place - aim.begin =
-    place_in-le (drop aim.begin new.trail) w (stands.place - aim.begin)
-    (omega (arith, length-drop aim.begin new.trail)) (get_or-drop aim.begin new.trail (stands.place - aim.begin) 0
-    ∙ ap (λ i. get_or new.trail i 0) there ∙ stands.is) in
+    search (rules, place_in-le, length-drop, get_or-drop) in
     omega arith
 
 -- a vertex stands at the place that its rank says
@@ -50,8 +48,7 @@ rank_at aim {new} {v} stands =
     let there : aim.begin + (stands.place - aim.begin) ≡ stands.place = omega arith in
     let inside : stands.place - aim.begin < length (drop aim.begin new.trail) =
     omega (arith, length-drop aim.begin new.trail) in
-    let at : get_or (drop aim.begin new.trail) (stands.place - aim.begin) 0 ≡ v =
-    get_or-drop aim.begin new.trail (stands.place - aim.begin) 0 ∙ ap (λ i. get_or new.trail i 0) there ∙ stands.is in (
+    let at : get_or (drop aim.begin new.trail) (stands.place - aim.begin) 0 ≡ v = search (rules, get_or-drop) in (
       omega (arith, place_in-le (drop aim.begin new.trail) v (stands.place - aim.begin) inside at),
       sym (get_or-drop aim.begin new.trail (place_in (drop aim.begin new.trail) v) 0)
           ∙ place_in-at (drop aim.begin new.trail) v (stands.place - aim.begin) inside at,
@@ -61,15 +58,10 @@ module _ {game : ParityGame} {aim : Aim} {old new : TablesData} {subgame target 
     (ended : Ended game aim old new subgame target set) where
   -- a vertex that is free now was free
   was_free : (v : ℕ) → level_of new v ≡ aim.free → level_of old v ≡ aim.free
-  was_free v is_free = elim (ended.reached.grown.each v) [
-    | inl same ↦ sym same.level ∙ is_free
-    | inr placed ↦ absurd (ended.marks (sym placed.level ∙ is_free))
-  ]
+  was_free v is_free = search rules
 
   target_in : IsWithin target set
-  target_in v there =
-      ended.taken.all v (ended.posed.target_within v there)
-      (λ is_free. ended.posed.target_placed v there (was_free v is_free))
+  target_in v there = search (rules, was_free)
 
   -- what is in the set stands in the trail
   in_trail : (v : ℕ) → IsTrue (set v) → StandsFrom new aim.begin v
@@ -79,14 +71,7 @@ module _ {game : ParityGame} {aim : Aim} {old new : TablesData} {subgame target 
 
   -- what stands in the trail is in the set
   trail_in : {w : ℕ} → w < vertex_count game → StandsFrom new aim.begin w → IsTrue (set w)
-  trail_in {w = w} is_vertex stands = elim (cases_lt stands.place (length old.trail)) [
-    | inl less ↦ target_in w (rw (sym (ended.reached.grown.front stands.place less) ∙ stands.is) at
-        (ended.posed.only_target stands.place stands.after less))
-    | inr more ↦
-        let placed = rw stands.is at (ended.reached.grown.behind stands.place more stands.within) in
-        ended.taken.all w (ended.posed.frees w is_vertex placed.was_free)
-        (λ is_free. ended.marks (sym placed.level ∙ is_free))
-  ]
+  trail_in {w = w} is_vertex stands = search (rules, cases_lt, target_in)
 
   -- a vertex of the player with an edge into the set is not free
   own_in : (v w : ℕ) → owner_of game v ≡ aim.player → HasEdge game v w → IsTrue (set w) → level_of new v ≢ aim.free
@@ -175,9 +160,4 @@ module _ {game : ParityGame} {aim : Aim} {old new : TablesData} {subgame target 
   }
 
   pub attracted : IsAttracted game subgame aim.player target set (moves_of new) (rank_of aim new)
-  attracted = record {
-    closed = closed_set;
-    falls = falls_in;
-    least = falls_least ended.taken.within falls_in;
-    goes_on = out_on;
-  }
+  attracted = search (rules, closed_set, falls_in, falls_least, out_on)

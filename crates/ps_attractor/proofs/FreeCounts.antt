@@ -1,5 +1,5 @@
 -- What one look does to the number of free vertices and to the trail.
-use Rattle.std.proofs.Common.{◌≡◌, ◌≢◌, ℕ, ◌+◌, ◌<◌, ◌≤◌, cond, eqb, List, [], ◌∷◌, ◌++◌, length}
+use Rattle.std.proofs.Common.{◌≡◌, ◌≢◌, ℕ, ◌+◌, ◌<◌, ◌≤◌, cond, eqb, List, [], ◌∷◌, ◌++◌, length, rules}
 use Rattle.std.proofs.Common.{get_or, refl, arith}
 use Rattle.std.specs.Prelude.{slice_set}
 use Rattle.std.proofs.lemmas.Bool.{eq-eqb, ne_eqb}
@@ -27,15 +27,7 @@ keeps_placed : (aim : Aim) (old : TablesData) (moves : List ℕ) (u : ℕ) → a
       trail = old.trail ++ u ∷ [];
     })
 keeps_placed aim old moves u marks within is_free =
-    let one : weight aim.free (get_or old.level u 0) ≡ 1 = rw (eq-eqb (get_or old.level u 0) aim.free is_free) in
-    let none : weight aim.free aim.mark ≡ 0 = rw (ne_eqb aim.mark aim.free marks) in
-    let sums = sum_by-set (weight aim.free) old.level u aim.mark 0 within in
-    let size = length_push old.trail u in
-    record {
-      frees = omega arith;
-      longer = omega arith;
-      front = λ j below. get_or_append_left old.trail (u ∷ []) 0 j below;
-    }
+    search (rules, eq-eqb, ne_eqb, sum_by-set, length_push, get_or_append_left)
 
 pub keeps_look : {game : ParityGame} {aim : Aim} {old new : TablesData} {u w : ℕ} → aim.mark ≢ aim.free →
     u < length old.level → Look game aim old new u w → Keeps aim old new

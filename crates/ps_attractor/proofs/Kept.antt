@@ -1,13 +1,12 @@
 -- A level stands for itself where it is kept.
-use Rattle.std.proofs.Common.{◌≡◌, inl, inr, ℕ, zero, suc, ◌^◌, ◌<◌, ◌∷◌, map, replicate, ap, refl, arith}
+use Rattle.std.proofs.Common.{◌≡◌, ℕ, zero, suc, ◌^◌, ◌<◌, ◌∷◌, map, replicate, ap, refl, rules}
 use Rattle.std.specs.Prelude.{min}
 use Rattle.std.proofs.lemmas.Bool.Decides.{nat_tests}
 use Rattle.ps_attractor.specs.Levels.{level_in, IsLevel}
 
 pub level_kept : (limit most level number : ℕ) → most ≡ limit → most < 2 ^ 64 → IsLevel limit level →
     number ≡ min level most → level_in limit number ≡ level
-level_kept limit most level number is few (inl below) same = grind (arith, nat_tests)
-level_kept limit most level number is few (inr greatest) same = grind (arith, nat_tests)
+level_kept limit most level number h1 h2 h3 h4 = search (rules, nat_tests)
 
 pub map-replicate : (f : ℕ → ℕ) (n x : ℕ) → map f (replicate n x) ≡ replicate n (f x)
 map-replicate f zero x = refl

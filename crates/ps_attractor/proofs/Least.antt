@@ -1,15 +1,14 @@
 -- A set in which ranks fall to the target lies in each closed set.
-use Rattle.std.proofs.Common.{◌≡◌, ℕ, zero, suc, ◌<◌, inl, inr, Bool, true, false, Option, Some, None, IsSomeAnd}
-use Rattle.std.proofs.Common.{IsTrue, refl, sym, ◌∙◌, arith}
+use Rattle.std.proofs.Common.{◌≡◌, ℕ, zero, suc, ◌<◌, Bool, true, false, Option, IsSomeAnd, rules}
+use Rattle.std.proofs.Common.{IsTrue, refl, ◌∙◌, arith}
 use Rattle.std.proofs.lemmas.Bool.{cases_eq, false≢true}
-use Rattle.ps_game.specs.Games.{ParityGame, owner_of}
+use Rattle.ps_game.specs.Games.{ParityGame}
 use Rattle.ps_game.specs.Subgames.{IsWithin}
 use Rattle.ps_game.specs.Attractors.{IsClosed, LeadsDown, Falls, IsLeast}
 
 -- what a move that is there says
 some_move : (P : ℕ → Type 0) (o : Option ℕ) → IsSomeAnd o P → (w : ℕ) × P w
-some_move P (Some w) there = (w, there)
-some_move P None there = absurd there
+some_move P o h1 = search rules
 
 below : {game : ParityGame} {subgame : ℕ → Bool} {player : ℕ} {target set : ℕ → Bool} {table : ℕ → Option ℕ}
     {rank : ℕ → ℕ} → IsWithin set subgame → Falls game subgame player target set table rank → {closed : ℕ → Bool} →
@@ -22,15 +21,7 @@ below {game} {subgame} {player} {target} {set} {table} {rank} within falls {clos
     by_target : ((w : ℕ) → LeadsDown game subgame set rank v w → IsTrue (closed w)) → (b : Bool) → target v ≡ b →
         IsTrue (closed v)
     by_target deeper true there = is_closed.holds v there
-    by_target deeper false not_there =
-        let outside : ¬ IsTrue (target v) = λ there. false≢true (sym not_there ∙ there) in
-        elim (cases_eq (owner_of game v) player) [
-          | inl owns ↦ (
-              let move = some_move (LeadsDown game subgame set rank v) (table v) (falls.own v inside outside owns) in
-              is_closed.own v move.0 (within v inside) owns move.1.leads (deeper move.0 move.1))
-          | inr other ↦ is_closed.other v (within v inside) other
-              (λ w leads. deeper w (falls.other v w inside outside other leads))
-        ]
+    by_target deeper false not_there = search (rules, false≢true, cases_eq, some_move)
 
 pub falls_least : {game : ParityGame} {subgame : ℕ → Bool} {player : ℕ} {target set : ℕ → Bool} {table : ℕ → Option ℕ}
     {rank : ℕ → ℕ} → IsWithin set subgame → Falls game subgame player target set table rank →

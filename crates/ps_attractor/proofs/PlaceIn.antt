@@ -1,6 +1,6 @@
 -- The first place of a number in a list.
 use Rattle.std.proofs.Common.{◌≡◌, ℕ, zero, suc, ◌+◌, ◌<◌, ◌≤◌, List, [], ◌∷◌, Bool, true, false, cond, eqb, length}
-use Rattle.std.proofs.Common.{get_or, refl, sym, ◌∙◌, arith}
+use Rattle.std.proofs.Common.{get_or, refl, sym, ◌∙◌, arith, rules}
 use Rattle.std.proofs.lemmas.Bool.{eqb-true, eq-eqb, false≢true}
 use Rattle.ps_attractor.specs.Tables.{place_in}
 
@@ -22,6 +22,4 @@ place_in-at (x ∷ xs) v i within is = by_test (λ i within is. place_in-at xs v
         get_or (x ∷ xs) (cond b 0 (place_in xs v + 1)) 0 ≡ v
     by_test behind true same i within is = eqb-true x v same
     by_test behind false other zero within is = absurd (false≢true (sym other ∙ eq-eqb x v is))
-    by_test behind false other (suc i) within is =
-        let next : place_in xs v + 1 ≡ suc (place_in xs v) = omega arith in
-        rw next (behind i (omega arith) is)
+    by_test behind false other (suc i) within is = search rules

@@ -1,5 +1,5 @@
 -- One more vertex is placed: the trail grows by it, and what was placed or led back does so still.
-use Rattle.std.proofs.Common.{◌≡◌, ◌≢◌, ℕ, ◌+◌, ◌<◌, ◌≤◌, inl, inr, [], ◌∷◌, ◌++◌, length, get_or, refl, sym, ap}
+use Rattle.std.proofs.Common.{◌≡◌, ◌≢◌, ℕ, ◌+◌, ◌<◌, ◌≤◌, inl, inr, [], ◌∷◌, ◌++◌, length, get_or, refl, sym, ap, rules}
 use Rattle.std.proofs.Common.{◌∙◌, arith}
 use Rattle.std.proofs.lemmas.Bool.{cases_eq, cases_lt}
 use Rattle.std.proofs.lemmas.List.{get_or_append_left, get_or_push, length_push}
@@ -19,19 +19,13 @@ pub record Places (aim : Aim) (mid new : TablesData) (u : ℕ) : Type 0 where
 
 -- what stands from a place on stands from an earlier one on
 pub stands_after : {tables : TablesData} {m n v : ℕ} → StandsFrom tables m v → n ≤ m → StandsFrom tables n v
-stands_after stands earlier =
-    record { place = stands.place; after = omega arith; within = stands.within; is = stands.is }
+stands_after stands earlier = search rules
 
 -- what stands in the trail stands there where the trail goes on
 pub stands_longer : {old new : TablesData} {m v : ℕ} → length old.trail ≤ length new.trail →
     ((j : ℕ) → j < length old.trail → get_or new.trail j 0 ≡ get_or old.trail j 0) → StandsFrom old m v →
     StandsFrom new m v
-stands_longer longer front stands = record {
-  place = stands.place;
-  after = stands.after;
-  within = omega arith;
-  is = front stands.place stands.within ∙ stands.is;
-}
+stands_longer longer front stands = search rules
 
 module _ {aim : Aim} {mid new : TablesData} {u : ℕ} (places : Places aim mid new u) where
   pub trail_before : (j : ℕ) → j < length mid.trail → get_or new.trail j 0 ≡ get_or mid.trail j 0
@@ -61,17 +55,11 @@ module _ {aim : Aim} {mid new : TablesData} {u : ℕ} (places : Places aim mid n
         each = λ v. elim (cases_eq v u) [
           | inl same ↦ inr (rw same placed_new)
           | inr differ ↦ elim (grown.each v) [
-            | inl kept ↦ inl (record {
-              level = places.levels v differ ∙ kept.level;
-              move = places.moves v differ ∙ kept.move;
-            })
+            | inl kept ↦ search rules
             | inr placed ↦ inr (placed_on placed)
           ]
         ];
-        behind = λ j after within. elim (cases_lt j (length mid.trail)) [
-          | inl less ↦ rw (trail_before j less) (placed_on (grown.behind j after less))
-          | inr more ↦ let last : j ≡ length mid.trail = omega arith in rw (last, trail_last) placed_new
-        ];
+        behind = search (rules, cases_lt, trail_before, trail_last);
       }
     where
       placed_on : {v : ℕ} → IsPlaced aim old mid v → IsPlaced aim old new v
@@ -82,35 +70,11 @@ module _ {aim : Aim} {mid new : TablesData} {u : ℕ} (places : Places aim mid n
       }
 
       placed_new : IsPlaced aim old new u
-      placed_new = record {
-        was_free = elim (grown.each u) [
-          | inl same ↦ sym same.level ∙ places.was_free
-          | inr placed ↦ absurd (marks (sym placed.level ∙ places.was_free))
-        ];
-        level = places.level;
-        stands = record {
-          place = length mid.trail;
-          after = grown.longer;
-          within = omega (arith, trail_length);
-          is = trail_last;
-        };
-      }
+      placed_new = search (rules, trail_length, trail_last)
 
   stands_before_on : (j w : ℕ) → j ≤ length mid.trail → StandsBefore aim mid j w → StandsBefore aim new j w
-  stands_before_on j w within stands =
-      let before : stands.place < j = stands.before in
-      record {
-        place = stands.place;
-        after = stands.after;
-        before = stands.before;
-        is = trail_before stands.place (omega arith) ∙ stands.is;
-      }
+  stands_before_on j w within stands = search (rules, trail_before)
 
   pub leads_back_on : {game : ParityGame} {old : TablesData} {j v : ℕ} → v ≢ u → j ≤ length mid.trail →
       LeadsBack game aim old mid j v → LeadsBack game aim old new j v
-  leads_back_on {j = j} {v = v} differ within leads = record {
-    own = λ owns.
-        let (edge, stands) = leads.own owns in
-        rw (places.moves v differ) (edge, stands_before_on j (get_or mid.moves v 0) within stands);
-    other = λ others w edge there. stands_before_on j w within (leads.other others w edge there);
-  }
+  leads_back_on {j = j} {v = v} differ within leads = search (rules, stands_before_on)

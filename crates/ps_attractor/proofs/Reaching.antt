@@ -1,5 +1,5 @@
 -- The walk along the trail: how it starts, how a place is entered and left, and one look.
-use Rattle.std.proofs.Common.{◌≡◌, ◌≢◌, ℕ, ◌+◌, ◌<◌, ◌≤◌, ◌⊎◌, inl, inr, List, length, get_or, refl, sym, ap}
+use Rattle.std.proofs.Common.{◌≡◌, ◌≢◌, ℕ, ◌+◌, ◌<◌, ◌≤◌, ◌⊎◌, inl, inr, List, length, get_or, refl, sym, ap, rules}
 use Rattle.std.proofs.Common.{◌∙◌, arith}
 use Rattle.std.specs.Prelude.{slice_set}
 use Rattle.std.proofs.Math.Nat.{le_refl}
@@ -16,31 +16,13 @@ use Rattle.ps_attractor.proofs.Placing.{Places, trail_before, trail_last, trail_
 use Rattle.ps_attractor.proofs.Placing.{leads_back_on, stands_after, stands_longer}
 
 pub grown_start : (aim : Aim) (tables : TablesData) → IsGrown aim tables tables
-grown_start aim tables = record {
-  longer = le_refl (length tables.trail);
-  front = λ j within. refl;
-  each = λ v. inl (record { level = refl; move = refl });
-  behind = λ j after within. absurd (omega arith);
-}
+grown_start aim tables = search (rules, le_refl)
 
 -- a vertex can go on where what is pending for P is pending for Q
 can_map : {game : ParityGame} {aim : Aim} {new : TablesData} {P Q : ℕ → ℕ → Type 0} {v : ℕ} →
     ((j : ℕ) → aim.begin ≤ j → j < length new.trail → HasEdge game v (get_or new.trail j 0) → P v j → Q v j) →
     CanGoOn game aim new P v → CanGoOn game aim new Q v
-can_map map can = record {
-  to = can.to;
-  edge = can.edge;
-  there = elim can.there [
-    | inl free ↦ inl free
-    | inr there ↦ inr (record {
-      place = there.place;
-      after = there.after;
-      within = there.within;
-      is = there.is;
-      pending = map there.place there.after there.within (rw there.is can.edge) there.pending;
-    })
-  ];
-}
+can_map map can = search rules
 
 -- what is pending for P at a free vertex is pending for Q
 reaching_map : {game : ParityGame} {aim : Aim} {old new : TablesData} (P Q : ℕ → ℕ → Type 0) →
@@ -49,9 +31,7 @@ reaching_map : {game : ParityGame} {aim : Aim} {old new : TablesData} (P Q : ℕ
     Reaching game aim old new P → Reaching game aim old new Q
 reaching_map P Q map so_far = record {
   grown = so_far.grown;
-  own =
-      λ v j is_free owns after within edge. map v j is_free after within edge
-      (so_far.own v j is_free owns after within edge);
+  own = search rules;
   other = λ v is_free other goes. can_map (λ j. map v j is_free) (so_far.other v is_free other goes);
   back = so_far.back;
 }
@@ -91,21 +71,7 @@ module _ {game : ParityGame} {aim : Aim} {old mid : TablesData} (list : List ℕ
     (at : get_or list n 0 ≡ u) (so_far : Reaching game aim old mid (FromSource k list n)) where
   -- what is pending for another vertex stays so
   pending_on : (v j : ℕ) → v ≢ u → FromSource k list n v j → FromSource k list (n + 1) v j
-  pending_on v j differ pending = elim pending [
-    | inl less ↦ inl less
-    | inr here ↦ elim (cases_eq here.1.number n) [
-      | inl same ↦ absurd (differ (sym here.1.is ∙ ap (λ i. get_or list i 0) same ∙ at))
-      | inr other ↦ inr (
-        here.0,
-        record {
-          number = here.1.number;
-          after = omega arith;
-          within = here.1.within;
-          is = here.1.is;
-        },
-      )
-    ]
-  ]
+  pending_on v j differ pending = search (rules, cases_eq)
 
   -- a look that changes nothing, at a vertex that is not free
   look_not_free : level_of mid u ≢ aim.free → Reaching game aim old mid (FromSource k list (n + 1))
@@ -204,13 +170,7 @@ reaching_look {game = game} {aim = aim} {old = old} {mid = mid} new list k n u m
     placed : (moves : List ℕ) → level_of mid u ≡ aim.free →
         ((v : ℕ) → v ≢ u → get_or moves v 0 ≡ get_or mid.moves v 0) →
         Places aim mid (with_placed (record { level = mid.level; moves = moves; trail = mid.trail }) u aim.mark) u
-    placed moves is_free kept = record {
-      was_free = is_free;
-      level = get_or-set_same mid.level u aim.mark 0 levels;
-      levels = levels_kept;
-      moves = kept;
-      trail = refl;
-    }
+    placed moves is_free kept = search (rules, get_or-set_same)
 
     by_look : Look game aim mid new u (get_or mid.trail k 0) → Reaching game aim old new (FromSource k list (n + 1))
     by_look (NotFree not_free same) = rw same (look_not_free list k n at so_far not_free)

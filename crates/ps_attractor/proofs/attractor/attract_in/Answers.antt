@@ -1,12 +1,9 @@
+use Rattle.std.proofs.Common.{rules}
 use Rattle.ps_attractor.proofs.LaidOut.{answer_of, region_within, region_attracted, answer_falls, only_moves}
 use Rattle.ps_attractor.proofs.attractor.attract_in.Goals as goal
 
 pub returns-clause-within : goal.returns-clause-within
-returns-clause-within g c =
-    let answer =
-    answer_of c.requires.subgame c.requires.target c.in_ok-tables.ensures.attracted c.count.ensures.vertices
-    c.in_ok-region.ensures.placed in
-    region_within answer
+returns-clause-within g c = search (rules, answer_of, region_within)
 
 pub returns-clause-closed : goal.returns-clause-closed
 returns-clause-closed g c =
@@ -30,8 +27,4 @@ returns-clause-moves g c =
     only_moves answer c.in_ok-moves.ensures.given
 
 pub returns-clause-falls : goal.returns-clause-falls
-returns-clause-falls g c =
-    let answer =
-    answer_of c.requires.subgame c.requires.target c.in_ok-tables.ensures.attracted c.count.ensures.vertices
-    c.in_ok-region.ensures.placed in
-    answer_falls answer c.in_ok-rank.rank.items c.in_ok-moves.ensures.given c.in_ok-rank.ensures.first
+returns-clause-falls g c = search (rules, answer_of, answer_falls)

@@ -1,4 +1,4 @@
-use Rattle.std.proofs.Common.{◌≡◌, ◌+◌, ◌-◌, ◌<◌, ℕ, length, ◌∙◌, arith}
+use Rattle.std.proofs.Common.{◌≡◌, ◌+◌, ◌-◌, ◌<◌, ℕ, length, ◌∙◌, arith, rules}
 use Rattle.std.proofs.lemmas.List.{length-set}
 use Rattle.ps_attractor.proofs.LaidOut.{first_place_more}
 use Rattle.ps_attractor.proofs.attractor.first_places.Goals as goal
@@ -13,8 +13,5 @@ loop-place-preserved g c =
     let found = rw next at c.loop-place.invariant.found in
     record {
       size = length-set places c.vertex_at.result k ∙ c.loop-place.invariant.size;
-      found = λ v stands. rw c.vertex_at.ensures (first_place_more trail places c.args.count k within
-          c.loop-place.invariant.size (c.requires k within)
-          (λ v i after inside is. found v (record { place = i; after = after; within = inside; is = is }))
-          v stands.place stands.after stands.within stands.is);
+      found = search (rules, first_place_more);
     }

@@ -1,4 +1,4 @@
-use Rattle.std.proofs.Common.{◌≡◌, ◌+◌, ◌≤◌, ap, refl, arith}
+use Rattle.std.proofs.Common.{◌≡◌, ◌+◌, ◌≤◌, ap, refl, arith, rules}
 use Rattle.std.proofs.lemmas.Bool.{false≢true}
 use Rattle.ps_game.specs.Games.{vertex_count}
 use Rattle.ps_attractor.specs.Sources.{edges_before}
@@ -6,15 +6,7 @@ use Rattle.ps_attractor.proofs.Edges.{edges_more, edges_mono}
 use Rattle.ps_attractor.proofs.room.has_room_for_edges.Goals as goal
 
 pub loop-vertex-preserved : goal.loop-vertex-preserved
-loop-vertex-preserved g c =
-    let game = g.A.Arena.game c.args.arena.now in
-    omega (
-      arith,
-      edges_more game c.loop-vertex.vertex,
-      c.degree-degree.ensures,
-      c.if-degree-room.false,
-      c.loop-vertex.invariant,
-    )
+loop-vertex-preserved g c = search (rules, edges_more)
 
 pub returns-then-degree-room : goal.returns-then-degree-room
 returns-then-degree-room g c =

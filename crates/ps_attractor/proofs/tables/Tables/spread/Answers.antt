@@ -32,12 +32,6 @@ look-requires-clause-vertex g c =
     c.number.result c.requires.sources c.at-source-items.ensures (omega (arith, length-map kept value)) is in
     edge.0
 
-pub look-requires-clause-reached : goal.look-requires-clause-reached
-look-requires-clause-reached g c =
-    let here : c.args.place < length c.args.self.now.trail = c.requires.within in
-    let is : c.vertex_at-reached.result ≡ get_or c.args.self.now.trail c.args.place 0 = c.vertex_at-reached.ensures in
-    omega (arith, is, c.requires.fits.vertices c.args.place 0 here)
-
 pub loop-source-preserved : goal.loop-source-preserved
 loop-source-preserved g c =
     let value = g.W.Width.value in
