@@ -1,6 +1,6 @@
 -- Chains of cells that hold counts: with one more cell, and as rows.
 use Rattle.std.proofs.Common.{◌≡◌, ◌≢◌, ℕ, zero, suc, ◌+◌, ◌-◌, ◌<◌, ◌≤◌, ◌==◌, ◌∙◌, ◌++◌, ◌∷◌, [], List, length, map}
-use Rattle.std.proofs.Common.{max, get_or, inl, inr, refl, sym, ap, add-one, arith, Option, None, Some, cond}
+use Rattle.std.proofs.Common.{max, get_or, inl, inr, refl, sym, ap, add-one, arith, Option, Some, cond}
 use Rattle.std.proofs.Common.{replicate, rules}
 use Rattle.std.specs.Prelude.{slice_get, slice_index, slice_set}
 use Rattle.std.proofs.Math.Nat.{zero-max}
@@ -11,15 +11,14 @@ use Rattle.std.proofs.lemmas.List.FromFn.{fill_by_all, get_or-map-range_with_len
 use Rattle.std.proofs.lemmas.Option.{slice_get-get_or, slice_get_past}
 use Rattle.ps_components.proofs.Places.{slice_get-append_left, slice_get-push, slice_get-push_cases}
 use Rattle.ps_measure.specs.declared.table.CountCell.{CountCell}
-use Rattle.ps_measure.specs.Ranks.{count_of, count_in, width_of, width_in}
+use Rattle.ps_measure.specs.Ranks.{count_of, width_of, width_in}
 use Rattle.ps_measure.specs.Tables.{next_of, count_here, count_from, row_from, rows_in, AreChained, AreHeaded, AreZero}
 use Rattle.ps_measure.specs.Tables.{HasPut}
 use Rattle.ps_measure.proofs.Writing.{written, zeros_at}
 
 pub from_none : (cells : List CountCell) (fuel k : ℕ) → count_from cells fuel zero k ≡ 0
 unfolding count_from
-from_none cells zero k = refl
-from_none cells (suc fuel) k = refl
+from_none cells fuel k = search rules
 
 no_fuel : (cells : List CountCell) (n k : ℕ) → count_from cells zero n k ≡ 0
 unfolding count_from
@@ -32,8 +31,7 @@ from_cell cells fuel i k o is = ap (λ p. max (count_here p k) (count_from cells
 
 next_falls : (cells : List CountCell) → ((i : ℕ) (cell : CountCell) → slice_get cells i ≡ Some cell → cell.next ≤ i) →
     (i : ℕ) (o : Option CountCell) → slice_get cells i ≡ o → next_of o ≤ i
-next_falls cells falls i None is = omega arith
-next_falls cells falls i (Some cell) is = falls i cell is
+next_falls cells h1 i o h2 = search rules
 
 module _ (cells : List CountCell)
     (falls : (i : ℕ) (cell : CountCell) → slice_get cells i ≡ Some cell → cell.next ≤ i) where
@@ -52,16 +50,13 @@ module _ (cells : List CountCell)
   -- the cell of a number, and those behind it
   pub from_number : (i k : ℕ) (cell : CountCell) → slice_get cells i ≡ Some cell →
       count_from cells (suc i) (suc i) k ≡ max (count_here (Some cell) k) (count_from cells cell.next cell.next k)
-  from_number i k cell at =
-      from_cell cells i i k (Some cell) at
-      ∙ ap (max (count_here (Some cell) k)) (any_fuel i cell.next cell.next k (falls i cell at) (omega arith))
+  from_number i k cell at = search (rules, from_cell, any_fuel)
 
   -- one more cell leaves the chains that were there
   pub from_longer : (cell : CountCell) (f n k : ℕ) → n ≤ length cells →
       count_from (cells ++ cell ∷ []) f n k ≡ count_from cells f n k
   from_longer cell f zero k within = from_none (cells ++ cell ∷ []) f k ∙ sym (from_none cells f k)
-  from_longer cell zero (suc i) k within =
-      no_fuel (cells ++ cell ∷ []) (suc i) k ∙ sym (no_fuel cells (suc i) k)
+  from_longer cell zero (suc i) k within = search (rules, no_fuel)
   from_longer cell (suc f) (suc i) k within =
       let old = get_or cells i cell in
       let at : slice_get cells i ≡ Some old = slice_get-get_or cells i cell (omega arith) in
@@ -75,11 +70,7 @@ module _ (cells : List CountCell)
   pub from_new : (cell : CountCell) (k : ℕ) → cell.next ≤ length cells →
       count_from (cells ++ cell ∷ []) (suc (length cells)) (suc (length cells)) k
       ≡ max (count_here (Some cell) k) (count_from cells cell.next cell.next k)
-  from_new cell k within =
-      from_cell (cells ++ cell ∷ []) (length cells) (length cells) k (Some cell) (slice_get-push cells cell)
-      ∙ ap (max (count_here (Some cell) k))
-      (from_longer cell (length cells) cell.next k within
-      ∙ any_fuel (length cells) cell.next cell.next k within (omega arith))
+  from_new cell k within = search (rules, from_cell, slice_get-push, from_longer, any_fuel)
 
 -- ---- one cell of a chain, taken into a row
 
@@ -113,17 +104,7 @@ module _ {width : ℕ} {cells : List CountCell} {n : ℕ} (chained : AreChained 
       slice_index new cell_here.place ≡ max (slice_index row cell_here.place) cell_here.count →
       ((k : ℕ) → k ≢ cell_here.place → slice_index new k ≡ slice_index row k) → (k : ℕ) →
       max (slice_index new k) (behind k) ≡ max (slice_index row k) (count_from cells n n k)
-  row_step row new here others k = elim (cases_eq k cell_here.place) [
-    | inl same ↦
-        let value = here_and_behind cell_here.place
-        ∙ ap (λ b. max (cond b cell_here.count 0) (behind cell_here.place))
-        (eq-eqb cell_here.place cell_here.place refl) in
-        rw same (omega (arith, here, value))
-    | inr apart ↦
-        let value = here_and_behind k ∙ ap (λ b. max (cond b cell_here.count 0) (behind k))
-        (ne_eqb cell_here.place k (λ e. apart (sym e))) in
-        omega (arith, others k apart, value)
-  ]
+  row_step row new here others k = search (rules, cases_eq, here_and_behind, eq-eqb, ne_eqb)
 
 -- ---- the rows
 
@@ -141,33 +122,20 @@ module _ (width : ℕ) (heads : List ℕ) (cells : List CountCell) where
       ∙ ap Some (get_or-map (row_from width cells) heads v 0 [] below)
 
   pub width_at : (v : ℕ) → v < length heads → width_of (rows_in width heads cells) v ≡ width
-  width_at v below =
-      ap width_in (row_at v below) ∙ length-map-range_with_len
-      (count_from cells (slice_index heads v) (slice_index heads v)) 0 width
+  width_at v below = search (rules, row_at, length-map-range_with_len)
 
   pub width_past : (v : ℕ) → length heads ≤ v → width_of (rows_in width heads cells) v ≡ 0
   width_past v past = ap width_in (slice_get_past (rows_in width heads cells) v (omega (arith, past, rows_each)))
 
   pub count_at : (v k : ℕ) → v < length heads → k < width →
       count_of (rows_in width heads cells) v k ≡ count_from cells (slice_index heads v) (slice_index heads v) k
-  count_at v k below within =
-      ap (λ o. count_in o k) (row_at v below)
-      ∙ get_or-map-range_with_len (count_from cells (slice_index heads v) (slice_index heads v)) 0 width k k 0
-      within (omega arith)
+  count_at v k below within = search (rules, row_at, get_or-map-range_with_len)
 
   pub count_past : (v k : ℕ) → length heads ≤ v → count_of (rows_in width heads cells) v k ≡ 0
-  count_past v k past = ap (λ o. count_in o k)
-      (slice_get_past (rows_in width heads cells) v (omega (arith, past, rows_each)))
+  count_past v k past = search (rules, slice_get_past, rows_each)
 
   pub count_behind : (v k : ℕ) → v < length heads → width ≤ k → count_of (rows_in width heads cells) v k ≡ 0
-  count_behind v k below past =
-      ap (λ o. count_in o k) (row_at v below)
-      ∙ get_or_past (row_from width cells (slice_index heads v)) k 0
-      (omega (
-        arith,
-        past,
-        length-map-range_with_len (count_from cells (slice_index heads v) (slice_index heads v)) 0 width,
-      ))
+  count_behind v k below past = search (rules, row_at, get_or_past, length-map-range_with_len)
 
 -- ---- one more count
 
@@ -183,46 +151,19 @@ module _ {width : ℕ} {heads : List ℕ} {cells : List CountCell} {vertex place
   new_cells = cells ++ cell ∷ []
 
   pub put_headed : AreHeaded width new_heads new_cells
-  put_headed = record {
-    chained = record {
-      falls = λ i c at. elim (slice_get-push_cases cells cell i c at) [
-        | inl old ↦ headed.chained.falls i c old
-        | inr new ↦ rw (← new.1) (omega (arith, new.0, headed.first vertex))
-      ];
-      places = λ i c at. elim (slice_get-push_cases cells cell i c at) [
-        | inl old ↦ headed.chained.places i c old
-        | inr new ↦ rw (← new.1) within
-      ];
-    };
-    first = λ v. omega (
-      arith,
-      written heads vertex (length cells + 1) v below,
-      headed.first v,
-      length_push cells cell,
-    );
-  }
+  put_headed = search (rules, slice_get-push_cases, written, length_push)
 
   pub put_done : HasPut (rows_in width heads cells) (rows_in width new_heads new_cells) vertex place count
   put_done = record {
     each = rows_each width new_heads new_cells ∙ as_many ∙ sym (rows_each width heads cells);
-    wide = λ v. elim (cases_lt v (length heads)) [
-      | inl less ↦
-          width_at width new_heads new_cells v (omega (arith, less, as_many)) ∙ sym (width_at width heads cells v less)
-      | inr past ↦
-          width_past width new_heads new_cells v (omega (arith, past, as_many)) ∙ sym
-          (width_past width heads cells v past)
-    ];
+    wide = search (rules, cases_lt, width_at, width_past);
     here =
         at_vertex place within
         ∙ ap (λ b. max (cond b count 0) (count_of old vertex place)) (eq-eqb place place refl);
     others = λ v k other. elim (cases_lt v (length heads)) [
-      | inr past ↦
-          count_past width new_heads new_cells v k (omega (arith, past, as_many)) ∙ sym
-          (count_past width heads cells v k past)
+      | inr past ↦ search (rules, count_past)
       | inl less ↦ elim (cases_lt k width) [
-        | inr far ↦
-            count_behind width new_heads new_cells v k (omega (arith, less, as_many)) far
-            ∙ sym (count_behind width heads cells v k less far)
+        | inr far ↦ search (rules, count_behind)
         | inl inside ↦ elim (cases_eq v vertex) [
           | inl same ↦
               ap (λ u. count_of new u k) same
@@ -230,12 +171,7 @@ module _ {width : ℕ} {heads : List ℕ} {cells : List CountCell} {vertex place
               ∙ ap (λ b. max (cond b count 0) (count_of old vertex k)) (ne_eqb place k (λ e. other same (sym e)))
               ∙ zero-max (count_of old vertex k)
               ∙ ap (λ u. count_of old u k) (sym same)
-          | inr apart ↦
-              count_at width new_heads new_cells v k (omega (arith, less, as_many)) inside
-              ∙ ap (λ h. count_from new_cells h h k) (get_or-set_other heads vertex v (length cells + 1) 0 apart)
-              ∙ from_longer cells headed.chained.falls cell (slice_index heads v) (slice_index heads v) k
-              (headed.first v)
-              ∙ sym (count_at width heads cells v k less inside)
+          | inr apart ↦ search (rules, count_at, get_or-set_other, from_longer)
         ]
       ]
     ];
@@ -267,19 +203,8 @@ none_headed width count = search (rules, zeros_at)
 
 pub none_zero : (width count : ℕ) → AreZero (rows_in width (replicate count 0) []) count width
 none_zero width count = record {
-  shape = record {
-    each = rows_each width (replicate count 0) [] ∙ length-replicate {A = ℕ} count 0;
-    wide = λ v below. width_at width (replicate count 0) [] v (omega (arith, below, length-replicate {A = ℕ} count 0));
-  };
-  none = λ v k. elim (cases_lt v (length (replicate count 0))) [
-    | inr past ↦ count_past width (replicate count 0) [] v k past
-    | inl less ↦ elim (cases_lt k width) [
-      | inr far ↦ count_behind width (replicate count 0) [] v k less far
-      | inl inside ↦
-          count_at width (replicate count 0) [] v k less inside
-          ∙ ap (λ h. count_from [] h h k) (zeros_at count v) ∙ from_none [] 0 k
-    ]
-  ];
+  shape = search (rules, rows_each, length-replicate, width_at);
+  none = search (rules, cases_lt, count_past, count_behind, count_at, zeros_at, from_none);
 }
 
 -- ---- a row that was raised from zeros

@@ -1,6 +1,6 @@
 -- Links of the graphs, and the edges that remain.
 use Rattle.std.proofs.Common.{rules, ◌≡◌, ℕ, ◌+◌, ◌-◌, ◌<◌, ◌≤◌, ◌∙◌, length, inl, inr, refl, sym, ap}
-use Rattle.std.proofs.Common.{arith, Option, None, Some, Bool, true, false, cond, nat_le, not, ◌&&◌, ◌||◌}
+use Rattle.std.proofs.Common.{arith, Option, Some, Bool, true, false, cond, nat_le, not, ◌&&◌, ◌||◌}
 use Rattle.std.specs.Prelude.{slice_index, ◌==◌}
 use Rattle.std.proofs.lemmas.Bool.{cases_eq, eqb-true, eq-eqb, ne_eqb, and_parts, and_from, or_cases, or_left, or_right}
 use Rattle.std.proofs.lemmas.Bool.{leb-true, leb-false, le-leb, not-true, not_from_false}
@@ -10,7 +10,7 @@ use Rattle.ps_components.specs.Graphs.{Digraph, Link}
 use Rattle.ps_game.specs.Games.{ParityGame, IsGame, HasEdge, vertex_count, owner_of, successors_of}
 use Rattle.ps_game.specs.Regions.{has, move_at}
 use Rattle.ps_game.specs.Ranking.{RemainsWithin}
-use Rattle.ps_measure.specs.Remaining.{RemainingData, is_move, may_remain, remaining_graph, star_graph, IsReverse}
+use Rattle.ps_measure.specs.Remaining.{RemainingData, is_move, remaining_graph, star_graph, IsReverse}
 use Rattle.ps_measure.specs.Remaining.{LowData, low_graph, low_weight}
 use Rattle.ps_measure.specs.Sums.{counted}
 
@@ -28,8 +28,7 @@ successor_within game v k is_game below within =
     )
 
 is_move-some : (o : Option ℕ) (w : ℕ) → is_move o w ≡ true → o ≡ Some w
-is_move-some None w e = absurd cc
-is_move-some (Some x) w e = ap Some (eqb-true x w e)
+is_move-some o w h1 = search (rules, eqb-true)
 
 some-is_move : (o : Option ℕ) (w : ℕ) → o ≡ Some w → is_move o w ≡ true
 some-is_move o w e = rw e (eq-eqb w w refl)
@@ -46,61 +45,18 @@ may_stay game player set table v w = set v && set w && (not (owner_of game v == 
 
 module _ {game : ParityGame} {player : ℕ} {set : ℕ → Bool} {table : ℕ → Option ℕ} {v w : ℕ} where
   pub stays_so : HasEdge game v w → may_stay game player set table v w ≡ true → RemainsWithin game player set table v w
-  stays_so edge may =
-      let parts = and_parts (set v && set w) (not (owner_of game v == player) || is_move (table v) w) may in
-      let ends = and_parts (set v) (set w) parts.0 in
-      record {
-        from = ends.0;
-        to = ends.1;
-        remains = record {
-          edge = edge;
-          chosen = λ own. elim (or_cases (not (owner_of game v == player)) (is_move (table v) w) parts.1) [
-            | inl other ↦ absurd (clash (owner_of game v == player) (eq-eqb (owner_of game v) player own)
-                (not-true (owner_of game v == player) other))
-            | inr chosen ↦ is_move-some (table v) w chosen
-          ];
-        };
-      }
-    where
-      clash : (b : Bool) → b ≡ true → b ≡ false → ⊥
-      clash b e f = cc
+  stays_so edge may = search (rules, and_parts, or_cases, eq-eqb, not-true, is_move-some)
 
   pub so_stays : RemainsWithin game player set table v w → may_stay game player set table v w ≡ true
-  so_stays remains =
-      and_from (set v && set w) (not (owner_of game v == player) || is_move (table v) w)
-      (and_from (set v) (set w) remains.from remains.to) chosen
-    where
-      chosen : (not (owner_of game v == player) || is_move (table v) w) ≡ true
-      chosen = elim (cases_eq (owner_of game v) player) [
-        | inl own ↦ or_right (not (owner_of game v == player)) (is_move (table v) w)
-            (some-is_move (table v) w (remains.remains.chosen own))
-        | inr other ↦ or_left (not (owner_of game v == player)) (is_move (table v) w)
-            (not_from_false (owner_of game v == player) (ne_eqb (owner_of game v) player other))
-      ]
+  so_stays remains = search (rules, and_from, cases_eq, or_right, some-is_move, or_left, not_from_false, ne_eqb)
 
 -- a link is an edge that remains
 pub link_remains : (r : RemainingData) {v w : ℕ} → Link (remaining_graph r) v w → Remains r v w
-link_remains r {v} {w} link =
-    let target = cond_some (may_remain r v (slice_index (successors_of r.game v) link.place))
-    (slice_index (successors_of r.game v) link.place) w link.target in
-    let below = below_places (has r.region v) link.place (length (successors_of r.game v)) link.at in
-    stays_so (
-      link.from,
-      (link.place, below.1, get_or_default (successors_of r.game v) link.place w 0 below.1 ∙ target.1),
-    ) (rw target.1 at target.0)
+link_remains r {v} {w} link = search (rules, cond_some, below_places, stays_so, get_or_default)
 
 -- an edge that remains is a link
 pub remains_link : (r : RemainingData) {v w : ℕ} → Remains r v w → Link (remaining_graph r) v w
-remains_link r {v} {w} remains =
-    let at = remains.remains.edge.1 in
-    let is : slice_index (successors_of r.game v) at.0 ≡ w =
-    get_or_default (successors_of r.game v) at.0 0 w at.1 ∙ at.2 in
-    record {
-      from = remains.remains.edge.0;
-      place = at.0;
-      at = rw remains.from at.1;
-      target = rw is (ap (λ b. cond b (Some w) None) (so_stays remains));
-    }
+remains_link r {v} {w} remains = search (rules, get_or_default, so_stays)
 
 -- ---- links of low vertices
 
@@ -108,27 +64,11 @@ remains_link r {v} {w} remains =
 pub low_link : (low : LowData) {w v : ℕ} → Link (low_graph low) w v →
     Link (star_graph low.star) w v × (slice_index low.levels w ≤ low.priority) ×
     (slice_index low.levels v ≤ low.priority)
-low_link low {w} {v} link =
-    let to = slice_index low.star.targets (slice_index low.star.starts w + link.place) in
-    let at =
-    below_places (nat_le (slice_index low.levels w) low.priority) link.place
-    (slice_index low.star.starts (w + 1) - slice_index low.star.starts w) link.at in
-    let target = cond_some (nat_le (slice_index low.levels to) low.priority) to v link.target in (
-      record { from = link.from; place = link.place; at = at.1; target = ap Some target.1 },
-      leb-true (slice_index low.levels w) low.priority at.0,
-      leb-true (slice_index low.levels v) low.priority (rw target.1 at target.0),
-    )
+low_link low {w} {v} link = search (rules, below_places, cond_some, leb-true)
 
 pub link_low : (low : LowData) {w v : ℕ} → Link (star_graph low.star) w v → slice_index low.levels w ≤ low.priority →
     slice_index low.levels v ≤ low.priority → Link (low_graph low) w v
-link_low low {w} {v} link from to =
-    let is : slice_index low.star.targets (slice_index low.star.starts w + link.place) ≡ v = cc (link.target) in
-    record {
-      from = link.from;
-      place = link.place;
-      at = rw (le-leb (slice_index low.levels w) low.priority from) link.at;
-      target = rw (is, le-leb (slice_index low.levels v) low.priority to);
-    }
+link_low low {w} {v} link from to = search (rules, le-leb)
 
 -- ---- roots
 
@@ -147,8 +87,7 @@ none_low_next {g} {v = v} {k} target high so_far = record {
 
 pub high_target : (low : LowData) {to w : ℕ} → Some to ≡ Some w →
     nat_le (slice_index low.levels to) low.priority ≡ false → low.priority < slice_index low.levels w
-high_target low {to} {w} same high =
-    (let e : w ≡ to = cc in rw e (leb-false (slice_index low.levels to) low.priority high))
+high_target low {to} {w} same high = search (rules, leb-false)
 
 -- a low target is a link of the low graph against the edge
 pub leads_low : {g : Digraph} (low : LowData) {v : ℕ} (k : ℕ) {w : ℕ} → IsReverse g (star_graph low.star) →
@@ -173,6 +112,4 @@ pub heavy_inside : (low : LowData) (v : ℕ) → low_weight low v ≡ 1 → has 
 heavy_inside low v heavy = (heavy_parts (slice_index low.levels v == low.priority) (has low.region v) heavy).1
 
 pub heavy_level : (low : LowData) (v : ℕ) → low_weight low v ≡ 1 → slice_index low.levels v ≡ low.priority
-heavy_level low v heavy =
-    eqb-true (slice_index low.levels v) low.priority
-    (heavy_parts (slice_index low.levels v == low.priority) (has low.region v) heavy).0
+heavy_level low v heavy = search (rules, eqb-true, heavy_parts)

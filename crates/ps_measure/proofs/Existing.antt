@@ -1,6 +1,6 @@
 -- Least counts are there for all priorities, as rows, or a cycle that is lost.
 use Rattle.std.proofs.Common.{◌≡◌, ℕ, zero, suc, ◌%◌, ◌<◌, ◌≤◌, ◌⊎◌, ◌∙◌, List, [], ◌∷◌, length, map, get_or, inl, inr}
-use Rattle.std.proofs.Common.{sym, ap, arith, Option, Some, Bool}
+use Rattle.std.proofs.Common.{ap, arith, Option, Some, Bool, rules}
 use Rattle.std.specs.Prelude.{slice_get}
 use Rattle.std.specs.List.{All, range_with_len}
 use Rattle.std.proofs.lemmas.Bool.{cases_lt}
@@ -10,7 +10,7 @@ use Rattle.ps_game.specs.Games.{ParityGame, vertex_count}
 use Rattle.ps_game.specs.Plays.{Holds, other_player}
 use Rattle.ps_game.specs.Ranking.{ListsPriorities}
 use Rattle.ps_game.proofs.PriorityLists.{priorities_there}
-use Rattle.ps_measure.specs.Ranks.{AreLeastFor, AreRanks, IsLostCycle, count_in, count_of, width_in}
+use Rattle.ps_measure.specs.Ranks.{AreLeastFor, AreRanks, IsLostCycle, count_of}
 use Rattle.ps_measure.proofs.Held.{not_held}
 use Rattle.ps_measure.proofs.Raising.{Column, column_or_cycle}
 use Rattle.ps_measure.proofs.Rows.{least_same}
@@ -74,26 +74,13 @@ module _ (game : ParityGame) (player : ℕ) (set : ℕ → Bool) (table : ℕ �
 
     count_there : (k v : ℕ) → k < length priorities → count_of rows v k ≡ c.count k v
     unfolding row rows
-    count_there k v within = elim (cases_lt v (vertex_count game)) [
-      | inl below ↦ ap (λ o. count_in o k) (row_there v below) ∙ get_or-map-range_with_len (λ i. c.count i v) 0
-          (length priorities) k k 0 within (omega arith)
-      | inr far ↦ ap (λ o. count_in o k) (slice_get_past rows v (omega (arith, far, as_many)))
-          ∙ sym (c.none_past k v within far)
-    ]
-      where
-        as_many : length rows ≡ vertex_count game
-        as_many = length-map-range_with_len row 0 (vertex_count game)
+    count_there k v within = search (rules, cases_lt, row_there, get_or-map-range_with_len, slice_get_past, rows, length-map-range_with_len, row)
 
     are_ranks : AreRanks game player set table priorities rows
     unfolding rows row
     are_ranks = record {
       listed = listed;
-      shape = record {
-        each = length-map-range_with_len row 0 (vertex_count game);
-        wide =
-            λ v below. ap width_in (row_there v below) ∙ length-map-range_with_len (λ k. c.count k v) 0
-            (length priorities);
-      };
+      shape = search (rules, length-map-range_with_len, row, row_there);
       columns =
           λ k within. least_same (λ v. count_there k v within) (c.are_least k within);
     }
@@ -109,7 +96,4 @@ module _ (game : ParityGame) (player : ℕ) (set : ℕ → Bool) (table : ℕ �
 
   pub held_ranks : player < 2 → Holds game player set table →
       (priorities : List ℕ) × (rows : List (List ℕ)) × AreRanks game player set table priorities rows
-  held_ranks is_player holds = elim ranks_or_cycle [
-    | inl ranks ↦ ranks
-    | inr lost ↦ absurd (not_held lost.1 is_player holds)
-  ]
+  held_ranks is_player holds = search (rules, ranks_or_cycle, not_held)

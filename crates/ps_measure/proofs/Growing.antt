@@ -1,5 +1,5 @@
 -- Counts grow along ways, and the weights of the components from one on.
-use Rattle.std.proofs.Common.{◌≡◌, ℕ, ◌+◌, ◌<◌, ◌≤◌, inl, inr, refl, ap, arith, Option, None, Some}
+use Rattle.std.proofs.Common.{◌≡◌, ℕ, ◌+◌, ◌<◌, ◌≤◌, inl, inr, refl, ap, arith, Option, Some, rules}
 use Rattle.std.proofs.Common.{cond}
 use Rattle.std.specs.Prelude.{slice_get}
 use Rattle.std.proofs.lemmas.Bool.{le-leb, lt-leb}
@@ -31,14 +31,10 @@ met_below {c = c} {v} {k} components met =
 
 -- the weight of a vertex counts at fewer components where these begin later
 weight_from-later : (k m x : ℕ) (o : Option (Option ℕ)) → m ≤ k → weight_from k o x ≤ weight_from m o x
-weight_from-later k m x None later = omega arith
-weight_from-later k m x (Some None) later = omega arith
-weight_from-later k m x (Some (Some n)) later = grind (arith, nat_tests)
+weight_from-later k m x o h1 = search (rules, nat_tests)
 
 weight_from-bound : (k x : ℕ) (o : Option (Option ℕ)) → weight_from k o x ≤ x
-weight_from-bound k x None = omega arith
-weight_from-bound k x (Some None) = omega arith
-weight_from-bound k x (Some (Some n)) = grind (arith, nat_tests)
+weight_from-bound k x o = search (rules, nat_tests)
 
 module _ {g : Digraph} {c : ComponentsData} (weight : ℕ → ℕ) {m : ℕ} (components : AreComponents g c)
     (v : ℕ) (is : IsIn c v m) where
@@ -66,6 +62,4 @@ module _ {g : Digraph} {c : ComponentsData} (weight : ℕ → ℕ) {m : ℕ} (co
 -- and at most all weights
 pub weights_from-bound : (c : ComponentsData) (weight : ℕ → ℕ) (k n : ℕ) →
     weights_from c weight k n ≤ sum_below weight n
-weights_from-bound c weight k n =
-    sum_below-le (λ v. weight_from k (slice_get c.numbers v) (weight v)) weight n
-    (λ v _. weight_from-bound k (weight v) (slice_get c.numbers v))
+weights_from-bound c weight k n = search (rules, sum_below-le, weight_from-bound)

@@ -1,6 +1,6 @@
 -- A player who holds a region by a table loses no cycle in it.
-use Rattle.std.proofs.Common.{◌≡◌, ℕ, ◌+◌, ◌-◌, ◌%◌, ◌<◌, ◌∙◌, List, [], ◌∷◌, ◌++◌, length, map, take, inl, inr, refl}
-use Rattle.std.proofs.Common.{sym, ap, arith, Option, Bool}
+use Rattle.std.proofs.Common.{◌≡◌, ℕ, ◌+◌, ◌-◌, ◌%◌, ◌<◌, ◌∙◌, List, [], ◌∷◌, ◌++◌, length, map, inl, inr, refl}
+use Rattle.std.proofs.Common.{sym, arith, Option, Bool, rules}
 use Rattle.std.specs.Prelude.{slice_index, IsTrue}
 use Rattle.std.proofs.lemmas.Bool.{cases_lt}
 use Rattle.std.proofs.lemmas.List.{get_or_append_left, get_or_push, length_push, take_at}
@@ -8,7 +8,6 @@ use Rattle.ps_game.specs.Games.{ParityGame, priority_of}
 use Rattle.ps_game.specs.Plays.{IsPath, IsLoop, Follows, Holds, greatest, loop_priority}
 use Rattle.ps_game.specs.Ranking.{RemainsWithin}
 use Rattle.ps_measure.specs.declared.fault.MeasureFault.{MeasureFault}
-use Rattle.ps_measure.specs.declared.fault.MeasureFault.TheVariants.{BadCycle, OutOfMemory}
 use Rattle.ps_measure.specs.Ranks.{IsLostCycle, IsRefusal, IsOutOfMemory}
 
 module _ {game : ParityGame} {player : ℕ} {set : ℕ → Bool} {table : ℕ → Option ℕ} {cycle : List ℕ}
@@ -30,20 +29,13 @@ module _ {game : ParityGame} {player : ℕ} {set : ℕ → Bool} {table : ℕ �
       (slice_index round (k + 1))
   step k within = elim (cases_lt (k + 1) (length cycle)) [
     | inl less ↦ rw (at_old k (omega arith), at_old (k + 1) less) (lost.edges k less)
-    | inr more ↦
-        let last : k ≡ length cycle - 1 = omega (arith, within, long, more, lost.some) in
-        let after : k + 1 ≡ length cycle = omega (arith, last, lost.some) in
-        rw (after, at_end, at_old k (omega (arith, after)), last) lost.closes
+    | inr more ↦ search (rules, long, at_end, at_old)
   ]
 
   is_path : IsPath game round
   is_path = record {
     begins = omega (arith, long);
-    vertices = λ k within. elim (cases_lt k (length cycle)) [
-      | inl less ↦ rw (at_old k less) (lost.vertices k less)
-      | inr more ↦ (let is : k ≡ length cycle = omega (arith, within, long, more) in
-          rw (is, at_end) (lost.vertices 0 lost.some))
-    ];
+    vertices = search (rules, cases_lt, at_old, long, at_end);
     edges = λ k within. (step k within).remains.edge;
   }
 
@@ -58,21 +50,11 @@ module _ {game : ParityGame} {player : ℕ} {set : ℕ → Bool} {table : ℕ �
 
   priority_is : loop_priority game round 0 (length cycle) ≡ greatest (map (priority_of game) cycle)
   unfolding loop_priority
-  priority_is =
-      ap (λ n. greatest (map (priority_of game) (take n round)))
-      (let e : length cycle - 0 ≡ length cycle = omega arith in e)
-      ∙ ap (λ l. greatest (map (priority_of game) l)) (take_at cycle (slice_index cycle 0 ∷ []) (length cycle) refl)
+  priority_is = search (rules, take_at)
 
   pub not_held : player < 2 → Holds game player set table → ⊥
-  not_held is_player holds =
-      let won : loop_priority game round 0 (length cycle) % 2 ≡ player =
-      holds.wins round 0 (length cycle) is_path begins follows is_loop in
-      let of_other : greatest (map (priority_of game) cycle) % 2 ≡ 1 - player = lost.lost in
-      let same : loop_priority game round 0 (length cycle) % 2 ≡ greatest (map (priority_of game) cycle) % 2 =
-      ap (λ n. n % 2) priority_is in
-      omega (arith, is_player, won, of_other, same)
+  not_held is_player holds = search (rules, is_path, begins, follows, is_loop, priority_is)
 
 pub held_refusal : {game : ParityGame} {player : ℕ} {set : ℕ → Bool} {table : ℕ → Option ℕ} (fault : MeasureFault) →
     player < 2 → IsRefusal game player set table fault → Holds game player set table → IsOutOfMemory fault
-held_refusal (BadCycle cycle) is_player lost holds = not_held lost is_player holds
-held_refusal OutOfMemory is_player lost holds = tt
+held_refusal fault h1 h2 h3 = search (rules, not_held)

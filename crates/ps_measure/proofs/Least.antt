@@ -1,7 +1,7 @@
 -- The least counts of the graph of low vertices are those of the game; a way back to a link's source is a cycle of the
 -- game.
 use Rattle.std.proofs.Common.{◌≡◌, ◌≢◌, ℕ, zero, suc, ◌+◌, ◌-◌, ◌%◌, ◌<◌, ◌≤◌, ◌∙◌, List, [], ◌∷◌, length, map, get_or}
-use Rattle.std.proofs.Common.{inl, inr, refl, sym, ap, arith, Bool, true, false, cond, nat_le, ◌&&◌}
+use Rattle.std.proofs.Common.{inl, inr, refl, sym, ap, arith, Bool, true, false, cond, nat_le, ◌&&◌, rules}
 use Rattle.std.specs.Prelude.{slice_index, IsTrue, ◌==◌}
 use Rattle.std.proofs.lemmas.Bool.{cases_eq, cases_lt, eq-eqb, ne_eqb, and_from, le-leb, lt-leb}
 use Rattle.std.proofs.lemmas.List.{length-map, get_or-map}
@@ -11,7 +11,7 @@ use Rattle.ps_game.specs.Games.{IsGame, vertex_count, priority_of}
 use Rattle.ps_game.specs.Plays.{greatest, other_player}
 use Rattle.ps_game.specs.Regions.{has, move_at}
 use Rattle.ps_game.specs.Ranking.{KeepRuleWithin}
-use Rattle.ps_measure.specs.Sums.{sum_below, counted}
+use Rattle.ps_measure.specs.Sums.{sum_below}
 use Rattle.ps_measure.specs.Remaining.{RemainingData, remaining_graph, star_graph, IsReverse, LowData, low_graph}
 use Rattle.ps_measure.specs.Remaining.{low_weight}
 use Rattle.ps_measure.specs.Columns.{AreCounts, AreLeast}
@@ -58,14 +58,10 @@ module _ (r : RemainingData) (low : LowData) (is_game : IsGame r.game) (levels :
 
   heavy_one : (v : ℕ) → v < vertex_count r.game → priority_of r.game v ≡ low.priority → has r.region v ≡ true →
       low_weight low v ≡ 1
-  heavy_one v below is inside =
-      ap counted (and_from (slice_index low.levels v == low.priority) (has low.region v)
-      (eq-eqb (slice_index low.levels v) low.priority (levels.is v below ∙ is)) (rw regions inside))
+  heavy_one v below is inside = search (rules, and_from, eq-eqb)
 
   light_none : (v : ℕ) → v < vertex_count r.game → priority_of r.game v ≢ low.priority → low_weight low v ≡ 0
-  light_none v below apart =
-      ap (λ b. counted (b && has low.region v)) (ne_eqb (slice_index low.levels v) low.priority
-      (λ e. apart (sym (levels.is v below) ∙ e)))
+  light_none v below apart = search (rules, ne_eqb)
 
   -- counts that keep the rule are counts of the graph
   from_rule : (other : ℕ → ℕ) → KeepRuleWithin r.game r.player (has r.region) (move_at r.strategy) low.priority other →
@@ -104,13 +100,7 @@ module _ (r : RemainingData) (low : LowData) (is_game : IsGame r.game) (levels :
       counts w v link = (let both = ends w v link in rw (both.0, both.1) (least.counts w v link))
 
   weights_same : sum_below (low_weight low) (low_graph low).count ≤ count_with r.game (has r.region) low.priority
-  weights_same =
-      rw reverse.count (sum_below-le (low_weight low)
-      (λ v. counted ((priority_of r.game v == low.priority) && has r.region v)) (vertex_count r.game) each)
-    where
-      each : (v : ℕ) → v < vertex_count r.game → low_weight low v ≤ counted
-          ((priority_of r.game v == low.priority) && has r.region v)
-      each v below = rw (levels.is v below, regions) (omega arith)
+  weights_same = search (rules, sum_below-le)
 
   pub least_for : {d : ℕ → ℕ} → AreLeast (low_graph low) (low_weight low) d →
       AreLeastFor r.game r.player (has r.region) (move_at r.strategy) low.priority d

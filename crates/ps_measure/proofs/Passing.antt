@@ -47,10 +47,7 @@ module _ {g : Digraph} {weight : ℕ → ℕ} {c : ComponentsData} {values : Lis
           omega (arith, new.1, least d counts, one_count weight d components counts to number))
       | inr old ↦ omega (arith, old.1, column.least d counts u n at)
     ];
-    bounded = λ n. elim (written values m x n number_within) [
-      | inl new ↦ omega (arith, new.1, bounded, ap (λ j. weights_from c weight j g.count) new.0)
-      | inr old ↦ omega (arith, old.1, column.bounded n)
-    ];
+    bounded = search (rules, written, number_within);
   }
 
   -- a root's component has the value 1
@@ -115,8 +112,7 @@ module _ {g : Digraph} {weight : ℕ → ℕ} {c : ComponentsData} {values roots
   ]
 
   from_passed : (w v : ℕ) → IsPassed weight c values w v → value_of c values w + weight v ≤ value_of c values v
-  from_passed w v (inside k from to none) = omega (arith, value_in w k from, value_in v k to)
-  from_passed w v (across k m from to falls enough) = omega (arith, value_in w k from, value_in v m to)
+  from_passed w v h1 = search (rules, value_in)
 
   at_link : (w v : ℕ) → Link g w v → (o : Option (Option ℕ)) → slice_get c.numbers w ≡ o →
       value_at values o + weight v ≤ value_of c values v

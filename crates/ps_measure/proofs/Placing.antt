@@ -1,13 +1,13 @@
 -- The counts of one priority, put into a table one after the other.
-use Rattle.std.proofs.Common.{◌≡◌, ◌≢◌, ℕ, zero, suc, ◌+◌, ◌<◌, ◌≤◌, ◌∙◌, List, length, max, inl, inr, nat_lt, refl}
-use Rattle.std.proofs.Common.{sym, ap, arith, Option, None, Some}
+use Rattle.std.proofs.Common.{◌≡◌, ◌≢◌, ℕ, zero, suc, ◌+◌, ◌<◌, ◌≤◌, ◌∙◌, List, length, max, inl, inr, nat_lt}
+use Rattle.std.proofs.Common.{sym, ap, arith, Some, rules}
 use Rattle.std.specs.Prelude.{slice_get}
 use Rattle.std.proofs.Math.Nat.{max-zero}
 use Rattle.std.proofs.lemmas.Bool.{cases_eq}
 use Rattle.std.proofs.lemmas.Option.{slice_get_within}
 use Rattle.ps_components.specs.Graphs.{Digraph}
 use Rattle.ps_components.specs.ComponentLists.{ComponentsData, AreComponents}
-use Rattle.ps_measure.specs.Columns.{value_of, value_at}
+use Rattle.ps_measure.specs.Columns.{value_of}
 use Rattle.ps_measure.specs.Ranks.{count_of, width_of}
 use Rattle.ps_measure.specs.Sums.{sum_below, counted}
 use Rattle.ps_measure.specs.Tables.{HasPut, HasColumn}
@@ -19,8 +19,7 @@ one_more : (f g : ℕ → ℕ) (n u : ℕ) → u < n → f u ≡ 0 → g u ≡ 1
     sum_below g n ≡ sum_below f n + 1
 one_more f g zero u below none one others = absurd (omega arith)
 one_more f g (suc n) u below none one others = elim (cases_eq u n) [
-  | inl same ↦ (let before = sum_below-same g f n (λ v less. others v (λ e. omega (arith, e, same, less))) in
-      omega (arith, before, rw same at none, rw same at one))
+  | inl same ↦ search (rules, sum_below-same)
   | inr apart ↦ omega (
     arith,
     one_more f g n u (omega (arith, below, apart)) none one others,
@@ -40,15 +39,7 @@ pub record ArePut (order : List ℕ) (counts : ℕ → ℕ) (old now : List (Lis
 
 pub put_none : {order : List ℕ} {counts : ℕ → ℕ} {old : List (List ℕ)} {place : ℕ} →
     ((v : ℕ) → count_of old v place ≡ 0) → ArePut order counts old old place 0 0
-put_none {old = old} {place} none = record {
-  each = refl;
-  wide = λ v. refl;
-  others = λ v k other. refl;
-  done = λ j v less at. absurd (omega (arith, less));
-  rest = λ v nowhere. none v;
-  few = omega arith;
-  raised_is = sym (raised_none (λ v. count_of old v place) (length old) none);
-}
+put_none {old = old} {place} none = search (rules, raised_none)
 
 module _ {order : List ℕ} {counts : ℕ → ℕ} {old now : List (List ℕ)} {place i raised u : ℕ}
     (so_far : ArePut order counts old now place i raised) (at : slice_get order i ≡ Some u)
@@ -59,18 +50,7 @@ module _ {order : List ℕ} {counts : ℕ → ℕ} {old now : List (List ℕ)} {
 
   -- its count is 0
   pub put_skip : counts u ≡ 0 → ArePut order counts old now place (i + 1) raised
-  put_skip none = record {
-    each = so_far.each;
-    wide = so_far.wide;
-    others = so_far.others;
-    done = λ j v less there. elim (cases_eq j i) [
-      | inl same ↦ (let is : v ≡ u = cc in rw is (fresh ∙ sym none))
-      | inr apart ↦ so_far.done j v (omega (arith, less, apart)) there
-    ];
-    rest = λ v nowhere. so_far.rest v (λ j less there. nowhere j (omega (arith, less)) there);
-    few = omega (arith, so_far.few);
-    raised_is = so_far.raised_is;
-  }
+  put_skip none = search (rules, cases_eq, fresh)
 
   -- its count is put
   pub put_one : {new : List (List ℕ)} → u < length old → 0 < counts u → HasPut now new u place (counts u) →
@@ -79,15 +59,8 @@ module _ {order : List ℕ} {counts : ℕ → ℕ} {old now : List (List ℕ)} {
     each = put.each ∙ so_far.each;
     wide = λ v. put.wide v ∙ so_far.wide v;
     others = λ v k other. put.others v k (λ _ e. other e) ∙ so_far.others v k other;
-    done = λ j v less there. elim (cases_eq j i) [
-      | inl same ↦ (let is : v ≡ u = cc in rw is here)
-      | inr apart ↦
-          old_stays v (λ e. apart (once j u (rw e at there) at))
-          ∙ so_far.done j v (omega (arith, less, apart)) there
-    ];
-    rest = λ v nowhere.
-        old_stays v (λ e. nowhere i (omega arith) (rw e at))
-        ∙ so_far.rest v (λ j less there. nowhere j (omega (arith, less)) there);
+    done = search (rules, cases_eq);
+    rest = search rules;
     few = omega (arith, so_far.few);
     raised_is =
         let more = one_more (λ v. counted (nat_lt 0 (count_of now v place)))
@@ -111,12 +84,7 @@ module _ {g : Digraph} {c : ComponentsData} (components : AreComponents g c) whe
 
   -- what does not stand in the order has no value
   no_value : (values : List ℕ) (v : ℕ) → ((j : ℕ) → slice_get c.order j ≡ Some v → ⊥) → value_of c values v ≡ 0
-  no_value values v nowhere = by (slice_get c.numbers v) refl
-    where
-      by : (o : Option (Option ℕ)) → slice_get c.numbers v ≡ o → value_at values o ≡ 0
-      by None is = refl
-      by (Some None) is = refl
-      by (Some (Some k)) is = (let at = components.listed v k is in absurd (nowhere at.0 at.1))
+  no_value values v nowhere = search rules
 
   pub put_all : (values : List ℕ) {old new : List (List ℕ)} {place i raised : ℕ} → length c.order ≤ i →
       ArePut c.order (value_of c values) old new place i raised →
@@ -127,17 +95,4 @@ module _ {g : Digraph} {c : ComponentsData} (components : AreComponents g c) whe
   )
     where
       here : (v : ℕ) → count_of new v place ≡ value_of c values v
-      here v = by (slice_get c.numbers v) refl
-        where
-          nothing : ((k : ℕ) → slice_get c.numbers v ≢ Some (Some k)) → count_of new v place ≡ value_of c values v
-          nothing out =
-              let nowhere : (j : ℕ) → slice_get c.order j ≡ Some v → ⊥ = λ j there.
-              (let k = components.ordered j v there in out k.0 k.1) in
-              put.rest v (λ j _. nowhere j) ∙ sym (no_value values v nowhere)
-
-          by : (o : Option (Option ℕ)) → slice_get c.numbers v ≡ o → count_of new v place ≡ value_of c values v
-          by None is = nothing (λ k there. cc)
-          by (Some None) is = nothing (λ k there. cc)
-          by (Some (Some k)) is =
-              (let at = components.listed v k is in
-              put.done at.0 v (omega (arith, end, slice_get_within c.order at.0 v at.1)) at.1)
+      here v = search (rules, no_value, slice_get_within)

@@ -11,7 +11,7 @@ use Rattle.std.proofs.lemmas.Bool.{cases_Bool, cases_eq, cases_lt, eqb-true, eq-
 use Rattle.std.proofs.lemmas.Bool.{leb-true, le-leb}
 use Rattle.std.proofs.lemmas.List.{get_or_past}
 use Rattle.std.proofs.lemmas.Map.Views.{Contains-from_any, list_any-from_Contains}
-use Rattle.ps_game.specs.Games.{ParityGame, HasEdge, vertex_count, priority_of, successors_of, no_vertex}
+use Rattle.ps_game.specs.Games.{ParityGame, HasEdge, vertex_count, priority_of, successors_of}
 use Rattle.ps_game.specs.Plays.{greatest, other_player}
 use Rattle.ps_game.specs.Ranking.{RemainsWithin, KeepRuleWithin}
 use Rattle.ps_measure.specs.Ranks.{AreLeastFor, IsLostCycle, count_with}
@@ -28,10 +28,7 @@ above_or_not f g (suc n) = elim (above_or_not f g n) [
   | inl found ↦ inl (found.0, omega (arith, found.1), found.2)
   | inr none ↦ elim (cases_lt (f n) (g n)) [
     | inl less ↦ inl (n, omega arith, less)
-    | inr most ↦ inr (λ v below. elim (cases_eq v n) [
-      | inl same ↦ rw same most
-      | inr apart ↦ none v (omega (arith, below, apart))
-    ])
+    | inr most ↦ search (rules, cases_eq)
   ]
 ]
 
@@ -82,12 +79,7 @@ module _ (game : ParityGame) (player : ℕ) (set : ℕ → Bool) (table : ℕ �
 
   goes_so : (v w : ℕ) → HasEdge game v w → goes v w ≡ true → Goes v w
   unfolding goes
-  goes_so v w edge is =
-      let parts =
-      and_parts (may_stay game player set table v w) (nat_le (priority_of game v) p && nat_le (priority_of game w) p)
-      is in
-      let low = and_parts (nat_le (priority_of game v) p) (nat_le (priority_of game w) p) parts.1 in
-      (stays_so edge parts.0, leb-true (priority_of game v) p low.0, leb-true (priority_of game w) p low.1)
+  goes_so v w edge is = search (rules, and_parts, may_stay, stays_so, leb-true)
 
   so_goes : (v w : ℕ) → Goes v w → goes v w ≡ true
   unfolding goes
@@ -114,9 +106,7 @@ module _ (game : ParityGame) (player : ℕ) (set : ℕ → Bool) (table : ℕ �
   run_from v w u g (inr r) = (w ∷ r.0, (g, r.1))
 
   reaches_join : (v x u : ℕ) → Reaches v x → Reaches x u → Reaches v u
-  reaches_join v x u (inl e) r = rw e r
-  reaches_join v x u (inr a) (inl e) = inr (a.0, rw e at a.1)
-  reaches_join v x u (inr a) (inr b) = inr (a.0 ++ x ∷ b.0, run_join v a.0 x b.0 u a.1 b.1)
+  reaches_join v x u h1 h2 = search (rules, run_join)
 
   -- vertices of the set of priority p, the first of them reached from v, each later one behind an edge of the one
   -- before
@@ -207,12 +197,7 @@ module _ (game : ParityGame) (player : ℕ) (set : ℕ → Bool) (table : ℕ �
       ]
 
       top : greatest (map (priority_of game) cycle) ≡ p
-      top = omega (
-        arith,
-        run_low l.0 l.1 l.0 l.3,
-        heavy_is l.0 l.2,
-        le-max_left (priority_of game l.0) (greatest (map (priority_of game) l.1)),
-      )
+      top = search (rules, run_low, heavy_is, le-max_left)
 
   -- ## Counts
 
@@ -234,8 +219,7 @@ module _ (game : ParityGame) (player : ℕ) (set : ℕ → Bool) (table : ℕ �
       d w + weight v ≤ best d v ws
   unfolding best
   best_above d v [] k w within is g = absurd (omega (arith, within))
-  best_above d v (x ∷ ws) zero w within is g =
-      (let term : wish d v x ≡ d w + weight v = rw (is, g) in omega (arith, term))
+  best_above d v (x ∷ ws) zero w within is g = search (rules, weight)
   best_above d v (x ∷ ws) (suc k) w within is g = omega (arith, best_above d v ws k w (omega (arith, within)) is g)
 
   best_of : (d : ℕ → ℕ) (v : ℕ) (ws : List ℕ) → 0 < best d v ws →
@@ -243,11 +227,7 @@ module _ (game : ParityGame) (player : ℕ) (set : ℕ → Bool) (table : ℕ �
   unfolding best
   best_of d v [] some = absurd (omega (arith, some))
   best_of d v (x ∷ ws) some = elim (cases_lt (best d v ws) (wish d v x)) [
-    | inl less ↦ elim (cases_Bool (goes v x)) [
-      | inl is ↦ (let term : wish d v x ≡ d x + weight v = rw is in
-          (x, (0, omega arith, refl), is, omega (arith, term, less)))
-      | inr light ↦ (let term : wish d v x ≡ 0 = rw light in absurd (omega (arith, term, less)))
-    ]
+    | inl less ↦ search (rules, cases_Bool, goes, weight)
     | inr most ↦
         let rest = best_of d v ws (omega (arith, some, most)) in
         (rest.0, later_one x rest.0 ws rest.1, rest.2, omega (arith, most, rest.3))
@@ -255,13 +235,11 @@ module _ (game : ParityGame) (player : ℕ) (set : ℕ → Bool) (table : ℕ �
 
   asked : (k v w : ℕ) → Goes v w → counts k w + weight v ≤ counts (suc k) v
   unfolding counts
-  asked k v w g =
-      (let at = g.0.remains.edge.1 in best_above (counts k) v (successors_of game v) at.0 w at.1 at.2 (so_goes v w g))
+  asked k v w g = search (rules, best_above, counts, so_goes)
 
   past : (k v : ℕ) → vertex_count game ≤ v → counts k v ≡ 0
   unfolding counts best successors_of vertex_count
-  past zero v far = refl
-  past (suc k) v far = ap (λ u. best (counts k) v u.successors) (get_or_past game v no_vertex far)
+  past k v h1 = search (rules, best, counts, get_or_past)
 
   -- a count is 0, or what one edge asks for
   asked_by : (k v : ℕ) → (counts (suc k) v ≡ 0) ⊎ ((w : ℕ) × Goes v w × (counts (suc k) v ≡ counts k w + weight v))
@@ -269,8 +247,7 @@ module _ (game : ParityGame) (player : ℕ) (set : ℕ → Bool) (table : ℕ �
   asked_by k v = elim (cases_lt 0 (counts (suc k) v)) [
     | inr none ↦ inl (omega (arith, none))
     | inl some ↦ elim (cases_lt v (vertex_count game)) [
-      | inl below ↦ (let b = best_of (counts k) v (successors_of game v) some in
-          inr (b.0, goes_so v b.0 (below, b.1) b.2, b.3))
+      | inl below ↦ search (rules, best_of, counts, goes_so)
       | inr far ↦ absurd (omega (arith, some, past (suc k) v far))
     ]
   ]
@@ -283,8 +260,7 @@ module _ (game : ParityGame) (player : ℕ) (set : ℕ → Bool) (table : ℕ �
     | inr a ↦ (let c = chain_of k a.0 in elim (cases_Bool (heavy v)) [
       | inl one ↦ (let by : weight v ≡ 1 = rw one in
           (v ∷ c.0, omega (arith, by, a.2, c.1), (inl refl, one, (a.0, a.1, c.2))))
-      | inr light ↦ (let by : weight v ≡ 0 = rw light in
-          (c.0, omega (arith, by, a.2, c.1), chain_back v a.0 c.0 a.1 c.2))
+      | inr light ↦ search (rules, weight, chain_back)
     ])
   ]
 
@@ -304,10 +280,7 @@ module _ (game : ParityGame) (player : ℕ) (set : ℕ → Bool) (table : ℕ �
           | inl few ↦ absurd (omega (arith, few, c.1, found.2))
           | inr lost ↦ inr lost
         ]
-    | inr none ↦ inl (λ v. elim (cases_lt v (vertex_count game)) [
-      | inl below ↦ none v below
-      | inr far ↦ omega (arith, past k v far)
-    ])
+    | inr none ↦ search (rules, cases_lt, past)
   ]
 
   -- no count has to be raised
@@ -363,8 +336,7 @@ module _ (game : ParityGame) (player : ℕ) (set : ℕ → Bool) (table : ℕ �
   -- where no edge goes there is no count
   none_without : (k v : ℕ) → ((w : ℕ) → Goes v w → ⊥) → counts k v ≡ 0
   unfolding counts
-  none_without zero v none = refl
-  none_without (suc k) v none = elim (asked_by k v) [ inl few ↦ few | inr a ↦ absurd (none a.0 a.1) ]
+  none_without k v h1 = search (rules, asked_by)
 
   are_least : (k : ℕ) → IsSettled k → AreLeastFor game player set table p (counts k)
   unfolding weight heavy
@@ -390,6 +362,6 @@ module _ (game : ParityGame) (player : ℕ) (set : ℕ → Bool) (table : ℕ �
   pub column_or_cycle : p % 2 ≡ other_player player → Column ⊎
       ((cycle : List ℕ) × IsLostCycle game player set table cycle)
   column_or_cycle parity = elim (settle (most + 1) 0 (omega arith)) [
-    | inl done ↦ inl (record { count = counts done.0; are_least = are_least done.0 done.1; none_past = past done.0 })
+    | inl done ↦ search (rules, counts, are_least, past)
     | inr lost ↦ inr (lost_cycle parity lost)
   ]

@@ -1,5 +1,5 @@
 -- The roots of a priority, looked for among the vertices that have it.
-use Rattle.std.proofs.Common.{◌≡◌, ℕ, ◌+◌, ◌<◌, ◌≤◌, ◌∙◌, List, [], ◌∷◌, ◌++◌, length, inl, inr, sym, ap, arith}
+use Rattle.std.proofs.Common.{◌≡◌, ℕ, ◌+◌, ◌<◌, ◌≤◌, ◌∙◌, List, [], ◌∷◌, ◌++◌, length, inl, inr, sym, ap, arith, rules}
 use Rattle.std.proofs.Common.{Some}
 use Rattle.std.specs.Prelude.{slice_index, slice_get}
 use Rattle.std.proofs.lemmas.Bool.{cases_eq}
@@ -24,10 +24,7 @@ pub roots_more : {low : LowData} {members : ℕ → ℕ} {roots : List ℕ} {n v
     Link (low_graph low) w v → low_weight low v ≡ 1 → RootsAmong low members roots n →
     RootsAmong low members (roots ++ v ∷ []) (n + 1)
 roots_more {low} {members} {roots} {n} {v} {w} is link heavy so_far = record {
-  sound = λ i u at. elim (slice_get-push_cases roots v i u at) [
-    | inl old ↦ so_far.sound i u old
-    | inr new ↦ rw (← new.1) (w, link, heavy)
-  ];
+  sound = search (rules, slice_get-push_cases);
   complete = λ u k below to is_heavy. elim (cases_eq k n) [
     | inl same ↦ (length roots, slice_get-push roots v ∙ ap Some (is ∙ ap members (sym same)))
     | inr apart ↦ (let found = so_far.complete u k (omega (arith, below, apart)) to is_heavy in

@@ -35,13 +35,11 @@ module _ {game : ParityGame} {player : ℕ} {set : ℕ → Bool} {table : ℕ �
   column_most {p} {counts} least = elim (cases_lt 0 (count_with game set p)) [
     | inl some ↦
         let inside : raised_below counts (vertex_count game) ≤ count_below set (vertex_count game) =
-        sum_below-le (λ v. counted (nat_lt 0 (counts v))) (λ v. counted (set v)) (vertex_count game)
-        (λ v _. in_set v (set v) refl) in
+        search (rules, sum_below-le) in
         let more : count_below set (vertex_count game) * 1 ≤ count_below set (vertex_count game) * count_with game set
         p = mul-le-mul_left (count_below set (vertex_count game)) (omega arith) in
         omega (arith, inside, more)
-    | inr none ↦ omega
-        (arith, raised_none counts (vertex_count game) (λ v. omega (arith, least.bounded v)))
+    | inr none ↦ search (rules, raised_none)
   ]
     where
       in_set : (v : ℕ) (b : Bool) → set v ≡ b → counted (nat_lt 0 (counts v)) ≤ counted b
@@ -62,10 +60,7 @@ module _ {game : ParityGame} {player : ℕ} {set : ℕ → Bool} {table : ℕ �
   pub least_same : {p : ℕ} {counts other : ℕ → ℕ} → ((v : ℕ) → other v ≡ counts v) →
       AreLeastFor game player set table p counts → AreLeastFor game player set table p other
   least_same same least = record {
-    keep = λ v w remains. (let rule = least.keep v w remains in record {
-      never_rises = λ from to. omega (arith, rule.never_rises from to, same v, same w);
-      falls = λ from to. omega (arith, rule.falls from to, same v, same w);
-    });
+    keep = search rules;
     least = λ d keep v. omega (arith, least.least d keep v, same v);
     outside = λ v not_inside. same v ∙ least.outside v not_inside;
     above = λ v high. same v ∙ least.above v high;
@@ -79,29 +74,13 @@ module _ {game : ParityGame} {player : ℕ} {set : ℕ → Bool} {table : ℕ �
       AreRanked game player set table priorities old place raises →
       AreRanked game player set table priorities new (place + 1) (raises + raised)
   ranked_more {priorities} {old} {new} {place} {counts = counts} least column raised_is so_far = record {
-    shape = record {
-      each = column.each ∙ so_far.shape.each;
-      wide = λ v below. column.wide v ∙ so_far.shape.wide v below;
-    };
+    shape = search rules;
     least = λ k below. elim (cases_eq k place) [
       | inl same ↦ rw same (least_same column.here least)
       | inr apart ↦ least_same (λ v. column.others v k apart) (so_far.least k (omega (arith, below, apart)))
     ];
-    after = λ v k from. column.others v k (λ e. omega (arith, e, from)) ∙ so_far.after v k (omega (arith, from));
-    raises_is =
-        let before =
-        sum_below-same (λ k. raised_below (λ v. count_of new v k) (vertex_count game))
-        (λ k. raised_below (λ v. count_of old v k) (vertex_count game)) place
-        (λ k below. raised_same (λ v. count_of new v k) (λ v. count_of old v k) (vertex_count game)
-        (λ v. column.others v k (λ e. omega (arith, e, below)))) in
-        omega (
-          arith,
-          so_far.raises_is,
-          raised_is,
-          before,
-          raised_same (λ v. count_of new v place) counts (vertex_count game) column.here,
-          sum_below-next (λ k. raised_below (λ v. count_of new v k) (vertex_count game)) place,
-        );
+    after = search rules;
+    raises_is = search (rules, sum_below-same, raised_below, raised_same, sum_below-next);
   }
 
   -- no count is there yet
@@ -113,32 +92,13 @@ module _ {game : ParityGame} {player : ℕ} {set : ℕ → Bool} {table : ℕ �
   pub ranked_empty : {priorities : List ℕ} {rows : List Row} → ((v : ℕ) → set v ≡ false) →
       AreZero rows (vertex_count game) (length priorities) →
       AreRanked game player set table priorities rows (length priorities) 0
-  ranked_empty {priorities} {rows} nobody zeros = record {
-    shape = zeros.shape;
-    least = λ k below. record {
-      keep = λ v w remains. absurd (clash (sym (nobody v) ∙ remains.from));
-      least = λ other keep v. omega (arith, zeros.none v k);
-      outside = λ v _. zeros.none v k;
-      above = λ v _. zeros.none v k;
-      bounded = λ v. omega (arith, zeros.none v k);
-    };
-    after = λ v k _. zeros.none v k;
-    raises_is = sym (sum_below-zero (λ k. raised_below (λ v. count_of rows v k) (vertex_count game)) (length priorities)
-        (λ k. raised_none (λ v. count_of rows v k) (vertex_count game) (λ v. zeros.none v k)));
-  }
-    where
-      clash : false ≡ true → ⊥
-      clash e = cc
+  ranked_empty {priorities} {rows} nobody zeros = search (rules, sum_below-zero, raised_below, raised_none)
 
   -- the raises fit
   pub ranked_fits : {priorities : List ℕ} {rows : List Row} {place raises : ℕ} →
       vertex_count game ≤ 18446744073709551615 → AreRanked game player set table priorities rows place raises →
       raises ≤ place * 18446744073709551615
-  ranked_fits {rows = rows} {place} small ranked =
-      let bound = sum_below-bound (λ k. raised_below (λ v. count_of rows v k) (vertex_count game)) place
-      18446744073709551615
-      (λ k _. omega (arith, count_below-bound (λ v. nat_lt 0 (count_of rows v k)) (vertex_count game), small)) in
-      omega (arith, bound, ranked.raises_is)
+  ranked_fits {rows = rows} {place} small ranked = search (rules, sum_below-bound, raised_below, count_below-bound)
 
 -- ---- no root
 

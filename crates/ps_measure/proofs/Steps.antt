@@ -1,5 +1,5 @@
 -- The steps of the pass over all links, on plain data.
-use Rattle.std.proofs.Common.{◌≡◌, ℕ, ◌+◌, ◌-◌, ◌*◌, ◌<◌, ◌≤◌, ◌∙◌, List, length, get_or, inl, inr, sym, ap}
+use Rattle.std.proofs.Common.{◌≡◌, ℕ, ◌+◌, ◌-◌, ◌*◌, ◌<◌, ◌≤◌, ◌∙◌, List, length, get_or, inl, inr, sym, ap, rules}
 use Rattle.std.proofs.Common.{arith, refl, Option, None, Some, eqb, unwrap_or}
 use Rattle.std.specs.Prelude.{slice_get, slice_index, slice_set}
 use Rattle.std.specs.Bool.{OnFalse, OnTrue}
@@ -41,22 +41,12 @@ module _ (low : LowData) {c : ComponentsData} {values : List ℕ} {from number t
       (same_component more) (omega (arith, eqb-false weight 1 e, weight_is, weight_light low to)))
 
   pub step_lost : number ≤ before → OnTrue (eqb weight 1) (IsLost (low_graph low) (low_weight low) c from to)
-  step_lost more =
-      OnTrue_from (eqb weight 1) (IsLost (low_graph low) (low_weight low) c from to)
-      (λ e. record {
-        link = link;
-        number = number;
-        from = from_in;
-        to = same_component more;
-        heavy = sym weight_is ∙ eqb-true weight 1 e;
-      })
+  step_lost more = search (rules, OnTrue_from, same_component, eqb-true)
 
   -- the end is in an earlier component
   module _ {value : ℕ} (read : value ≡ get_or values number value) (less : before < number) where
     is_sum : value + weight ≡ slice_index values number + low_weight low to
-    is_sum =
-        let within = number_within counting.components counting.column from from_in in
-        omega (arith, get_or_read values number value within read 0, weight_is)
+    is_sum = search (rules, number_within, get_or_read)
 
     pub step_fits : value + weight ≤ low.star.count
     step_fits =
@@ -145,13 +135,7 @@ root_step low {roots} {c} {values} {i} {number} components are within is column 
   where
     more : (j v k : ℕ) → j < i + 1 → slice_get roots j ≡ Some v → IsIn c v k →
         1 ≤ slice_index (slice_set values number 1) k
-    more j v k below at in_k = elim (written values number 1 k (number_within components column _ is)) [
-      | inl new ↦ omega (arith, new.1)
-      | inr old ↦ elim (cases_eq j i) [
-        | inl here ↦ (let e = get_or_from_slice_get roots i v 0 (rw here at at) in absurd (old.0 (cc (rw e at is))))
-        | inr earlier ↦ omega (arith, old.1, raised.raised j v k (omega (arith, below, earlier)) at in_k)
-      ]
-    ]
+    more j v k below at in_k = search (rules, written, number_within, cases_eq, get_or_from_slice_get)
 
 -- a root has a number
 pub root_met : {g : Digraph} (roots : List ℕ) (c : ComponentsData) {i : ℕ} {o : Option ℕ} → AreMet g roots c →

@@ -14,8 +14,7 @@ pub sum_below-more : (f g : ℕ → ℕ) (n u x : ℕ) → u < n → ((v : ℕ) 
     sum_below f n + x ≤ sum_below g n
 sum_below-more f g zero u x below each more = absurd (omega arith)
 sum_below-more f g (suc n) u x below each more = elim (cases_eq u n) [
-  | inl same ↦ (let last : f n + x ≤ g n = rw same at more in
-      omega (arith, sum_below-le f g n (λ v less. each v (omega arith))))
+  | inl same ↦ search (rules, sum_below-le)
   | inr apart ↦ omega (
     arith,
     sum_below-more f g n u x (omega arith) (λ v less. each v (omega arith)) more,
@@ -59,10 +58,7 @@ pub positive_some : (x : ℕ) → 0 < x → counted (nat_lt 0 x) ≡ 1
 positive_some x some = ap counted (lt-ltb 0 x some)
 
 pub positive_bound : (x : ℕ) → counted (nat_lt 0 x) ≤ x
-positive_bound x = elim (cases_lt 0 x) [
-  | inl some ↦ omega (arith, positive_some x some)
-  | inr none ↦ omega (arith, positive_none x (omega arith))
-]
+positive_bound x = search (rules, cases_lt, positive_some, positive_none)
 
 -- how many numbers below n have a count that is not 0
 abbrev pub raised_below : (ℕ → ℕ) → ℕ → ℕ
@@ -72,6 +68,4 @@ pub raised_none : (f : ℕ → ℕ) (n : ℕ) → ((v : ℕ) → f v ≡ 0) → 
 raised_none f n each = sum_below-zero (λ v. counted (nat_lt 0 (f v))) n (λ v. positive_none (f v) (each v))
 
 pub raised_same : (f g : ℕ → ℕ) (n : ℕ) → ((v : ℕ) → f v ≡ g v) → raised_below f n ≡ raised_below g n
-raised_same f g n same =
-    sum_below-same (λ v. counted (nat_lt 0 (f v))) (λ v. counted (nat_lt 0 (g v))) n
-    (λ v _. ap (λ x. counted (nat_lt 0 x)) (same v))
+raised_same f g n same = search (rules, sum_below-same)

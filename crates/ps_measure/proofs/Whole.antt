@@ -1,5 +1,5 @@
 -- One priority more, and what is said of all of them.
-use Rattle.std.proofs.Common.{◌≡◌, ℕ, ◌+◌, ◌%◌, ◌<◌, ◌≤◌, ◌∙◌, List, length, ap, arith, Bool, Option, refl}
+use Rattle.std.proofs.Common.{◌≡◌, ℕ, ◌+◌, ◌%◌, ◌<◌, ◌≤◌, ◌∙◌, List, length, ap, arith, Bool, Option, rules}
 use Rattle.std.specs.Prelude.{slice_index}
 use Rattle.std.proofs.lemmas.List.Elements.{All-get_or}
 use Rattle.ps_game.specs.Games.{ParityGame, IsGame, vertex_count}
@@ -31,14 +31,7 @@ pub is_at_place : {game : ParityGame} (player : ℕ) (region : List Bool) (strat
     (star_graph star) → place < length priorities →
     IsAtPlace (record { game = game; player = player; region = region; strategy = strategy })
     (record { star = star; region = region; levels = levels; priority = slice_index priorities place }) priorities place
-is_at_place player region strategy star priorities place is_game levels reverse within = record {
-  is_game = is_game;
-  levels = levels;
-  reverse = reverse;
-  regions = refl;
-  within = within;
-  priority = refl;
-}
+is_at_place player region strategy star priorities place is_game levels reverse within = search rules
 
 module _ {r : RemainingData} {low : LowData} {priorities : List ℕ} {place : ℕ}
     (at : IsAtPlace r low priorities place) where

@@ -1,5 +1,5 @@
 -- A list of numbers after one was written, and a list of zeros.
-use Rattle.std.proofs.Common.{rules, ◌≡◌, ◌≢◌, ℕ, ◌<◌, ◌⊎◌, List, length, inl, inr, arith, replicate}
+use Rattle.std.proofs.Common.{rules, ◌≡◌, ◌≢◌, ℕ, ◌<◌, ◌⊎◌, List, length, replicate}
 use Rattle.std.specs.Prelude.{slice_index, slice_set}
 use Rattle.std.proofs.lemmas.Bool.{cases_eq, cases_lt}
 use Rattle.std.proofs.lemmas.List.{get_or-set_same, get_or-set_other, get_or-replicate, get_or_past, length-replicate}
@@ -11,7 +11,4 @@ pub written : (xs : List ℕ) (i x j : ℕ) → i < length xs →
 written xs i x j within = search (rules, cases_eq, get_or-set_same, get_or-set_other)
 
 pub zeros_at : (n i : ℕ) → slice_index (replicate n 0) i ≡ 0
-zeros_at n i = elim (cases_lt i n) [
-  | inl less ↦ get_or-replicate n i 0 0 less
-  | inr more ↦ get_or_past (replicate n 0) i 0 (omega (arith, length-replicate {A = ℕ} n 0, more))
-]
+zeros_at n i = search (rules, cases_lt, get_or-replicate, get_or_past, length-replicate)

@@ -1,19 +1,10 @@
-use Rattle.std.proofs.Common.{refl, arith, ◌∙◌, sym}
+use Rattle.std.proofs.Common.{arith, ◌∙◌, sym, rules}
 use Rattle.ps_measure.proofs.Edges.{leads_low, leads_nowhere, none_low_next, high_target}
 use Rattle.ps_measure.proofs.measuring.leads_down.Goals as goal
 use Rattle.ps_measure.proofs.measuring.leads_down.Goals.{in-Some+else-is_low, in_default}
 
 pub returns-then-is_low : goal.returns-then-is_low
-returns-then-is_low g c = (
-  (λ _. (
-    c.in-Some.to,
-    leads_low c.args.low.now c.loop-place.place c.requires.reverse
-        (omega (arith, c.requires.vertex, c.requires.reverse.count))
-        (omega (arith, c.loop-place-test.true, c.degree-place-end.ensures)) (sym c.in-Some.ensures.target)
-        c.requires.level (sym c.is_low.ensures ∙ c.if-is_low.true),
-  )),
-  (λ _. refl),
-)
+returns-then-is_low g c = search (rules, leads_low)
 
 pub loop-place-preserved : goal.loop-place-preserved
 loop-place-preserved g c = elim c.match-target.branch [

@@ -1,8 +1,8 @@
-use Rattle.std.proofs.Common.{arith, refl, ◌≡◌, get_or, length}
+use Rattle.std.proofs.Common.{arith, refl, ◌≡◌, get_or, length, rules}
 use Rattle.std.proofs.lemmas.Result.{err_from_is_err_and}
 use Rattle.ps_measure.specs.Remaining.{LowData}
 use Rattle.ps_measure.proofs.Grouping.{group_at}
-use Rattle.ps_measure.proofs.Rows.{ranked_none, ranked_empty, ranked_fits, filled_bound}
+use Rattle.ps_measure.proofs.Rows.{ranked_empty, ranked_fits, filled_bound}
 use Rattle.ps_measure.proofs.Whole.{is_at_place, column_done, refused}
 use Rattle.ps_measure.proofs.measuring.table_by.Goals as goal
 
@@ -19,18 +19,7 @@ overflow_add-raises g c =
     let few = filled_bound c.in_ok-raised.ensures.filled in
     let count_is = c.in_ok-back.ensures.count in
     record {
-      fits = omega (
-        arith,
-        fits,
-        few,
-        count_is,
-        c.in_ok-groups.ensures.levels.each,
-        c.count.ensures.vertices,
-        c.count.type_inv,
-        c.from-raises.ensures,
-        c.loop-place-test.true,
-        c.type_inv.priorities,
-      );
+      fits = search rules;
     }
 
 pub returns-in_err-raised-clause-cycle : goal.returns-in_err-raised-clause-cycle
@@ -50,9 +39,6 @@ returns-clause-ranked g c =
 pub returns-then-is_empty-clause-ranked : goal.returns-then-is_empty-clause-ranked
 returns-then-is_empty-clause-ranked g c =
     ranked_empty (c.is_empty.ensures.0 c.if-is_empty.true) (rw c.count.ensures.vertices at c.in_ok-table.ensures)
-
-pub loop-place-init : goal.loop-place-init
-loop-place-init g c = ranked_none (rw c.count.ensures.vertices at c.in_ok-table.ensures)
 
 pub fill-requires-clause-group : goal.fill-requires-clause-group
 fill-requires-clause-group g c =

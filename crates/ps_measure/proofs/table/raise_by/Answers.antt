@@ -1,4 +1,4 @@
-use Rattle.std.proofs.Common.{arith, ◌≡◌, ◌<◌, ◌∙◌, length, ap, refl}
+use Rattle.std.proofs.Common.{arith, ◌≡◌, ◌<◌, ◌∙◌, length, ap, rules}
 use Rattle.std.proofs.lemmas.List.{length-set, get_or_read, get_or-set_same, get_or-set_other}
 use Rattle.ps_measure.specs.Tables.{count_from}
 use Rattle.ps_measure.proofs.Cells.{cell_at, from_none, next_below, place_below, row_step}
@@ -10,22 +10,7 @@ loop-next-smaller c =
 
 pub loop-next-preserved-then-index-cell : goal.loop-next-preserved-then-index-cell
 loop-next-preserved-then-index-cell c =
-    let row = c.loop-next.row.items in
-    let cell = cell_at c.args.cells.now c.loop-next.next in
-    let inv = c.loop-next.invariant in
-    let less = next_below c.requires.chained c.loop-next-test.true inv.first in
-    let inside : cell.place < length row =
-    omega (arith, inv.long, place_below c.requires.chained c.loop-next-test.true inv.first) in
-    let read = get_or_read row cell.place c.index.result.now inside (rw c.at-cell.ensures at c.index.ensures) 0 in
-    let more = rw c.at-cell.ensures at c.if-index-cell.true in
-    rw c.at-cell.ensures (record {
-      long = length-set row cell.place cell.count ∙ inv.long;
-      first = omega (arith, less, inv.first);
-      raised = λ k within. row_step c.requires.chained c.loop-next-test.true inv.first row _
-          (omega (arith, get_or-set_same row cell.place cell.count 0 inside, read, more))
-          (λ j apart. get_or-set_other row cell.place j cell.count 0 apart) k
-          ∙ inv.raised k within;
-    })
+    search (rules, cell_at, next_below, place_below, get_or_read, length-set, row_step, get_or-set_same, get_or-set_other)
 
 pub loop-next-preserved : goal.loop-next-preserved
 loop-next-preserved c =
@@ -40,8 +25,7 @@ loop-next-preserved c =
     rw c.at-cell.ensures (record {
       long = inv.long;
       first = omega (arith, less, inv.first);
-      raised = λ k within. row_step c.requires.chained c.loop-next-test.true inv.first row row
-          (omega (arith, read, most)) (λ j apart. refl) k ∙ inv.raised k within;
+      raised = search (rules, row_step);
     })
 
 pub returns-clause-raised : goal.returns-clause-raised

@@ -1,4 +1,4 @@
-use Rattle.std.proofs.Common.{arith, ◌≡◌, ◌<◌, List, ℕ, length, get_or, ap, Some}
+use Rattle.std.proofs.Common.{arith, ◌≡◌, ◌<◌, List, ℕ, length, get_or, ap, Some, rules}
 use Rattle.std.specs.Prelude.{slice_get}
 use Rattle.std.proofs.lemmas.Option.{slice_get-get_or}
 use Rattle.ps_measure.proofs.Placing.{put_none, put_skip, put_one, put_all, item_within}
@@ -6,7 +6,7 @@ use Rattle.ps_measure.proofs.column.Column.put_into.Goals as goal
 use Rattle.ps_measure.proofs.column.Column.put_into.Goals.{then-count-gt0+in_ok-put, else-count-gt0}
 
 pub loop-vertex-init : goal.loop-vertex-init
-loop-vertex-init c = put_none c.requires.none
+loop-vertex-init c = search (rules, put_none)
 
 -- the vertex of a turn
 the_vertex : (order items : List ℕ) (i : ℕ) → items ≡ order → i < length items →
@@ -30,10 +30,6 @@ put-requires-clause-place c =
     let within = item_within c.requires.components.1 c.loop-vertex.vertex-index vertex
     (the_vertex _ c.order-vertex-items.result.now _ c.order-vertex-items.ensures c.loop-vertex-test.true) in
     omega (arith, c.requires.wide vertex (omega (arith, within, c.requires.each)), c.loop-vertex.invariant.wide vertex)
-
-pub overflow_add-raised : goal.overflow_add-raised
-overflow_add-raised c =
-    record { fits = omega (arith, c.loop-vertex.invariant.few, c.loop-vertex-test.true, c.order-vertex-items.type_inv) }
 
 pub loop-vertex-preserved : goal.loop-vertex-preserved
 loop-vertex-preserved c =

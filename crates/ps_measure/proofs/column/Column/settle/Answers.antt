@@ -1,4 +1,4 @@
-use Rattle.std.proofs.Common.{arith, ℕ, ◌<◌, ◌≡◌, ◌∙◌, ◌-◌, Some, get_or, length, List, ap}
+use Rattle.std.proofs.Common.{arith, ℕ, ◌<◌, ◌≡◌, ◌∙◌, ◌-◌, Some, get_or, length, List, ap, rules}
 use Rattle.std.specs.Prelude.{slice_get}
 use Rattle.std.proofs.lemmas.Option.{slice_get-get_or}
 use Rattle.ps_components.specs.ComponentLists.{ComponentsData}
@@ -24,8 +24,7 @@ loop-place-preserved-in_default-pass_all c =
       counting = all.counting;
       components = all.components ∙ inv.components;
       grows = grows_on inv.grows (grows_within (omega (arith, below, long)) all.grows);
-      within = omega
-          (arith, ap (λ (d : ComponentsData). length d.order) all.components, c.loop-place-test.true, inv.within);
+      within = search rules;
       passed = settle_one c.args.low.now c.loop-place.place all.components inv.counting.components
           (omega (arith, c.loop-place-test.true)) at c.in-Some.ensures all.grows inv.passed
           (λ v link. c.in_default-pass_all.ensures.passed v link);

@@ -1,11 +1,10 @@
-use Rattle.std.proofs.Common.{Option, Some, None}
+use Rattle.std.proofs.Common.{Option, rules}
 use Rattle.std.specs.Prelude.{IfNone}
 use Rattle.ps_measure.proofs.Steps.{settled}
 use Rattle.ps_measure.proofs.column.Column.work_out.Goals as goal
 
 none_weaker : {X P Q : Type 0} (o : Option X) → (P → Q) → IfNone o P → IfNone o Q
-none_weaker None follows is = follows is
-none_weaker (Some x) follows is = is
+none_weaker o h1 h2 = search rules
 
 pub returns-clause-counts : goal.returns-clause-counts
 returns-clause-counts c =

@@ -1,5 +1,5 @@
-use Rattle.std.proofs.Common.{arith, ◌≡◌, ◌<◌, ◌+◌, ◌++◌, ◌∷◌, [], List, ℕ, length, ap, Result, Ok}
-use Rattle.std.proofs.Common.{Err, OnOk, OnErr}
+use Rattle.std.proofs.Common.{arith, ◌≡◌, ◌<◌, ◌+◌, ◌++◌, ◌∷◌, [], List, ℕ, length, ap, Result, rules}
+use Rattle.std.proofs.Common.{OnOk, OnErr}
 use Rattle.std.specs.Prelude.{slice_set, slice_index}
 use Rattle.std.proofs.lemmas.List.{length_push}
 use Rattle.ps_measure.specs.declared.table.CountCell.{CountCell}
@@ -9,16 +9,10 @@ use Rattle.ps_measure.proofs.Cells.{rows_each, width_at, put_headed, put_done}
 use Rattle.ps_measure.proofs.table.CountTable.put.Goals as goal
 
 pub at-next-requires : goal.at-next-requires
-at-next-requires c =
-    let s = c.self.inside in
-    let same = ap (λ (rows : List (List ℕ)). length rows) c.self.view_is in
-    omega (arith, rows_each s.width s.heads s.cells, same, c.requires.vertex)
+at-next-requires c = search (rules, rows_each)
 
 pub set-requires : goal.set-requires
-set-requires c =
-    let s = c.self.inside in
-    let same = ap (λ (rows : List (List ℕ)). length rows) c.self.view_is in
-    omega (arith, rows_each s.width s.heads s.cells, same, c.requires.vertex)
+set-requires c = search (rules, rows_each)
 
 -- the table with the cell of the call
 module _ {width : ℕ} {heads : List ℕ} {cells : List CountCell} {rows : List (List ℕ)} {vertex place next number : ℕ}
@@ -31,13 +25,7 @@ module _ {width : ℕ} {heads : List ℕ} {cells : List CountCell} {rows : List 
   below = omega (arith, vertex_in, rows_each width heads cells, ap (λ (list : List (List ℕ)). length list) view_is)
 
   within : place < width
-  within =
-      omega (
-        arith,
-        place_in,
-        width_at width heads cells vertex below,
-        ap (λ (list : List (List ℕ)). width_of list vertex) view_is,
-      )
+  within = search (rules, width_at, below)
 
   long : length new_cells ≡ length cells + 1
   long = rw cells_are (length_push cells (record { place = place; count = count; next = next }))
@@ -53,14 +41,11 @@ module _ {width : ℕ} {heads : List ℕ} {cells : List CountCell} {rows : List 
 
   pub kept_headed : {A E : Type 0} (r : Result A E) (now : List ℕ) → OnOk r (now ≡ heads') → OnErr r (now ≡ heads) →
       AreHeaded width now new_cells
-  kept_headed (Ok x) now ok err = rw ok still_headed
-  kept_headed (Err e) now ok err =
-      rw err (record { chained = still_headed.chained; first = λ v. omega (arith, headed.first v, long) })
+  kept_headed r now h1 h2 = search (rules, still_headed, long)
 
   pub put_kept : {A E : Type 0} (r : Result A E) (now : List ℕ) → OnOk r (now ≡ heads') →
       OnOk r (HasPut rows (rows_in width now new_cells) vertex place count)
-  put_kept (Ok x) now ok = rw ok was_put
-  put_kept (Err e) now ok = tt
+  put_kept r now h1 = search (rules, was_put)
 
 pub invariant_of-self-2 : goal.invariant_of-self-2
 invariant_of-self-2 c =

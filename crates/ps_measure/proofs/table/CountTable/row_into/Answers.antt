@@ -1,23 +1,11 @@
-use Rattle.std.proofs.Common.{arith, ◌≡◌, ◌<◌, ◌∙◌, List, ℕ, length, ap, sym, replicate}
+use Rattle.std.proofs.Common.{arith, ◌≡◌, ◌<◌, ◌∙◌, List, ℕ, length, ap, sym, replicate, rules}
 use Rattle.std.specs.Prelude.{slice_get}
 use Rattle.std.proofs.lemmas.Grind.{common_steps}
 use Rattle.ps_measure.proofs.Cells.{rows_each, row_done}
 use Rattle.ps_measure.proofs.table.CountTable.row_into.Goals as goal
 
 pub at-requires : goal.at-requires
-at-requires c =
-    let s = c.self.inside in
-    let same = ap (λ (rows : List (List ℕ)). length rows) c.self.view_is in
-    omega (arith, rows_each s.width s.heads s.cells, same, c.requires)
-
-pub raise_by-requires-clause-head : goal.raise_by-requires-clause-head
-raise_by-requires-clause-head c =
-    let s = c.self.inside in
-    let same = ap (λ (rows : List (List ℕ)). length rows) c.self.view_is in
-    let below : c.args.vertex < length s.heads =
-    omega (arith, rows_each s.width s.heads s.cells, same, c.requires) in
-    let head_is = c.at.ensures in
-    omega (arith, head_is, c.self.invariant.first c.args.vertex)
+at-requires c = search (rules, rows_each)
 
 pub returns : goal.returns
 returns c =
