@@ -74,7 +74,17 @@ module _ (game : ParityGame) (player : ℕ) (set : ℕ → Bool) (table : ℕ �
 
     count_there : (k v : ℕ) → k < length priorities → count_of rows v k ≡ c.count k v
     unfolding row rows
-    count_there k v within = search (rules, cases_lt, row_there, get_or-map-range_with_len, slice_get_past, rows, length-map-range_with_len, row)
+    count_there k v within =
+        search (
+          rules,
+          cases_lt,
+          row_there,
+          get_or-map-range_with_len,
+          slice_get_past,
+          rows,
+          length-map-range_with_len,
+          row,
+        )
 
     are_ranks : AreRanks game player set table priorities rows
     unfolding rows row

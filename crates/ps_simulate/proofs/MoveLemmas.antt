@@ -57,4 +57,5 @@ module _ {size front : ℕ} {places : List ℕ} (are : AreMoved size front place
       moved_rows ≡ map (move_row places) rows → All (IsWithin size) rows
       → 1 + length inputs + length latches ≤ front → front ≤ size → IsWorkedOut moved_rows inputs latches size values →
       IsWorkedOut rows inputs latches size (unmoved places values)
-  IsWorkedOut-unmoved rows {inputs} e within room fit worked = search (rules, length-unmoved, work_out-unmoved, unmoved_at)
+  IsWorkedOut-unmoved rows {inputs} e within room fit worked =
+      search (rules, length-unmoved, work_out-unmoved, unmoved_at)

@@ -128,7 +128,8 @@ between_front new m {to_place} front end stands = search rules
 
 cursor_below : {c b : ℕ} {old new : TablesData} {winner winner_now order : List ℕ} {cursor : ℕ} →
     Agrees c old new winner winner_now → b ≤ c → IsCursor order old.level cursor b → IsCursor order new.level cursor b
-cursor_below {c} {b} {old} {new} {winner} {winner_now} {order} agrees less front = search (rules, cases_lt, AgreesAt, agrees_at)
+cursor_below {c} {b} {old} {new} {winner} {winner_now} {order} agrees less front =
+    search (rules, cases_lt, AgreesAt, agrees_at)
 
 -- a call that waits below the level waits still
 pub waits_below : {game : ParityGame} {c a : ℕ} (m : ℕ) {old new : TablesData} {winner winner_now order : List ℕ}

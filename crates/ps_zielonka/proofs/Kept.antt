@@ -20,7 +20,8 @@ to_keeps rest lost v inside outside = let split = IsWithout-without rest lost in
 pub IsWon-without : (game : ParityGame) {rest lost : ℕ → Bool} {win : ℕ → ℕ} (table : ℕ → Option ℕ) (player : ℕ)
     {other : ℕ} → player < 2 → other < 2 → other ≢ player → IsWon rest nothing win other lost →
     Solved game rest win table → IsWon rest nothing win player (without rest lost)
-IsWon-without game {rest} {lost} {win} table player {other} is_player is_other differ is_won solved = search (rules, kept_of, false≢true, to_keeps)
+IsWon-without game {rest} {lost} {win} table player {other} is_player is_other differ is_won solved =
+    search (rules, kept_of, false≢true, to_keeps)
 
 -- where no vertex of the other player at the greatest priority leads to what was lost, no other one does
 none_to_lost : {game : ParityGame} {open_part rest lost left : ℕ → Bool} {win : ℕ → ℕ} {table : ℕ → Option ℕ}

@@ -10,7 +10,17 @@ loop-next-smaller c =
 
 pub loop-next-preserved-then-index-cell : goal.loop-next-preserved-then-index-cell
 loop-next-preserved-then-index-cell c =
-    search (rules, cell_at, next_below, place_below, get_or_read, length-set, row_step, get_or-set_same, get_or-set_other)
+    search (
+      rules,
+      cell_at,
+      next_below,
+      place_below,
+      get_or_read,
+      length-set,
+      row_step,
+      get_or-set_same,
+      get_or-set_other,
+    )
 
 pub loop-next-preserved : goal.loop-next-preserved
 loop-next-preserved c =
