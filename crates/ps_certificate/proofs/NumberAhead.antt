@@ -1,5 +1,6 @@
 -- The number that bytes begin with, by the digits that they begin with.
-use Rattle.std.proofs.Common.{◌≡◌, ℕ, ◌^◌, ◌<◌, ◌≤◌, List, [], ◌∷◌, length, false, refl, sym, ap, inr, ◌∙◌, arith}
+use Rattle.std.proofs.Common.{rules}
+use Rattle.std.proofs.Common.{◌≡◌, ℕ, ◌^◌, ◌<◌, ◌≤◌, List, [], ◌∷◌, length, false, refl, sym, ap, ◌∙◌, arith}
 use Rattle.std.specs.Prelude.{take_while}
 use Rattle.std.specs.Char.{is_ascii_digit}
 use Rattle.ps_text.specs.Digits.{decimal_value}
@@ -22,5 +23,4 @@ long (d ∷ digits) large = omega arith
 
 pub too_large_ahead : (bytes : List ℕ) → comes 48 bytes ≡ false
     → 2 ^ 64 ≤ decimal_value (take_while is_ascii_digit bytes) → HasNoNumber bytes
-too_large_ahead bytes no_zero large = let run : 2 ^ 64 ≤ decimal_value (numeral bytes) =
-    omega (arith, large, ap decimal_value (numeral_is bytes no_zero)) in inr (long (numeral bytes) run, run)
+too_large_ahead bytes no_zero large = search (rules, numeral_is, long)
