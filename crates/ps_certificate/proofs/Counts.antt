@@ -1,11 +1,11 @@
 -- The rule of counts at one edge, and the first edge of a vertex that breaks it.
 use Rattle.std.proofs.Common.{◌≡◌, ◌≢◌, ℕ, ◌%◌, ◌<◌, ◌≤◌, ◌∙◌, List, length, get_or, max, ◌⊎◌, inl, inr, sym, ap, subst}
-use Rattle.std.proofs.Common.{arith, refl, None, Some, Option, true, false, zero, suc, cond}
+use Rattle.std.proofs.Common.{arith, refl, None, Some, Option, rules}
 use Rattle.std.specs.Prelude.{slice_index, ◌==◌, IfNone}
 use Rattle.std.specs.List.{Contains}
 use Rattle.std.specs.List.Sorted.{IsStrictlyIncreasing}
 use Rattle.std.proofs.lemmas.Bool.{cases_order, cases_lt, cases_eq}
-use Rattle.ps_game.specs.Games.{ParityGame, vertex_count, owner_of, priority_of, successors_of, HasEdge}
+use Rattle.ps_game.specs.Games.{ParityGame, vertex_count, owner_of, priority_of, successors_of}
 use Rattle.ps_certificate.specs.declared.flaw.Flaw.{Flaw}
 use Rattle.ps_certificate.specs.declared.flaw.Flaw.TheVariants.{Move, Escape, Rank}
 use Rattle.ps_certificate.specs.Certificates.{CertificateData, Fits, Remains, HasRightMove, IsClosed, IsValid}
@@ -21,18 +21,14 @@ use Rattle.ps_certificate.proofs.Lists.{rising_far}
 pub opposing_rises : {game : ParityGame} {certificate : CertificateData} (player : ℕ) → Fits game certificate →
     IsStrictlyIncreasing (opposing certificate player)
 unfolding opposing
-opposing_rises {certificate} player fits =
-    elim (player == 0) as (λ b. IsStrictlyIncreasing (cond b certificate.odd certificate.even))
-    [ true ↦ fits.odd_listed.rising | false ↦ fits.even_listed.rising ]
+opposing_rises {certificate} player fits = search rules
 
 -- and have the priority of each vertex by which the player loses
 pub opposing_complete : {game : ParityGame} {certificate : CertificateData} (player : ℕ) → Fits game certificate →
     player < 2 → (v : ℕ) → v < vertex_count game → priority_of game v % 2 ≢ player →
     Contains (opposing certificate player) (priority_of game v)
 unfolding opposing
-opposing_complete zero fits is_player v below lost = fits.odd_listed.complete v below (omega (arith, lost))
-opposing_complete (suc zero) fits is_player v below lost = fits.even_listed.complete v below (omega (arith, lost))
-opposing_complete (suc (suc n)) fits is_player v below lost = absurd (omega arith)
+opposing_complete player h1 h2 v h3 h4 = search rules
 
 -- two counts and a rising list of priorities, of which those from `start` on are at least both ends'
 pub record Compared (game : ParityGame) (certificate : CertificateData) (v w : ℕ) (priorities before after : List ℕ)
@@ -54,14 +50,7 @@ FallsAtStart game v priorities before after start = start < length priorities �
 KeepsCount-lower : {game : ParityGame} {certificate : CertificateData} {v w : ℕ} {priorities before after : List ℕ}
     {top start : ℕ} (k : ℕ) → Compared game certificate v w priorities before after top start → k < start →
     KeepsCount game certificate v w k
-KeepsCount-lower {game} {certificate} {v} {w} {priorities} {top} k compared early =
-    let is : slice_index priorities k ≡ opposing_at certificate v k =
-    ap (λ l. slice_index l k) compared.priorities_are in
-    let small : slice_index priorities k < top = compared.lower k early in
-    record {
-      never_rises = λ own_at other_at. absurd (omega arith);
-      falls = λ own_is other_at. absurd (omega arith);
-    }
+KeepsCount-lower {game} {certificate} {v} {w} {priorities} {top} k compared early = search rules
 
 pub KeepsCount-compared : {game : ParityGame}
     {certificate : CertificateData} {v w : ℕ} {priorities before after : List ℕ} {top start : ℕ} (k : ℕ) → Compared
@@ -79,17 +68,9 @@ KeepsCount-compared {game} {certificate} {v} {w} {priorities} {before} {after} {
           let after_is : slice_index after k ≡ slice_index (counts_of certificate w) k =
           ap (λ l. slice_index l k) compared.after_are in
           record {
-            never_rises =
-                λ own_at other_at. (let h : slice_index after k ≤ slice_index before k = at_most late in omega arith);
+            never_rises = search rules;
             falls = λ own_is other_at. elim (cases_eq k start) [
-              | inl same ↦
-                  let own_at_start : slice_index priorities start ≡ priority_of game v =
-                  ap (λ n. slice_index priorities n) (sym same) ∙ is ∙ sym own_is in
-                  let less : slice_index after start < slice_index before start = strict (omega arith) own_at_start in
-                  let after_same : slice_index after k ≡ slice_index after start = ap (λ n. slice_index after n) same in
-                  let before_same : slice_index before k ≡ slice_index before start =
-                  ap (λ n. slice_index before n) same in
-                  omega arith
+              | inl same ↦ search rules
               | inr differ ↦
                   let less : slice_index priorities start < slice_index priorities k =
                   rising_far priorities compared.rising start k (omega arith) within in
@@ -120,8 +101,7 @@ IsFirstBroken-behind {game} {certificate} {v} {w} {priorities} {before} {after} 
       place = place;
       within = omega arith;
       priority = sym is;
-      broken = λ keeps. (let at_most : slice_index (counts_of certificate w) place ≤ slice_index
-          (counts_of certificate v) place = keeps.never_rises (omega arith) (omega arith) in omega arith);
+      broken = search rules;
       earlier =
           λ k early. KeepsCount-compared k compared strict (omega arith) (λ from_start. not_before k from_start early);
     }
@@ -131,13 +111,11 @@ same_edge : {game : ParityGame} {certificate : CertificateData} {v w p p' : ℕ}
     IsFirstBroken game certificate v w p → BreaksCount game certificate v w p' →
     (Rank v w p ≡ Rank v w p') ⊎ Precedes game (Rank v w p) (Rank v w p')
 same_edge {certificate} {v} {w} fits first other = elim (cases_order other.place first.place) [
-  | inl same ↦ inl (ap (λ n. Rank v w n) (sym first.priority ∙ ap (λ n. opposing_at certificate v n) (sym same)
-      ∙ other.priority))
+  | inl same ↦ search rules
   | inr (inl below) ↦ absurd (other.broken (first.earlier other.place below))
   | inr (inr above) ↦
       let less : opposing_at certificate v first.place < opposing_at certificate v other.place =
-      rising_far (opposing certificate (winner_of certificate v))
-      (opposing_rises (winner_of certificate v) fits) first.place other.place above other.within in
+      search (rules, rising_far, opposing_rises) in
       inr (inr (refl, refl, omega (arith, less, first.priority, other.priority)))
 ]
 
@@ -147,15 +125,7 @@ pub IsFirstFlawAt-rank : {game : ParityGame} {certificate : CertificateData} {v 
     IsFirstBroken game certificate v w p → ((w' : ℕ) → Remains game certificate v w' → (w' ≡ w) ⊎ (KeepsCounts
     game certificate v w' ⊎ StandsBefore (successors_of game v) w w')) → IsFirstFlawAt game certificate 1 v (Rank v w p)
 IsFirstFlawAt-rank {game} {certificate} {v} {w} {p} fits remains same_winner broken edges = record {
-  is_flaw =
-      record {
-        remains = remains;
-        same_winner = same_winner;
-        place = broken.place;
-        within = broken.within;
-        priority = broken.priority;
-        broken = broken.broken;
-      };
+  is_flaw = search rules;
   at_stage = refl;
   at_vertex = refl;
   first = others;
@@ -183,14 +153,12 @@ IsFirstFlawAt-rank {game} {certificate} {v} {w} {p} fits remains same_winner bro
 -- the winner's move is an edge
 pub own_edge : {game : ParityGame} {certificate : CertificateData} {v w : ℕ} → HasRightMove game certificate v →
     owner_of game v ≡ winner_of certificate v → choice_of certificate v ≡ Some w → Remains game certificate v w
-own_edge {game} {certificate} {v} {w} right own is =
-    Remains-own game certificate v is (IsSomeAnd-at (HasEdge game v) is (right.own own))
+own_edge {game} {certificate} {v} {w} right own is = search (rules, Remains-own, IsSomeAnd-at)
 
 -- a vertex that its winner owns has one edge that remains
 pub own_edges : (game : ParityGame) (certificate : CertificateData) (v : ℕ) {w : ℕ} → owner_of game
     v ≡ winner_of certificate v → choice_of certificate v ≡ Some w → {w' : ℕ} → Remains game certificate v w' → w' ≡ w
-own_edges game certificate v own is {w'} remains =
-    let other : choice_of certificate v ≡ Some w' = remains.chosen own in cc
+own_edges game certificate v own is {w'} remains = search rules
 
 -- behind edges that keep the rule, in the order of successors
 pub other_edges : (game : ParityGame) (certificate : CertificateData) (v w number : ℕ) →
@@ -201,8 +169,7 @@ other_edges game certificate v w number within is before w' remains =
     let (j, j_within, j_is) = place_of (successors_of game v) remains.edge.1 in
     elim (cases_order j number) [
       | inl same ↦ inl (sym j_is ∙ ap (λ n. slice_index (successors_of game v) n) same ∙ sym is)
-      | inr (inl below) ↦ (let P : ℕ → Type 0 = KeepsCounts game certificate v in
-          inr (inl (subst P j_is (before j below))))
+      | inr (inl below) ↦ search rules
       | inr (inr above) ↦ inr (inr (number, j, above, j_within, sym is, j_is))
     ]
 
@@ -217,40 +184,23 @@ KeepsCountsAt-from_all game certificate v each w remains =
 -- a vertex that keeps the rule has no flaw in its counts
 kept_has_no_flaw : (game : ParityGame) (certificate : CertificateData) (flaw : Flaw) →
     KeepsCountsAt game certificate (vertex_of flaw) → IsFlaw game certificate flaw → stage_of flaw ≡ 1 → ⊥
-kept_has_no_flaw game certificate (Move _ _) keeps is_flaw early = omega arith
-kept_has_no_flaw game certificate (Escape _ _) keeps is_flaw early = omega arith
-kept_has_no_flaw game certificate (Rank v w p) keeps is_flaw _ =
-    is_flaw.broken (keeps w is_flaw.remains is_flaw.place is_flaw.within)
+kept_has_no_flaw game certificate flaw h1 h2 h3 = search rules
 
 -- the first flaw in the counts of a closed certificate is the first of all
 pub first_unranked : {game : ParityGame} {certificate : CertificateData} {v : ℕ} {flaw : Flaw} →
     IsClosed game certificate → ((u : ℕ) → u < v → KeepsCountsAt game certificate u) →
     IsFirstFlawAt game certificate 1 v flaw → IsFirstFlaw game certificate flaw
-first_unranked {game} {certificate} {v} {flaw} closed kept at = record {
-  is_flaw = at.is_flaw;
-  first = λ other is_flaw. elim (stage_cases other) [
-    | inl early ↦ absurd (closed_has_no_flaw closed other is_flaw early)
-    | inr late ↦ first_of_stage at (λ o o_flaw o_stage o_below.
-        kept_has_no_flaw game certificate o (kept (vertex_of o) o_below) o_flaw o_stage) is_flaw late
-  ];
-}
+first_unranked {game} {certificate} {v} {flaw} closed kept at =
+    search (rules, stage_cases, closed_has_no_flaw, first_of_stage, kept_has_no_flaw)
 
 pub IsValid-from_kept : {game : ParityGame} {certificate : CertificateData} → IsClosed game certificate →
     ((v : ℕ) → v < vertex_count game → KeepsCountsAt game certificate v) → IsValid game certificate
-IsValid-from_kept closed kept = record {
-  closed = closed;
-  counts = λ v w k remains same_winner within. kept v remains.edge.0 w remains k within;
-}
+IsValid-from_kept closed kept = search rules
 
 -- a valid certificate has no flaw
 pub valid_has_no_flaw : {game : ParityGame} {certificate : CertificateData} (flaw : Flaw) → IsValid game certificate →
     IsFlaw game certificate flaw → ⊥
-valid_has_no_flaw {game} {certificate} (Move v m) valid is_flaw =
-    closed_has_no_flaw valid.closed (Move v m) is_flaw refl
-valid_has_no_flaw {game} {certificate} (Escape v w) valid is_flaw =
-    closed_has_no_flaw valid.closed (Escape v w) is_flaw refl
-valid_has_no_flaw (Rank v w p) valid is_flaw =
-    is_flaw.broken (valid.counts v w is_flaw.place is_flaw.remains is_flaw.same_winner is_flaw.within)
+valid_has_no_flaw flaw h1 h2 = search (rules, closed_has_no_flaw)
 
 -- a certificate whose vertices are all sound, with no flaw found in counts
 pub valid_in_the_end : {game : ParityGame} {certificate : CertificateData} (n : ℕ) {found : Option Flaw} →

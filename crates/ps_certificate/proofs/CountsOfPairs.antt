@@ -1,8 +1,8 @@
 -- The counts that the pairs of a line give for its priorities: those that the pairs were written of.
 --     after ps cs so_far      what is known of the counts behind the pairs of these
 --     after_counts      for each priority it is its count
-use Rattle.std.proofs.Common.{◌≡◌, ℕ, ◌<◌, Bool, true, false, cond, eqb, List, [], ◌∷◌, length, get_or, map, refl, sym}
-use Rattle.std.proofs.Common.{ap, ap₂, ◌∙◌, arith}
+use Rattle.std.proofs.Common.{◌≡◌, ℕ, ◌<◌, Bool, true, false, cond, eqb, List, [], ◌∷◌, length, map, refl}
+use Rattle.std.proofs.Common.{◌∙◌, arith, rules}
 use Rattle.std.specs.List.{All}
 use Rattle.std.proofs.lemmas.Bool.{eq-eqb, ne_eqb, eqb-true}
 use Rattle.std.proofs.lemmas.List.Elements.{All-head, All-tail}
@@ -29,16 +29,14 @@ after_other (p ∷ ps) (c ∷ cs) so_far q h = go (eqb c 0) (after_other ps cs s
         → (after ps cs (with_pair so_far p c)).count q ≡ cond (eqb q p) c (so_far.count q)
         → (cond b (after ps cs so_far) (after ps cs (with_pair so_far p c))).count q ≡ so_far.count q
     go true x y = x
-    go false x y = y ∙ ap (λ (b : Bool). cond b c (so_far.count q))
-        (ne_eqb q p (λ e. let l = All-head (λ p. q < p) p ps h in omega (arith, l, e)))
+    go false x y = search (rules, ne_eqb, All-head)
 
 abbrev NoneYet : Pairs → List ℕ → Type 0
 NoneYet so_far ps = All (λ p. so_far.count p ≡ 0) ps
 
 none_with : (so_far : Pairs) (p c : ℕ) (ps : List ℕ) → All (λ q. p < q) ps → NoneYet so_far ps
     → NoneYet (with_pair so_far p c) ps
-none_with so_far p c ps above none k d lt = let q = get_or ps k d in
-    ap (λ (b : Bool). cond b c (so_far.count q)) (ne_eqb q p (λ e. omega (arith, above k d lt, e))) ∙ none k d lt
+none_with so_far p c ps above none k d lt = search (rules, ne_eqb)
 
 pub after_counts : (ps cs : List ℕ) (so_far : Pairs) → Rises ps → length cs ≡ length ps → NoneYet so_far ps
     → map (after ps cs so_far).count ps ≡ cs
@@ -55,7 +53,5 @@ after_counts (p ∷ ps) (c ∷ cs) so_far r same none =
     go : (b : Bool) → eqb c 0 ≡ b → map (after ps cs so_far).count ps ≡ cs
         → map (after ps cs (with_pair so_far p c)).count ps ≡ cs
         → map (cond b (after ps cs so_far) (after ps cs (with_pair so_far p c))).count (p ∷ ps) ≡ c ∷ cs
-    go true e x y = ap₂ (λ (n : ℕ) (ns : List ℕ). n ∷ ns)
-        (after_other ps cs so_far p r.0 ∙ All-head (λ q. so_far.count q ≡ 0) p ps none ∙ sym (eqb-true c 0 e)) x
-    go false e x y = ap₂ (λ (n : ℕ) (ns : List ℕ). n ∷ ns) (after_other ps cs
-        (with_pair so_far p c) p r.0 ∙ ap (λ (b : Bool). cond b c (so_far.count p)) (eq-eqb p p refl)) y
+    go true e x y = search (rules, after_other, All-head, eqb-true)
+    go false e x y = search (rules, after_other, eq-eqb)

@@ -1,6 +1,6 @@
 -- Edges by their places in the lists of successors.
 use Rattle.std.proofs.Common.{◌≡◌, ◌≢◌, ℕ, ◌<◌, ◌∙◌, List, length, get_or, inl, inr, sym, ap, arith, Option, Some, None}
-use Rattle.std.proofs.Common.{subst, refl}
+use Rattle.std.proofs.Common.{subst, refl, rules}
 use Rattle.std.specs.Prelude.{slice_index, IsSomeAnd, IsSome}
 use Rattle.std.specs.List.{Contains}
 use Rattle.std.proofs.lemmas.List.{get_or_default}
@@ -43,8 +43,7 @@ IsSomeAnd-at {A} P is holds = let F : Option A → Type 0 = λ p. IsSomeAnd p P 
 
 -- what stands at a place of the option
 pub some_of : {A : Type 0} (o : Option A) (P : A → Type 0) → IsSomeAnd o P → (x : A) × (o ≡ Some x) × P x
-some_of None P holds = elim holds [ ]
-some_of (Some x) P holds = (x, refl, holds)
+some_of o P h1 = search rules
 
 -- the winner's move, where the winner owns the vertex
 pub own_move : (game : ParityGame) (certificate : CertificateData) (v : ℕ) → HasRightMove game certificate v →
@@ -56,11 +55,7 @@ pub HasWrongMove-from_not_right : (game : ParityGame) (certificate : Certificate
     ¬ HasRightMove game certificate v → HasWrongMove game certificate v
 HasWrongMove-from_not_right game certificate v not_right = elim (cases_eq (owner_of game v) (winner_of certificate v)) [
   | inl own ↦ inl (own, λ holds. not_right (record { own = λ _. holds; other = λ other. absurd (other own) }))
-  | inr other ↦ inr (
-    other,
-    is_some_unless (choice_of certificate v)
-        (λ none. not_right (record { own = λ own. absurd (other own); other = λ _. none })),
-  )
+  | inr other ↦ search rules
 ]
   where
     is_some_unless : (o : Option ℕ) → (o ≡ None → ⊥) → IsSome o
@@ -70,8 +65,7 @@ HasWrongMove-from_not_right game certificate v not_right = elim (cases_eq (owner
 -- and a right one is not
 pub not_wrong_when_right : {game : ParityGame} {certificate : CertificateData} {v : ℕ} →
     HasRightMove game certificate v → HasWrongMove game certificate v → ⊥
-not_wrong_when_right right (inl (own, not_move)) = not_move (right.own own)
-not_wrong_when_right right (inr (other, is_some)) = absurd (cc (right.other other, is_some))
+not_wrong_when_right h1 h2 = search rules
 
 -- the first successor with the other winner is the first escape
 pub IsFirstEscape-at : {game : ParityGame} {certificate : CertificateData} {v : ℕ} (k : ℕ) {w : ℕ} → v <
@@ -79,17 +73,12 @@ pub IsFirstEscape-at : {game : ParityGame} {certificate : CertificateData} {v : 
     (successors_of game v) k → ((j : ℕ) → j < k → winner_of certificate (get_or (successors_of game v) j 0)
     ≡ winner_of certificate v) → winner_of certificate w ≢ winner_of certificate v → IsFirstEscape game certificate v w
 IsFirstEscape-at {game} {certificate} {v} k {w} in_range other_owner within is before leaves = record {
-  leaves =
-      record {
-        remains = Remains-other game certificate v w other_owner (HasEdge-at game v k in_range within is);
-        other_winner = leaves;
-      };
+  leaves = search (rules, Remains-other, HasEdge-at);
   first = λ other other_leaves.
       let (j, j_within, j_is) = place_of (successors_of game v) other_leaves.remains.edge.1 in
       elim (cases_order j k) [
         | inl same ↦ inl (is ∙ ap (λ n. slice_index (successors_of game v) n) (sym same) ∙ j_is)
-        | inr (inl below) ↦ absurd (other_leaves.other_winner (ap (λ n. winner_of certificate n) (sym j_is)
-            ∙ before j below))
+        | inr (inl below) ↦ search rules
         | inr (inr above) ↦ inr (k, j, above, j_within, sym is, j_is)
       ];
 }

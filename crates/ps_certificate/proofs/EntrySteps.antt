@@ -4,13 +4,13 @@
 --     at_first_word, .., at_even, head_read      what stands before these lines
 --     text_fails, text_reads, text_trails      the text
 use Rattle.std.proofs.Common.{◌≡◌, ◌≢◌, ℕ, ◌+◌, Bool, true, false, not, cond, eqb, ltb, List, [], ◌∷◌, length, Option}
-use Rattle.std.proofs.Common.{Some, None, Result, Ok, Err, IsErrAnd, refl, sym, ap, ap₂, subst, ◌∙◌, arith}
+use Rattle.std.proofs.Common.{Some, None, Result, Ok, Err, IsErrAnd, refl, sym, ap, subst, ◌∙◌, arith, rules}
 use Rattle.std.specs.Prelude.{codes, position}
 use Rattle.std.specs.List.{Contains, prefix_len}
 use Rattle.std.proofs.lemmas.Bool.{eqb-true}
 use Rattle.std.proofs.lemmas.Bool.Decides.{nat_tests}
 use Rattle.std.proofs.lemmas.Result.{err_from_is_err_and}
-use Rattle.ps_text.specs.Answers.{Stream, Found, signs, first_of, next_of}
+use Rattle.ps_text.specs.Answers.{Stream, Found, signs, next_of}
 use Rattle.ps_text.specs.Parts.{IsRead, PartAnswers, then_by}
 use Rattle.ps_text.specs.Readers.{Reads, Stops, Carries}
 use Rattle.ps_text.specs.Faults.{found_of}
@@ -44,12 +44,7 @@ use Rattle.ps_certificate.proofs.Steps.{avoids, byte_reads}
 -- ## Moves
 
 avoids_digit : (place : Place) → comes 45 place.rest ≡ true → Avoids AtDigit (next_of (at_place place))
-avoids_digit place e = go place.rest e
-  where
-    go : (bytes : List ℕ) → comes 45 bytes ≡ true → Avoids AtDigit (first_of (signs (pieces_at place.at bytes)))
-    go [] e t s h = none_is_some t s
-    go (c ∷ bytes) e t s h = let same : c ≡ t.byte = ap (λ (x : Seen). x.byte)
-        (same_some (record { byte = c; behind = bytes }) t s) in omega (arith, eqb-true c 45 e, same, h.0)
+avoids_digit place e = search (rules, Avoids, AtDigit, none_is_some, same_some, eqb-true)
 
 module _ (ids : List ℕ) (old : Place) where
   abbrev unknown : ℕ → Type 0
@@ -66,8 +61,7 @@ module _ (ids : List ℕ) (old : Place) where
 
   pub choice_fails : comes 45 old.rest ≡ false → (o : Option (Found CertCause))
       → Stops causes (number (λ id. ¬ Contains ids id)) (at_place old) o → Stops causes (choice ids) (at_place old) o
-  choice_fails h o m = stops_as_well causes {P = chosen ids} {Q = choice ids} (at_place old) o (no_dash h)
-      (stops_mapped causes (vertex_of ids) (number unknown) (at_place old) o m)
+  choice_fails h o m = search (rules, stops_as_well, chosen, no_dash, stops_mapped, m)
 
   pub choice_reads : comes 45 old.rest ≡ false → {id : ℕ} (new : Place) {v : Option ℕ}
       → Reads (number (λ id. ¬ Contains ids id)) (at_place old) id (at_place new) → v ≡ vertex_of ids id
@@ -79,11 +73,7 @@ module _ (ids : List ℕ) (old : Place) where
 -- the place of an id is its vertex
 first_same : (id : ℕ) (ids : List ℕ) → prefix_len (λ other. not (eqb id other)) ids ≡ prefix_len
     (λ other. not (eqb other id)) ids
-first_same id [] = refl
-first_same id (x ∷ ids) = ap₂ (λ (b : Bool) (n : ℕ). cond (not b) (1 + n) 0) (swapped id x) (first_same id ids)
-  where
-    swapped : (x y : ℕ) → eqb x y ≡ eqb y x
-    swapped x y = grind (arith, nat_tests)
+first_same id ids = search (rules, nat_tests)
 
 pub place_is_vertex : (ids : List ℕ) (id : ℕ) → position (λ other. eqb id other) ids ≡ vertex_of ids id
 place_is_vertex ids id = ap (λ i. cond (ltb i (length ids)) (Some i) None) (first_same id ids)
@@ -288,8 +278,7 @@ module _ (odd even ids : List ℕ) where
 
   pub head_fails : (old new : Place) (e : CertFault) (r : Result Bool CertFault)
       → Stops causes whole (at_place old) (found_of e) → IsErrAnd r (λ y. y ≡ e) → TellsHead odd even ids old r new
-  head_fails old new e r s i = let y = err_from_is_err_and r i in
-      subst (λ x. TellsHead odd even ids old x new) (sym (y.1 ∙ ap Err y.2)) s
+  head_fails old new e r s i = search (rules, err_from_is_err_and)
 
   -- the lines of the vertices, behind what stands before them
   module _ (compact : Bool) (all : List ℕ) (same : all ≡ ids) (start now : Stream Seen)
@@ -320,8 +309,7 @@ module _ (odd even ids : List ℕ) where
 
     pub text_fails : (e : CertFault) (r : Result (List EntryData) CertFault)
         → Stops causes whole (at_place start) (found_of e) → IsErrAnd r (λ y. y ≡ e) → TellsEntries odd even ids text r
-    text_fails e r s i = let y = err_from_is_err_and r i in
-        subst (TellsEntries odd even ids text) (sym (y.1 ∙ ap Err y.2)) (text_stops e s)
+    text_fails e r s i = search (rules, err_from_is_err_and, text_stops)
 
     module _ (c : CertificateData) (end : Place) (read : Reads whole (at_place start) c (at_place end)) where
       m : Reads whole (stream_at 0 text) c (at_place end)

@@ -1,5 +1,5 @@
 -- From the first flaw at a vertex, with none at earlier vertices, to the first flaw of all.
-use Rattle.std.proofs.Common.{◌≡◌, ℕ, ◌<◌, ◌∙◌, ◌⊎◌, inl, inr, sym, arith, Option, refl}
+use Rattle.std.proofs.Common.{◌≡◌, ℕ, ◌<◌, ◌∙◌, ◌⊎◌, inl, inr, arith, Option, refl, rules}
 use Rattle.std.proofs.lemmas.Bool.{cases_order}
 use Rattle.ps_game.specs.Games.{ParityGame, vertex_count}
 use Rattle.ps_certificate.specs.declared.flaw.Flaw.{Flaw}
@@ -12,52 +12,26 @@ use Rattle.ps_certificate.proofs.Edges.{HasWrongMove-from_not_right, not_wrong_w
 -- a flaw of the same stage at a later vertex comes behind
 later_vertex : (game : ParityGame) (flaw other : Flaw) → stage_of flaw ≡ stage_of other →
     vertex_of flaw < vertex_of other → Precedes game flaw other
-later_vertex game (Move v _) (Move v' _) same less = less
-later_vertex game (Move v _) (Escape v' _) same less = omega arith
-later_vertex game (Escape v _) (Move v' _) same less = less
-later_vertex game (Escape v _) (Escape v' _) same less = inl less
-later_vertex game (Rank v _ _) (Rank v' _ _) same less = inl (inl less)
-later_vertex game (Move v _) (Rank _ _ _) same less = tt
-later_vertex game (Escape v _) (Rank _ _ _) same less = tt
-later_vertex game (Rank _ _ _) (Move _ _) same less = omega arith
-later_vertex game (Rank _ _ _) (Escape _ _) same less = omega arith
+later_vertex game flaw other h1 h2 = search rules
 
 -- moves and escapes come before ranks
 earlier_stage : (game : ParityGame) (flaw other : Flaw) → stage_of flaw < stage_of other → Precedes game flaw other
-earlier_stage game (Move _ _) (Rank _ _ _) less = tt
-earlier_stage game (Escape _ _) (Rank _ _ _) less = tt
-earlier_stage game (Move _ _) (Move _ _) less = absurd (omega arith)
-earlier_stage game (Move _ _) (Escape _ _) less = absurd (omega arith)
-earlier_stage game (Escape _ _) (Move _ _) less = absurd (omega arith)
-earlier_stage game (Escape _ _) (Escape _ _) less = absurd (omega arith)
-earlier_stage game (Rank _ _ _) (Rank _ _ _) less = absurd (omega arith)
-earlier_stage game (Rank _ _ _) (Move _ _) less = omega arith
-earlier_stage game (Rank _ _ _) (Escape _ _) less = omega arith
+earlier_stage game flaw other h1 = search rules
 
 -- the first flaw of its stage
 pub first_of_stage : {game : ParityGame} {certificate : CertificateData} {stage v : ℕ} {flaw : Flaw} →
     IsFirstFlawAt game certificate stage v flaw → ((other : Flaw) → IsFlaw game certificate other →
     stage_of other ≡ stage → vertex_of other < v → ⊥) → {other : Flaw} → IsFlaw game certificate other →
     stage_of other ≡ stage → (flaw ≡ other) ⊎ Precedes game flaw other
-first_of_stage {game} {v} {flaw} at none_before {other} is_flaw at_stage =
-    elim (cases_order (vertex_of other) v) [
-      | inl same ↦ at.first other is_flaw at_stage same
-      | inr (inl below) ↦ absurd (none_before other is_flaw at_stage below)
-      | inr (inr above) ↦ inr (later_vertex game flaw other (at.at_stage ∙ sym at_stage) (omega (arith, at.at_vertex)))
-    ]
+first_of_stage {game} {v} {flaw} at none_before {other} is_flaw at_stage = search (rules, cases_order, later_vertex)
 
 pub stage_cases : (flaw : Flaw) → (stage_of flaw ≡ 0) ⊎ (stage_of flaw ≡ 1)
-stage_cases (Move _ _) = inl refl
-stage_cases (Escape _ _) = inl refl
-stage_cases (Rank _ _ _) = inr refl
+stage_cases flaw = search rules
 
 -- a sound vertex has no flaw in its move or in what remains
 pub sound_has_no_flaw : {game : ParityGame} {certificate : CertificateData} {v : ℕ} → IsSoundAt game certificate v →
     (flaw : Flaw) → IsFlaw game certificate flaw → stage_of flaw ≡ 0 → vertex_of flaw ≡ v → ⊥
-sound_has_no_flaw sound (Move u m) is_flaw at_stage same = not_wrong_when_right (rw same sound.right_move) is_flaw.2
-sound_has_no_flaw sound (Escape u w) is_flaw at_stage same =
-    is_flaw.1 (let inside = rw (← same) at sound.inside in inside w is_flaw.0)
-sound_has_no_flaw sound (Rank _ _ _) is_flaw at_stage same = omega arith
+sound_has_no_flaw h1 flaw h2 h3 h4 = search (rules, not_wrong_when_right)
 
 -- the first flaw at a vertex behind sound ones is the first of all
 pub first_unsound : {game : ParityGame} {certificate : CertificateData} {v : ℕ} {flaw : Flaw} → ((u : ℕ) →
@@ -89,15 +63,4 @@ closed_has_no_flaw closed (Rank _ _ _) is_flaw at_stage = omega arith
 pub first_move : {game : ParityGame} {certificate : CertificateData} {v : ℕ} {choice : Option ℕ} →
     v < vertex_count game → choice ≡ choice_of certificate v → ¬ HasRightMove game certificate v →
     IsFirstFlawAt game certificate 0 v (Move v choice)
-first_move {game} {certificate} {v} {choice} in_range is not_right = record {
-  is_flaw = (in_range, sym is, HasWrongMove-from_not_right game certificate v not_right);
-  at_stage = refl;
-  at_vertex = refl;
-  first = others;
-}
-  where
-    others : (other : Flaw) → IsFlaw game certificate other → stage_of other ≡ 0 → vertex_of other ≡ v →
-        (Move v choice ≡ other) ⊎ Precedes game (Move v choice) other
-    others (Move u m) is_flaw _ same = inl (cc (is_flaw.1, same, is))
-    others (Escape u w) is_flaw _ same = inr (omega arith)
-    others (Rank _ _ _) is_flaw late _ = absurd (omega arith)
+first_move {game} {certificate} {v} {choice} in_range is not_right = search (rules, HasWrongMove-from_not_right)

@@ -1,13 +1,13 @@
 -- What is read fits the game.
-use Rattle.std.proofs.Common.{◌≡◌, ℕ, zero, suc, ◌<◌, Bool, true, false, cond, eqb, List, [], ◌∷◌, length, get_or}
-use Rattle.std.proofs.Common.{Option, None, Some, ap, ◌∙◌, inl, inr, sym, subst, arith}
+use Rattle.std.proofs.Common.{◌≡◌, ℕ, zero, suc, ◌<◌, Bool, true, false, List, [], ◌∷◌, length}
+use Rattle.std.proofs.Common.{Option, ap, ◌∙◌, sym, subst, rules}
 use Rattle.std.specs.Prelude.{IfSome, All}
 use Rattle.std.proofs.lemmas.List.{length-map}
 use Rattle.std.proofs.lemmas.List.Elements.{All-nil, All-cons, All-get_or}
 use Rattle.std.proofs.lemmas.List.Quantifiers.{position-Some}
 use Rattle.ps_game.specs.Games.{ParityGame, vertex_count}
 use Rattle.ps_game.specs.Ranking.{ListsPriorities}
-use Rattle.ps_certificate.specs.Certificates.{EntryData, CertificateData, Fits, no_entry, winner_of, choice_of}
+use Rattle.ps_certificate.specs.Certificates.{EntryData, CertificateData, Fits, winner_of, choice_of}
 use Rattle.ps_certificate.specs.Certificates.{counts_of, opposing}
 use Rattle.ps_certificate.specs.Texts.{Seen, winner, vertex_of, choice, counts, counts_in, lost_by, entry, entries}
 use Rattle.ps_certificate.specs.Texts.{certificate}
@@ -18,21 +18,14 @@ pub record EntryFits (odd even : List ℕ) (n : ℕ) (entry : EntryData) : Type 
   pub counts : length entry.counts ≡ length (lost_by odd even entry.winner)
 
 winner_below : (text : List Seen) (w : ℕ) → winner.IsText text w → w < 2
-winner_below text w h = go (eqb h.0.byte 48) (eqb h.0.byte 49) h.2
-  where
-    go : (x y : Bool) → cond x (Some 0) (cond y (Some 1) None) ≡ Some w → w < 2
-    go true y e = let k : 0 ≡ w = cc in omega arith
-    go false true e = let k : 1 ≡ w = cc in omega arith
-    go false false e = absurd cc
+winner_below text w h = search rules
 
 vertex_below : (ids : List ℕ) (id : ℕ) (o : Option ℕ) → o ≡ vertex_of ids id → IfSome o (λ v. v < length ids)
-vertex_below ids id None e = tt
-vertex_below ids id (Some v) e = (position-Some (λ other. eqb other id) ids v 0 (sym e)).0
+vertex_below ids id o h1 = search (rules, position-Some)
 
 choice_below : (ids : List ℕ) (text : List Seen) (c : Option ℕ) → (choice ids).IsText text c
     → IfSome c (λ v. v < length ids)
-choice_below ids text c (inl h) = subst (λ o. IfSome o (λ v. v < length ids)) (sym h.2) tt
-choice_below ids text c (inr h) = vertex_below ids h.0 c h.2
+choice_below ids text c h1 = search (rules, vertex_below)
 
 counts_long : (n : ℕ) (text : List Seen) (cs : List ℕ) → (counts n).IsText text cs → length cs ≡ n
 counts_long zero text cs h = ap length h.2
@@ -47,23 +40,11 @@ counts_in_long true ps text cs h = ap length h.is_right.2 ∙ length-map ps h.va
 module _ (compact : Bool) (odd even all : List ℕ) where
   entry_fits : (id : ℕ) (text : List Seen) {e : EntryData} → (entry compact odd even all id).IsText text e
       → EntryFits odd even (length all) e
-  entry_fits id text h =
-      let line = h.is_right.is_right in
-      let moved = line.is_right.is_right in
-      let counted = moved.is_right in
-      let made : EntryData = record { winner = line.value; choice = moved.value; counts = counted.0 } in
-      subst (EntryFits odd even (length all)) (sym counted.2) (record {
-        winner = winner_below line.left line.value line.is_left;
-        choice = choice_below all moved.left moved.value moved.is_left;
-        counts = counts_in_long compact (lost_by odd even line.value) moved.right counted.0 counted.1;
-      })
+  entry_fits id text h = search (rules, winner_below, choice_below, counts_in_long)
 
   entries_fit : (ids : List ℕ) (text : List Seen) (es : List EntryData) → (entries compact odd even all ids).IsText
       text es → (length es ≡ length ids) × All (EntryFits odd even (length all)) es
-  entries_fit [] text es h = (
-    ap length h.1,
-    subst (All (EntryFits odd even (length all))) (sym h.1) (All-nil (EntryFits odd even (length all))),
-  )
+  entries_fit [] text es h = search (rules, All-nil)
   entries_fit (id ∷ ids) text es h =
       let others = h.is_right in
       let rest = entries_fit ids h.right others.0 others.1 in (
@@ -76,22 +57,4 @@ pub certificate_fits : {game : ParityGame} {odd even : List ℕ} (ids : List ℕ
     → length ids ≡ vertex_count game → ListsPriorities game 1 odd → ListsPriorities game 0 even
     → (certificate odd even ids).IsText text c → Fits game c
 unfolding winner_of choice_of counts_of opposing
-certificate_fits {game} {odd} {even} ids text each odd_listed even_listed h =
-    let behind = h.is_right.is_right in
-    let lines = behind.is_right.is_right.is_right.is_right.is_right.is_right in
-    subst (Fits game) (sym lines.2) (fits lines.0 (entries_fit h.is_right.value odd even ids ids _ lines.0 lines.1))
-  where
-    fits : (es : List EntryData) → (length es ≡ length ids) × All (EntryFits odd even (length ids)) es
-        → Fits game (record { odd = odd; even = even; entries = es })
-    fits es fit =
-        let at : (v : ℕ) → v < vertex_count game → EntryFits odd even (length ids)
-        (get_or es v no_entry) = λ v lt. All-get_or (EntryFits odd even (length ids)) es v no_entry
-        (omega (arith, fit.0, each)) fit.1 in
-        record {
-          entry_each = fit.0 ∙ each;
-          winners = λ v lt. (at v lt).winner;
-          choices = λ v lt. subst (λ n. IfSome (get_or es v no_entry).choice (λ w. w < n)) each (at v lt).choice;
-          odd_listed = odd_listed;
-          even_listed = even_listed;
-          count_each = λ v lt. (at v lt).counts;
-        }
+certificate_fits {game} {odd} {even} ids text each odd_listed even_listed h = search (rules, entries_fit, All-get_or)

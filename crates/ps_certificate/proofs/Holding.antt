@@ -1,7 +1,7 @@
 -- A valid certificate's moves win each loop: along the edges that remain the count for the loop's
 -- priority never rises, and where the loop meets that priority it falls; but both ends are one vertex.
 use Rattle.std.proofs.Common.{◌≡◌, ◌≢◌, ℕ, ◌+◌, ◌-◌, ◌%◌, ◌<◌, ◌≤◌, ◌∙◌, List, length, inl, inr, sym, ap, arith, zero}
-use Rattle.std.proofs.Common.{suc}
+use Rattle.std.proofs.Common.{suc, rules}
 use Rattle.std.specs.Prelude.{slice_index, IsTrue}
 use Rattle.std.proofs.lemmas.Bool.{cases_eq, eqb-true, eq-eqb}
 use Rattle.ps_game.specs.Games.{ParityGame, IsGame, vertex_count, priority_of}
@@ -54,20 +54,14 @@ bounded : (game : ParityGame) (certificate : CertificateData) (player : ℕ) (pa
     LostLoop game certificate player path i j place → (k : ℕ) → i ≤ k → k ≤ j →
     priority_of game (slice_index path k) ≤ loop_priority game path i j
 bounded game certificate player path i j place lost k after before = elim (cases_eq k j) [
-  | inl last ↦
-      let at_begin : priority_of game (slice_index path i) ≤ loop_priority game path i j =
-      le-loop_priority game path i j i (omega arith) lost.loop.rises (omega (arith, lost.loop.within)) in
-      let same : priority_of game (slice_index path k) ≡ priority_of game (slice_index path i) =
-      ap (λ n. priority_of game (slice_index path n)) last ∙ ap (priority_of game) (sym lost.loop.same) in
-      omega arith
+  | inl last ↦ search (rules, le-loop_priority)
   | inr earlier ↦ le-loop_priority game path i j k after (omega arith) (omega (arith, lost.loop.within))
 ]
 
 winner_along : {game : ParityGame} {certificate : CertificateData} {player : ℕ} {path : List ℕ} {i j place : ℕ} →
     LostLoop game certificate player path i j place → (k : ℕ) → k ≤ j →
     winner_of certificate (slice_index path k) ≡ player
-winner_along {game} {certificate} {player} {path} lost k before = path_stays game
-    certificate player path lost.valid.closed lost.is_path lost.follows lost.begins k (omega (arith, lost.loop.within))
+winner_along {game} {certificate} {player} {path} lost k before = search (rules, path_stays)
 
 -- the opposing priority at the place, at each vertex of the loop
 at_place : {game : ParityGame} {certificate : CertificateData} {player : ℕ} {path : List ℕ} {i j place : ℕ} →
@@ -144,11 +138,8 @@ wins_each_loop {game} {certificate} {player} is_player fits valid {path} {i} {j}
 
 pub BothHold-from_valid : (game : ParityGame) (certificate : CertificateData) → Fits game certificate →
     IsValid game certificate → BothHold game certificate
-BothHold-from_valid game certificate fits valid player is_player = record {
-  keeps = BothKeep-from_closed game certificate valid.closed player is_player;
-  wins = λ path i j is_path begins follows loop. wins_each_loop is_player fits valid is_path
-      (eqb-true (winner_of certificate (slice_index path 0)) player begins) follows loop;
-}
+BothHold-from_valid game certificate fits valid player is_player =
+    search (rules, BothKeep-from_closed, wins_each_loop, eqb-true)
 
 pub NoneWinsOutside-from_valid : (game : ParityGame) (certificate : CertificateData) → IsGame game →
     Fits game certificate → IsValid game certificate → NoneWinsOutside game certificate

@@ -1,5 +1,5 @@
 -- A closed certificate's regions keep the paths that follow its moves.
-use Rattle.std.proofs.Common.{◌≡◌, ℕ, ◌+◌, ◌<◌, ◌∙◌, List, length, sym, arith, zero, suc, add-one}
+use Rattle.std.proofs.Common.{◌≡◌, ℕ, ◌+◌, ◌<◌, ◌∙◌, List, length, sym, arith, zero, suc, add-one, rules}
 use Rattle.std.specs.Prelude.{slice_index}
 use Rattle.std.proofs.lemmas.Bool.{eqb-true, eq-eqb}
 use Rattle.ps_game.specs.Games.{ParityGame}
@@ -11,10 +11,7 @@ use Rattle.ps_certificate.specs.Regions.{BothKeep}
 pub path_remains : {game : ParityGame} (certificate : CertificateData) {player : ℕ} {path : List ℕ} (k : ℕ) →
     IsPath game path → Follows game player (choice_of certificate) path → k + 1 < length path → winner_of certificate
     (slice_index path k) ≡ player → Remains game certificate (slice_index path k) (slice_index path (k + 1))
-path_remains certificate k is_path follows within is = record {
-  edge = is_path.edges k within;
-  chosen = λ own. follows k within (own ∙ is);
-}
+path_remains certificate k is_path follows within is = search rules
 
 -- each vertex of such a path has the same winner
 pub path_stays : (game : ParityGame) (certificate : CertificateData) (player : ℕ) (path : List ℕ) → IsClosed
@@ -32,7 +29,5 @@ pub BothKeep-from_closed : (game : ParityGame) (certificate : CertificateData) �
 BothKeep-from_closed game certificate closed player player_below = record {
   moves = λ v below in_region own. (closed.moves v below).own
       (own ∙ sym (eqb-true (winner_of certificate v) player in_region));
-  stays = λ path is_path begins follows k within. eq-eqb (winner_of certificate (slice_index path k)) player
-      (path_stays game certificate player path closed is_path follows
-      (eqb-true (winner_of certificate (slice_index path 0)) player begins) k within);
+  stays = search (rules, eq-eqb, path_stays, eqb-true);
 }

@@ -8,7 +8,6 @@ pub mod Keeping
 pub mod Lines
 pub mod Lists
 pub mod Loops
-pub mod NumberAhead
 pub mod NumberPart
 pub mod Numerals
 pub mod OneFlaw

@@ -1,6 +1,6 @@
 -- Entries that are kept by winners, lines and one list of placed counts.
-use Rattle.std.proofs.Common.{◌≡◌, ℕ, ◌<◌, ◌≤◌, min, None, List, [], ◌∷◌, ◌++◌, length, map, get_or, take, drop, refl}
-use Rattle.std.proofs.Common.{ap, sym, subst, ◌∙◌, arith}
+use Rattle.std.proofs.Common.{◌≡◌, ℕ, ◌<◌, ◌≤◌, None, List, [], ◌∷◌, ◌++◌, length, get_or, take, drop, refl}
+use Rattle.std.proofs.Common.{ap, sym, subst, ◌∙◌, arith, rules}
 use Rattle.std.specs.List.{All, slice_range, zip}
 use Rattle.std.proofs.lemmas.Grind.{common_steps}
 use Rattle.std.proofs.lemmas.List.{map-append, get_or-map, length-map}
@@ -54,8 +54,7 @@ module _ (ws : List ℕ) (ls : List Line) (cs new : List PlacedCount) (are : Are
     (kept : take (length cs) new ≡ cs) where
   -- what is not named by a line changes no entry
   pub entries_same : entries_in ws ls new ≡ entries_in ws ls cs
-  entries_same = let more = begins cs new kept in
-      ap (λ (all : List PlacedCount). entries_in ws ls all) more.1 ∙ entries_kept ws ls more.0 are.within
+  entries_same = search (rules, begins, entries_kept)
 
   pub lines_same : AreLines ws ls new
   lines_same = record {
@@ -67,10 +66,7 @@ module _ (ws : List ℕ) (ls : List Line) (cs new : List PlacedCount) (are : Are
   module _ (w : ℕ) (line : Line) where
     pub entries_push : {row : List ℕ} → row_of line.width (part_of new line) ≡ row → entries_in (ws ++ w ∷ [])
         (ls ++ line ∷ []) new ≡ entries_in ws ls cs ++ record { winner = w; choice = line.choice; counts = row } ∷ []
-    entries_push is = ap (map (entry_in new)) (zip_push ws ls w line are.each) ∙ map-append (entry_in new) (zip ws ls)
-        ((w, line) ∷ []) ∙ ap (λ (earlier : List EntryData). earlier ++ entry_in new (w, line) ∷ []) entries_same ∙ ap
-        (λ (counts : List ℕ). entries_in ws ls cs ++ record { winner = w; choice = line.choice; counts = counts } ∷ [])
-        is
+    entries_push is = search (rules, zip_push, map-append, entries_same)
 
     -- one line more, whose counts are there
     pub lines_push : IsWithin new line → AreLines (ws ++ w ∷ []) (ls ++ line ∷ []) new
@@ -82,11 +78,7 @@ module _ (ws : List ℕ) (ls : List Line) (cs new : List PlacedCount) (are : Are
 
 pub length-entries : {ws : List ℕ} {ls : List Line} {cs : List PlacedCount} → AreLines ws ls cs
     → length (entries_in ws ls cs) ≡ length ls
-length-entries {ws} {ls} {cs} are =
-    length-map (zip ws ls) (entry_in cs) ∙ length-zip ws ls ∙ shorter (length ws) (length ls) are.each
-  where
-    shorter : (m n : ℕ) → m ≡ n → min m n ≡ n
-    shorter m n h = omega arith
+length-entries {ws} {ls} {cs} are = search (rules, length-map, length-zip)
 
 module _ (ws : List ℕ) (ls : List Line) (cs : List PlacedCount) (v : ℕ) (are : AreLines ws ls cs)
     (within : v < length (entries_in ws ls cs)) where

@@ -1,6 +1,6 @@
 -- Rising lists, searches in them, and parts of lists.
-use Rattle.std.proofs.Common.{◌≡◌, ℕ, ◌<◌, ◌≤◌, ◌∙◌, List, length, get_or, inl, inr, ap, arith, zero, suc, Result, true}
-use Rattle.std.proofs.Common.{false, replicate}
+use Rattle.std.proofs.Common.{◌≡◌, ℕ, ◌<◌, ◌≤◌, ◌∙◌, List, length, get_or, inl, inr, arith, zero, suc, Result, true}
+use Rattle.std.proofs.Common.{false, replicate, rules}
 use Rattle.std.specs.Prelude.{slice_index}
 use Rattle.std.specs.List.{Contains}
 use Rattle.std.specs.List.Sorted.{IsStrictlyIncreasing, IsBinarySearchResult}
@@ -18,11 +18,7 @@ rising_far xs rising i j less within = AllPairs-from_increasing xs rising i j 0 
 
 pub rising_near : (xs : List ℕ) → IsStrictlyIncreasing xs → (i j : ℕ) → i ≤ j → j < length xs →
     slice_index xs i ≤ slice_index xs j
-rising_near xs rising i j at_most within = elim (cases_eq i j) [
-  | inl same ↦ (let e : slice_index xs i ≡ slice_index xs j = ap (λ k. slice_index xs k) same in omega arith)
-  | inr differ ↦ (let less : slice_index xs i < slice_index xs j = rising_far xs rising i j (omega arith) within in
-      omega arith)
-]
+rising_near xs rising i j at_most within = search (rules, cases_eq, rising_far)
 
 -- what a binary search of a rising list answers
 pub search_result : (xs : List ℕ) (x : ℕ) (r : Result ℕ ℕ) → IsStrictlyIncreasing xs →

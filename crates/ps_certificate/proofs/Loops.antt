@@ -4,8 +4,8 @@
 --     priorities_next, priorities_fail, priorities_end      the numbers of a line of priorities
 --     Listing      what is left is read, behind a front of a list
 use Rattle.std.proofs.Common.{◌≡◌, ℕ, suc, ◌+◌, ◌-◌, ◌<◌, ◌≤◌, Bool, true, false, not, eqb, List, [], ◌∷◌, ◌++◌, length}
-use Rattle.std.proofs.Common.{get_or, drop, Option, Some, None, Result, Ok, Err, IsErrAnd, refl, sym, ap, subst, ◌∙◌}
-use Rattle.std.proofs.Common.{append_assoc, arith}
+use Rattle.std.proofs.Common.{get_or, drop, Option, Some, Result, Ok, Err, IsErrAnd, refl, sym, ap, subst, ◌∙◌}
+use Rattle.std.proofs.Common.{append_assoc, arith, rules}
 use Rattle.std.specs.Prelude.{slice_get}
 use Rattle.std.specs.Option.{option_eq}
 use Rattle.std.proofs.lemmas.Bool.{eq-eqb, eqb-true}
@@ -84,28 +84,11 @@ module _ (ps : List ℕ) where
 
   -- what the test of the next number says
   pub is_not_next : (n : ℕ) {o : Option ℕ} → o ≡ slice_get ps 0 → true ≡ not (option_eq eqb o (Some n)) → NotNext ps n
-  is_not_next n {o} e h is = go o (e ∙ is) h
-    where
-      go : (o : Option ℕ) → o ≡ Some n → true ≡ not (option_eq eqb o (Some n)) → ⊥
-      go None e h = cc
-      go (Some m) e h =
-          let same : m ≡ n = cc in
-          let t : eqb m n ≡ true = eq-eqb m n same in
-          let f : true ≡ not (eqb m n) = h in
-          let g : true ≡ false = f ∙ ap not t in
-          cc
+  is_not_next n {o} e h is = search (rules, eq-eqb)
 
   pub is_next : {n : ℕ} {o : Option ℕ} → o ≡ slice_get ps 0 → false ≡ not (option_eq eqb o (Some n))
       → slice_get ps 0 ≡ Some n
-  is_next {n} {o} e h = sym e ∙ go o h
-    where
-      go : (o : Option ℕ) → false ≡ not (option_eq eqb o (Some n)) → o ≡ Some n
-      go None h = absurd cc
-      go (Some m) h = tested (eqb m n) refl h
-        where
-          tested : (b : Bool) → eqb m n ≡ b → false ≡ not b → Some m ≡ Some n
-          tested true t f = ap Some (eqb-true m n t)
-          tested false t f = absurd cc
+  is_next {n} {o} e h = search (rules, eqb-true)
 
 module _ (ps left : List ℕ) (start : Stream Seen) (now : Place)
     (k : Carries causes (many priority ps) start (many priority left) (at_place now)) where
@@ -201,8 +184,7 @@ module _ (n i : ℕ) (start now : Stream Seen) (front : List ℕ)
 
   pub counts_end_fails : n ≤ i → (o : Option (Found CertCause)) → Stops causes (byte 10) now o
       → Stops causes (counts n) start o
-  counts_end_fails le o m = listing_fails (counts n) start (counts 0) now front (none_left le) o
-      (stops_mapped causes (λ _. []) (byte 10) now o m)
+  counts_end_fails le o m = search (rules, listing_fails, none_left, stops_mapped)
 
 -- ## The lines of the vertices
 

@@ -1,4 +1,5 @@
 -- A number as a part of the text: how it is read, and how reading it fails.
+use Rattle.std.proofs.Common.{rules}
 use Rattle.std.proofs.Common.{◌≡◌, ℕ, zero, suc, ◌+◌, ◌^◌, ◌<◌, ◌≤◌, ◌⊎◌, List, [], ◌∷◌, ◌++◌, length, take, drop, Err}
 use Rattle.std.proofs.Common.{refl, sym, ap, subst, inl, inr, ◌∙◌, append_assoc, arith, length-append, length-drop}
 use Rattle.std.proofs.Math.Seq.{take-append_seam, drop-append_seam}
@@ -111,8 +112,8 @@ run_is_wrong {Wrong} settled {bytes} {f} e b = (run_long b.digits b.more whole b
         ap (λ r. decimal_value (numeral r)) whole ∙ ap decimal_value long.1 in
         inl (x.0, omega (arith, x.1, same, value_grows b.digits long.0))
     go (inr x) = let run : numeral bytes ≡ b.digits = run_is (settled b.more (decimal_value b.digits) f x) in
-        let rest : b.more ≡ drop (run_length bytes) bytes = sym (ap (λ r. drop (length r) bytes) run
-        ∙ ap (λ r. drop (length b.digits) r) whole ∙ drop-append_seam b.digits b.more) in inr (subst (λ more. Wrong more
+        let rest : b.more ≡ drop (run_length bytes) bytes = search (rules, drop-append_seam) in
+        inr (subst (λ more. Wrong more
         (decimal_value (numeral bytes)) f) rest (subst (λ r. Wrong b.more (decimal_value r) f) (sym run) x))
 
 pub wrong_run_is : {Wrong : Verdict} {bytes : List ℕ} {t : Seen} {f : CertCause} → bytes ≡ t.byte ∷ t.behind
@@ -163,13 +164,10 @@ module _ (Wrong : Verdict) (settled : Settled Wrong) (t : Seen) (after : List Se
 
   one_plain : (digits more : List ℕ) → t.byte ∷ t.behind ≡ digits ++ more → 0 < length digits → IsPlainNumber digits →
       IsPlainNumber (t.byte ∷ [])
-  one_plain [] more e l h = absurd (omega (arith, l))
-  one_plain (d ∷ digits) more e l h = subst (λ b. IsPlainNumber (b ∷ []))
-      (sym (same_head t.byte d t.behind (digits ++ more) e)) (plain_front (d ∷ []) digits (omega arith) h)
+  one_plain digits more h1 h2 h3 = search (rules, same_head, plain_front)
 
   begins : 0 < run_length bytes
-  begins = run_long (t.byte ∷ []) (bytes_of after) refl (one_plain
-      (numeral (t.byte ∷ t.behind)) _ (numeral_split (t.byte ∷ t.behind)) long (numeral_plain (t.byte ∷ t.behind) long))
+  begins = search (rules, run_long, one_plain, numeral_split, numeral_plain)
 
   same : bytes_of text ≡ numeral bytes
   same = sym (take-map (λ (s : Seen). s.byte) (run_length bytes) all) ∙ ap (take (run_length bytes))
@@ -230,10 +228,7 @@ read_run {Wrong} settled (b ∷ more) {n} {rest} long value small behind right =
 
 pub judged_reads : (Wrong : Verdict) → Settled Wrong → (old new : Place) (n : ℕ) → IsNumberRead old new n →
     ((f : CertCause) → Wrong new.rest n f → ⊥) → Reads (judged Wrong) (at_place old) n (at_place new)
-judged_reads Wrong settled old new n r right = (
-  rw (r.at, r.rest) (suffix_behind (run_length old.rest) old.at old.rest (run_within old.rest)),
-  simp signs_seen (read_run settled old.rest r.long (sym r.value) r.small (sym r.rest) right),
-)
+judged_reads Wrong settled old new n r right = search (rules, suffix_behind, run_within, signs_seen, read_run)
 
 pub judged_begins : (Wrong : Verdict) → Begins (judged Wrong).IsText []
 judged_begins Wrong = record {
@@ -275,8 +270,7 @@ nothing_there Wrong at (b ∷ bytes) e = is_refusal (record {
 }) refl
 
 pub syntax_least : (g : CertCause) → cause_number Syntax ≤ cause_number g
-syntax_least Syntax = omega arith
-syntax_least OtherGame = omega arith
+syntax_least g = search rules
 
 pub too_large : (Wrong : Verdict) (at : ℕ) (bytes : List ℕ) → 0 < run_length bytes → 2 ^ 64 ≤ decimal_value
     (numeral bytes) → IsFaultAt causes (judged Wrong) [] (first_of (signs (pieces_at at bytes))) Syntax
@@ -333,9 +327,7 @@ abbrev pub AtDigit : Seen → Type 0
 AtDigit s = IsDigit s.byte
 
 first_digit : (b : ℕ) (bytes digits more : List ℕ) → b ∷ bytes ≡ digits ++ more → IsPlainNumber digits → IsDigit b
-first_digit b bytes [] more e h = absurd (omega (arith, h.0.0))
-first_digit b bytes (d ∷ digits) more e h = subst IsDigit (sym (same_head b d bytes (digits ++ more) e))
-    (All-head IsDigit d digits h.0.1)
+first_digit b bytes digits more h1 h2 = search (rules, same_head, All-head)
 
 pub laws_judged : (Wrong : Verdict) → Laws Odd (judged Wrong) AtDigit AtDigit ⊥
 laws_judged Wrong = record {
@@ -344,8 +336,7 @@ laws_judged Wrong = record {
   first_text = λ t text v h. All-head IsDigit t.byte (bytes_of text) h.0.0.1;
   first_cause = λ t f c. first_digit t.byte t.behind c.1.digits c.1.more c.1.split c.1.number;
   more_text = λ text more t v w h k. later text more t k.0;
-  more_cause = λ text t v f h c. absurd (let z : 0 < length (bytes_of []) = subst
-      (λ x. 0 < length (bytes_of x)) c.0 h.0.0.0 in omega (arith, z));
+  more_cause = search rules;
   null = λ v h. omega (arith, h.0.0.0);
   behind = λ front t f c. subst (Begins (judged Wrong).IsText) (sym c.0) (judged_begins Wrong);
   plain_text = λ front rest t v h o. none_is_some o.0 o.1;

@@ -1,9 +1,10 @@
 -- The digits that a text begins with: the longest run without a leading zero, and the number that it writes.
-use Rattle.std.proofs.Common.{◌≡◌, ℕ, suc, ◌+◌, ◌<◌, Bool, true, false, cond, eqb, List, [], ◌∷◌, ◌++◌, length, drop}
+use Rattle.std.proofs.Common.{rules}
+use Rattle.std.proofs.Common.{◌≡◌, ℕ, ◌+◌, ◌<◌, true, false, eqb, List, [], ◌∷◌, ◌++◌, length, drop}
 use Rattle.std.proofs.Common.{refl, sym, ap, ap₂, subst, inl, inr, ◌∙◌, append_assoc, append-nil, arith, length-append}
 use Rattle.std.specs.Prelude.{take_while}
 use Rattle.std.specs.Char.{is_ascii_digit}
-use Rattle.std.specs.List.{All, prefix_len}
+use Rattle.std.specs.List.{All}
 use Rattle.std.proofs.lemmas.List.Folds.{length-prefix_len}
 use Rattle.std.proofs.lemmas.Bool.{cases_Bool, cases_eq, eq-eqb, ne_eqb, eqb-true, eqb-false}
 use Rattle.std.proofs.lemmas.List.Elements.{All-nil, All-cons, All-head, All-tail, All-take, All-drop}
@@ -26,8 +27,7 @@ taken_digits (b ∷ bytes) = rw take_while-cons (elim (cases_Bool (is_ascii_digi
 
 taken_split : {bytes : List ℕ} → bytes ≡ take_while is_ascii_digit bytes ++ drop
     (length (take_while is_ascii_digit bytes)) bytes
-taken_split {bytes} = sym (ap (λ n. take_while is_ascii_digit bytes ++ drop n bytes)
-    (length-prefix_len is_ascii_digit bytes) ∙ take-append-drop (prefix_len is_ascii_digit bytes) bytes)
+taken_split {bytes} = search (rules, length-prefix_len, take-append-drop)
 
 taken_over : (digits more : List ℕ) → All IsDigit digits
     → take_while is_ascii_digit (digits ++ more) ≡ digits ++ take_while is_ascii_digit more
@@ -37,34 +37,18 @@ taken_over (d ∷ digits) more h = rw (take_while-cons, digit_passes d (All-head
 
 -- what begins with a zero: the run is that zero
 comes_is : (b : ℕ) (bytes : List ℕ) → comes b bytes ≡ true → (more : List ℕ) × (bytes ≡ b ∷ more)
-comes_is b [] e = absurd cc
-comes_is b (c ∷ bytes) e = (bytes, ap (λ x. x ∷ bytes) (eqb-true c b e))
+comes_is b bytes h1 = search (rules, eqb-true)
 
 -- the run is a front of the bytes
 pub numeral_split : (bytes : List ℕ) → bytes ≡ numeral bytes ++ drop (length (numeral bytes)) bytes
-numeral_split bytes = elim (cases_Bool (comes 48 bytes)) [
-  | inl so ↦ let z = comes_is 48 bytes so in rw (so, z.1) refl
-  | inr other ↦ rw other (taken_split)
-]
+numeral_split bytes = search (rules, cases_Bool, comes_is, taken_split)
 
 no_zero : (bytes : List ℕ) → comes 48 bytes ≡ false → BeginsWithZero (take_while is_ascii_digit bytes) → ⊥
-no_zero [] e = λ z. z
-no_zero (b ∷ bytes) e = rw take_while-cons (elim (cases_Bool (is_ascii_digit b)) [
-  | inl so ↦ rw so (λ z. eqb-false b 48 e z)
-  | inr other ↦ rw other (λ z. z)
-])
+no_zero bytes h1 h2 = search (rules, take_while-cons, cases_Bool, eqb-false)
 
 -- and a number without leading zeros, unless it is empty
 pub numeral_plain : (bytes : List ℕ) → 0 < length (numeral bytes) → IsPlainNumber (numeral bytes)
-numeral_plain bytes long = go (comes 48 bytes) refl long
-  where
-    go : (b : Bool) → comes 48 bytes ≡ b → 0 < length (cond b (48 ∷ []) (take_while is_ascii_digit bytes))
-        → IsPlainNumber (cond b (48 ∷ []) (take_while is_ascii_digit bytes))
-    go true e l = (
-      (omega arith, All-cons IsDigit 48 [] (omega arith, omega arith) (All-nil IsDigit)),
-      λ lt. absurd (omega arith),
-    )
-    go false e l = ((l, taken_digits bytes), λ lt z. no_zero bytes e z)
+numeral_plain bytes long = search (rules, All-cons, All-nil, taken_digits, no_zero)
 
 -- each number without leading zeros that the bytes begin with is a front of the run
 pub numeral_longest : (digits more : List ℕ) → IsPlainNumber digits
@@ -109,9 +93,7 @@ numeral_ended {digits} more h ends = go long.0 long.1
         numeral_split (digits ++ more) ∙ ap (λ r. r ++ rest) e in
         let tail : more ≡ (x ∷ m) ++ rest =
         append_cancel_left digits more ((x ∷ m) ++ rest) (whole ∙ append_assoc digits (x ∷ m) rest) in
-        let plain : IsPlainNumber (digits ++ x ∷ m) = subst IsPlainNumber e
-        (numeral_plain (digits ++ more) (let l : length (numeral (digits ++ more)) ≡ length digits + suc (length m) =
-        ap length e ∙ length-append digits (x ∷ m) in omega (arith, l))) in
+        let plain : IsPlainNumber (digits ++ x ∷ m) = search (rules, numeral_plain) in
         let digit : IsDigit x = All-head IsDigit x m (subst (All IsDigit)
         (drop-append_seam digits (x ∷ m)) (All-drop IsDigit (length digits) (digits ++ x ∷ m) plain.0.1)) in
         absurd (no_end x (m ++ rest) (subst EndsField tail ends) digit)

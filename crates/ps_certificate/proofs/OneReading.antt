@@ -1,6 +1,6 @@
 -- A text has one answer for a game.
-use Rattle.std.proofs.Common.{◌≡◌, ℕ, zero, suc, ◌%◌, ◌<◌, ◌≤◌, List, [], ◌∷◌, length, get_or, Result, refl, ap, ap₂}
-use Rattle.std.proofs.Common.{subst, ◌∙◌, arith}
+use Rattle.std.proofs.Common.{◌≡◌, ℕ, suc, ◌%◌, ◌<◌, ◌≤◌, List, [], ◌∷◌, Result, refl, ap, ap₂}
+use Rattle.std.proofs.Common.{subst, ◌∙◌, arith, rules}
 use Rattle.std.specs.List.{All, AllPairs, Contains}
 use Rattle.std.proofs.lemmas.List.Elements.{All-contains}
 use Rattle.std.proofs.lemmas.List.Kept.{AllPairs-from_increasing}
@@ -10,7 +10,6 @@ use Rattle.ps_text.specs.Parts.{PartAnswers, IsWrong}
 use Rattle.ps_text.proofs.OneAnswer.{has_one_answer}
 use Rattle.ps_game.specs.Games.{ParityGame, NamedGameData}
 use Rattle.ps_certificate.specs.declared.fault.CertCause.{CertCause}
-use Rattle.ps_certificate.specs.declared.fault.CertCause.TheVariants.{Syntax, OtherGame}
 use Rattle.ps_certificate.specs.Faults.{cause_number}
 use Rattle.ps_game.specs.Ranking.{ListsPriorities, HasPriority}
 use Rattle.ps_certificate.specs.Certificates.{CertificateData}
@@ -30,11 +29,7 @@ rises (x ∷ xs) h = (
 )
 
 least_first : (x : ℕ) (xs : List ℕ) (p : ℕ) → Rises (x ∷ xs) → Contains (x ∷ xs) p → x ≤ p
-least_first x xs p r c = go c.0 c.1 c.2
-  where
-    go : (k : ℕ) → k < length (x ∷ xs) → get_or (x ∷ xs) k p ≡ p → x ≤ p
-    go zero lt e = omega (arith, e)
-    go (suc k) lt e = omega (arith, r.0 k p (omega (arith, lt)), e)
+least_first x xs p r c = search rules
 
 head_in : (x : ℕ) (xs : List ℕ) → Contains (x ∷ xs) x
 head_in x xs = (0, omega arith, refl)
@@ -73,14 +68,10 @@ within game parity xs ys l m p c =
 
 one_list : {game : ParityGame} {parity : ℕ} {xs ys : List ℕ} → ListsPriorities game parity xs →
     ListsPriorities game parity ys → xs ≡ ys
-one_list {game} {parity} {xs} {ys} l m = same_list xs ys (rises xs (AllPairs-from_increasing xs l.rising))
-    (rises ys (AllPairs-from_increasing ys m.rising)) (within game parity xs ys l m) (within game parity ys xs m l)
+one_list {game} {parity} {xs} {ys} l m = search (rules, same_list, rises, AllPairs-from_increasing, within)
 
 numbered : AreNumbered cause_number
-numbered Syntax Syntax e = refl
-numbered Syntax OtherGame e = absurd (omega (arith, e))
-numbered OtherGame Syntax e = absurd (omega (arith, e))
-numbered OtherGame OtherGame e = refl
+numbered = search rules
 
 pub one_reading : (game : NamedGameData) (text : List ℕ) (answer other : Result CertificateData (Found CertCause)) →
     ReadsCertificate game text answer → ReadsCertificate game text other → answer ≡ other

@@ -1,7 +1,7 @@
 -- Valid certificates of one game have the same winners: else a play by the moves of both, from a vertex that one player
 -- wins by the one and the other player by the other, would have a loop that both win.
 use Rattle.std.proofs.Common.{◌≡◌, ◌≢◌, ◌∙◌, ℕ, zero, suc, ◌+◌, ◌%◌, ◌<◌, inl, inr, Bool, true, false, List, [], ◌∷◌}
-use Rattle.std.proofs.Common.{length, Option, Some, None, refl, sym, ap, subst, arith, eqb}
+use Rattle.std.proofs.Common.{length, Option, Some, refl, sym, ap, subst, arith, eqb, rules}
 use Rattle.std.specs.Prelude.{IsSomeAnd, IfSome, slice_index, unwrap_or}
 use Rattle.std.proofs.lemmas.Bool.{cases_eq, eq-eqb, ne_eqb}
 use Rattle.ps_game.specs.Games.{ParityGame, vertex_count, owner_of, HasEdge}
@@ -11,8 +11,7 @@ use Rattle.ps_certificate.specs.Certificates.{CertificateData, Fits, IsValid, wi
 use Rattle.ps_certificate.proofs.Holding.{BothHold-from_valid}
 
 some_and : (P Q : ℕ → Type 0) (o : Option ℕ) → IsSomeAnd o P → IfSome o Q → (w : ℕ) × (o ≡ Some w) × P w × Q w
-some_and P Q None h k = absurd h
-some_and P Q (Some w) h k = (w, refl, h, k)
+some_and P Q o h1 h2 = search rules
 
 -- where the winner moves, the winner's move
 given : (game : ParityGame) (certificate : CertificateData) → Fits game certificate → IsValid game certificate →
@@ -83,37 +82,12 @@ module _ (game : ParityGame) (one other : CertificateData) (owners : (v : ℕ) �
 
   step : (v : ℕ) → IsBoth v → IsStep v
   step v b = elim (cases_eq (owner_of game v) p) [
-    | inl own ↦
-        let m = given game one fits valid v b.within (own ∙ sym b.by_one) in
-        let e : m.0 ≡ next v = sym (next-one v own m.1) in
-        record {
-          edge = subst (HasEdge game v) e m.2;
-          within = subst (λ w. w < vertex_count game) e m.3;
-          of_one = λ own'. m.1 ∙ ap (λ w. Some w) e;
-          of_other = λ own'. absurd (differ (sym own ∙ own'));
-        }
-    | inr never ↦
-        let own : owner_of game v ≡ q = (let low = owners v b.within in omega arith) in
-        let m = given game other fits' valid' v b.within (own ∙ sym b.by_other) in
-        let e : m.0 ≡ next v = sym (next-other v never m.1) in
-        record {
-          edge = subst (HasEdge game v) e m.2;
-          within = subst (λ w. w < vertex_count game) e m.3;
-          of_one = λ own'. absurd (never own');
-          of_other = λ own'. m.1 ∙ ap (λ w. Some w) e;
-        }
+    | inl own ↦ search (rules, given, next, next-one)
+    | inr never ↦ search (rules, given, next, next-other)
   ]
 
   keep : (v : ℕ) → IsBoth v → IsBoth (next v)
-  keep v b =
-      let s = step v b in
-      record {
-        within = s.within;
-        by_one = valid.closed.stays v
-            (next v) (record { edge = s.edge; chosen = λ own. s.of_one (own ∙ b.by_one) }) ∙ b.by_one;
-        by_other = valid'.closed.stays v
-            (next v) (record { edge = s.edge; chosen = λ own. s.of_other (own ∙ b.by_other) }) ∙ b.by_other;
-      }
+  keep v b = search (rules, step, next)
 
   module _ (v : ℕ) (b : IsBoth v) where
     abbrev n : ℕ

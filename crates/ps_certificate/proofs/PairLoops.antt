@@ -1,6 +1,6 @@
 -- What the loop over the pairs of a line has read, and what it still reads.
 use Rattle.std.proofs.Common.{◌≡◌, ℕ, zero, suc, ◌<◌, Bool, true, false, cond, eqb, List, [], ◌∷◌, length, get_or}
-use Rattle.std.proofs.Common.{Option, Some, None, Ok, refl, sym, ap, ap₂, subst, ◌∙◌, arith}
+use Rattle.std.proofs.Common.{Option, Some, None, Ok, refl, sym, ap, ap₂, subst, ◌∙◌, arith, rules}
 use Rattle.std.specs.Prelude.{map, set, slice_index, replicate}
 use Rattle.std.specs.List.{All}
 use Rattle.std.specs.List.Sorted.{IsStrictlyIncreasing}
@@ -38,14 +38,12 @@ abbrev pub put : (ℕ → ℕ) → ℕ → ℕ → ℕ → ℕ
 put f p m q = cond (eqb q p) m (f q)
 
 pub put_above : (f : ℕ → ℕ) (p m : ℕ) (ps : List ℕ) → All (λ q. p < q) ps → map (put f p m) ps ≡ map f ps
-put_above f p m ps above = same_map (put f p m) f ps (λ k d lt. let q =
-    get_or ps k d in ap (λ (b : Bool). cond b m (f q)) (ne_eqb q p (λ e. omega (arith, above k d lt, e))))
+put_above f p m ps above = search (rules, same_map, ne_eqb)
 
 set_is_put : (f : ℕ → ℕ) (m : ℕ) (ps : List ℕ) (k : ℕ) → Rises ps → k < length ps
     → set (map f ps) k m ≡ map (put f (get_or ps k 0) m) ps
 set_is_put f m [] k r lt = absurd (omega (arith, lt))
-set_is_put f m (q ∷ ps) zero r lt = ap₂ (λ (x : ℕ) (xs : List ℕ). x ∷ xs)
-    (sym (ap (λ (b : Bool). cond b m (f q)) (eq-eqb q q refl))) (sym (put_above f q m ps r.0))
+set_is_put f m (q ∷ ps) zero r lt = search (rules, eq-eqb, put_above)
 set_is_put f m (q ∷ ps) (suc k) r lt = let p = get_or ps k 0 in ap₂ (λ (x : ℕ) (xs : List ℕ). x ∷ xs)
     (sym (ap (λ (b : Bool). cond b m (f q)) (ne_eqb q p (λ e. omega (arith, r.0 k 0 (omega (arith, lt)), e)))))
     (set_is_put f m ps k r.1 (omega (arith, lt)))
@@ -87,8 +85,7 @@ module _ (ps : List ℕ) (start : Stream Seen) (now : Place) (last : Option ℕ)
   pair_more rising k m lt read = record {
     pairs = with_pair so_far.pairs (slice_index ps k) m;
     last_is = refl;
-    counts_are = ap (λ cs. set cs k m) so_far.counts_are ∙ set_is_put so_far.pairs.count m ps k
-        (rises ps (AllPairs-from_increasing ps rising)) lt;
+    counts_are = search (rules, set_is_put, rises, AllPairs-from_increasing);
     carries = carries_many (pair ps) (laws_pair ps) digit_no_space causes so_far.carries
         (read so_far.pairs so_far.last_is);
   }
@@ -107,8 +104,7 @@ module _ (ps : List ℕ) (start : Stream Seen) (now : Place) (last : Option ℕ)
 
   pub pairs_fail : comes 32 now.rest ≡ false → (o : Option (Found CertCause))
       → Stops causes (byte 10) (at_place now) o → Stops causes (counts_in true ps) start o
-  pairs_fail h o m = stops_behind causes (joint_pairs ps) (pairs_read h) o
-      (stops_mapped causes (λ _. map so_far.pairs.count ps) (byte 10) (at_place now) o m)
+  pairs_fail h o m = search (rules, stops_behind, joint_pairs, pairs_read, stops_mapped)
 
   pub pairs_done : comes 32 now.rest ≡ false → (new : Place) → Reads (byte 10) (at_place now) tt (at_place new)
       → Reads (counts_in true ps) start counts (at_place new)

@@ -2,8 +2,8 @@
 --     zero_fails, positive_reads      a count, which is not 0
 --     priority_fails, priority_open, priority_low, priority_unknown, priority_reads      its priority
 --     pair_space, pair_priority, pair_colon, pair_count, pair_reads      the pair
-use Rattle.std.proofs.Common.{◌≡◌, ℕ, ◌+◌, ◌≤◌, ◌⊎◌, ◌++◌, true, false, List, [], ◌∷◌, length, drop, Option, Some, None}
-use Rattle.std.proofs.Common.{Result, Ok, Err, IsErrAnd, refl, sym, ap, subst, inl, inr, ◌∙◌, arith}
+use Rattle.std.proofs.Common.{◌≡◌, ℕ, ◌+◌, ◌≤◌, ◌⊎◌, ◌++◌, true, false, List, [], ◌∷◌, length, drop, Option}
+use Rattle.std.proofs.Common.{Result, Ok, Err, IsErrAnd, refl, sym, ap, subst, inl, inr, ◌∙◌, arith, rules}
 use Rattle.std.specs.Prelude.{slice_index}
 use Rattle.std.specs.List.{Contains}
 use Rattle.std.proofs.lemmas.Bool.{ltb-true, ltb-false}
@@ -13,7 +13,6 @@ use Rattle.ps_text.specs.Answers.{Found}
 use Rattle.ps_text.specs.Parts.{then_by, mapped}
 use Rattle.ps_text.specs.Readers.{Reads, Stops}
 use Rattle.ps_text.specs.Faults.{found_of}
-use Rattle.ps_text.specs.Digits.{decimal_value}
 use Rattle.ps_text.specs.declared.faults.Fault.TheVariants.{Text}
 use Rattle.ps_text.proofs.Exits.{reads_mapped, reads_then, stops_mapped, stops_first, stops_behind}
 use Rattle.ps_certificate.specs.declared.fault.CertCause.{CertCause}
@@ -44,13 +43,7 @@ zero_fails old h is = judged_wrong settled_zero Syntax read (refl, refl) (λ g w
     zero = rw h refl
 
     read : IsNumberRead old (record { at = old.at + 1; rest = drop 1 old.rest }) 0
-    read = record {
-      long = omega (arith, ap length zero);
-      value = ap decimal_value (sym zero);
-      small = omega arith;
-      at = ap (λ run. old.at + length run) (sym zero);
-      rest = ap (λ run. drop (length run) old.rest) (sym zero);
-    }
+    read = search rules
 
 pub positive_reads : {old new : Place} {n : ℕ} → comes 48 old.rest ≡ false → IsNumberRead old new n
     → Reads (judged IsZero) (at_place old) n (at_place new)
@@ -73,18 +66,10 @@ number_positive old new (Err e) h m = judged_fails IsZero old new e m
 
 rises_not : {last : Option ℕ} (pairs : Pairs) (n : ℕ) → pairs.last ≡ last → rises last n ≡ true → DoesNotRise pairs n
     → ⊥
-rises_not {last} pairs n same e h = go pairs.last (ap (λ o. rises o n) same ∙ e) h
-  where
-    go : (last : Option ℕ) → rises last n ≡ true → DoesNotRise (record { last = last; count = pairs.count }) n → ⊥
-    go None e h = h
-    go (Some last) e h = omega (arith, h, ltb-true last n e)
+rises_not {last} pairs n same e h = search (rules, ltb-true)
 
 stays_below : {last : Option ℕ} (pairs : Pairs) (n : ℕ) → pairs.last ≡ last → rises last n ≡ false → DoesNotRise pairs n
-stays_below {last} pairs n same e = go pairs.last (ap (λ o. rises o n) same ∙ e)
-  where
-    go : (last : Option ℕ) → rises last n ≡ false → DoesNotRise (record { last = last; count = pairs.count }) n
-    go None e = absurd cc
-    go (Some last) e = ltb-false last n e
+stays_below {last} pairs n same e = search (rules, ltb-false)
 
 no_colon : (bytes : List ℕ) → ends bytes ≡ false → comes 58 bytes ≡ false
 no_colon bytes e = grind arith
@@ -137,8 +122,7 @@ module _ (ps : List ℕ) (last : Option ℕ) (pairs : Pairs) (same : pairs.last 
 
 pub priority_exits : (ps : List ℕ) (pairs : Pairs) (old new : Place) (e : CertFault) (r : Result ℕ CertFault)
     → TellsPriority ps pairs old (Err e) new → IsErrAnd r (λ y. y ≡ e) → TellsPriority ps pairs old r new
-priority_exits ps pairs old new e r m i = let y = err_from_is_err_and r i in
-    subst (λ x. TellsPriority ps pairs old x new) (sym (y.1 ∙ ap Err y.2)) m
+priority_exits ps pairs old new e r m i = search (rules, err_from_is_err_and)
 
 -- ## The pair
 

@@ -1,8 +1,7 @@
 -- Each text has an answer for a game: the priorities of the game are listed, and each part of the grammar has an
 -- outcome.
 use Rattle.std.proofs.Common.{◌≡◌, ℕ, zero, suc, ◌^◌, ◌<◌, ◌≤◌, ◌⊎◌, Bool, true, false, List, [], ◌∷◌, length, drop}
-use Rattle.std.proofs.Common.{map, Option, None, Some, Result, refl, ap, inl, inr, arith}
-use Rattle.std.specs.Prelude.{IsSomeAnd}
+use Rattle.std.proofs.Common.{map, None, Result, refl, inl, inr, arith, rules}
 use Rattle.std.specs.List.{Contains}
 use Rattle.std.proofs.lemmas.Bool.{cases_lt, cases_eq}
 use Rattle.ps_text.specs.Answers.{Found, first_of}
@@ -66,8 +65,7 @@ module _ (Wrong : Verdict) (settled : Settled Wrong) where
 
       none_wrong : value < 2 ^ 64 → ((f : CertCause) → Wrong (drop (run_length seen) seen) value f → ⊥) →
           (f : CertCause) → IsWrongRun Wrong seen f → ⊥
-      none_wrong small right f (inl x) = omega (arith, small, x.1)
-      none_wrong small right f (inr x) = right f x
+      none_wrong h1 h2 f h3 = search rules
 
       small_number : 0 < run_length seen → value < 2 ^ 64 →
           Judged cause_number (Wrong (drop (run_length seen) seen) value) → Outcome causes (judged Wrong) (t ∷ after)
@@ -104,19 +102,10 @@ judge_other Wrong decide more n = judge_as cause_number (λ f h. (h.1, h.0.0, h.
     (judge_cause cause_number OtherGame (decide_both (decide_end more) (decide n)))
 
 decide_next : (ps : List ℕ) (n : ℕ) → Decided (NotNext ps n)
-decide_next [] n = inl (λ e. none_is_some n e)
-decide_next (p ∷ ps) n = go (cases_eq p n)
-  where
-    go : (p ≡ n) ⊎ ¬ (p ≡ n) → Decided (NotNext (p ∷ ps) n)
-    go (inl e) = inr (λ other. other (ap Some e))
-    go (inr other) = inl (λ e. other (same_some p n e))
+decide_next ps n = search (rules, none_is_some, cases_eq, Decided, same_some)
 
 decide_rise : (pairs : Pairs) (n : ℕ) → Decided (DoesNotRise pairs n)
-decide_rise pairs n = go pairs.last
-  where
-    go : (last : Option ℕ) → Decided (IsSomeAnd last (λ p. n ≤ p))
-    go None = inr (λ h. h)
-    go (Some p) = decide_below n p
+decide_rise pairs n = search (rules, Decided, decide_below)
 
 judge_priority : (ps : List ℕ) (pairs : Pairs) (more : List ℕ) (n : ℕ) →
     Judged cause_number (WrongPriority ps pairs more n)
@@ -163,8 +152,7 @@ has_number : (Wrong : ℕ → Type 0) → ((n : ℕ) → Decided (Wrong n)) → 
 has_number Wrong decide = has_judged (OfOtherGame Wrong) (settled_other Wrong) (judge_other Wrong decide)
 
 has_priority : (ps : List ℕ) → Has (priority ps)
-has_priority ps = has_then causes (joint_listed ps) (has_byte 32)
-    (λ _. has_mapped causes (λ _. drop 1 ps) (number (NotNext ps)) (has_number (NotNext ps) (decide_next ps)))
+has_priority ps = search (rules, has_then, joint_listed, has_byte, has_mapped, has_number, decide_next)
 
 has_priorities : (ps : List ℕ) → Has (priorities ps)
 has_priorities ps = has_then causes (joint_priorities ps)
@@ -183,12 +171,21 @@ has_counts (suc n) = has_then causes (joint_counts n) (has_byte 32) (λ _. has_t
 
 module _ (ps : List ℕ) where
   has_colon : (pairs : Pairs) (p : ℕ) → Has (then_by (byte 58) (λ _. mapped (λ m. with_pair pairs p m) (judged IsZero)))
-  has_colon pairs p = has_then causes (joint_colon pairs p) (has_byte 58)
-      (λ _. has_mapped causes (λ m. with_pair pairs p m) (judged IsZero) (has_judged IsZero settled_zero judge_zero))
+  has_colon pairs p = search (rules, has_then, joint_colon, has_byte, has_mapped, has_judged, settled_zero, judge_zero)
 
   has_pair : (pairs : Pairs) → Has (pair ps pairs)
-  has_pair pairs = has_then causes (joint_pair ps pairs) (has_byte 32) (λ _. has_then causes (joint_priority ps pairs)
-      (has_judged (WrongPriority ps pairs) (settled_priority ps pairs) (judge_priority ps pairs)) (has_colon pairs))
+  has_pair pairs =
+      search (
+        rules,
+        has_then,
+        joint_pair,
+        has_byte,
+        joint_priority,
+        has_judged,
+        settled_priority,
+        judge_priority,
+        has_colon,
+      )
 
   has_counts_in : (compact : Bool) → Has (counts_in compact ps)
   has_counts_in false = has_counts (length ps)
@@ -213,8 +210,7 @@ module _ (compact : Bool) (odd even ids : List ℕ) where
     where
       others : (first : EntryData) →
           Laws Odd (mapped (λ es. first ∷ es) (entries compact odd even ids rest)) Any Nothing (Unit {0})
-      others first = laws_mapped (λ es. first ∷ es) (entries compact odd even ids rest)
-          (laws_entries compact odd even ids rest)
+      others first = search (rules, laws_mapped, laws_entries)
 
 has_certificate : (odd even ids : List ℕ) → Has (certificate odd even ids)
 has_certificate odd even ids = has_then causes (joint_first odd even ids) (has_word first_word)

@@ -1,6 +1,6 @@
 -- Lists of counts of which only those that are not 0 are kept.
 use Rattle.std.proofs.Common.{◌≡◌, ◌≢◌, ℕ, zero, suc, ◌+◌, ◌<◌, ◌≤◌, ◌∙◌, List, [], ◌∷◌, ◌++◌, length, get_or, refl}
-use Rattle.std.proofs.Common.{sym, ap, subst, arith, drop, replicate, cond, inl, inr, ◌-◌, take}
+use Rattle.std.proofs.Common.{sym, ap, subst, arith, drop, replicate, cond, inl, inr, ◌-◌, take, rules}
 use Rattle.std.proofs.Math.Seq.{drop-cons}
 use Rattle.std.proofs.lemmas.List.{take-append-drop, drop-drop}
 use Rattle.std.proofs.lemmas.Bool.{cases_order, cases_eq, eq-eqb, ne_eqb}
@@ -26,10 +26,7 @@ row_at ps n i h = let same : 0 + i ≡ i = omega arith in counts_from_at ps n 0 
 
 counts_from_more : (ps : List PlacedCount) (n m k : ℕ) →
     counts_from ps (n + m) k ≡ counts_from ps n k ++ counts_from ps m (k + n)
-counts_from_more ps zero m k =
-    let many : 0 + m ≡ m = omega arith in
-    let here : k ≡ k + 0 = omega arith in
-    ap (λ n. counts_from ps n k) many ∙ ap (counts_from ps m) here
+counts_from_more ps zero m k = search rules
 counts_from_more ps (suc n) m k =
     let many : suc n + m ≡ suc (n + m) = omega arith in
     let behind : suc k + n ≡ k + suc n = omega arith in
@@ -84,20 +81,12 @@ module _ (ps : List PlacedCount) (k n : ℕ) (rises : AreRising ps) (first : IsF
   count_first within same = ap (count_at ps) (sym same) ∙ count_here ps n rises within
 
   pub count_none : (n < length ps → place_at ps n ≢ k) → count_at ps k ≡ 0
-  count_none other = count_missing ps k (λ i within same. elim (cases_order i n) [
-    | inl at ↦ other (omega (arith, at, within)) (ap (place_at ps) (sym at) ∙ same)
-    | inr (inl early) ↦ omega (arith, first.before.below i early, same)
-    | inr (inr late) ↦
-        let less : place_at ps n < place_at ps i = rises n i late within in
-        let least : k ≤ place_at ps n = first.behind n (omega arith) (omega (arith, late, within)) in
-        omega (arith, less, least, same)
-  ])
+  count_none other = search (rules, count_missing, cases_order)
 
 -- ## What is appended
 
 pub row_next : (ps : List PlacedCount) (n : ℕ) → row_of (n + 1) ps ≡ row_of n ps ++ count_at ps n ∷ []
-row_next ps n =
-    let same : 0 + n ≡ n = omega arith in counts_from_more ps n 1 0 ∙ ap (λ k. row_of n ps ++ count_at ps k ∷ []) same
+row_next ps n = search (rules, counts_from_more)
 
 zeros_from : (ps : List PlacedCount) (n k : ℕ) → ((i : ℕ) → i < length ps → k ≤ place_at ps i → k + n ≤ place_at ps i) →
     counts_from ps n k ≡ replicate n 0
@@ -117,13 +106,11 @@ row_to ps from to h next = let long : to ≡ from + (to - from) = omega (arith, 
 -- ## Counts that are gathered from a list
 
 gathered_zero : (k : ℕ) {c : ℕ} (cs : List ℕ) → c ≡ 0 → gathered k (c ∷ cs) ≡ gathered (suc k) cs
-gathered_zero k {c} cs h =
-    ap (λ b. cond b (gathered (suc k) cs) (record { place = k; count = c } ∷ gathered (suc k) cs)) (eq-eqb c 0 h)
+gathered_zero k {c} cs h = search (rules, eq-eqb)
 
 gathered_other : (k c : ℕ) (cs : List ℕ) → c ≢ 0 →
     gathered k (c ∷ cs) ≡ record { place = k; count = c } ∷ gathered (suc k) cs
-gathered_other k c cs h =
-    ap (λ b. cond b (gathered (suc k) cs) (record { place = k; count = c } ∷ gathered (suc k) cs)) (ne_eqb c 0 h)
+gathered_other k c cs h = search (rules, ne_eqb)
 
 pub gathered_zeros : (n k : ℕ) (cs : List ℕ) → gathered k (replicate n 0 ++ cs) ≡ gathered (k + n) cs
 gathered_zeros zero k cs = let same : k ≡ k + 0 = omega arith in ap (λ j. gathered j cs) same
@@ -132,8 +119,7 @@ gathered_zeros (suc n) k cs = let behind : suc k + n ≡ k + suc n = omega arith
 
 -- the rest of a list, by its first number
 rest_at : (cs : List ℕ) (k : ℕ) → k < length cs → drop k cs ≡ get_or cs k 0 ∷ drop (k + 1) cs
-rest_at cs k within =
-    let next : suc k ≡ k + 1 = omega arith in drop-cons cs k 0 within ∙ ap (λ j. get_or cs k 0 ∷ drop j cs) next
+rest_at cs k within = search (rules, drop-cons)
 
 pub gathered_run : (cs : List ℕ) (k n : ℕ) → k < length cs → get_or cs k 0 ≡ 0 →
     take n (drop (k + 1) cs) ≡ replicate n 0 → gathered k (drop k cs) ≡ gathered (k + n + 1) (drop (k + n + 1) cs)
@@ -148,9 +134,7 @@ gathered_run cs k n within is_zero run =
 
 pub gathered_one : (cs : List ℕ) (k : ℕ) → k < length cs → get_or cs k 0 ≢ 0 →
     gathered k (drop k cs) ≡ record { place = k; count = get_or cs k 0 } ∷ gathered (k + 1) (drop (k + 1) cs)
-gathered_one cs k within other =
-    let next : suc k ≡ k + 1 = omega arith in ap (gathered k) (rest_at cs k within) ∙ gathered_other k (get_or cs k 0)
-    (drop (k + 1) cs) other ∙ ap (λ j. record { place = k; count = get_or cs k 0 } ∷ gathered j (drop (k + 1) cs)) next
+gathered_one cs k within other = search (rules, rest_at, gathered_other)
 
 gathered_rises : (k : ℕ) {w : ℕ} (cs : List ℕ) → k + length cs ≤ w → Rises k w (gathered k cs)
 gathered_rises k [] h = tt

@@ -4,8 +4,8 @@
 --     byte_reads, byte_fails, two_first, two_second, two_fails      one byte
 --     end_reads, end_missing, end_fails      the end of a line of priorities, where some of these are left
 --     ends_true, ends_false      what the test of a field's end says
-use Rattle.std.proofs.Common.{◌≡◌, ℕ, ◌<◌, ◌≤◌, Bool, true, false, cond, eqb, ◌||◌, List, [], ◌∷◌, length, Option, Some}
-use Rattle.std.proofs.Common.{None, refl, sym, ap, subst, inl, inr, ◌∙◌, arith}
+use Rattle.std.proofs.Common.{◌≡◌, ℕ, ◌<◌, ◌≤◌, true, false, ◌||◌, List, [], ◌∷◌, length, Option, Some}
+use Rattle.std.proofs.Common.{None, refl, sym, subst, inl, inr, ◌∙◌, arith, rules}
 use Rattle.std.proofs.lemmas.Bool.{eq-eqb, ne_eqb, eqb-true, eqb-false}
 use Rattle.ps_text.specs.Answers.{signs, first_of, next_of}
 use Rattle.ps_text.specs.Parts.{NoBad, IsFault, one, refusal_of}
@@ -74,8 +74,7 @@ module _ {V : Type 0} (take : Seen → Option V) (Bad : Seen → CertCause → T
 
 pub byte_reads : (b : ℕ) (old : Place) {new : Place} → comes b old.rest ≡ true → new ≡ step_of old
     → Reads (byte b) (at_place old) tt (at_place new)
-byte_reads b old {new} h next = taken (take_byte b) NoBad old new b tt h next
-    (λ bytes. byte_taken (sees b bytes) refl) (λ bytes f x. x)
+byte_reads b old {new} h next = search (rules, taken, byte_taken)
 
 pub byte_fails : (b : ℕ) (old : Place) {e : CertFault} → comes b old.rest ≡ false → e ≡ Text Syntax old.at
     → Stops causes (byte b) (at_place old) (found_of e)
@@ -85,16 +84,14 @@ byte_fails b old h is = stops_at old Syntax (refused_here (laws_byte b) old (λ 
 
 module _ {V : Type 0} (a b : ℕ) (v w : V) (old new : Place) where
   pub two_first : comes a old.rest ≡ true → new ≡ step_of old → Reads (two a b v w) (at_place old) v (at_place new)
-  two_first h next = taken (take_two a b v w) NoBad old new a v h next
-      (λ bytes. first_taken b w (sees a bytes) refl) (λ bytes f x. x)
+  two_first h next = search (rules, taken, first_taken)
 
   pub two_second : (a ≡ b → ⊥) → comes b old.rest ≡ true → new ≡ step_of old
       → Reads (two a b v w) (at_place old) w (at_place new)
   two_second other h next = taken (take_two a b v w) NoBad old new b w h next second (λ bytes f x. x)
     where
       second : (bytes : List ℕ) → take_two a b v w (sees b bytes) ≡ Some w
-      second bytes = ap (λ x. cond x (Some v) (cond (eqb b b) (Some w) None)) (ne_eqb b a (λ e. other (sym e))) ∙ ap
-          (λ x. cond x (Some w) None) (eq-eqb b b refl)
+      second bytes = search (rules, ne_eqb, eq-eqb)
 
   pub two_fails : {e : CertFault} → comes a old.rest ≡ false → comes b old.rest ≡ false → e ≡ Text Syntax old.at
       → Stops causes (two a b v w) (at_place old) (found_of e)
@@ -107,9 +104,7 @@ module _ {V : Type 0} (a b : ℕ) (v w : V) (old new : Place) where
       none : (c : ℕ) (bytes : List ℕ) → old.rest ≡ c ∷ bytes
           → Or (Taken (take_two a b v w)) (BadSign {F = CertCause} NoBad) (sees c bytes) → ⊥
       none c bytes s (inr x) = x.1
-      none c bytes s (inl x) = let not_taken : take_two a b v w (sees c bytes) ≡ None =
-          ap (λ z. cond z (Some v) (cond (eqb c b) (Some w) None)) (ne_eqb c a (comes_not bytes s h))
-          ∙ ap (λ z. cond z (Some w) None) (ne_eqb c b (comes_not bytes s k)) in none_is_some x.0 (sym not_taken ∙ x.1)
+      none c bytes s (inl x) = search (rules, ne_eqb, comes_not, none_is_some)
 
 -- ## The end of a line of priorities
 
@@ -139,39 +134,13 @@ module _ (left : List ℕ) (old new : Place) where
 -- ## Where a part begins, and where none does
 
 pub avoids : (b : ℕ) (place : Place) → comes b place.rest ≡ false → Avoids (At b) (next_of (at_place place))
-avoids b place e = go place.rest e
-  where
-    go : (bytes : List ℕ) → comes b bytes ≡ false → Avoids (At b) (first_of (signs (pieces_at place.at bytes)))
-    go [] e t s h = none_is_some t s
-    go (c ∷ bytes) e t s h = eqb-false c b e (ap (λ (x : Seen). x.byte) (same_some (sees c bytes) t s) ∙ h)
+avoids b place e = search (rules, Avoids, At, none_is_some, eqb-false, same_some)
 
 pub enters_byte : (b : ℕ) (place : Place) → comes b place.rest ≡ true → Enters (byte b) (next_of (at_place place))
-enters_byte b place e = go place.rest e
-  where
-    go : (bytes : List ℕ) → comes b bytes ≡ true → Enters (byte b) (first_of (signs (pieces_at place.at bytes)))
-    go [] e = absurd cc
-    go (c ∷ bytes) e = enters_one (take_byte b) NoBad (sees c bytes)
-        (inl (tt, byte_taken (sees c bytes) (eqb-true c b e)))
+enters_byte b place e = search (rules, Enters, enters_one, byte_taken, eqb-true)
 
 pub ends_true : (bytes : List ℕ) → ends bytes ≡ true → EndsField bytes
-ends_true [] e = absurd cc
-ends_true (b ∷ bytes) e = go (eqb b 32) (eqb b 10) (eqb b 58) refl refl refl e
-  where
-    go : (x y z : Bool) → eqb b 32 ≡ x → eqb b 10 ≡ y → eqb b 58 ≡ z → ((x || y) || z) ≡ true → EndsField (b ∷ bytes)
-    go true y z p q r h = inl (eqb-true b 32 p)
-    go false true z p q r h = inr (inl (eqb-true b 10 q))
-    go false false true p q r h = inr (inr (eqb-true b 58 r))
-    go false false false p q r h = absurd cc
+ends_true bytes h1 = search (rules, eqb-true)
 
 pub ends_false : (bytes : List ℕ) → ends bytes ≡ false → EndsField bytes → ⊥
-ends_false [] e h = h
-ends_false (b ∷ bytes) e h = go (eqb b 32) (eqb b 10) (eqb b 58) refl refl refl e h
-  where
-    go : (x y z : Bool) → eqb b 32 ≡ x → eqb b 10 ≡ y → eqb b 58 ≡ z → ((x || y) || z) ≡ false → EndsField (b ∷ bytes)
-        → ⊥
-    go true y z p q r h k = absurd cc
-    go false true z p q r h k = absurd cc
-    go false false true p q r h k = absurd cc
-    go false false false p q r h (inl k) = eqb-false b 32 p k
-    go false false false p q r h (inr (inl k)) = eqb-false b 10 q k
-    go false false false p q r h (inr (inr k)) = eqb-false b 58 r k
+ends_false bytes h1 h2 = search (rules, eqb-false)

@@ -2,7 +2,7 @@
 -- Only numbers and moves go on with anything, which are digits, and what stands behind them begins with a space or a
 -- newline.
 use Rattle.std.proofs.Common.{◌≡◌, ℕ, zero, suc, ◌⊎◌, Bool, true, false, cond, eqb, List, [], ◌∷◌, length, drop, Option}
-use Rattle.std.proofs.Common.{Some, None, refl, ap, inl, inr, ⊎_elim, arith}
+use Rattle.std.proofs.Common.{Some, None, refl, ap, inl, inr, ⊎_elim, arith, rules}
 use Rattle.std.specs.Prelude.{codes, map}
 use Rattle.std.specs.List.{Contains}
 use Rattle.std.proofs.lemmas.Bool.{eqb-true, eq-eqb}
@@ -36,8 +36,7 @@ abbrev pub Separates : Seen → Type 0
 Separates s = (s.byte ≡ 32) ⊎ (s.byte ≡ 10)
 
 pub no_digit_separates : Apart AtDigit Separates
-no_digit_separates t d (inl e) = omega (arith, e, d.0)
-no_digit_separates t d (inr e) = omega (arith, e, d.0)
+no_digit_separates = search rules
 
 not_odd : (A : Seen → Type 0) → Apart A Odd
 not_odd A t a o = none_is_some o.0 o.1
@@ -67,11 +66,7 @@ pub byte_taken : {b : ℕ} (s : Seen) → s.byte ≡ b → take_byte b s ≡ Som
 byte_taken {b} s e = ap (λ x. cond x (Some tt) None) (eq-eqb s.byte b e)
 
 pub taken_byte : {b : ℕ} (s : Seen) {u : Unit {0}} → take_byte b s ≡ Some u → s.byte ≡ b
-taken_byte {b} s {u} e = go (eqb s.byte b) refl e
-  where
-    go : (x : Bool) → eqb s.byte b ≡ x → cond x (Some tt) None ≡ Some u → s.byte ≡ b
-    go true t h = eqb-true s.byte b t
-    go false t h = absurd cc
+taken_byte {b} s {u} e = search (rules, eqb-true)
 
 pub laws_byte : (b : ℕ) → Laws Odd (byte b) (At b) Nothing ⊥
 laws_byte b =
@@ -122,8 +117,7 @@ laws_newline left =
     first t (inr x) = x.1.0
 
 numbers_end : Apart (Or AtDigit (At 32)) (At 10)
-numbers_end t (inl d) e = omega (arith, e, d.0)
-numbers_end t (inr s) e = omega (arith, e, s)
+numbers_end = search rules
 
 pub joint_priorities : (ps : List ℕ) → Joint (many priority ps) (λ left. one (take_byte 10) (IsMissing left))
 joint_priorities ps = joint (laws_many priority laws_priority digit_no_space ps) laws_newline numbers_end
@@ -228,8 +222,7 @@ module _ (compact : Bool) (odd even ids : List ℕ) where
       mapped (λ cs. record { winner = w; choice = c; counts = cs }) (counts_in compact (lost_by odd even w))
 
   pub laws_entry_counts : (w : ℕ) (c : Option ℕ) → Laws Odd (entry_counts w c) Separates Nothing ⊥
-  laws_entry_counts w c = laws_mapped (λ cs. record { winner = w; choice = c; counts = cs })
-      (counts_in compact (lost_by odd even w)) (laws_counts_in compact (lost_by odd even w))
+  laws_entry_counts w c = search (rules, laws_mapped, laws_counts_in)
 
   pub laws_entry_choice : (w : ℕ) → Laws Odd (then_by (choice ids) (entry_counts w)) Any Nothing ⊥
   laws_entry_choice w = loose_then (laws_choice ids) (laws_entry_counts w)
@@ -254,8 +247,7 @@ module _ (compact : Bool) (odd even ids : List ℕ) where
   -- ## The text
 
   pub laws_all_entries : Laws Odd (all_entries compact odd even ids) Any Nothing (Unit {0})
-  laws_all_entries = laws_mapped
-      (λ es. record { odd = odd; even = even; entries = es }) (entries compact odd even ids ids) (laws_entries ids)
+  laws_all_entries = search (rules, laws_mapped, laws_entries)
 
   pub laws_even : Laws Odd (then_by (priorities even) (λ _. all_entries compact odd even ids)) Separates Nothing ⊥
   laws_even = tight_then (laws_priorities even) (λ _. laws_all_entries)

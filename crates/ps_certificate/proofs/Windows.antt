@@ -1,7 +1,7 @@
 -- Which numbers of a list are priorities of a game, found by marks.
 use Rattle.std.proofs.Common.{◌≡◌, ℕ, ◌%◌, below_more, ◌+◌, ◌-◌, ◌<◌, ◌≤◌, ◌∙◌, List, length, get_or, set, inl, inr}
-use Rattle.std.proofs.Common.{sym, ap, arith, Bool, true, false, Option, None, Some, take, drop, get_or-set_other}
-use Rattle.std.proofs.Common.{get_or-set_same, subst, length-take, length-drop, length-set}
+use Rattle.std.proofs.Common.{sym, ap, arith, Bool, true, false, Option, take, drop}
+use Rattle.std.proofs.Common.{subst, length-take, length-drop, rules}
 use Rattle.std.specs.Prelude.{slice_index, IfSome, is_some}
 use Rattle.std.specs.List.{All, Contains}
 use Rattle.std.specs.List.Sorted.{IsStrictlyIncreasing}
@@ -17,19 +17,12 @@ use Rattle.ps_certificate.proofs.Edges.{Contains-at}
 -- what is found is in the list
 pub Contains-found : (list : List ℕ) (number : ℕ) (found : Option ℕ) → IfSome found (IsAt list number) →
     is_some found ≡ true → Contains list number
-Contains-found list number None at some = absurd (cc)
-Contains-found list number (Some k) at some = Contains-at list k at.within (sym at.is)
+Contains-found list number found h1 h2 = search (rules, Contains-at)
 
 -- two places of one number in a rising list
 pub same_place : (list : List ℕ) → IsStrictlyIncreasing list → {i j : ℕ} → i < length list → j < length list →
     slice_index list i ≡ slice_index list j → i ≡ j
-same_place list rising {i} {j} i_within j_within same = elim (cases_order i j) [
-  | inl equal ↦ equal
-  | inr (inl below) ↦ (let less : slice_index list i < slice_index list j = rising_far list rising i j below j_within in
-      omega arith)
-  | inr (inr above) ↦ (let less : slice_index list j < slice_index list i = rising_far list rising j i above i_within in
-      omega arith)
-]
+same_place list rising {i} {j} i_within j_within same = search (rules, cases_order, rising_far)
 
 -- marks stand only at priorities of the game
 pub record AreMarks (game : ParityGame) (window : List ℕ) (seen : List Bool) (vertex : ℕ) : Type 0 where
@@ -42,35 +35,14 @@ pub record AreMarks (game : ParityGame) (window : List ℕ) (seen : List Bool) (
 pub AreMarks-found : {game : ParityGame} {window : List ℕ} {seen : List Bool} {vertex place priority : ℕ} →
     IsStrictlyIncreasing window → vertex < vertex_count game → priority ≡ priority_of game vertex → IsAt
     window priority place → AreMarks game window seen vertex → AreMarks game window (set seen place true) (vertex + 1)
-AreMarks-found {game} {window} {seen} {vertex} {place} rising in_range is at marks = record {
-  room = simp length-set marks.room;
-  marked = λ k within mark. elim (cases_eq k place) [
-    | inl same ↦ (vertex, in_range, sym is ∙ sym at.is ∙ ap (λ n. slice_index window n) (sym same))
-    | inr differ ↦ marks.marked k within (sym (get_or-set_other seen place k true false differ) ∙ mark)
-  ];
-  passed = λ k v within below has. elim (cases_eq k place) [
-    | inl same ↦ (let inside : place < length seen = omega (arith, at.within, marks.room) in
-        ap (λ n. get_or (set seen place true) n false) same ∙ get_or-set_same seen place true false inside)
-    | inr differ ↦ get_or-set_other seen place k true false differ ∙ elim (cases_eq v vertex) [
-      | inl last ↦ absurd (differ (same_place window rising within at.within
-          (sym has ∙ ap (λ n. priority_of game n) last ∙ sym is ∙ sym at.is)))
-      | inr earlier ↦ marks.passed k v within (omega arith) has
-    ]
-  ];
-}
+AreMarks-found {game} {window} {seen} {vertex} {place} rising in_range is at marks =
+    search (rules, cases_eq, same_place)
 
 -- one more vertex whose priority is not
 pub AreMarks-missing : {game : ParityGame} {window : List ℕ} {seen : List Bool} {vertex priority : ℕ} →
     priority ≡ priority_of game vertex → ¬ Contains window priority → AreMarks game window seen vertex →
     AreMarks game window seen (vertex + 1)
-AreMarks-missing {game} {window} {vertex} is missing marks = record {
-  room = marks.room;
-  marked = marks.marked;
-  passed = λ k v within below has. elim (cases_eq v vertex) [
-    | inl last ↦ absurd (missing (Contains-at window k within (is ∙ ap (λ n. priority_of game n) (sym last) ∙ has)))
-    | inr earlier ↦ marks.passed k v within (omega arith) has
-  ];
-}
+AreMarks-missing {game} {window} {vertex} is missing marks = search (rules, cases_eq, Contains-at)
 
 -- all are priorities where all are marked
 pub All-from_marks : {game : ParityGame} {window : List ℕ} {seen : List Bool} {vertex : ℕ} → AreMarks

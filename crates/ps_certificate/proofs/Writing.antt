@@ -5,9 +5,9 @@
 --     read_byte, read_word, read_number, read_fields, read_version, read_winner, read_choice, read_counts, read_pairs,
 --     read_entry, read_entries, read_text      each part of the text
 --     reads_again      the whole text
-use Rattle.std.proofs.Common.{◌≡◌, ◌≢◌, ℕ, zero, suc, ◌+◌, ◌^◌, ◌<◌, ◌⊎◌, Bool, true, false, cond, eqb, ltb, List, []}
-use Rattle.std.proofs.Common.{◌∷◌, ◌++◌, length, get_or, map, drop, Option, Some, None, Ok, refl, sym, ap, subst, inl}
-use Rattle.std.proofs.Common.{inr, ◌∙◌, append_assoc, add-zero, arith}
+use Rattle.std.proofs.Common.{◌≡◌, ◌≢◌, ℕ, suc, ◌+◌, ◌^◌, ◌<◌, ◌⊎◌, Bool, true, false, cond, eqb, ltb, List, []}
+use Rattle.std.proofs.Common.{◌∷◌, ◌++◌, length, get_or, map, Option, Some, None, Ok, refl, sym, ap, subst, inl}
+use Rattle.std.proofs.Common.{inr, ◌∙◌, append_assoc, add-zero, arith, rules}
 use Rattle.std.specs.Prelude.{decimal, IfSome}
 use Rattle.std.specs.List.{All, AllPairs, Contains}
 use Rattle.std.proofs.Math.Seq.{drop-append_seam}
@@ -17,8 +17,8 @@ use Rattle.std.proofs.lemmas.List.Sums.{position_or_len_is}
 use Rattle.std.proofs.lemmas.List.Elements.{All-head, All-tail, Contains-get_or}
 use Rattle.std.proofs.lemmas.List.Kept.{AllPairs-from_increasing}
 use Rattle.ps_text.specs.Answers.{first_of}
-use Rattle.ps_text.specs.Parts.{IsRead, NoBad, then_by, many, mapped}
-use Rattle.ps_text.specs.Digits.{IsDigit, decimal_value}
+use Rattle.ps_text.specs.Parts.{IsRead, then_by, many, mapped}
+use Rattle.ps_text.specs.Digits.{IsDigit}
 use Rattle.ps_text.proofs.InPlace.{read_as}
 use Rattle.ps_text.proofs.Laws.{Joint}
 use Rattle.ps_text.proofs.Joined.{read_then}
@@ -34,8 +34,7 @@ use Rattle.ps_certificate.specs.Certificates.{EntryData, CertificateData, no_ent
 use Rattle.ps_certificate.specs.Certificates.{opposing, Fits}
 use Rattle.ps_certificate.specs.Words.{first_word, vertices_word, odd_word, even_word}
 use Rattle.ps_certificate.specs.Pairs.{Pairs, no_pairs, with_pair, DoesNotRise}
-use Rattle.ps_certificate.specs.Reading.{numeral}
-use Rattle.ps_certificate.specs.Texts.{Seen, Field, stream_at, EndsField, Verdict, take_byte, byte, word, take_two}
+use Rattle.ps_certificate.specs.Texts.{Seen, Field, stream_at, EndsField, Verdict, take_byte, byte, word}
 use Rattle.ps_certificate.specs.Texts.{judged, number, Never, NotNext, priority, IsMissing, priorities, version, winner}
 use Rattle.ps_certificate.specs.Texts.{vertex_of, choice, counts, pair, counts_in, lost_by, entry, entries, certificate}
 use Rattle.ps_certificate.specs.Texts.{ReadsCertificate as ReadsText}
@@ -73,21 +72,17 @@ avoids A s none t e h = none (subst A (sym (same_some s t e)) h)
 -- ## Bytes
 
 read_byte : (b : ℕ) {rest : List ℕ} → IsReadFrom (byte b) (b ∷ rest) tt rest
-read_byte b {rest} = record
-    { read = read_one (take_byte b) NoBad (byte_taken (record { byte = b; behind = rest }) refl) (λ f x. x) }
+read_byte b {rest} = search (rules, read_one, byte_taken)
 
 read_word : (text : List ℕ) {rest : List ℕ} → IsReadFrom (word text) (text ++ rest) tt rest
 read_word [] {rest} = record { read = read_give (seen rest) tt }
 read_word (b ∷ text) = then (tight_joint (laws_byte b) (λ _. laws_word text)) (read_byte b) (read_word text)
 
 read_version : (compact : Bool) {rest : List ℕ} → IsReadFrom version (version_digit compact ∷ rest) compact rest
-read_version false = record { read = read_one (take_two 49 50 false true) NoBad refl (λ f x. x) }
-read_version true = record { read = read_one (take_two 49 50 false true) NoBad refl (λ f x. x) }
+read_version compact = search (rules, read_one)
 
 read_winner : (w : ℕ) {rest : List ℕ} → w < 2 → IsReadFrom winner ((48 + w) ∷ rest) w rest
-read_winner zero small = record { read = read_one (take_two 48 49 0 1) NoBad refl (λ f x. x) }
-read_winner (suc zero) small = record { read = read_one (take_two 48 49 0 1) NoBad refl (λ f x. x) }
-read_winner (suc (suc w)) small = absurd (omega (arith, small))
+read_winner w h1 = search (rules, read_one)
 
 -- ## Numbers that are read
 
@@ -98,13 +93,7 @@ fields_end (x ∷ xs) rest = inl refl
 read_judged : {Wrong : Verdict} → Settled Wrong → {n : ℕ} {rest : List ℕ} → n < 2 ^ 64 → EndsField rest →
     ((f : CertCause) → Wrong rest n f → ⊥) → IsReadFrom (judged Wrong) (decimal n ++ rest) n rest
 read_judged {Wrong} settled {n} {rest} small end right =
-    let bytes = decimal n ++ rest in
-    let t = number_text n small in
-    let run : numeral bytes ≡ decimal n = numeral_ended rest (plain n small) end in
-    record {
-      read = read_run settled bytes (omega (arith, t.some, ap length run)) (ap decimal_value run ∙ t.value) small
-          (ap (λ r. drop (length r) bytes) run ∙ drop-append_seam (decimal n) rest) right;
-    }
+    search (rules, number_text, numeral_ended, plain, read_run, drop-append_seam)
 
 read_number : (Wrong : ℕ → Type 0) {n : ℕ} {rest : List ℕ} → n < 2 ^ 64 → EndsField rest → (Wrong n → ⊥) →
     IsReadFrom (number Wrong) (decimal n ++ rest) n rest
@@ -136,8 +125,7 @@ read_fields ps {rest} small = then (joint_priorities ps) (read_many ps rest smal
 no_dash : (digits rest : List ℕ) → 0 < length digits → All IsDigit digits →
     Avoids (At 45) (first_of (seen (digits ++ rest)))
 no_dash [] rest some all = absurd (omega (arith, some))
-no_dash (d ∷ digits) rest some all =
-    avoids (At 45) _ (λ e. let h = All-head IsDigit d digits all in omega (arith, e, h.0))
+no_dash (d ∷ digits) rest some all = search (rules, avoids, At, All-head)
 
 read_choice : (ids : List ℕ) (c : Option ℕ) {rest : List ℕ} → EndsField rest →
     IfSome c (λ v. IsWord (get_or ids v 0) × (vertex_of ids (get_or ids v 0) ≡ Some v) × Contains ids
@@ -177,8 +165,7 @@ pairs_end (p ∷ ps) (c ∷ cs) rest = go (eqb c 0) (pairs_end ps cs rest)
     go false h = inl refl
 
 counts_end : (compact : Bool) (ps cs rest : List ℕ) → EndsField (counts_text compact ps cs ++ 10 ∷ rest)
-counts_end false ps cs rest = fields_end cs rest
-counts_end true ps cs rest = pairs_end ps cs rest
+counts_end compact ps cs rest = search (rules, fields_end, pairs_end)
 
 read_pair : (ps : List ℕ) (so_far : Pairs) (p c : ℕ) {rest : List ℕ} → (DoesNotRise so_far p → ⊥) → Contains ps p →
     IsWord p → 0 < c → IsWord c → EndsField rest →
@@ -260,18 +247,10 @@ module _ (compact : Bool) (ids odd even : List ℕ) (ids_small : All IsWord ids)
   regroup a b c r w = simp (append_assoc)
 
   lost_rises : (w : ℕ) → Rises (lost_by odd even w)
-  lost_rises w = go (eqb w 0)
-    where
-      go : (b : Bool) → Rises (cond b odd even)
-      go true = odd_rises
-      go false = even_rises
+  lost_rises w = search (rules, Rises, odd_rises, even_rises)
 
   lost_small : (w : ℕ) → All IsWord (lost_by odd even w)
-  lost_small w = go (eqb w 0)
-    where
-      go : (b : Bool) → All IsWord (cond b odd even)
-      go true = odd_small
-      go false = even_small
+  lost_small w = search rules
 
   read_entry : (id : ℕ) {e : EntryData} {rest : List ℕ} → IsWord id → IsReadable e →
       IsReadFrom (entry compact odd even ids id) (entry_line compact odd even ids id e ++ rest) e rest
@@ -367,8 +346,7 @@ module _ (compact : Bool) (game : NamedGameData) (c : CertificateData) (named : 
           → IfSome choice (λ v. IsWord (get_or game.ids v 0) ×
           (vertex_of game.ids (get_or game.ids v 0) ≡ Some v) × Contains game.ids (get_or game.ids v 0))
       known_choice None h = tt
-      known_choice (Some v) h = let within : v < length game.ids = omega (arith, h, named.id_each) in
-          (words.ids v 0 within, found_at game.ids named.ids_differ within, Contains-get_or game.ids v 0 within)
+      known_choice (Some v) h = search (rules, found_at, Contains-get_or)
 
   pub reads_again : ReadsText game (text_in compact game c) (Ok c)
   reads_again =

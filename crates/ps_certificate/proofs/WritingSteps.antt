@@ -2,8 +2,8 @@
 --     all_taken, all_taken_all      of each element that was passed
 --     head_joined      what stands before the lines of the vertices
 --     pair_written, pair_skipped      one count further
-use Rattle.std.proofs.Common.{◌≡◌, ℕ, suc, ◌+◌, ◌<◌, ◌≤◌, Bool, cond, eqb, List, [], ◌∷◌, ◌++◌, length, get_or, drop}
-use Rattle.std.proofs.Common.{take, sym, ap, ap₂, subst, ◌∙◌, append_assoc, arith}
+use Rattle.std.proofs.Common.{◌≡◌, ℕ, suc, ◌+◌, ◌<◌, ◌≤◌, cond, eqb, List, [], ◌∷◌, ◌++◌, length, get_or, drop}
+use Rattle.std.proofs.Common.{take, sym, ap, subst, ◌∙◌, append_assoc, arith, rules}
 use Rattle.std.specs.Prelude.{decimal}
 use Rattle.std.specs.List.{All}
 use Rattle.std.proofs.Math.Seq.{take-suc}
@@ -36,8 +36,7 @@ head_joined o w v a b c d e f = ap (λ x. (((((x ++ b) ++ c) ++ d) ++ 10 ∷ e) 
 pairs_next : (ps cs : List ℕ) (i : ℕ) → i < length cs → length cs ≡ length ps
     → pairs (drop i ps) (drop i cs) ≡ cond (eqb (get_or cs i 0) 0) (pairs (drop (i + 1) ps) (drop (i + 1) cs))
     (32 ∷ decimal (get_or ps i 0) ++ 58 ∷ decimal (get_or cs i 0) ++ pairs (drop (i + 1) ps) (drop (i + 1) cs))
-pairs_next ps cs i lt same = ap₂ (λ (x : List ℕ) (y : List ℕ). pairs x y) (drop_more ps i 0 (omega (arith, lt, same)))
-    (drop_more cs i 0 lt)
+pairs_next ps cs i lt same = search (rules, drop_more)
 
 regroup_pair : (out a b r : List ℕ) → ((out ++ a) ++ b) ++ r ≡ out ++ ((a ++ b) ++ r)
 regroup_pair out a b r = simp (append_assoc)
@@ -45,17 +44,8 @@ regroup_pair out a b r = simp (append_assoc)
 pub pair_written : (out ps cs : List ℕ) {total : List ℕ} (i : ℕ) → i < length cs → length cs ≡ length ps →
     (get_or cs i 0 ≡ 0 → ⊥) → out ++ pairs (drop i ps) (drop i cs) ≡ total → ((out ++ 32 ∷ decimal (get_or ps i 0))
     ++ 58 ∷ decimal (get_or cs i 0)) ++ pairs (drop (i + 1) ps) (drop (i + 1) cs) ≡ total
-pair_written out ps cs i lt same some h =
-    let more = pairs (drop (i + 1) ps) (drop (i + 1) cs) in
-    let text = 32 ∷ decimal (get_or ps i 0) ++ 58 ∷ decimal (get_or cs i 0) ++ more in
-    let next : pairs (drop i ps) (drop i cs) ≡ text =
-    pairs_next ps cs i lt same ∙ ap (λ (b : Bool). cond b more text) (ne_eqb (get_or cs i 0) 0 some) in
-    regroup_pair out
-    (32 ∷ decimal (get_or ps i 0)) (58 ∷ decimal (get_or cs i 0)) more ∙ ap (λ xs. out ++ xs) (sym next) ∙ h
+pair_written out ps cs i lt same some h = search (rules, pairs_next, ne_eqb, regroup_pair)
 
 pub pair_skipped : (out ps cs : List ℕ) {total : List ℕ} (i : ℕ) → i < length cs → length cs ≡ length ps → get_or
     cs i 0 ≡ 0 → out ++ pairs (drop i ps) (drop i cs) ≡ total → out ++ pairs (drop (i + 1) ps) (drop (i + 1) cs) ≡ total
-pair_skipped out ps cs i lt same none h = let more = pairs (drop (i + 1) ps) (drop (i + 1) cs) in
-    let text = 32 ∷ decimal (get_or ps i 0) ++ 58 ∷ decimal (get_or cs i 0) ++ more in
-    let next : pairs (drop i ps) (drop i cs) ≡ more = pairs_next ps cs i lt same
-    ∙ ap (λ (b : Bool). cond b more text) (eq-eqb (get_or cs i 0) 0 none) in ap (λ xs. out ++ xs) (sym next) ∙ h
+pair_skipped out ps cs i lt same none h = search (rules, pairs_next, eq-eqb)

@@ -1,4 +1,4 @@
-use Rattle.std.proofs.Common.{arith, below_more, refl}
+use Rattle.std.proofs.Common.{arith, below_more, rules}
 use Rattle.ps_certificate.specs.Certificates.{IsClosed}
 use Rattle.ps_certificate.specs.Prefixes.{IsFirstUnranked}
 use Rattle.ps_certificate.proofs.Counts.{first_unranked, valid_in_the_end, valid_has_no_flaw}
@@ -7,10 +7,7 @@ use Rattle.ps_certificate.proofs.Holding.{BothHold-from_valid, NoneWinsOutside-f
 use Rattle.ps_certificate.proofs.checking.check.Goals as goal
 
 pub returns-in-Some-clause-exact : goal.returns-in-Some-clause-exact
-returns-in-Some-clause-exact g c = (
-  (λ no. absurd (cc)),
-  λ valid. absurd (valid_has_no_flaw c.in-Some.flaw valid c.in-Some.ensures.some.is_flaw),
-)
+returns-in-Some-clause-exact g c = search (rules, valid_has_no_flaw)
 
 pub returns-in-Some-clause-flaw : goal.returns-in-Some-clause-flaw
 returns-in-Some-clause-flaw g c = first_unsound c.loop-vertex.invariant.sound c.in-Some.ensures.some
@@ -32,12 +29,7 @@ returns-in-Some-unranked-clause-flaw g c =
     first_unranked closed found.before found.at_vertex
 
 pub returns-in-None-clause-exact : goal.returns-in-None-clause-exact
-returns-in-None-clause-exact g c = (
-  (λ _. valid_in_the_end c.loop-vertex.vertex
-      (omega (arith, c.loop-vertex-test.false, c.count-vertex-end.ensures.vertices)) c.loop-vertex.invariant.sound
-      c.loop-vertex.invariant.none c.in-None.is),
-  λ _. refl,
-)
+returns-in-None-clause-exact g c = search (rules, valid_in_the_end)
 
 pub returns-in-None-clause-regions : goal.returns-in-None-clause-regions
 returns-in-None-clause-regions g c = BothHold-from_valid (g.A.Arena.game c.args.arena.now)

@@ -1,16 +1,10 @@
-use Rattle.std.proofs.Common.{◌≡◌, ◌∙◌, ℕ, Some, sym, subst, arith, inl, below_more}
+use Rattle.std.proofs.Common.{◌≡◌, ◌∙◌, ℕ, Some, sym, subst, arith, inl, below_more, rules}
 use Rattle.ps_game.specs.Games.{owner_of}
 use Rattle.ps_certificate.specs.Certificates.{Remains, winner_of, choice_of}
 use Rattle.ps_certificate.specs.Prefixes.{KeepsCounts}
 use Rattle.ps_certificate.proofs.Edges.{HasEdge-at, Remains-other}
 use Rattle.ps_certificate.proofs.Counts.{own_edge, own_edges, other_edges, IsFirstFlawAt-rank, KeepsCountsAt-from_all}
 use Rattle.ps_certificate.proofs.checking.unranked_at.Goals as goal
-
-pub broken_priority-requires-clause-same_winner : goal.broken_priority-requires-clause-same_winner
-broken_priority-requires-clause-same_winner g c = let own : owner_of
-    (g.A.Arena.game c.args.arena.now) c.args.vertex ≡ winner_of c.args.certificate.now c.args.vertex =
-    sym c.owner.ensures ∙ c.if-owner-winner.true ∙ c.winner.ensures in c.requires.sound.inside c.in-Some.successor
-    (own_edge c.requires.sound.right_move own (sym c.choice.ensures ∙ c.in-Some.is))
 
 pub returns-in-Some-broken_priority-clause-some : goal.returns-in-Some-broken_priority-clause-some
 returns-in-Some-broken_priority-clause-some g c =
@@ -35,9 +29,7 @@ returns-in-Some-broken_priority-2-clause-some g c =
     let other : owner_of (g.A.Arena.game c.args.arena.now) c.args.vertex ≡ winner_of c.args.certificate.now
     c.args.vertex → ⊥ = λ own. c.if-owner-winner.false (c.owner.ensures ∙ own ∙ sym c.winner.ensures) in
     let remains : Remains (g.A.Arena.game c.args.arena.now) c.args.certificate.now
-    c.args.vertex c.successor-successor.result = Remains-other (g.A.Arena.game c.args.arena.now) c.args.certificate.now
-    c.args.vertex c.successor-successor.result other (HasEdge-at (g.A.Arena.game c.args.arena.now)
-    c.args.vertex c.loop-number.number c.requires.vertex (omega arith) c.successor-successor.ensures) in
+    c.args.vertex c.successor-successor.result = search (rules, Remains-other, HasEdge-at) in
     IsFirstFlawAt-rank c.requires.fits remains
     (c.requires.sound.inside c.successor-successor.result remains) c.in-Some-broken_priority-2.ensures.some
     (other_edges (g.A.Arena.game c.args.arena.now) c.args.certificate.now c.args.vertex c.successor-successor.result
@@ -49,5 +41,4 @@ loop-number-preserved g c = let P : ℕ →
     _ _ c.loop-number.invariant (subst P c.successor-successor.ensures c.in_default-broken_priority.ensures.none)
 
 pub returns-clause-none : goal.returns-clause-none
-returns-clause-none g c = KeepsCountsAt-from_all (g.A.Arena.game c.args.arena.now) c.args.certificate.now c.args.vertex
-    (λ k within. c.loop-number.invariant k (omega (arith, within)))
+returns-clause-none g c = search (rules, KeepsCountsAt-from_all)

@@ -1,14 +1,10 @@
-use Rattle.std.proofs.Common.{arith, below_more, refl}
+use Rattle.std.proofs.Common.{arith, below_more, refl, rules}
 use Rattle.ps_certificate.proofs.FirstFlaws.{first_unsound, IsClosed-from_sound, closed_has_no_flaw}
 use Rattle.ps_certificate.proofs.Keeping.{BothKeep-from_closed}
 use Rattle.ps_certificate.proofs.closing.closed.Goals as goal
 
 pub returns-in-Some-clause-exact : goal.returns-in-Some-clause-exact
-returns-in-Some-clause-exact g c = (
-  (λ no. absurd (cc)),
-  λ closed. absurd (closed_has_no_flaw
-      closed c.in-Some.flaw c.in-Some.ensures.some.is_flaw c.in-Some.ensures.some.at_stage),
-)
+returns-in-Some-clause-exact g c = search (rules, closed_has_no_flaw)
 
 pub returns-in-Some-clause-flaw : goal.returns-in-Some-clause-flaw
 returns-in-Some-clause-flaw g c = first_unsound c.loop-vertex.invariant c.in-Some.ensures.some

@@ -1,4 +1,4 @@
-use Rattle.std.proofs.Common.{◌≡◌, ◌+◌, ℕ, arith, false, refl, sym, subst, List, Bool}
+use Rattle.std.proofs.Common.{◌≡◌, ◌+◌, arith, false, refl, sym, subst, List, Bool, rules}
 use Rattle.std.proofs.lemmas.Bool.{both_ways}
 use Rattle.ps_game.specs.Games.{vertex_count}
 use Rattle.ps_certificate.proofs.Lists.{nothing_marked}
@@ -27,10 +27,7 @@ loop-vertex-preserved g c = elim c.match-place_of.branch [
 pub returns-then-not-seen-place : goal.returns-then-not-seen-place
 returns-then-not-seen-place g c =
     let marks : AreMarks (g.A.Arena.game c.args.arena.now) c.args.window.now c.loop-vertex.seen
-    (vertex_count (g.A.Arena.game c.args.arena.now)) =
-    (let P : ℕ → Type 0 = λ n. AreMarks (g.A.Arena.game c.args.arena.now) c.args.window.now c.loop-vertex.seen n in
-    let done : c.loop-vertex.vertex ≡ vertex_count (g.A.Arena.game c.args.arena.now) = omega arith in
-    subst P done c.loop-vertex.invariant) in (
+    (vertex_count (g.A.Arena.game c.args.arena.now)) = search (rules, AreMarks) in (
       (λ no. absurd (both_ways false refl no)),
       λ all. absurd (both_ways _ c.if-not-seen-place.true (marked_in_the_end c.loop-place.place
           marks all (omega arith))),

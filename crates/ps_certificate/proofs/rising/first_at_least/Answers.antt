@@ -1,4 +1,4 @@
-use Rattle.std.proofs.Common.{◌<◌, ◌≤◌, Ok, Err, arith}
+use Rattle.std.proofs.Common.{◌<◌, ◌≤◌, Ok, Err, arith, rules}
 use Rattle.std.specs.Prelude.{slice_index}
 use Rattle.ps_certificate.proofs.Lists.{search_result, rising_far, rising_near}
 use Rattle.ps_certificate.proofs.rising.first_at_least.Goals as goal
@@ -11,10 +11,7 @@ returns-in-Ok-clause-before c k below =
     omega (arith, less, found.1)
 
 pub returns-in-Ok-clause-behind : goal.returns-in-Ok-clause-behind
-returns-in-Ok-clause-behind c k above within =
-    let found = search_result c.args.list.now c.args.number (Ok c.in-Ok.place) c.requires c.in-Ok.ensures.position in
-    let more : slice_index c.args.list.now c.in-Ok.place ≤ slice_index c.args.list.now k =
-    rising_near c.args.list.now c.requires c.in-Ok.place k above within in omega (arith, more, found.1)
+returns-in-Ok-clause-behind c k above within = search (rules, search_result, rising_near)
 
 pub returns-in-Err-clause-before : goal.returns-in-Err-clause-before
 returns-in-Err-clause-before c k below = let found = search_result c.args.list.now c.args.number

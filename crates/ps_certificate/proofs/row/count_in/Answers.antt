@@ -1,18 +1,16 @@
-use Rattle.std.proofs.Common.{sym, arith}
+use Rattle.std.proofs.Common.{sym, rules}
 use Rattle.ps_certificate.proofs.Sparse.{count_first, count_none}
 use Rattle.ps_certificate.proofs.row.count_in.Goals as goal
 use Rattle.ps_certificate.proofs.row.count_in.Goals.{else-number-placed-via-then-number-placed+else-placed-number}
 use Rattle.ps_certificate.proofs.row.count_in.Goals.{else-number-placed-via-else-number-placed}
 
 pub returns-then-placed-number : goal.returns-then-placed-number
-returns-then-placed-number c = sym (count_first c.args.placed.now
-    c.args.place c.args.number c.requires.rising c.requires.number c.if-number-placed.true c.if-placed-number.true)
+returns-then-placed-number c = search (rules, count_first)
 
 pub returns-else-number-placed : goal.returns-else-number-placed
 returns-else-number-placed c =
     sym (count_none c.args.placed.now c.args.place c.args.number c.requires.rising c.requires.number
     (elim c.else-number-placed.branch [
       | else-number-placed-via-then-number-placed+else-placed-number w ↦ (λ within. w.if-placed-number.false)
-      | else-number-placed-via-else-number-placed w ↦ (λ within.
-          absurd (omega (arith, within, w.if-number-placed.false)))
+      | else-number-placed-via-else-number-placed w ↦ search rules
     ]))

@@ -1,4 +1,4 @@
-use Rattle.std.proofs.Common.{◌≡◌, ◌++◌, ◌∷◌, [], List, ℕ, length, take, sym, ap, ap₂, subst, ◌∙◌, arith}
+use Rattle.std.proofs.Common.{◌≡◌, ◌++◌, ◌∷◌, [], List, ℕ, length, take, sym, ap, ap₂, subst, ◌∙◌, arith, rules}
 use Rattle.std.proofs.lemmas.List.{take_more}
 use Rattle.std.proofs.Math.Seq.{take-length}
 use Rattle.std.specs.List.{Contains}
@@ -31,12 +31,5 @@ loop-vertex-preserved c =
 
 pub returns : goal.returns
 returns c =
-    let all : c.loop-vertex.vertex ≡ length c.args.game.now.ids = omega (
-      arith,
-      c.loop-vertex-test.false,
-      c.loop-vertex.auto.vertex-end,
-      c.count-vertex-end.ensures.vertices,
-      ap vertex_count c.game.ensures.game,
-      c.game.ensures.well_formed.id_each,
-    ) in
+    let all : c.loop-vertex.vertex ≡ length c.args.game.now.ids = search rules in
     c.loop-vertex.invariant ∙ ap (λ n. take n c.args.game.now.ids) all ∙ take-length c.args.game.now.ids

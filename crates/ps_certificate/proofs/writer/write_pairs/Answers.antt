@@ -1,5 +1,4 @@
-use Rattle.std.proofs.Common.{◌++◌, ◌+◌, ◌∙◌, ℕ, List, Vec, drop, ap, arith}
-use Rattle.std.specs.Global.{Global}
+use Rattle.std.proofs.Common.{◌++◌, ◌+◌, ◌∙◌, drop, arith, rules}
 use Rattle.std.proofs.lemmas.List.{get_or_default}
 use Rattle.ps_certificate.specs.Written.{pairs}
 use Rattle.ps_certificate.proofs.WritingSteps.{pair_written, pair_skipped}
@@ -11,13 +10,8 @@ loop-place-preserved c =
     let i = c.loop-place.place in
     let more = pairs (drop (i + 1) c.args.priorities.now) (drop (i + 1) c.args.counts.now) in
     elim c.if-count-ne0.branch [
-      | then-count-ne0+in_ok-write_pair w ↦
-          ap (λ (xs : List ℕ). xs ++ more) (ap (λ (v : Vec ℕ Global). v.items) w.out-is ∙ w.in_ok-write_pair.ensures)
-          ∙ pair_written c.loop-place.out.items c.args.priorities.now c.args.counts.now i c.loop-place-test.true
-          c.requires w.if-count-ne0.true c.loop-place.invariant
-      | else-count-ne0 w ↦ ap (λ (xs : List ℕ). xs ++ more) (ap (λ (v : Vec ℕ Global). v.items) w.out-is)
-          ∙ pair_skipped c.loop-place.out.items c.args.priorities.now c.args.counts.now i c.loop-place-test.true
-          c.requires w.if-count-ne0.false c.loop-place.invariant
+      | then-count-ne0+in_ok-write_pair w ↦ search (rules, pair_written)
+      | else-count-ne0 w ↦ search (rules, pair_skipped)
     ]
 
 pub returns-clause-words : goal.returns-clause-words

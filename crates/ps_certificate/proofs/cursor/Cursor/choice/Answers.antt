@@ -1,4 +1,4 @@
-use Rattle.std.proofs.Common.{◌∙◌, sym}
+use Rattle.std.proofs.Common.{◌∙◌, sym, rules}
 use Rattle.std.specs.List.{Contains}
 use Rattle.ps_ids.proofs.Members.{Contains-any, Contains-none}
 use Rattle.ps_certificate.specs.Texts.{OfOtherGame, choice}
@@ -29,8 +29,6 @@ returns c =
     choice_reads c.args.ids.now c.args.self.now (sym c.if-comes.ensures) c.number.new.self
     (number_reads (λ id. ¬ Contains c.args.ids.now id) c.args.self.now c.number.new.self c.in_ok-id.id
     c.in_ok-id.ensures (elim c.else-is_none.branch [
-      | else-is_none-via-then-is_none+else-ends w ↦ λ ended _. ends_false c.number.new.self.rest
-          (sym w.if-ends.ensures) ended
-      | else-is_none-via-else-is_none w ↦ λ _ none. none
-          (Contains-any c.in_ok-id.id c.args.ids.now (sym c.place-vertex.ensures.member ∙ w.if-is_none.ensures))
+      | else-is_none-via-then-is_none+else-ends w ↦ search (rules, ends_false)
+      | else-is_none-via-else-is_none w ↦ search (rules, Contains-any)
     ])) (c.place-vertex.ensures.place ∙ place_is_vertex c.args.ids.now c.in_ok-id.id)

@@ -1,4 +1,4 @@
-use Rattle.std.proofs.Common.{◌≢◌, sym}
+use Rattle.std.proofs.Common.{◌≢◌, sym, rules}
 use Rattle.ps_certificate.specs.Texts.{OfOtherGame, number}
 use Rattle.ps_certificate.proofs.Loops.{fails}
 use Rattle.ps_certificate.proofs.NumberPart.{judged_fails, number_reads, number_wrong}
@@ -21,7 +21,6 @@ pub returns : goal.returns
 returns c =
     number_reads (λ n. n ≢ c.args.number) c.args.self.now c.number.new.self c.in_ok-found.found c.in_ok-found.ensures
     (elim c.else-found-number.branch [
-      | else-found-number-via-then-found-number+else-ends w ↦ λ ended _. ends_false c.number.new.self.rest
-          (sym w.if-ends.ensures) ended
+      | else-found-number-via-then-found-number+else-ends w ↦ search (rules, ends_false)
       | else-found-number-via-else-found-number w ↦ λ _ other. other w.if-found-number.false
     ])

@@ -1,4 +1,4 @@
-use Rattle.std.proofs.Common.{◌∙◌, drop, sym}
+use Rattle.std.proofs.Common.{◌∙◌, drop, sym, rules}
 use Rattle.ps_text.proofs.Exits.{stops_first, stops_behind, stops_mapped}
 use Rattle.ps_certificate.specs.Reading.{at_place}
 use Rattle.ps_certificate.specs.Texts.{causes, OfOtherGame, NotNext, number, priority}
@@ -32,6 +32,5 @@ returns c =
     (number_reads (NotNext c.args.priorities.now) c.byte.new.self c.number.new.self c.in_ok-number.number
     c.in_ok-number.ensures (elim c.else-ne.branch [
       | else-ne-via-then-ne+else-ends w ↦ λ ended _. ends_false c.number.new.self.rest (sym w.if-ends.ensures) ended
-      | else-ne-via-else-ne w ↦ λ _ other. other (is_next c.args.priorities.now
-          (c.copied.ensures ∙ c.first.ensures.value) w.if-ne.ensures)
+      | else-ne-via-else-ne w ↦ search (rules, is_next)
     ])) c.without_first.ensures

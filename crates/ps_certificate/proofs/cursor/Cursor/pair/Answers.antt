@@ -1,11 +1,11 @@
+use Rattle.std.proofs.Common.{rules}
 use Rattle.ps_certificate.specs.Texts.{pair}
 use Rattle.ps_certificate.proofs.Loops.{fails}
 use Rattle.ps_certificate.proofs.PairSteps.{pair_space, pair_priority, pair_colon, pair_count, pair_reads}
 use Rattle.ps_certificate.proofs.cursor.Cursor.pair.Goals as goal
 
 pub returns-in_err-byte-clause-read : goal.returns-in_err-byte-clause-read
-returns-in_err-byte-clause-read c = λ pairs same. fails _ (pair c.args.priorities.now pairs) c.args.self.now _ _ _
-    (pair_space c.args.priorities.now pairs c.args.self.now _ c.in_err-byte.ensures) c.from_residual.ensures.1
+returns-in_err-byte-clause-read c = search (rules, fails, pair_space)
 
 pub returns-in_err-place-clause-read : goal.returns-in_err-place-clause-read
 returns-in_err-place-clause-read c = λ pairs same. fails _ (pair c.args.priorities.now pairs) c.args.self.now _ _ _

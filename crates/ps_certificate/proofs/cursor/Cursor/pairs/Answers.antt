@@ -1,5 +1,4 @@
-use Rattle.std.proofs.Common.{◌≡◌, None, true, length, replicate, refl, sym, subst, arith}
-use Rattle.std.proofs.lemmas.Grind.{common_steps}
+use Rattle.std.proofs.Common.{◌≡◌, true, sym, rules}
 use Rattle.ps_certificate.specs.Reading.{at_place}
 use Rattle.ps_certificate.specs.Texts.{counts_in}
 use Rattle.ps_certificate.proofs.Loops.{fails}
@@ -8,9 +7,7 @@ use Rattle.ps_certificate.proofs.PairLoops.{pair_shrinks}
 use Rattle.ps_certificate.proofs.cursor.Cursor.pairs.Goals as goal
 
 pub more-init : goal.more-init
-more-init c = let zeros : c.resize.new.self.items ≡ replicate (length c.args.priorities.now) 0 =
-    grind (arith, common_steps, c.in_ok-resize.ensures.items, c.clear.ensures.len) in subst
-    (PairsSoFar c.args.priorities.now (at_place c.args.self.now) c.args.self.now None) (sym zeros) (no_pairs_yet refl)
+more-init c = search (rules, PairsSoFar, no_pairs_yet)
 
 pub returns-in_err-place : goal.returns-in_err-place
 returns-in_err-place c = fails _ (counts_in true c.args.priorities.now) c.args.self.now _ _ _

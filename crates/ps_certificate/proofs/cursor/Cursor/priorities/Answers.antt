@@ -1,4 +1,4 @@
-use Rattle.std.proofs.Common.{sym}
+use Rattle.std.proofs.Common.{sym, rules}
 use Rattle.ps_text.specs.Faults.{found_of}
 use Rattle.ps_text.proofs.Exits.{then_meets}
 use Rattle.ps_text.proofs.Branches.{carries_many}
@@ -9,9 +9,7 @@ use Rattle.ps_certificate.proofs.Loops.{fails, fewer, priorities_fail, prioritie
 use Rattle.ps_certificate.proofs.cursor.Cursor.priorities.Goals as goal
 
 pub returns-in_err-left : goal.returns-in_err-left
-returns-in_err-left c = fails (λ u. u) (priorities c.args.priorities.now) c.args.self.now _ _ _
-    (priorities_fail c.args.priorities.now c.more.left.now (at_place c.args.self.now) c.more.self c.more.invariant
-    (sym c.more-test.ensures) _ c.in_err-left.ensures) c.from_residual.ensures.1
+returns-in_err-left c = search (rules, fails, priorities_fail)
 
 pub more-smaller : goal.more-smaller
 more-smaller c = fewer (priority c.more.left.now) c.more.self c.listed.new.self _

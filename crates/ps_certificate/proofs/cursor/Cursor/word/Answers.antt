@@ -1,11 +1,7 @@
-use Rattle.ps_text.proofs.Exits.{carries_start}
 use Rattle.ps_certificate.specs.Reading.{at_place}
-use Rattle.ps_certificate.specs.Texts.{causes, word}
+use Rattle.ps_certificate.specs.Texts.{word}
 use Rattle.ps_certificate.proofs.Loops.{fails, word_next, word_fails, word_ends}
 use Rattle.ps_certificate.proofs.cursor.Cursor.word.Goals as goal
-
-pub loop-byte-init : goal.loop-byte-init
-loop-byte-init c = carries_start causes (word c.args.word.now) (at_place c.args.self.now)
 
 pub loop-byte-preserved : goal.loop-byte-preserved
 loop-byte-preserved c = word_next c.args.word.now c.loop-byte.byte-index (at_place c.args.self.now)

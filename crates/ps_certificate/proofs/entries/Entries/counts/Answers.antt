@@ -1,22 +1,13 @@
-use Rattle.std.proofs.Common.{◌≡◌, ◌<◌, length, ap, subst, sym, ◌∙◌, get_or, arith}
+use Rattle.std.proofs.Common.{◌≡◌, ◌<◌, length, ap, subst, sym, ◌∙◌, get_or, arith, rules}
 use Rattle.std.specs.List.{slice_range}
 use Rattle.ps_certificate.specs.Certificates.{no_entry}
 use Rattle.ps_certificate.specs.Lines.{entries_in}
-use Rattle.ps_certificate.specs.Sparse.{row_of, IsRow}
+use Rattle.ps_certificate.specs.Sparse.{row_of}
 use Rattle.ps_certificate.proofs.Lines.{has_line, counts_at, line_within}
 use Rattle.ps_certificate.proofs.entries.Entries.counts.Goals as goal
 
 pub index-line-requires : goal.index-line-requires
-index-line-requires c =
-    let is : entries_in c.self.inside.winners.items c.self.inside.lines.items c.self.inside.placed.items ≡
-    c.args.self.now = c.self.view_is in
-    let within : c.args.vertex < length (entries_in c.self.inside.winners.items c.self.inside.lines.items
-    c.self.inside.placed.items) = subst (λ es. c.args.vertex < length es) (sym is) c.requires in
-    omega (
-      arith,
-      has_line c.self.inside.winners.items c.self.inside.lines.items c.self.inside.placed.items
-          c.args.vertex c.self.invariant within,
-    )
+index-line-requires c = search (rules, has_line)
 
 pub part-requires-clause-rises : goal.part-requires-clause-rises
 part-requires-clause-rises c =
@@ -38,15 +29,7 @@ part-requires-clause-ends c =
     omega (arith, inside.ends, ap length c.deref.ensures.value)
 
 pub invariant_of-result : goal.invariant_of-result
-invariant_of-result c =
-    let is : entries_in c.self.inside.winners.items
-    c.self.inside.lines.items c.self.inside.placed.items ≡ c.args.self.now = c.self.view_is in
-    let within : c.args.vertex < length (entries_in c.self.inside.winners.items c.self.inside.lines.items
-    c.self.inside.placed.items) = subst (λ es. c.args.vertex < length es) (sym is) c.requires in
-    let inside = line_within c.self.inside.winners.items c.self.inside.lines.items
-    c.self.inside.placed.items c.args.vertex c.self.invariant within c.index-line.result.now c.index-line.ensures in
-    subst (IsRow c.index-line.result.now.width) (sym (c.part.ensures ∙ ap
-    (λ xs. slice_range xs c.index-line.result.now.start c.index-line.result.now.end) c.deref.ensures.value)) inside.row
+invariant_of-result c = search (rules, line_within)
 
 pub returns : goal.returns
 returns c =
@@ -55,8 +38,7 @@ returns c =
     let within : c.args.vertex < length (entries_in c.self.inside.winners.items c.self.inside.lines.items
     c.self.inside.placed.items) = subst (λ es. c.args.vertex < length es) (sym is) c.requires in
     let part : c.part.result.now
-    ≡ slice_range c.self.inside.placed.items c.index-line.result.now.start c.index-line.result.now.end = c.part.ensures
-    ∙ ap (λ xs. slice_range xs c.index-line.result.now.start c.index-line.result.now.end) c.deref.ensures.value in
+    ≡ slice_range c.self.inside.placed.items c.index-line.result.now.start c.index-line.result.now.end = search rules in
     ap (row_of c.index-line.result.now.width) part ∙ counts_at c.self.inside.winners.items c.self.inside.lines.items
     c.self.inside.placed.items c.args.vertex c.self.invariant within c.index-line.result.now c.index-line.ensures
     ∙ ap (λ es. (get_or es c.args.vertex no_entry).counts) is
