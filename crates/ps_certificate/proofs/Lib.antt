@@ -5,7 +5,7 @@ pub mod FirstFlaws
 pub mod Fitting
 pub mod Holding
 pub mod Keeping
-pub mod Lines
+pub mod SparseRows
 pub mod Lists
 pub mod Loops
 pub mod NumberPart
@@ -17,11 +17,7 @@ pub mod PairLoops
 pub mod PairSteps
 pub mod Steps
 pub mod TextLaws
-pub mod Rows
-pub mod Sparse
 pub mod Windows
-pub mod Writing
-pub mod WritingSteps
-pub mod CountsOfPairs
+pub mod Rereading
 pub mod ZeroRuns
 mod OneWinner

@@ -14,11 +14,7 @@ pub mod DraftReading
 pub mod LinksLemmas
 pub mod Adding
 pub mod ReadingLemmas
-pub mod RereadFields
-pub mod RereadLines
-pub mod RereadCircuits
-pub mod RereadNames
-pub mod RereadText
+pub mod Rereading
 pub mod OneReading
 pub mod GateCycles
 pub mod SomeReading

@@ -2,7 +2,7 @@ use Rattle.std.proofs.Common.{◌≡◌, ◌≤◌, ◌+◌, ◌-◌, ◌∷◌,
 use Rattle.std.proofs.lemmas.Grind.{common_steps}
 use Rattle.std.proofs.lemmas.List.{append_assoc, take_all, length-drop}
 use Rattle.ps_certificate.specs.declared.row.PlacedCount.{PlacedCount}
-use Rattle.ps_certificate.proofs.Sparse.{gathered_run, gathered_one}
+use Rattle.ps_certificate.proofs.SparseRows.Sparse.{gathered_run, gathered_one}
 use Rattle.ps_certificate.proofs.entries.gather.Goals as goal
 use Rattle.ps_certificate.proofs.entries.gather.Goals.{then-count-eq0, else-count-eq0+in_ok-push}
 

@@ -1,5 +1,5 @@
 use Rattle.std.proofs.Common.{sym, rules}
-use Rattle.ps_certificate.proofs.Sparse.{count_first, count_none}
+use Rattle.ps_certificate.proofs.SparseRows.Sparse.{count_first, count_none}
 use Rattle.ps_certificate.proofs.row.count_in.Goals as goal
 use Rattle.ps_certificate.proofs.row.count_in.Goals.{else-number-placed-via-then-number-placed+else-placed-number}
 use Rattle.ps_certificate.proofs.row.count_in.Goals.{else-number-placed-via-else-number-placed}

@@ -3,7 +3,7 @@ use Rattle.std.proofs.lemmas.Grind.{common_steps}
 use Rattle.std.specs.List.{All}
 use Rattle.ps_certificate.specs.Certificates.{EntryData, no_entry}
 use Rattle.ps_certificate.specs.Written.{IsWord}
-use Rattle.ps_certificate.proofs.WritingSteps.{all_taken, all_taken_all}
+use Rattle.ps_certificate.proofs.Rereading.WritingSteps.{all_taken, all_taken_all}
 use Rattle.ps_certificate.proofs.writer.write_entries.Goals as goal
 
 pub loop-vertex-preserved : goal.loop-vertex-preserved

@@ -3,7 +3,7 @@ use Rattle.std.proofs.Common.{arith, ◌≡◌, ◌++◌, ◌∷◌, []}
 use Rattle.std.specs.Prelude.{decimal}
 use Rattle.ps_certificate.specs.Words.{first_word, vertices_word, odd_word, even_word}
 use Rattle.ps_certificate.specs.Written.{fields, version_digit}
-use Rattle.ps_certificate.proofs.WritingSteps.{head_joined}
+use Rattle.ps_certificate.proofs.Rereading.WritingSteps.{head_joined}
 use Rattle.ps_certificate.proofs.writer.write_head.Goals as goal
 
 pub returns-clause-bytes : goal.returns-clause-bytes

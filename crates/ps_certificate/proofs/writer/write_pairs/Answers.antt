@@ -1,7 +1,7 @@
 use Rattle.std.proofs.Common.{◌++◌, ◌+◌, ◌∙◌, drop, arith, rules}
 use Rattle.std.proofs.lemmas.List.{get_or_default}
 use Rattle.ps_certificate.specs.Written.{pairs}
-use Rattle.ps_certificate.proofs.WritingSteps.{pair_written, pair_skipped}
+use Rattle.ps_certificate.proofs.Rereading.WritingSteps.{pair_written, pair_skipped}
 use Rattle.ps_certificate.proofs.writer.write_pairs.Goals.{then-count-ne0+in_ok-write_pair, else-count-ne0}
 use Rattle.ps_certificate.proofs.writer.write_pairs.Goals as goal
 

@@ -3,7 +3,7 @@ use Rattle.std.specs.List.{All}
 use Rattle.ps_game.specs.Games.{vertex_count}
 use Rattle.ps_certificate.specs.Written.{IsWritable}
 use Rattle.ps_certificate.specs.Certificates.{CertificateData}
-use Rattle.ps_certificate.proofs.Writing.{writable, reads_again}
+use Rattle.ps_certificate.proofs.Rereading.Writing.{writable, reads_again}
 use Rattle.ps_certificate.proofs.writer.write_text.Goals as goal
 
 pub write_entries-requires-clause-writable : goal.write_entries-requires-clause-writable

@@ -1,7 +1,7 @@
 use Rattle.std.proofs.Common.{◌≡◌, ◌<◌, length, ap, subst, sym, ◌∙◌, get_or, rules}
 use Rattle.ps_certificate.specs.Certificates.{no_entry}
 use Rattle.ps_certificate.specs.Lines.{entries_in}
-use Rattle.ps_certificate.proofs.Lines.{has_line, choice_at}
+use Rattle.ps_certificate.proofs.SparseRows.Lines.{has_line, choice_at}
 use Rattle.ps_certificate.proofs.entries.Entries.choice.Goals as goal
 
 pub index-requires : goal.index-requires

@@ -3,7 +3,7 @@ use Rattle.std.specs.List.{slice_range}
 use Rattle.ps_certificate.specs.Certificates.{no_entry}
 use Rattle.ps_certificate.specs.Lines.{entries_in}
 use Rattle.ps_certificate.specs.Sparse.{row_of}
-use Rattle.ps_certificate.proofs.Lines.{has_line, counts_at, line_within}
+use Rattle.ps_certificate.proofs.SparseRows.Lines.{has_line, counts_at, line_within}
 use Rattle.ps_certificate.proofs.entries.Entries.counts.Goals as goal
 
 pub index-line-requires : goal.index-line-requires

@@ -1,7 +1,7 @@
 use Rattle.std.proofs.Common.{◌≡◌, ◌∷◌, ◌++◌, ◌∙◌, rules}
 use Rattle.std.specs.Prelude.{Result, OnErr}
-use Rattle.ps_certificate.proofs.Lines.{entries_same, lines_same, entries_push, lines_push}
-use Rattle.ps_certificate.proofs.Sparse.{gathered_is_row, row_gathered}
+use Rattle.ps_certificate.proofs.SparseRows.Lines.{entries_same, lines_same, entries_push, lines_push}
+use Rattle.ps_certificate.proofs.SparseRows.Sparse.{gathered_is_row, row_gathered}
 use Rattle.ps_certificate.proofs.entries.Entries.push.Goals as goal
 
 on_err : {T E P : Type 0} (r : Result T E) → P → OnErr r P

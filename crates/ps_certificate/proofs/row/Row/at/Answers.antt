@@ -1,6 +1,6 @@
 use Rattle.std.proofs.Common.{◌<◌, sym, ap, ◌∙◌, rules}
 use Rattle.std.specs.Prelude.{slice_index}
-use Rattle.ps_certificate.proofs.Sparse.{rising, row_at, length-counts_from}
+use Rattle.ps_certificate.proofs.SparseRows.Sparse.{rising, row_at, length-counts_from}
 use Rattle.ps_certificate.proofs.row.Row.at.Goals as goal
 
 pub first_from-number-requires : goal.first_from-number-requires

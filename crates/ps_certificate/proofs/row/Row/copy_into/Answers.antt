@@ -1,7 +1,7 @@
 use Rattle.std.proofs.Common.{◌≡◌, ◌≤◌, ◌∷◌, ◌++◌, [], ◌+◌, ◌-◌, ◌∙◌, sym, ap, subst, arith, length, replicate}
 use Rattle.ps_certificate.specs.Sparse.{place_at}
-use Rattle.ps_certificate.proofs.Rows.{IsFilled, resized, filled_next, filled_end}
-use Rattle.ps_certificate.proofs.Sparse.{number_at}
+use Rattle.ps_certificate.proofs.SparseRows.Rows.{IsFilled, resized, filled_next, filled_end}
+use Rattle.ps_certificate.proofs.SparseRows.Sparse.{number_at}
 use Rattle.ps_certificate.proofs.row.Row.copy_into.Goals as goal
 
 pub loop-number-preserved : goal.loop-number-preserved

@@ -1,7 +1,7 @@
 use Rattle.std.proofs.Common.{◌≡◌, ◌∙◌, sym, ap, subst, arith, rules}
 use Rattle.ps_certificate.specs.Sparse.{IsFirstAbove, place_at, row_of}
-use Rattle.ps_certificate.proofs.Rows.{not_above_start, not_above_end, not_above_next, above_here}
-use Rattle.ps_certificate.proofs.Sparse.{rising, length-counts_from}
+use Rattle.ps_certificate.proofs.SparseRows.Rows.{not_above_start, not_above_end, not_above_next, above_here}
+use Rattle.ps_certificate.proofs.SparseRows.Sparse.{rising, length-counts_from}
 use Rattle.ps_certificate.proofs.row.Row.first_above.Goals as goal
 
 pub first_from-number-requires : goal.first_from-number-requires

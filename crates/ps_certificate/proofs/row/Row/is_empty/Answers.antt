@@ -1,4 +1,4 @@
-use Rattle.ps_certificate.proofs.Sparse.{length-counts_from}
+use Rattle.ps_certificate.proofs.SparseRows.Sparse.{length-counts_from}
 use Rattle.ps_certificate.proofs.row.Row.is_empty.Goals as goal
 
 pub returns : goal.returns

@@ -41,7 +41,7 @@ use Rattle.ps_certificate.specs.Texts.{ReadsCertificate as ReadsText}
 use Rattle.ps_certificate.specs.Written.{fields, pairs, counts_text, move_text, entry_line, entry_lines, version_digit}
 use Rattle.ps_certificate.specs.Written.{head_text, IsWord, IsWritable, HasWords, text_in}
 use Rattle.ps_certificate.proofs.OneReading.{Rises, rises as rises_of}
-use Rattle.ps_certificate.proofs.CountsOfPairs.{after, after_counts}
+use Rattle.ps_certificate.proofs.Rereading.CountsOfPairs.{after, after_counts}
 use Rattle.ps_certificate.proofs.Numerals.{numeral_ended}
 use Rattle.ps_certificate.proofs.NumberPart.{AtDigit, Settled, settled_other, settled_zero, settled_priority, seen}
 use Rattle.ps_certificate.proofs.NumberPart.{signs_seen, read_run}

@@ -26,8 +26,10 @@ use Rattle.ps_circuit.proofs.Judges.{bad_symbol}
 use Rattle.ps_circuit.proofs.TextLaws.{letter, symbol_number, chain_letter, chain_number, chain_space, chain_name}
 use Rattle.ps_circuit.proofs.TextLaws.{laws_symbol_line, chain_c_line}
 use Rattle.ps_circuit.proofs.SignLaws.{AtKind}
-use Rattle.ps_circuit.proofs.RereadFields.{from, Reread, Rereads, reread_then, reread_mapped, reread_as, reread_branch}
-use Rattle.ps_circuit.proofs.RereadFields.{reread_give, reread_run, number_then, AnyValue, reread_byte, reread_newline}
+use Rattle.ps_circuit.proofs.Rereading.RereadFields.{from, Reread, Rereads, reread_then, reread_mapped, reread_as}
+use Rattle.ps_circuit.proofs.Rereading.RereadFields.{reread_branch}
+use Rattle.ps_circuit.proofs.Rereading.RereadFields.{reread_give, reread_run, number_then, AnyValue, reread_byte}
+use Rattle.ps_circuit.proofs.Rereading.RereadFields.{reread_newline}
 
 abbrev pub letter_of : Kind → ℕ
 letter_of OfInput = 105

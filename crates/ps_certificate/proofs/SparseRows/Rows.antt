@@ -6,8 +6,9 @@ use Rattle.std.proofs.lemmas.List.{length-append, length-replicate, take_all}
 use Rattle.ps_certificate.specs.Sparse.{count_at, row_of, IsRow, place_at, AreRising, IsFirstFrom, AreAtMost}
 use Rattle.ps_certificate.specs.Sparse.{IsFirstAbove}
 use Rattle.ps_certificate.specs.declared.row.PlacedCount.{PlacedCount}
-use Rattle.ps_certificate.proofs.Sparse.{number_at, count_missing, count_here, row_at, row_to, row_next, place_within}
-use Rattle.ps_certificate.proofs.Sparse.{rising, length-counts_from}
+use Rattle.ps_certificate.proofs.SparseRows.Sparse.{number_at, count_missing, count_here, row_at, row_to, row_next}
+use Rattle.ps_certificate.proofs.SparseRows.Sparse.{place_within}
+use Rattle.ps_certificate.proofs.SparseRows.Sparse.{rising, length-counts_from}
 
 -- ## Comparing
 

@@ -26,9 +26,10 @@ use Rattle.ps_circuit.proofs.Adding.{LineKind, AddsItem, input_kind, latch_kind,
 use Rattle.ps_circuit.proofs.Adding.{adds_latch, adds_output, adds_gate}
 use Rattle.ps_circuit.proofs.NumberLemmas.{section}
 use Rattle.ps_circuit.proofs.LineLemmas.{reset_value}
-use Rattle.ps_circuit.proofs.RereadFields.{Rereads, IsGood, reread_then, reread_mapped, reread_as, reread_give}
-use Rattle.ps_circuit.proofs.RereadFields.{reread_word, number_then, field_then, reread_end, reread_more}
-use Rattle.ps_circuit.proofs.RereadFields.{reread_no_more}
+use Rattle.ps_circuit.proofs.Rereading.RereadFields.{Rereads, IsGood, reread_then, reread_mapped, reread_as}
+use Rattle.ps_circuit.proofs.Rereading.RereadFields.{reread_give}
+use Rattle.ps_circuit.proofs.Rereading.RereadFields.{reread_word, number_then, field_then, reread_end, reread_more}
+use Rattle.ps_circuit.proofs.Rereading.RereadFields.{reread_no_more}
 
 -- ## The first line
 

@@ -24,11 +24,11 @@ use Rattle.ps_circuit.specs.Written.{header_line, literal_lines, latch_lines, ga
 use Rattle.ps_circuit.proofs.TextLaws.{laws_text, first_names, chain_text, chain_inputs, chain_latches, chain_outputs}
 use Rattle.ps_circuit.proofs.TextLaws.{chain_gates, chain_symbols}
 use Rattle.ps_circuit.proofs.Adding.{values}
-use Rattle.ps_circuit.proofs.RereadFields.{Rereads, Reread, reread_then, reread_mapped, reread_as}
-use Rattle.ps_circuit.proofs.RereadLines.{IsWritable, header_data, reread_header}
-use Rattle.ps_circuit.proofs.RereadCircuits.{InputsRead, LatchesRead, OutputsRead, GatesRead, reread_inputs}
-use Rattle.ps_circuit.proofs.RereadCircuits.{reread_latches, reread_outputs, reread_gates}
-use Rattle.ps_circuit.proofs.RereadNames.{reread_names, reread_no_names, reread_no_comment}
+use Rattle.ps_circuit.proofs.Rereading.RereadFields.{Rereads, Reread, reread_then, reread_mapped, reread_as}
+use Rattle.ps_circuit.proofs.Rereading.RereadLines.{IsWritable, header_data, reread_header}
+use Rattle.ps_circuit.proofs.Rereading.RereadCircuits.{InputsRead, LatchesRead, OutputsRead, GatesRead, reread_inputs}
+use Rattle.ps_circuit.proofs.Rereading.RereadCircuits.{reread_latches, reread_outputs, reread_gates}
+use Rattle.ps_circuit.proofs.Rereading.RereadNames.{reread_names, reread_no_names, reread_no_comment}
 
 none_same : {A B : Type 0} (xs : List A) (ys : List B) → length xs ≡ length ys → no_names xs ≡ no_names ys
 none_same [] [] e = refl

@@ -23,8 +23,8 @@ use Rattle.ps_circuit.proofs.Adding.{output_kind, gate_kind}
 use Rattle.ps_circuit.proofs.Lawful.{Lawful}
 use Rattle.ps_circuit.proofs.SignLaws.{AtDigit, Separates}
 use Rattle.ps_circuit.proofs.TextLaws.{laws_input_line, laws_latch_line, laws_output_line, laws_gate_line, chain_lines}
-use Rattle.ps_circuit.proofs.RereadFields.{Rereads, IsGood, reread_then, reread_as, reread_give}
-use Rattle.ps_circuit.proofs.RereadLines.{IsNew, reread_input, reread_latch, reread_output, reread_gate}
+use Rattle.ps_circuit.proofs.Rereading.RereadFields.{Rereads, IsGood, reread_then, reread_as, reread_give}
+use Rattle.ps_circuit.proofs.Rereading.RereadLines.{IsNew, reread_input, reread_latch, reread_output, reread_gate}
 
 -- ## The literals of a circuit
 
