@@ -1,0 +1,65 @@
+use Rattle.std.proofs.Common.{◌≡◌, ◌<◌, ◌≤◌, ℕ, Bool, List, Option, arith, ap, refl, get_or, length, rules}
+use Rattle.std.proofs.lemmas.Result.{err_from_is_err_and}
+use Rattle.ps_game.specs.Games.{ParityGame, IsGame, vertex_count}
+use Rattle.ps_measure.specs.Filling.{AreLevels}
+use Rattle.ps_measure.specs.Remaining.{IsReverse, LowData, RemainingData, StarData, remaining_graph, star_graph}
+use Rattle.ps_measure.proofs.Grouping.{group_at}
+use Rattle.ps_measure.proofs.Rows.{ranked_fits, filled_bound}
+use Rattle.ps_measure.proofs.Whole.{IsAtPlace, is_at_place, column_done, refused}
+use Rattle.ps_measure.proofs.measuring.raise_each.Goals as goal
+
+-- the parts of what remains are those of its value
+at_place : {game : ParityGame} {player : ℕ} {region : List Bool} {strategy : List (Option ℕ)} {r : RemainingData} →
+    record { game = game; player = player; region = region; strategy = strategy } ≡ r → (star : StarData)
+    {levels : List ℕ} (priorities : List ℕ) (place : ℕ) → IsGame game → AreLevels r.game levels →
+    IsReverse (remaining_graph r) (star_graph star) → place < length priorities →
+    IsAtPlace r (record { star = star; region = region; levels = levels; priority = get_or priorities place 0 })
+    priorities place
+at_place {r = r} parts star priorities place is_game levels reverse within =
+    rw (ap (λ (x : RemainingData). x.region) parts) (is_at_place r.player r.region r.strategy star priorities place
+    (rw (ap (λ (x : RemainingData). x.game) parts) at is_game) levels reverse within)
+
+pub loop-place-preserved : goal.loop-place-preserved
+loop-place-preserved g c =
+    let at = at_place c.remaining.view_is c.args.back.now c.args.priorities.now c.loop-place.place
+    c.count-vertices.ensures.well_formed c.requires.levels c.requires.reverse
+    (omega (arith, c.loop-place-test.true)) in
+    rw c.from-raises.ensures (column_done at c.in_ok-raised.ensures.filled c.loop-place.invariant)
+
+pub overflow_add-raises : goal.overflow_add-raises
+overflow_add-raises g c =
+    let games = ap (λ (r : RemainingData). r.game) c.remaining.view_is in
+    let vertices : c.count-vertices.result ≡ vertex_count c.args.remaining.now.game =
+    rw games at c.count-vertices.ensures.vertices in
+    let fits = ranked_fits (omega (arith, vertices, c.count-vertices.type_inv)) c.loop-place.invariant in
+    let few = filled_bound c.in_ok-raised.ensures.filled in
+    let count_is = c.requires.reverse.count in
+    record {
+      fits = search rules;
+    }
+
+pub returns-in_err-raised-clause-cycle : goal.returns-in_err-raised-clause-cycle
+returns-in_err-raised-clause-cycle g c =
+    let at = at_place c.remaining.view_is c.args.back.now c.args.priorities.now c.loop-place.place
+    c.count-vertices.ensures.well_formed c.requires.levels c.requires.reverse
+    (omega (arith, c.loop-place-test.true)) in
+    let p = err_from_is_err_and c.from_residual.result c.from_residual.ensures.1 in
+    rw (p.1, p.2) (refused at c.in_err-raised.field-0.0 c.requires.listed c.in_err-raised.ensures.cycle)
+
+pub returns-clause-ranked : goal.returns-clause-ranked
+returns-clause-ranked g c =
+    let end : c.loop-place.place ≡ length c.args.priorities.now =
+    omega (arith, c.loop-place-test.false, c.loop-place.auto.place-end) in
+    rw end at c.loop-place.invariant
+
+pub fill-requires-clause-group : goal.fill-requires-clause-group
+fill-requires-clause-group g c =
+    let low : LowData = record {
+      star = c.args.back.now;
+      region = c.remaining.inside.region.now;
+      levels = c.args.groups.now.levels;
+      priority = get_or c.args.priorities.now c.loop-place.place 0;
+    } in
+    group_at c.args.groups.now.levels c.args.priorities.now c.args.groups.now.members c.loop-place.place
+    low (rw (← ap (λ (r : RemainingData). r.region) c.remaining.view_is) at c.requires.groups) (omega (arith, c.loop-place-test.true))
+    (omega (arith, c.requires.levels.each, c.requires.reverse.count)) refl refl
