@@ -85,8 +85,7 @@ module _ (game : ParityGame) (player : ℕ) (set : ℕ → Bool) (table : ℕ �
   unfolding goes
   so_goes v w g =
       and_from (may_stay game player set table v w) (nat_le (priority_of game v) p && nat_le (priority_of game w) p)
-      (so_stays g.0) (and_from (nat_le (priority_of game v) p) (nat_le (priority_of game w) p)
-      (le-leb (priority_of game v) p g.1) (le-leb (priority_of game w) p g.2))
+      (so_stays g.0) (search (rules, and_from, le-leb, g.1, g.2))
 
   -- such edges lead from v through the vertices of the list to u
   abbrev IsRun : ℕ → List ℕ → ℕ → Type 0
@@ -344,8 +343,7 @@ module _ (game : ParityGame) (player : ℕ) (set : ℕ → Bool) (table : ℕ �
     keep = λ v w r. record {
       never_rises = λ from to. omega (arith, asked k v w (r, from, to), s.settled v r.remains.edge.0);
       falls = λ is to.
-          (let one : weight v ≡ 1 =
-          ap counted (and_from (priority_of game v == p) (set v) (eq-eqb (priority_of game v) p is) r.from) in
+          (let one : weight v ≡ 1 = search (rules, and_from, eq-eqb) in
           omega (arith, asked k v w (r, omega (arith, is), to), s.settled v r.remains.edge.0, one));
     };
     least = λ other keep v. least other keep k v;
