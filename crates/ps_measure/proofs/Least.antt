@@ -1,7 +1,7 @@
 -- The least counts of the graph of low vertices are those of the game; a way back to a link's source is a cycle of the
 -- game.
 use Rattle.std.proofs.Common.{◌≡◌, ◌≢◌, ℕ, zero, suc, ◌+◌, ◌-◌, ◌%◌, ◌<◌, ◌≤◌, ◌∙◌, List, [], ◌∷◌, length, map, get_or}
-use Rattle.std.proofs.Common.{inl, inr, refl, sym, ap, arith, Bool, true, false, cond, nat_le, ◌&&◌, rules}
+use Rattle.std.proofs.Common.{inl, inr, refl, ap, arith, Bool, true, false, cond, nat_le, ◌&&◌, rules}
 use Rattle.std.specs.Prelude.{slice_index, IsTrue, ◌==◌}
 use Rattle.std.proofs.lemmas.Bool.{cases_eq, cases_lt, eq-eqb, ne_eqb, and_from, le-leb, lt-leb}
 use Rattle.std.proofs.lemmas.List.{length-map, get_or-map}
@@ -43,11 +43,7 @@ module _ (r : RemainingData) (low : LowData) (is_game : IsGame r.game) (levels :
   remains_low w v link =
       let parts = low_link low link in
       let remains = link_remains r (reverse.back v w parts.0) in
-      let from = is_game.within v w remains.remains.edge in (
-        remains,
-        omega (arith, levels.is w from, parts.1),
-        omega (arith, levels.is v remains.remains.edge.0, parts.2),
-      )
+      let from = is_game.within v w remains.remains.edge in (search rules)
 
   low_remains : (v w : ℕ) → Remains r v w → priority_of r.game w ≤ low.priority →
       priority_of r.game v ≤ low.priority → Link (low_graph low) w v
@@ -112,10 +108,8 @@ module _ (r : RemainingData) (low : LowData) (is_game : IsGame r.game) (levels :
         (let parts = remains_low w v link in (parts.0.to, parts.0.from))) v (false_unless (has r.region v) not_inside);
     above =
         λ v high. zero_where (λ u. nat_le (priority_of r.game u) low.priority) d least
-        (λ w v link. (let parts = remains_low w v link in (
-          le-leb (priority_of r.game w) low.priority parts.1,
-          le-leb (priority_of r.game v) low.priority parts.2,
-        ))) v (lt-leb (priority_of r.game v) low.priority high);
+        (λ w v link. (let parts = remains_low w v link in (search (rules, le-leb)))) v
+        (lt-leb (priority_of r.game v) low.priority high);
     bounded = λ v. omega (arith, least.bounded v, weights_same);
   }
     where
@@ -139,8 +133,7 @@ module _ (r : RemainingData) (low : LowData) (is_game : IsGame r.game) (levels :
         (priority_of r.game (slice_index cycle k) ≤ low.priority)
     link_at k within =
         remains_low (slice_index cycle (k + 1)) (slice_index cycle k)
-        (way.trail.links k (slice_index cycle k) (slice_index cycle (k + 1))
-        (slice_get-get_or cycle k 0 (omega arith)) (slice_get-get_or cycle (k + 1) 0 within))
+        (search (rules, slice_get-get_or))
 
     closing : Remains r way.to way.from × (priority_of r.game way.from ≤ low.priority) ×
         (priority_of r.game way.to ≤ low.priority)
@@ -150,8 +143,7 @@ module _ (r : RemainingData) (low : LowData) (is_game : IsGame r.game) (levels :
         (priority_of r.game (slice_index cycle k) ≤ low.priority)
     edge_at k within = elim (cases_lt (k + 1) (length cycle)) [
       | inl less ↦ (let at = link_at k less in (at.0.remains.edge.0, at.2))
-      | inr more ↦ (let is : k ≡ length cycle - 1 = omega arith in
-          rw (is, last_is) (closing.0.remains.edge.0, closing.2))
+      | inr more ↦ (search (rules, last_is, closing))
     ]
 
     at_map : (k : ℕ) → k < length cycle → get_or (map (priority_of r.game) cycle) k 0 ≡ priority_of r.game
@@ -164,10 +156,8 @@ module _ (r : RemainingData) (low : LowData) (is_game : IsGame r.game) (levels :
     top : greatest (map (priority_of r.game) cycle) ≡ low.priority
     top =
         greatest_at (map (priority_of r.game) cycle) (length cycle - 1) low.priority (omega (arith, some, long))
-        (at_map (length cycle - 1) (omega (arith, some)) ∙ ap (priority_of r.game) last_is
-        ∙ sym (levels.is way.to closing.0.remains.edge.0) ∙ heavy_level low way.to way.closing.heavy)
-        (λ k within. (let inside : k < length cycle = omega (arith, within, long) in
-        omega (arith, at_map k inside, (edge_at k inside).1)))
+        (search (rules, at_map, some, last_is, closing, heavy_level))
+        (λ k within. search (rules, long, at_map, edge_at))
 
     pub lost_cycle : low.priority % 2 ≡ other_player r.player →
         IsLostCycle r.game r.player (has r.region) (move_at r.strategy) cycle

@@ -68,5 +68,4 @@ roots_everywhere all within so_far = record {
 -- a vertex to which a place of the group leads
 pub member_within : {low : LowData} {members : StarData} {place : ℕ} (k : ℕ) {v : ℕ} → IsGroup members place low →
     k < (star_graph members).degree place → (star_graph members).target place k ≡ Some v → v < low.star.count
-member_within k {v} group below is =
-    group.within v (record { from = group.at; place = k; at = below; target = is })
+member_within k {v} group below is = search (rules, group.within, group.at)

@@ -51,7 +51,7 @@ module _ (low : LowData) {c : ComponentsData} {values : List ℕ} {from number t
     pub step_fits : value + weight ≤ low.star.count
     step_fits =
         let all : sum_below (low_weight low) low.star.count ≤ low.star.count * 1 =
-        sum_below-bound (low_weight low) low.star.count 1 (λ v _. weight_light low v) in
+        search (rules, sum_below-bound, weight_light) in
         omega (arith, is_sum, raise_fits counting.components counting.column to before_in.0 less, all)
 
     pub step_counting : IsCounting (low_graph low) (low_weight low) c (slice_set values before (value + weight))
