@@ -25,8 +25,7 @@ Row = List ℕ
 pub raised-le-total : (rows : List Row) (count width : ℕ) → raised_of rows count width ≤ total_of rows count width
 raised-le-total rows count width =
     sum_below-le (λ k. raised_below (λ v. count_of rows v k) count) (λ k. sum_below (λ v. count_of rows v k) count)
-    width (λ k _. sum_below-le (λ v. counted (nat_lt 0 (count_of rows v k))) (λ v. count_of rows v k) count
-    (λ v _. positive_bound (count_of rows v k)))
+    width (λ k _. search (rules, sum_below-le, positive_bound))
 
 module _ {game : ParityGame} {player : ℕ} {set : ℕ → Bool} {table : ℕ → Option ℕ} where
   -- the counts for one priority that are not 0
@@ -128,5 +127,4 @@ filled_none low {roots} none are zeros = record {
 
 pub filled_bound : {g : Digraph} {weight : ℕ → ℕ} {old new : List Row} {place raised : ℕ} →
     IsFilled g weight old new place raised → raised ≤ g.count
-filled_bound {g} filled =
-    omega (arith, filled.raised_is, count_below-bound (λ v. nat_lt 0 (filled.counts v)) g.count)
+filled_bound {g} filled = search (rules, count_below-bound)

@@ -15,9 +15,7 @@ at_place : {game : ParityGame} {player : ℕ} {region : List Bool} {strategy : L
     IsReverse (remaining_graph r) (star_graph star) → place < length priorities →
     IsAtPlace r (record { star = star; region = region; levels = levels; priority = get_or priorities place 0 })
     priorities place
-at_place {r = r} parts star priorities place is_game levels reverse within =
-    rw (ap (λ (x : RemainingData). x.region) parts) (is_at_place r.player r.region r.strategy star priorities place
-    (rw (ap (λ (x : RemainingData). x.game) parts) at is_game) levels reverse within)
+at_place {r = r} parts star priorities place is_game levels reverse within = search (rules, is_at_place)
 
 pub loop-place-preserved : goal.loop-place-preserved
 loop-place-preserved g c =
@@ -48,9 +46,7 @@ returns-in_err-raised-clause-cycle g c =
 
 pub returns-clause-ranked : goal.returns-clause-ranked
 returns-clause-ranked g c =
-    let end : c.loop-place.place ≡ length c.args.priorities.now =
-    omega (arith, c.loop-place-test.false, c.loop-place.auto.place-end) in
-    rw end at c.loop-place.invariant
+    search (rules, c.loop-place.place, c.loop-place-test.false, c.loop-place.auto.place-end, c.loop-place.invariant)
 
 pub fill-requires-clause-group : goal.fill-requires-clause-group
 fill-requires-clause-group g c =
@@ -61,5 +57,6 @@ fill-requires-clause-group g c =
       priority = get_or c.args.priorities.now c.loop-place.place 0;
     } in
     group_at c.args.groups.now.levels c.args.priorities.now c.args.groups.now.members c.loop-place.place
-    low (rw (← ap (λ (r : RemainingData). r.region) c.remaining.view_is) at c.requires.groups) (omega (arith, c.loop-place-test.true))
+    low (rw (← ap (λ (r : RemainingData). r.region) c.remaining.view_is) at c.requires.groups)
+    (omega (arith, c.loop-place-test.true))
     (omega (arith, c.requires.levels.each, c.requires.reverse.count)) refl refl
