@@ -2,10 +2,13 @@
 --     laws_give, laws_one, laws_mapped, laws_then
 --     refused      a part that is not empty, where no sign comes with which it begins
 --     read_give      nothing is taken
+--     taken_byte      a sign that is taken for one byte is that byte
 --     read_one, bad_one, refused_one      one sign is taken; it is bad; it can't stand there, or there is none
 --     read_mapped, fault_mapped
 use Rattle.std.proofs.Common.{◌≡◌, ◌+◌, ◌≤◌, List, [], ◌∷◌, ◌++◌, Option, None, Some, refl, sym, ap, subst, inl, inr}
-use Rattle.std.proofs.Common.{◌⊎◌, ◌∙◌, append_assoc, arith, rules}
+use Rattle.std.proofs.Common.{◌⊎◌, ◌∙◌, ℕ, append_assoc, arith, rules}
+use Rattle.std.specs.Prelude.{◌==◌, if◌then◌else◌}
+use Rattle.std.proofs.lemmas.Bool.{eqb-true}
 use Rattle.ps_text.specs.Answers.{Begins, first_of}
 use Rattle.ps_text.specs.Parts.{Part, Causes, IsRead, IsFault, is_cause, give, one, then_by, mapped, refusal_of}
 use Rattle.ps_text.proofs.Splits.{Placed, inside, behind, placed, same_head, same_tail}
@@ -59,6 +62,9 @@ Taken {T} {V} take t = (v : V) × (take t ≡ Some v)
 
 abbrev pub BadSign : {T F : Type 0} → (T → F → Type 0) → T → Type 0
 BadSign {T} {F} Bad t = (f : F) × Bad t f
+
+pub taken_byte : {b n : ℕ} {u : Unit {0}} → (if n == b then Some tt else None) ≡ Some u → n ≡ b
+taken_byte {b} {n} {u} e = search (rules, eqb-true)
 
 module _ {T V F : Type 0} (take : T → Option V) (Bad : T → F → Type 0) where
   pub laws_one : (odd : T → Type 0) (t : T) (v : V) → take t ≡ Some v → Apart (Taken take) odd →
