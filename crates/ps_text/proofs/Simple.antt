@@ -145,8 +145,7 @@ module _ {T A B F : Type 0} {odd : T → Type 0} {P : Part T A F} {Q : A → Par
   -- P does not go on with the first sign of a text of Q
   halts : (left right : List T) (a : A) (x : B) → P.IsText left a → (Q a).IsText right x →
       GoesOn P left (first_of right) → ⊥
-  halts left [] a x h k g = none_is_some g.0 g.1
-  halts left (t ∷ right) a x h k g = apart t (goes left t a h g) ((r a).first_text t right x k)
+  halts left right a x h k g = search (rules, none_is_some, goes)
 
   values_then : (text : List T) (x y : B) → (then_by P Q).IsText text x → (then_by P Q).IsText text y → x ≡ y
   values_then text x y i k = go (text_behind (joint l r apart) i.left i.right i.value y i.is_left
@@ -162,8 +161,7 @@ module _ {T A B F : Type 0} {odd : T → Type 0} {P : Part T A F} {Q : A → Par
   first_then (s ∷ left) right text t a b e h k = search (rules, same_head)
 
   first_cause_then : (t : T) (f : F) → (then_by P Q).IsCause [] t f → Or F1 (When N1 F2) t
-  first_cause_then t f (inl c) = inl (l.first_cause t f c)
-  first_cause_then t f (inr k) = search (rules, append_nil_left, append_nil_right)
+  first_cause_then t f cases = search (rules, append_nil_left, append_nil_right)
 
   -- where P goes on behind a text of the two, Q is empty
   goes_then : (left right more : List T) (t : T) (a : A) (x : B) → P.IsText left a → (Q a).IsText right x →
@@ -197,8 +195,7 @@ module _ {T A B F : Type 0} {odd : T → Type 0} {P : Part T A F} {Q : A → Par
   plain_then front rest t v i o = search (rules, placed, Placed, inside, behind)
 
   plain_cause_then : (front : List T) (t : T) (f : F) → (then_by P Q).IsCause front t f → odd t → ⊥
-  plain_cause_then front t f (inl c) o = l.plain_cause front t f c o
-  plain_cause_then front t f (inr k) o = (r k.value).plain_cause k.right t f k.is_cause o
+  plain_cause_then front t f cases o = search rules
 
   behind_then : (front : List T) (t : T) (f : F) → (then_by P Q).IsCause front t f → Begins (then_by P Q).IsText front
   behind_then front t f (inl c) = begins_left (joint l r apart) front (l.behind front t f c)
