@@ -62,8 +62,7 @@ inside_of {T} {all} {left} mid front rest t e f l = go (placed left mid front re
 
 -- the first sign, and the others
 pub head_of : {T : Type 0} (ts : List T) {t : T} → first_of ts ≡ Some t → ts ≡ t ∷ drop 1 ts
-head_of [] e = absurd (cc)
-head_of (s ∷ ts) e = ap (λ z. z ∷ ts) (cc)
+head_of ts e = search rules
 
 pub all_taken_all : {X : Type 0} (P : X → Type 0) (xs : List X) (v : ℕ) → length xs ≤ v → All P (take v xs) → All P xs
 all_taken_all P xs v le h = subst (All P) (take_all v xs le) h
