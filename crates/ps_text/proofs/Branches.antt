@@ -61,8 +61,7 @@ stops_as_well causes {P = P} {Q = Q} old o w s = search (rules, stops_as, fault_
 pub meets_as : {T V F X E : Type 0} (found : E → Option (Found F)) (causes : Causes T F) (view : X → V)
     {P Q : Part T V F} (old new : Stream T) (r : Result X E) →
     Stands (next_of old) P Q → Meets found causes view P old r new → Meets found causes view Q old r new
-meets_as found causes view old new (Ok x) w m = reads_as w m
-meets_as found causes view old new (Err e) w m = stops_as_well causes old (found e) w m
+meets_as found causes view old new r w m = search (rules, reads_as, stops_as_well)
 
 module _ {T V F : Type 0} {odd : T → Type 0} {P Q : Part T V F} {F1 M1 F2 M2 : T → Type 0} {N1 N2 : Type 0}
     (l : Laws odd P F1 M1 N1) (r : Laws odd Q F2 M2 N2) (there : Option T) where
@@ -132,8 +131,7 @@ module _ {T C F : Type 0} {odd : T → Type 0} (item : C → Part T C F) {First 
       go (Err o) new n = k (Err o) new (many_fails_later causes o m n)
 
   pub times_ends : (n : ℕ) (c : C) (s : Stream T) → n ≡ 0 → Reads (times n item c) s c s
-  times_ends zero c s z = reads_give s c
-  times_ends (suc n) c s z = absurd (omega (arith, z))
+  times_ends n c s z = search (rules, reads_give)
 
   pub times_reads : (n : ℕ) {c d e : C} {old mid new : Stream T} → 0 < n → Reads (item c) old d mid →
       Reads (times (n - 1) item d) mid e new → Reads (times n item c) old e new

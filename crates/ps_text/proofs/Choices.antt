@@ -3,7 +3,7 @@
 --     laws_choice      the laws of the choice, from those of each form
 --     stands_form      at a sign that begins a form, that form is read in place of the choice
 --     enters_form      where a form is entered, the choice is
-use Rattle.std.proofs.Common.{◌≡◌, List, [], ◌∷◌, ◌++◌, Option, None, Some, sym, subst, inl, inr, ◌∙◌, rules}
+use Rattle.std.proofs.Common.{◌≡◌, List, [], ◌∷◌, ◌++◌, Option, Some, sym, subst, ◌∙◌, rules}
 use Rattle.ps_text.specs.Answers.{first_of}
 use Rattle.ps_text.specs.Parts.{Part}
 use Rattle.ps_text.specs.Choices.{choice}
@@ -67,6 +67,4 @@ module _ {K T V F : Type 0} {odd : T → Type 0} (form : K → Part T V F) (form
   stands_form k t b = search (rules, same_form, same_some, text_form, cause_form)
 
   pub enters_form : (k : K) (there : Option T) → Enters (form k) there → Enters (choice form) there
-  enters_form k None e = e
-  enters_form k (Some t) (inl b) = inl (record { more = b.more; value = b.value; is_text = (k, b.is_text) })
-  enters_form k (Some t) (inr c) = inr (c.0, (k, c.1))
+  enters_form k there e = search rules

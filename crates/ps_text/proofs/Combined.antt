@@ -6,7 +6,7 @@
 --     laws_all, laws_times_all      any number of items, or so many, that go on with no sign
 --     laws_last      a part behind one that may be empty, where no sign stands behind the second one
 --     joint_tight      a part behind one that goes on with no sign
-use Rattle.std.proofs.Common.{◌≡◌, ℕ, Option, Some, inl, inr}
+use Rattle.std.proofs.Common.{◌≡◌, ℕ, Option, Some, inl, inr, rules}
 use Rattle.ps_text.specs.Parts.{Part, give, one, then_by, either, times, many}
 use Rattle.ps_text.proofs.Laws.{Laws, Joint, Nothing, Or, Within, Apart, weaker}
 use Rattle.ps_text.proofs.Joined.{joint}
@@ -15,8 +15,7 @@ use Rattle.ps_text.proofs.Covered.{laws_either}
 use Rattle.ps_text.proofs.Repeated.{laws_times, laws_many}
 
 pub both_within : {T : Type 0} {A B C : T → Type 0} → Within A C → Within B C → Within (Or A B) C
-both_within f g t (inl h) = f t h
-both_within f g t (inr h) = g t h
+both_within h1 h2 = search rules
 
 module _ {T V F : Type 0} {odd : T → Type 0} where
   pub wider_first : {P : Part T V F} {First First' More : T → Type 0} {Null : Type 0} →
@@ -36,14 +35,14 @@ module _ {T V F : Type 0} {odd : T → Type 0} where
   pub laws_forms : {P Q : Part T V F} {F1 F2 More : T → Type 0} → Laws odd P F1 More ⊥ → Laws odd Q F2 More ⊥ →
       Apart F1 F2 → Laws odd (either P Q) (Or F1 F2) More ⊥
   laws_forms l r apart = weaker (laws_either l r apart (λ n _. n)) (λ t h. h)
-      (both_within (both_within (λ t h. h) (λ t h. h)) (both_within (λ t h. absurd h.0) (λ t h. absurd h.0)))
+      (search (rules, both_within))
       (λ n. elim n [ inl x ↦ x | inr x ↦ x ])
 
   pub laws_option : {P : Part T V F} {First : T → Type 0} → Laws odd P First Nothing ⊥ → (v : V) →
       Laws odd (either P (give v)) First First (Unit {0})
   laws_option l v = weaker (laws_either l (laws_give odd v) (λ t _ b. b) (λ n _. n))
       (both_within (λ t h. h) (λ t h. absurd h))
-      (both_within (both_within (λ t h. absurd h) (λ t h. absurd h)) (both_within (λ t h. absurd h.0) (λ t h. h.1)))
+      (search (rules, both_within))
       (λ _. tt)
 
   module _ (item : V → Part T V F) {First : T → Type 0} (l : (c : V) → Laws odd (item c) First Nothing ⊥) where

@@ -4,7 +4,7 @@
 --     Avoids A there      the next sign is none of these
 --     covers_left, covers_right      `either` is read as one of its two, where the other does not begin
 --     laws_either
-use Rattle.std.proofs.Common.{◌≡◌, ◌⊎◌, List, [], ◌∷◌, ◌++◌, Option, None, Some, refl, sym, subst, inl, inr, ◌∙◌, rules}
+use Rattle.std.proofs.Common.{◌≡◌, ◌⊎◌, List, [], ◌∷◌, ◌++◌, Option, None, Some, refl, subst, inl, inr, ◌∙◌, rules}
 use Rattle.std.proofs.Common.{⊎_elim}
 use Rattle.ps_text.specs.Answers.{Begins, first_of}
 use Rattle.ps_text.specs.Parts.{Part, IsRead, IsBroken, one, then_by, mapped, either}
@@ -18,9 +18,7 @@ Enters P None = ⊥
 Enters {T} {V} {F} P (Some t) = Begins P.IsText (t ∷ []) ⊎ ((f : F) × P.IsCause [] t f)
 
 pub enters_broken : {T V F : Type 0} (P : Part T V F) (there : Option T) → Enters P there → IsBroken P [] there → ⊥
-enters_broken P None e b = e
-enters_broken P (Some t) (inl h) b = b.stops h
-enters_broken P (Some t) (inr c) b = b.no_cause c.0 c.1
+enters_broken P there e b = search rules
 
 -- a part that takes a sign was entered
 pub enters_read : {T V F : Type 0} (P : Part T V F) (all rest : List T) (v : V) → ((w : V) → P.IsText [] w → ⊥) →
@@ -29,14 +27,11 @@ enters_read {T} P all rest v some p = go p.text p.split p.is_text
   where
     go : (text : List T) → all ≡ text ++ rest → P.IsText text v → Enters P (first_of all)
     go [] e h = absurd (some v h)
-    go (t ∷ text) e h =
-        subst (λ z. Enters P (first_of z)) (sym e) (inl (record { more = text; value = v; is_text = h }))
+    go (t ∷ text) e h = search rules
 
 pub enters_then : {T A B F : Type 0} (P : Part T A F) (Q : A → Part T B F) (j : Joint P Q) (there : Option T) →
     Enters P there → Enters (then_by P Q) there
-enters_then P Q j None e = e
-enters_then P Q j (Some t) (inl b) = inl (begins_left j (t ∷ []) b)
-enters_then P Q j (Some t) (inr c) = inr (c.0, inl c.1)
+enters_then P Q j there e = search (rules, begins_left)
 
 pub enters_mapped : {T A B F : Type 0} (h : A → B) (P : Part T A F) (there : Option T) → Enters P there →
     Enters (mapped h P) there
@@ -73,12 +68,7 @@ covers_one : {T V F : Type 0} {odd : T → Type 0} {P Q : Part T V F} {First Mor
     (v : V) → P.IsText text v → W.IsText text v) → ((front : List T) (t : T) (f : F) → P.IsCause front t f → W.IsCause
     front t f) → ((text : List T) (v : V) → W.IsText text v → P.IsText text v ⊎ Q.IsText text v) → ((front : List T)
     (t : T) (f : F) → W.IsCause front t f → P.IsCause front t f ⊎ Q.IsCause front t f) → Covers there P W
-covers_one {T} {V} {F} {P = P} {Q = Q} W l there a text cause text_of cause_of = record {
-  text = text;
-  cause = cause;
-  text_back = λ t text v e h. back t text v e (text_of (t ∷ text) v h);
-  cause_back = λ front t f e h. cause_back front t f e (cause_of front t f h);
-}
+covers_one {T} {V} {F} {P = P} {Q = Q} W l there a text cause text_of cause_of = search (rules, back, cause_back)
   where
     back : (t : T) (text : List T) (v : V) → there ≡ Some t → P.IsText (t ∷ text) v ⊎ Q.IsText (t ∷ text) v →
         P.IsText (t ∷ text) v
@@ -92,8 +82,7 @@ covers_one {T} {V} {F} {P = P} {Q = Q} W l there a text cause text_of cause_of =
         let s = some_sign front t in absurd (a s.0 (e ∙ s.1) (first_of_cause l front [] t s.0 f h s.1))
 
 swapped : {A B : Type 0} → A ⊎ B → B ⊎ A
-swapped (inl a) = inr a
-swapped (inr b) = inl b
+swapped cases = search rules
 
 module _ {T V F : Type 0} {odd : T → Type 0} (P Q : Part T V F) {First More : T → Type 0} {Null : Type 0} where
   pub covers_left : Laws odd Q First More Null → (there : Option T) → Avoids First there → Covers there P (either P Q)

@@ -56,8 +56,7 @@ pub record IsNumberText (n : ℕ) (digits : List ℕ) : Type 0 where
   pub short : n < 10 → length digits ≡ 1
 
 begins_more : (ds more : List ℕ) → 0 < length ds → BeginsWithZero (ds ++ more) → BeginsWithZero ds
-begins_more [] more l h = absurd (omega (arith, l))
-begins_more (d ∷ ds) more l h = h
+begins_more ds more l h = search rules
 
 pub number_text : (n : ℕ) → n < 2 ^ 64 → IsNumberText n (decimal n)
 number_text n small = decimal_by_steps IsNumberText one further n small

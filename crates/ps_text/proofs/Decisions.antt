@@ -6,7 +6,7 @@
 --     judge_none, judge_cause, judge_one, judge_as      no cause; one cause, if a fact holds; of two sets of causes; a
 --               set of the same causes
 --     judge_if, judge_also      of what a sign has, where it has it; of causes that stand where a fact holds
-use Rattle.std.proofs.Common.{◌≡◌, ℕ, zero, suc, ◌≤◌, ◌⊎◌, Bool, true, false, List, [], ◌∷◌, length, get_or, refl, sym}
+use Rattle.std.proofs.Common.{◌≡◌, ℕ, zero, suc, ◌≤◌, ◌⊎◌, Bool, true, List, [], ◌∷◌, length, get_or, refl, sym}
 use Rattle.std.proofs.Common.{inl, rules, inr, Option, None, Some, arith}
 use Rattle.std.specs.Prelude.{IfSome}
 use Rattle.std.specs.List.{Contains}
@@ -18,30 +18,22 @@ abbrev pub Decided : Type 0 → Type 0
 Decided A = A ⊎ ¬ A
 
 pub decide_not : {A : Type 0} → Decided A → Decided (¬ A)
-decide_not (inl h) = inr (λ n. n h)
-decide_not (inr n) = inl n
+decide_not cases = search rules
 
 pub decide_as : {A B : Type 0} → (A → B) → (B → A) → Decided A → Decided B
-decide_as to from (inl a) = inl (to a)
-decide_as to from (inr n) = inr (λ b. n (from b))
+decide_as to from cases = search rules
 
 pub decide_both : {A B : Type 0} → Decided A → Decided B → Decided (A × B)
-decide_both (inl a) (inl b) = inl (a, b)
-decide_both (inl a) (inr n) = inr (λ h. n h.1)
-decide_both (inr n) b = inr (λ h. n h.0)
+decide_both cases b = search rules
 
 pub decide_one : {A B : Type 0} → Decided A → Decided B → Decided (A ⊎ B)
-decide_one (inl a) b = inl (inl a)
-decide_one (inr n) (inl b) = inl (inr b)
-decide_one {A} {B} (inr n) (inr m) = search rules
+decide_one cases b = search rules
 
 pub decide_true : (b : Bool) → Decided (b ≡ true)
-decide_true true = inl refl
-decide_true false = inr (λ e. cc)
+decide_true b = search rules
 
 pub decide_none : {A : Type 0} (o : Option A) → Decided (o ≡ None)
-decide_none None = inl refl
-decide_none (Some a) = inr (λ e. none_is_some a (sym e))
+decide_none o = search (rules, none_is_some)
 
 pub decide_below : (m n : ℕ) → Decided (m ≤ n)
 decide_below m n = search (rules, cases_lt)

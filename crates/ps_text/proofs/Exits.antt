@@ -52,8 +52,7 @@ piece_next {T} s t e = go s.pieces e
 pub stops_as : {T A B F : Type 0} (causes : Causes T F) (P : Part T A F) (Q : Part T B F) (old : Stream T) →
     ((f : F) (rest : List T) → IsFault causes P (signs old.pieces) f rest →
     IsFault causes Q (signs old.pieces) f rest) → (o : Option (Found F)) → Stops causes P old o → Stops causes Q old o
-stops_as causes P Q old h None s = tt
-stops_as causes P Q old h (Some g) s = search rules
+stops_as causes P Q old h o s = search rules
 
 -- and so from an earlier place on
 pub stops_later : {T A B F : Type 0} (causes : Causes T F) (P : Part T A F) (Q : Part T B F) (old mid : Stream T) →

@@ -7,7 +7,7 @@
 --     read_as, fault_as      what is read or is a fault of P is one of Q
 --     after P left      what of P stands behind these signs
 --     read_after, fault_after      what is read or is a fault there is one of P, which is clean up to there
-use Rattle.std.proofs.Common.{◌≡◌, ℕ, ◌+◌, ◌⊎◌, List, [], ◌∷◌, ◌++◌, length, Option, None, Some, refl, sym, ap, subst}
+use Rattle.std.proofs.Common.{◌≡◌, ℕ, ◌+◌, ◌⊎◌, List, [], ◌∷◌, ◌++◌, length, Option, Some, refl, sym, ap, subst}
 use Rattle.std.proofs.Common.{inl, ◌∙◌, append_assoc, arith, length-append, rules}
 use Rattle.ps_text.specs.Answers.{Begins, first_of}
 use Rattle.ps_text.specs.Parts.{Part, Causes, IsRead, IsBroken, IsFault, IsFaultAt, is_cause, is_refusal, CleanUpTo}
@@ -17,8 +17,7 @@ use Rattle.ps_text.proofs.Splits.{Placed, inside, behind, placed, length_more, h
 module _ {T V F : Type 0} (P : Part T V F) (front : List T) where
   pub stops_by : (there : Option T) → ((t : T) → there ≡ Some t → Begins P.IsText (front ++ t ∷ []) → ⊥) →
       StopsAt P front there
-  stops_by None h = tt
-  stops_by (Some t) h = h t refl
+  stops_by there h = search rules
 
   pub stops_at : {there : Option T} {t : T} → there ≡ Some t → StopsAt P front there →
       Begins P.IsText (front ++ t ∷ []) → ⊥
@@ -26,8 +25,7 @@ module _ {T V F : Type 0} (P : Part T V F) (front : List T) where
 
   pub quiet_by : (there : Option T) → ((t : T) (f : F) → there ≡ Some t → P.IsCause front t f → ⊥) →
       NoCauseAt P front there
-  quiet_by None h = tt
-  quiet_by (Some t) h = λ f c. h t f refl c
+  quiet_by there h = search rules
 
   pub quiet_at : {there : Option T} {t : T} {f : F} → there ≡ Some t → NoCauseAt P front there → P.IsCause front t f → ⊥
   quiet_at {f = f} e n = subst (NoCauseAt P front) e n f

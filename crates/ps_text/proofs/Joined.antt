@@ -153,12 +153,7 @@ module _ {T A B F : Type 0} {P : Part T A F} {Q : A → Part T B F} (j : Joint P
         (λ front r t f e l. p.clean front r t f e (omega (arith, l)))
 
     covers_behind : Covers (first_of mid) (Q a) (after (then_by P Q) p.text)
-    covers_behind = record {
-      text = search rules;
-      cause = search rules;
-      text_back = λ t text v e k. text_of t text v e (text_behind p.text (t ∷ text) a v p.is_text k);
-      cause_back = λ front t f e k. cause_of front t f e (cause_behind p.text front t a f p.is_text k);
-    }
+    covers_behind = search (rules, text_of, text_behind, cause_of, cause_behind)
       where
         text_of : (t : T) (text : List T) (v : B) → first_of mid ≡ Some t →
             (Q a).IsText (t ∷ text) v ⊎ GoesOn P p.text (Some t) → (Q a).IsText (t ∷ text) v
@@ -170,8 +165,7 @@ module _ {T A B F : Type 0} {P : Part T A F} {Q : A → Part T B F} (j : Joint P
             ((front ≡ []) × P.IsCause p.text t f)) → (Q a).IsCause front t f
         cause_of front t f e (inl c) = c
         cause_of front t f e (inr (inl g)) = absurd (stops_at P p.text (e ∙ g.1) p.stops g.2)
-        cause_of front t f e (inr (inr c)) =
-            absurd (quiet_at P p.text (e ∙ ap (λ z. first_of (z ++ t ∷ [])) c.0) (read_quiet p) c.1)
+        cause_of front t f e (inr (inr c)) = search (rules, quiet_at, read_quiet, c.0, c.1)
 
     pub read_then : {rest : List T} {b : B} → IsRead (Q a) mid b rest → IsRead (then_by P Q) all b rest
     read_then q = read_after (then_by P Q) p.text p.split clean_text (read_as (Q a) _ covers_behind q)

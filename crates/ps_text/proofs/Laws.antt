@@ -9,7 +9,7 @@
 --               `joint`
 -- For each production of a grammar state its laws once, `laws_entry : Laws odd entry EntryFirst EntryMore ⊥`, by the
 -- lemma of its outermost combinator (proofs/Combined.antt) and `weaker`, with sets of the format's own names.
-use Rattle.std.proofs.Common.{◌≡◌, ◌⊎◌, List, [], ◌∷◌, ◌++◌}
+use Rattle.std.proofs.Common.{◌≡◌, ◌⊎◌, List, [], ◌∷◌, ◌++◌, rules}
 use Rattle.ps_text.specs.Answers.{Begins}
 use Rattle.ps_text.specs.Parts.{Part}
 
@@ -48,18 +48,7 @@ pub weaker : {T V F : Type 0} {odd : T → Type 0} {part : Part T V F} {First Mo
     {Null Null' : Type 0} →
     Laws odd part First More Null → Within First First' → Within More More' → (Null → Null') →
     Laws odd part First' More' Null'
-weaker l f m n = record {
-  some = l.some;
-  one_value = l.one_value;
-  first_text = λ t text v h. f t (l.first_text t text v h);
-  first_cause = λ t g h. f t (l.first_cause t g h);
-  more_text = λ text more t v w h k. m t (l.more_text text more t v w h k);
-  more_cause = λ text t v g h k. m t (l.more_cause text t v g h k);
-  null = λ v h. n (l.null v h);
-  behind = l.behind;
-  plain_text = l.plain_text;
-  plain_cause = l.plain_cause;
-}
+weaker l f m n = search rules
 
 pub record Joint {T A B F : Type 0} (P : Part T A F) (Q : A → Part T B F) : Type 0 where
   pub one_value : (text : List T) (v w : A) → P.IsText text v → P.IsText text w → v ≡ w

@@ -35,12 +35,7 @@ next_value text value digits lt digit is =
 
 pub read_one : (text : List ℕ) (value digits : ℕ) → digits < length text → is_ascii_digit (get_or text digits 0)
     ≡ true → IsReadTo text value digits → IsReadTo text (value * 10 + (get_or text digits 0 - 48)) (digits + 1)
-read_one text value digits lt digit is =
-    let b = get_or text digits 0 in
-    let bs = drop (digits + 1) text in
-    let more : prefix_len is_ascii_digit (drop digits text) ≡ 1 + prefix_len is_ascii_digit bs =
-    ap (prefix_len is_ascii_digit) (drop_more text digits 0 lt) ∙ rw digit refl in
-    record { counted = omega (arith, more, is.counted); made = next_value text value digits lt digit is }
+read_one text value digits lt digit is = search (rules, drop_more, next_value)
 
 -- the value with one digit more is no greater than that of all
 pub read_too_much : (text : List ℕ) (value digits : ℕ) → digits < length text →

@@ -1,5 +1,6 @@
 -- The lemmas of Exits and Branches on a `Meets` of any result, with the view and the streams written out.
 use Rattle.std.proofs.Common.{◌≡◌, ◌<◌, ◌≤◌, [], length, Option, None, Some, Result, Ok, Err, IsErrAnd, subst, sym}
+use Rattle.std.proofs.Common.{rules}
 use Rattle.ps_text.specs.Answers.{Stream, Found, next_of, offset_of}
 use Rattle.ps_text.specs.Parts.{Part, Causes, give, one, then_by, mapped, either, many}
 use Rattle.ps_text.specs.Readers.{refusal_at, tail, Reads, Meets}
@@ -18,8 +19,7 @@ module _ {T F E : Type 0} (found : E → Option (Found F)) (causes : Causes T F)
 
   pub meets_mapped : {A B X : Type 0} (view : X → A) (h : A → B) (P : Part T A F) (old new : Stream T) (r
       : Result X E) → Meets found causes view P old r new → Meets found causes (λ x. h (view x)) (mapped h P) old r new
-  meets_mapped view h P old new (Ok x) m = reads_mapped h m
-  meets_mapped view h P old new (Err e) m = stops_mapped causes h P old (found e) m
+  meets_mapped h1 h2 = search (rules, reads_mapped, stops_mapped)
 
   pub then_meets : {A B X Y : Type 0} {P : Part T A F} {Q : A → Part T B F} (j : Joint P Q) (see : X → A)
       (view : Y → B) (old mid new : Stream T) (x : X) (r : Result Y E) → Meets found causes see P old (Ok x) mid →

@@ -1,6 +1,6 @@
 -- Any two answers to one text are one.
-use Rattle.std.proofs.Common.{◌≡◌, ℕ, ◌<◌, ◌≤◌, ◌⊎◌, List, ◌++◌, length, Option, Ok, Err, sym, ap, ap₂, inl, inr, ◌∙◌}
-use Rattle.std.proofs.Common.{arith, rules}
+use Rattle.std.proofs.Common.{◌≡◌, ℕ, ◌<◌, ◌≤◌, ◌⊎◌, List, ◌++◌, length, Option, Ok, Err, sym, ap, ap₂, ◌∙◌}
+use Rattle.std.proofs.Common.{rules}
 use Rattle.std.proofs.lemmas.List.{map-append, length-map}
 use Rattle.ps_text.specs.Answers.{Piece, Stream, Found, signs, offset_of, IsClean, IsFirstAt, HasOneMeaning}
 use Rattle.ps_text.specs.Answers.{AreNumbered, HasOneAnswer}
@@ -17,10 +17,7 @@ not_both IsText IsCause number stream f c h = search (rules, signs_split)
 -- the fronts of two first causes are as long, and the numbers are the same
 tied : (m n i j : ℕ) (P Q : Type 0) → (m < n) ⊎ (P × (i ≤ j)) → (n < m) ⊎ (Q × (j ≤ i)) → (P → m ≡ n) → (Q → n ≡ m) →
     (m ≡ n) × (i ≡ j)
-tied m n i j P Q (inl a) (inl b) p q = absurd (omega arith)
-tied m n i j P Q (inl a) (inr b) p q = absurd (let h : n ≡ m = q b.0 in omega arith)
-tied m n i j P Q (inr a) (inl b) p q = absurd (let h : m ≡ n = p a.0 in omega arith)
-tied m n i j P Q (inr a) (inr b) p q = (p a.0, let x : i ≤ j = a.1 in let y : j ≤ i = b.1 in omega arith)
+tied m n i j P Q cases given p q = search rules
 
 same_found : {F : Type 0} (f g : Found F) → f.cause ≡ g.cause → f.offset ≡ g.offset → f ≡ g
 same_found f g c o = ap₂ (λ x y. record { cause = x; offset = y }) c o

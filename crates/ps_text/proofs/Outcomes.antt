@@ -117,8 +117,7 @@ module _ {T F : Type 0} (causes : Causes T F) where
   pub has_either : {V : Type 0} {odd : T → Type 0} {P Q : Part T V F} {F1 M1 F2 M2 : T → Type 0} {N2 : Type 0} →
       Laws odd P F1 M1 ⊥ → Laws odd Q F2 M2 N2 → Apart F1 F2 → HasOutcomes causes P → HasOutcomes causes Q →
       HasOutcomes causes (either P Q)
-  has_either {V} {odd} {P} {Q} l r apart p q = record
-      { outcome = λ all. go all (entered_or_broken l (λ n. n) all (p.outcome all)) }
+  has_either {V} {odd} {P} {Q} l r apart p q = search (rules, go, entered_or_broken, p.outcome)
     where
       go : (all : List T) → Enters P (first_of all) ⊎ IsBroken P [] (first_of all) → Outcome causes (either P Q) all
       go all (inl e) = as_well P (either P Q) all (left_entered l r (first_of all) apart e) (p.outcome all)
@@ -139,8 +138,7 @@ module _ {T F : Type 0} (causes : Causes T F) where
       first_item = laws_then (exact (l c)) (λ d. laws_many item l apart d) apart
 
       no_item : (t : T) → first_of all ≡ Some t → Or (λ t. Enters (item c) (Some t)) (When ⊥ First) t → ⊥
-      no_item t e (inl h) = avoids (item c) (first_of all) b t e h
-      no_item t e (inr h) = h.0
+      no_item t e cases = search (rules, avoids)
 
       none : (t : T) → first_of all ≡ Some t → Enters (many item c) (Some t) → ⊥
       none t e (inl h) = no_item t e (first_item.first_text t h.more h.value
@@ -226,19 +224,7 @@ module _ {T V F : Type 0} {causes : Causes T F} {part : Part T V F} {First More 
 -- the same from what the law of the format says
 module _ {T V F : Type 0} {causes : Causes T F} {part : Part T V F} where
   some_text : Outcome causes part [] → Begins part.IsText []
-  some_text (was_read v rest r) = record {
-    more = [];
-    value = v;
-    is_text = search (rules, append_nil_left);
-  }
-  some_text (has_fault f rest r) = go r.front rest r.split r.fault
-    where
-      go : (front rest : List T) → [] ≡ front ++ rest → IsFaultAt causes part front (first_of rest) f →
-          Begins part.IsText []
-      go [] [] e (is_cause t x c m) = absurd (none_is_some t x)
-      go [] [] e (is_refusal b x) = b.before
-      go [] (t ∷ rest) e x = absurd (nil_is_cons t rest e)
-      go (t ∷ front) rest e x = absurd (nil_is_cons t (front ++ rest) e)
+  some_text cases = search (rules, append_nil_left, none_is_some, nil_is_cons)
 
   pub some_answer_of : HasOneMeaning part.IsText → IsOrderly causes part → HasOutcomes causes part →
       (stream : Stream T) → (answer : Result V (Found F)) × PartAnswers causes part stream answer

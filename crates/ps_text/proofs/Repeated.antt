@@ -53,13 +53,7 @@ module _ {T C F : Type 0} (item : C → Part T C F) where
 
   pub read_nothing : (c : C) (all : List T) →
       ((t : T) → first_of all ≡ Some t → Enters (many item c) (Some t) → ⊥) → IsRead (many item c) all c all
-  read_nothing c all none = record {
-    text = [];
-    split = refl;
-    is_text = (zero, (refl, refl));
-    stops = stops_by (many item c) [] (first_of all) (λ t e b. none t e (inl b));
-    clean = clean;
-  }
+  read_nothing c all none = search (rules, stops_by, clean)
     where
       clean : (front rest : List T) (t : T) (f : F) → all ≡ front ++ t ∷ rest → length front < length {A = T} [] + 1 →
           (many item c).IsCause front t f → ⊥

@@ -2,10 +2,13 @@
 --     laws_give, laws_one, laws_mapped, laws_then
 --     refused      a part that is not empty, where no sign comes with which it begins
 --     read_give      nothing is taken
+--     taken_byte      a sign that is taken for one byte is that byte
 --     read_one, bad_one, refused_one      one sign is taken; it is bad; it can't stand there, or there is none
 --     read_mapped, fault_mapped
 use Rattle.std.proofs.Common.{◌≡◌, ◌+◌, ◌≤◌, List, [], ◌∷◌, ◌++◌, Option, None, Some, refl, sym, ap, subst, inl, inr}
-use Rattle.std.proofs.Common.{◌⊎◌, ◌∙◌, append_assoc, arith, rules}
+use Rattle.std.proofs.Common.{◌⊎◌, ◌∙◌, ℕ, append_assoc, arith, rules}
+use Rattle.std.specs.Prelude.{◌==◌, if◌then◌else◌}
+use Rattle.std.proofs.lemmas.Bool.{eqb-true}
 use Rattle.ps_text.specs.Answers.{Begins, first_of}
 use Rattle.ps_text.specs.Parts.{Part, Causes, IsRead, IsFault, is_cause, give, one, then_by, mapped, refusal_of}
 use Rattle.ps_text.proofs.Splits.{Placed, inside, behind, placed, same_head, same_tail}
@@ -59,6 +62,9 @@ Taken {T} {V} take t = (v : V) × (take t ≡ Some v)
 
 abbrev pub BadSign : {T F : Type 0} → (T → F → Type 0) → T → Type 0
 BadSign {T} {F} Bad t = (f : F) × Bad t f
+
+pub taken_byte : {b n : ℕ} {u : Unit {0}} → (if n == b then Some tt else None) ≡ Some u → n ≡ b
+taken_byte {b} {n} {u} e = search (rules, eqb-true)
 
 module _ {T V F : Type 0} (take : T → Option V) (Bad : T → F → Type 0) where
   pub laws_one : (odd : T → Type 0) (t : T) (v : V) → take t ≡ Some v → Apart (Taken take) odd →
@@ -139,8 +145,7 @@ module _ {T A B F : Type 0} {odd : T → Type 0} {P : Part T A F} {Q : A → Par
   -- P does not go on with the first sign of a text of Q
   halts : (left right : List T) (a : A) (x : B) → P.IsText left a → (Q a).IsText right x →
       GoesOn P left (first_of right) → ⊥
-  halts left [] a x h k g = none_is_some g.0 g.1
-  halts left (t ∷ right) a x h k g = apart t (goes left t a h g) ((r a).first_text t right x k)
+  halts left right a x h k g = search (rules, none_is_some, goes)
 
   values_then : (text : List T) (x y : B) → (then_by P Q).IsText text x → (then_by P Q).IsText text y → x ≡ y
   values_then text x y i k = go (text_behind (joint l r apart) i.left i.right i.value y i.is_left
@@ -156,8 +161,7 @@ module _ {T A B F : Type 0} {odd : T → Type 0} {P : Part T A F} {Q : A → Par
   first_then (s ∷ left) right text t a b e h k = search (rules, same_head)
 
   first_cause_then : (t : T) (f : F) → (then_by P Q).IsCause [] t f → Or F1 (When N1 F2) t
-  first_cause_then t f (inl c) = inl (l.first_cause t f c)
-  first_cause_then t f (inr k) = search (rules, append_nil_left, append_nil_right)
+  first_cause_then t f cases = search (rules, append_nil_left, append_nil_right)
 
   -- where P goes on behind a text of the two, Q is empty
   goes_then : (left right more : List T) (t : T) (a : A) (x : B) → P.IsText left a → (Q a).IsText right x →
@@ -191,8 +195,7 @@ module _ {T A B F : Type 0} {odd : T → Type 0} {P : Part T A F} {Q : A → Par
   plain_then front rest t v i o = search (rules, placed, Placed, inside, behind)
 
   plain_cause_then : (front : List T) (t : T) (f : F) → (then_by P Q).IsCause front t f → odd t → ⊥
-  plain_cause_then front t f (inl c) o = l.plain_cause front t f c o
-  plain_cause_then front t f (inr k) o = (r k.value).plain_cause k.right t f k.is_cause o
+  plain_cause_then front t f cases o = search rules
 
   behind_then : (front : List T) (t : T) (f : F) → (then_by P Q).IsCause front t f → Begins (then_by P Q).IsText front
   behind_then front t f (inl c) = begins_left (joint l r apart) front (l.behind front t f c)

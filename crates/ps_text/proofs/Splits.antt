@@ -2,8 +2,11 @@
 --     Compared, compared      the three cases
 --     Placed, placed      where one sign of the list stands: inside the front, or behind it
 --     inside_of      a sign that stands before the end of the front stands inside it
-use Rattle.std.proofs.Common.{◌≡◌, suc, ◌+◌, ◌<◌, List, [], ◌∷◌, ◌++◌, length, drop, refl, sym, ap, ◌∙◌, arith}
-use Rattle.std.proofs.Common.{append-nil, length-append, Some, rules}
+--     all_taken_all      a front as long as the list is the list: what holds of each sign of it holds of all
+use Rattle.std.proofs.Common.{◌≡◌, ℕ, suc, ◌+◌, ◌<◌, ◌≤◌, List, [], ◌∷◌, ◌++◌, length, take, drop, refl, sym, ap, subst}
+use Rattle.std.proofs.Common.{◌∙◌, arith, append-nil, length-append, Some, rules}
+use Rattle.std.specs.List.{All}
+use Rattle.std.proofs.lemmas.List.{take_all}
 use Rattle.ps_text.specs.Answers.{first_of}
 
 pub data Compared {T : Type 0} (a b c d : List T) : Type 0 where
@@ -59,5 +62,7 @@ inside_of {T} {all} {left} mid front rest t e f l = go (placed left mid front re
 
 -- the first sign, and the others
 pub head_of : {T : Type 0} (ts : List T) {t : T} → first_of ts ≡ Some t → ts ≡ t ∷ drop 1 ts
-head_of [] e = absurd (cc)
-head_of (s ∷ ts) e = ap (λ z. z ∷ ts) (cc)
+head_of ts e = search rules
+
+pub all_taken_all : {X : Type 0} (P : X → Type 0) (xs : List X) (v : ℕ) → length xs ≤ v → All P (take v xs) → All P xs
+all_taken_all P xs v le h = subst (All P) (take_all v xs le) h

@@ -23,8 +23,7 @@ Own {T} {F} causes t = (f : F) × (causes.own t ≡ Some f)
 
 broken_refused : {T V F : Type 0} {part : Part T V F} (front : List T) (there : Option T) → IsBroken part front there →
     IsRefused part.IsText front there
-broken_refused front None b = record { before = b.before; none = b.no_text }
-broken_refused front (Some t) b = record { before = b.before; none = b.stops }
+broken_refused front there b = search rules
 
 module _ {T V F : Type 0} {causes : Causes T F} {part : Part T V F} {First More : T → Type 0} {Null : Type 0}
     (l : Laws (Own causes) part First More Null) where
@@ -48,9 +47,7 @@ module _ {T V F : Type 0} {causes : Causes T F} {part : Part T V F} {First More 
       go (longer t m x y) (by_grammar r _ _ _) = search (rules, begins_on)
 
   none_wrong : (front : List T) (v : V) (g : F) → part.IsText front v → IsWrong causes part front None g → ⊥
-  none_wrong front v g h (by_part u q c) = none_is_some u q
-  none_wrong front v g h (by_sign u q c) = none_is_some u q
-  none_wrong front v g h (by_grammar r _ _ _) = r.none v h
+  none_wrong front v g h cases = search (rules, none_is_some)
 
   pub no_fault : (all : List T) (v : V) → IsRead part all v [] → part.IsText all v × IsClean (IsWrong causes part) all
   no_fault all v p = (rw (p.split, append-nil) p.is_text, clean)
@@ -86,10 +83,7 @@ module _ {T V F : Type 0} {causes : Causes T F} {part : Part T V F} {First More 
   -- the refusal of a sign, or of the end, is no greater than what else is wrong there, where no cause of the part is
   refusal_least : (there : Option T) (front : List T) (g : F) → NoCauseAt part front there →
       IsWrong causes part front there g → causes.number (refusal_of causes there) ≤ causes.number g
-  refusal_least there front g n (by_part t e c) = absurd (quiet_at part front e n c)
-  refusal_least there front g n (by_sign t e c) = search rules
-  refusal_least None front g n (by_grammar r _ o e) = omega (arith, ap causes.number e)
-  refusal_least (Some t) front g n (by_grammar r _ o e) = search rules
+  refusal_least there front g n cases = search (rules, quiet_at)
 
   refusal_stands : (there : Option T) (front : List T) → IsRefused part.IsText front there →
       NoCauseAt part front there → IsWrong causes part front there (refusal_of causes there)
@@ -112,8 +106,7 @@ module _ {T V F : Type 0} {causes : Causes T F} {part : Part T V F} {First More 
 
       least : (g : F) → IsFaultAt causes part p.front (first_of rest) f →
           IsWrong causes part p.front (first_of rest) g → causes.number f ≤ causes.number g
-      least g (is_cause t e c m) (by_part u x d) =
-          m g (subst (λ z. part.IsCause p.front z g) (same_some u t (sym x ∙ e)) d)
+      least g (is_cause t e c m) (by_part u x d) = search (rules, same_some, p.front)
       least g (is_cause t e c m) (by_sign u x d) =
           absurd (l.plain_cause p.front t f c (g, subst (λ z. causes.own z ≡ Some g) (same_some u t (sym x ∙ e)) d))
       least g (is_cause t e c m) (by_grammar r n o x) = absurd (n t f e c)
@@ -121,8 +114,9 @@ module _ {T V F : Type 0} {causes : Causes T F} {part : Part T V F} {First More 
 
   pub trailing : {all rest : List T} {u : T} {v : V} → (p : IsRead part all v (u ∷ rest)) →
       IsFirst causes.number (IsWrong causes part) p.text (u ∷ rest) (refusal_of causes (Some u))
-  trailing {u = u} p = first_at p.split (text_begins part.IsText p.is_text) (λ front rest t f e l. p.clean front rest
-      t f e (omega (arith, l))) (refusal_stands (Some u) p.text (record {
+  trailing {u = u} p =
+      first_at p.split (text_begins part.IsText p.is_text) (λ front rest t f e l. search (rules, p.clean))
+      (refusal_stands (Some u) p.text (record {
         before = text_begins part.IsText p.is_text;
         none = p.stops;
       }) (read_quiet p)) (λ g w. refusal_least (Some u) p.text g (read_quiet p) w)
@@ -152,5 +146,5 @@ module _ {T V F : Type 0} {causes : Causes T F} {part : Part T V F} {First More 
       IsRead part (signs old.pieces) v (signs new.pieces) → new.pieces ≡ p ∷ ps →
       PartAnswers causes part old (Err (record { cause = refusal_of causes (Some p.sign); offset = p.start }))
   answers_trailing old new v p ps x r e = let read : IsRead part (signs old.pieces) v (p.sign ∷ signs ps) =
-      subst (λ z. IsRead part (signs old.pieces) v (signs z)) e r in
+      search (rules, old.pieces) in
       at_pieces old _ x.taken (p ∷ ps) (x.split ∙ ap (λ z. x.taken ++ z) e) read.split (trailing read) refl
