@@ -110,7 +110,5 @@ pub record IsDropped (before vertices : ParityGame) (seen : List ℕ) (number : 
 pub all_dropped : {before vertices : ParityGame} {seen : List ℕ} {number : ℕ} → IsDropped before vertices seen number →
     length vertices ≡ length before → length before ≤ number → vertices ≡ without_repeats before
 all_dropped {before = before} {vertices = vertices} dropped same_length whole =
-    ext_get_or no_vertex vertices (without_repeats before) (same_length
-    ∙ sym (length-map before vertex_without_repeats))
-    (λ v within. dropped.done v (omega arith) ∙ sym (get_or-map vertex_without_repeats before v no_vertex no_vertex
-    (omega arith)))
+    ext_get_or no_vertex vertices (without_repeats before) (search (rules, length-map))
+    (λ v within. search (rules, get_or-map, dropped.done))

@@ -61,15 +61,14 @@ pub IsGame-without_repeats : (draft : ParityGame) → All (λ v. v.owner < 2) dr
     IsGame (without_repeats draft)
 IsGame-without_repeats draft owners bare known =
     let in_draft : (v : ℕ) → v < vertex_count (without_repeats draft) → v < vertex_count draft =
-    λ v within. rw (← vertex_count-without_repeats draft) within in
+    search (rules, vertex_count-without_repeats) in
     let IsVertex : ℕ → Type 0 = λ w. w < vertex_count draft in
     record {
       owners = λ v within. rw (owner_of-without_repeats draft v) (owner_below draft owners v (in_draft v within));
       has_successor = search (rules, successors_of-without_repeats, some-distinct);
       different = λ v within. rw (successors_of-without_repeats draft v) (AllPairs-distinct _);
       within = λ v w edge.
-          let among : Contains (distinct (successors_of draft v)) w =
-          rw (successors_of-without_repeats draft v) at edge.1 in
+          let among : Contains (distinct (successors_of draft v)) w = search (rules, successors_of-without_repeats) in
           rw (vertex_count-without_repeats draft) (All-Contains IsVertex _ w
           (All-distinct IsVertex _ (known v (in_draft v edge.0))) among);
     }

@@ -120,8 +120,7 @@ module _ {game : ParityGame} {offsets successors owners priorities : List ℕ}
         within = omega arith;
         few = tell.few;
         owner_is = ap (λ ns. get_or ns v 0) tell.owners_are ∙ get_or-map (λ d. d.owner) game v no_vertex 0 less;
-        priority_is =
-            ap (λ ns. get_or ns v 0) tell.priorities_are ∙ get_or-map (λ d. d.priority) game v no_vertex 0 less;
+        priority_is = search (rules, get_or-map);
         part_is = part;
         degree_is = omega arith;
       })
@@ -144,8 +143,7 @@ module _ {game : ParityGame} {offsets successors owners priorities : List ℕ}
   unfolding game_in owner_of priority_of successors_of vertex_count
   game_is =
       sym (fill_by_all (vertex_in offsets successors owners priorities) game (length owners) no_vertex (sym as_many)
-      (λ v lt. let at = stands refl {v = v} (omega (arith, as_many)) in
-      rw (at.owner_is, at.priority_is, at.part_is)))
+      (λ v lt. search (rules, stands, as_many)))
 
   pub game_flat : IsGame game → AreFlat offsets successors owners priorities
   unfolding vertex_count
@@ -173,13 +171,4 @@ module _ {game : ParityGame} {offsets successors owners priorities : List ℕ}
   unfolding vertex_count successors_of
   successors_fit {limit = limit} is is_game fits few =
       rw tell.successors_are (All-successors (λ w. w ≤ limit) game
-      (λ v d lt k e less.
-      let vertex = get_or_default game v d no_vertex lt in
-      let below = none_unknown game is_game v lt k e (rw vertex at less) in
-      omega (
-        arith,
-        fits.vertices,
-        owners_count is,
-        as_many,
-        ap (λ (x : VertexData). get_or x.successors k e) vertex,
-      )))
+      (λ v d lt k e less. search (rules, get_or_default, none_unknown, owners_count, as_many, fits.vertices)))

@@ -1,5 +1,6 @@
 -- Lists of numbers that are worked on eight at a time.
 use Rattle.std.proofs.Common.{◌≡◌, ℕ, zero, suc, ◌+◌, ◌-◌, ◌*◌, ◌^◌, ◌<◌, ◌≤◌, List, [], ◌∷◌, length, take, map, get_or}
+use Rattle.std.proofs.Common.{rules}
 use Rattle.std.proofs.Common.{refl, sym, ap, ap₂, ◌∙◌, inl, inr, arith}
 use Rattle.std.specs.Int.Bits.{bit_or, or_zero_l}
 use Rattle.std.specs.List.{fold, sum_by}
@@ -38,8 +39,7 @@ group_combined {f = f} {h = h} {old = old} {words = words} lanes group before ro
             ∙ ap₂ f (get_or-chunk start 8 words j 0 (omega arith) ∙ before.rest (start + j) (omega arith))
             (values j (omega arith)))
       ];
-      rest = λ k beyond.
-          get_or-put_chunk_above start words made k 0 (omega arith) ∙ before.rest k (omega arith);
+      rest = search (rules, get_or-put_chunk_above, before.rest);
     }
 
 -- ---- a disjunction of lanes is 0 where each of them is

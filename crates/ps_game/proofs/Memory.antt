@@ -1,5 +1,5 @@
 -- A strategy of finite memory is a history table, so it does not win where its histories are beaten.
-use Rattle.std.proofs.Common.{◌≡◌, ℕ, suc, ◌+◌, ◌-◌, ◌*◌, ◌<◌, List, [], ◌∷◌, length, get_or, take, fold, map, subst}
+use Rattle.std.proofs.Common.{◌≡◌, ℕ, suc, ◌+◌, ◌-◌, ◌*◌, ◌<◌, List, [], ◌∷◌, length, get_or, take, fold, map}
 use Rattle.std.proofs.Common.{sym, ◌∙◌, arith, rules}
 use Rattle.std.specs.List.{All, range_with_len}
 use Rattle.std.proofs.lemmas.Nat.{same_from_place, mul-add-lt}
@@ -27,8 +27,7 @@ module _ (game : ParityGame) (player : ℕ) (strategy : FiniteMemory) (is_strate
     memory_below path is_path k =
         let IsVertex : ℕ → Type 0 = λ v. v < vertex_count game in
         after_below strategy.first (take k path) is_strategy.first_below
-        (All-take IsVertex k path (λ i d within. subst IsVertex (get_or_default path i 0 d within)
-        (is_path.vertices i within)))
+        (All-take IsVertex k path (λ i d within. search (rules, get_or_default, is_path.vertices)))
 
     -- what the strategy plays after a history
     history_of : List ℕ → ℕ
@@ -61,12 +60,10 @@ module _ (game : ParityGame) (player : ℕ) (strategy : FiniteMemory) (is_strate
         let codes : List ℕ = map (code_at path) (range_with_len 0 (length path)) in
         let as_long : length codes ≡ length path = length-map-range_with_len (code_at path) 0 (length path) in
         let code_is : (k d : ℕ) → k < length path → get_or codes k d ≡ code_at path k =
-        λ k d within. get_or-map-range_with_len (code_at path) 0 (length path) k k d within (omega arith) in
+        search (rules, get_or-map-range_with_len, code_at) in
         let IsCode : ℕ → Type 0 = λ code. code < strategy.size * vertex_count game in
         let found = repeats (strategy.size * vertex_count game) codes
-        (λ k d within. let there : k < length path = omega arith in
-        subst IsCode (sym (code_is k d there)) (mul-add-lt (get_or path k 0) strategy.size (memory_at strategy path k)
-        (vertex_count game) (is_path.vertices k there) (memory_below path is_path k)))
+        (λ k d within. search (rules, mul-add-lt, memory_below, is_path.vertices))
         (omega arith) in
         let later : found.1 < length path = omega (arith, found.2.within) in
         let earlier : found.0 < length path = omega (arith, found.2.rises) in

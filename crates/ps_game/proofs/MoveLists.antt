@@ -1,6 +1,6 @@
 -- Tables of moves in two lists: what they hold, and what a new move does to them.
 use Rattle.std.proofs.Common.{◌≡◌, ℕ, ◌<◌, Bool, true, false, cond, List, length, get_or, set, Option, Some}
-use Rattle.std.proofs.Common.{None, sym, ap, ◌∙◌, arith, rules}
+use Rattle.std.proofs.Common.{None, sym, ◌∙◌, rules}
 use Rattle.std.specs.Prelude.{replicate}
 use Rattle.std.proofs.lemmas.Bool.{cases_eq}
 use Rattle.std.proofs.lemmas.Grind.{get_or-set_at}
@@ -34,10 +34,7 @@ pub no_moves : (places : ℕ) → moves_of (replicate places false) (replicate p
 no_moves places =
     moves_are (replicate places false) (replicate places 0) (replicate places None)
     (length-replicate places None ∙ sym (length-replicate places 0))
-    (λ v lt.
-    let less : v < places = omega (arith, length-replicate {A = ℕ} places 0) in
-    get_or-replicate places v None None less
-    ∙ ap (λ b. cond b (Some (get_or (replicate places 0) v 0)) None) (sym (get_or-replicate places v false false less)))
+    (λ v lt. search (rules, length-replicate, get_or-replicate))
 
 pub one_moved : (chosen : List Bool) (moves : List ℕ) (v w : ℕ) → length chosen ≡ length moves → v < length moves
     → moves_of (set chosen v true) (set moves v w) ≡ set (moves_of chosen moves) v (Some w)

@@ -1,10 +1,11 @@
 -- From what is held within a subgame to what is held on paths.
-use Rattle.std.proofs.Common.{◌≡◌, ℕ, zero, suc, ◌+◌, ◌-◌, ◌<◌, ◌≤◌, inl, inr, List, length, get_or, Bool, IsTrue}
-use Rattle.std.proofs.Common.{Option, Some, None, IsSomeAnd, sym, ap, ◌∙◌, arith}
+use Rattle.std.proofs.Common.{◌≡◌, ℕ, zero, suc, ◌+◌, ◌-◌, ◌<◌, ◌≤◌, List, length, get_or, Bool, IsTrue}
+use Rattle.std.proofs.Common.{rules}
+use Rattle.std.proofs.Common.{Option, IsSomeAnd, sym, ap, ◌∙◌, arith}
 use Rattle.std.proofs.lemmas.Bool.{cases_eq}
-use Rattle.ps_game.specs.Games.{ParityGame, vertex_count, owner_of, priority_of, HasEdge}
+use Rattle.ps_game.specs.Games.{ParityGame, vertex_count, owner_of, priority_of}
 use Rattle.ps_game.specs.Plays.{IsPath, IsLoop, Follows, Holds, loop_priority}
-use Rattle.ps_game.specs.Subgames.{LeadsInto, IsRound, IsTop, HoldsWithin}
+use Rattle.ps_game.specs.Subgames.{IsRound, IsTop, HoldsWithin}
 use Rattle.ps_game.proofs.LoopPriorities.{le-loop_priority, loop_priority_stands}
 
 -- the vertices of a path from a place on
@@ -22,8 +23,7 @@ loop_priority_top game path i j rises within =
     }
 
 some_more : (P Q : ℕ → Type 0) (o : Option ℕ) → ((w : ℕ) → P w → Q w) → IsSomeAnd o P → IsSomeAnd o Q
-some_more P Q (Some w) more there = more w there
-some_more P Q None more there = absurd there
+some_more P Q o h1 h2 = search rules
 
 -- a loop of a path that stays in the set is a round
 loop_round : (game : ParityGame) (player : ℕ) (set : ℕ → Bool) (table : ℕ → Option ℕ) (path : List ℕ) (i j : ℕ) →
@@ -53,23 +53,14 @@ module _ (game : ParityGame) (player : ℕ) (subgame set : ℕ → Bool) (table 
         let next : k + 1 ≡ suc k = omega arith in
         let here = stays_on path is_path begins follows k (omega arith) in
         let step : k + 1 < length path = omega arith in
-        rw (← next) (elim (cases_eq (owner_of game (get_or path k 0)) player) [
-          | inl owns ↦ (rw (follows k step owns) at (holds.moves (get_or path k 0) here owns)).inside
-          | inr others ↦ holds.stays (get_or path k 0) (get_or path (k + 1) 0) here others
-              (record { edge = is_path.edges k step; inside = all _ (is_path.vertices (k + 1) step) })
-        ])
+        rw (← next) (search (rules, cases_eq, is_path.edges, is_path.vertices))
 
     pub Holds-HoldsWithin : Holds game player set table
     Holds-HoldsWithin = record {
-      keeps = record {
-        moves =
-            λ v is_vertex inside owns. some_more (LeadsInto game set v) (HasEdge game v) (table v)
-            (λ w leads. leads.edge) (holds.moves v inside owns);
-        stays = stays_on;
-      };
+      keeps = search (rules, some_more, stays_on);
       wins = λ path i j is_path begins follows is_loop.
           holds.wins (from_place path i) (j - i) (loop_priority game path i j)
-          (loop_round game player set table path i j is_path (stays_on path is_path begins follows) follows is_loop)
+          (search (rules, loop_round, stays_on))
           (loop_priority_top game path i j is_loop.rises (omega (arith, is_loop.within)));
     }
 
@@ -80,11 +71,5 @@ HoldsWithin-same_moves game player subgame set table other same holds = record {
   within = holds.within;
   moves = λ v inside owns. rw (same v inside owns) (holds.moves v inside owns);
   stays = holds.stays;
-  wins = λ walk k top round is_top. holds.wins walk k top (record {
-    some = round.some;
-    closes = round.closes;
-    inside = round.inside;
-    edges = round.edges;
-    follows = λ t below owns. sym (same (walk t) (round.inside t below) owns) ∙ round.follows t below owns;
-  }) is_top;
+  wins = λ walk k top round is_top. holds.wins walk k top (search rules) is_top;
 }

@@ -41,6 +41,4 @@ pub GoesBy-push : (game : ParityGame) (player : ℕ) (table : List ℕ → ℕ) 
 GoesBy-push game player table path w some goes_by last =
     along-push (λ k u x. owner_of game u ≡ player → table (take (k + 1) (path ++ w ∷ [])) ≡ x) path w some
     (λ k within owns. ap table (take-append-le (k + 1) path (w ∷ []) (omega arith)) ∙ goes_by k within owns)
-    (λ owns. let whole : length path - 1 + 1 ≡ length path = omega arith in
-    ap table (ap (λ n. take n (path ++ w ∷ [])) whole ∙ take-append-le (length path) path (w ∷ [])
-    (le_refl (length path)) ∙ take_all (length path) path (le_refl (length path))) ∙ last owns)
+    (λ owns. search (rules, take-append-le, le_refl, take_all))

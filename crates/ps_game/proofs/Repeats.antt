@@ -1,6 +1,6 @@
 -- More places than values: two places have the same value.
 use Rattle.std.proofs.Common.{◌≡◌, ◌≢◌, ℕ, suc, ◌<◌, ◌⊎◌, inl, inr, List, [], ◌∷◌, Bool, true, false, ◌==◌, length}
-use Rattle.std.proofs.Common.{refl, subst, sym, ◌∙◌, arith, rules}
+use Rattle.std.proofs.Common.{refl, sym, ◌∙◌, arith, rules}
 use Rattle.std.specs.List.{All, AllPairs, list_any}
 use Rattle.std.proofs.lemmas.Bool.{eqb-true, eq-eqb}
 use Rattle.std.proofs.lemmas.Bool.Decides.{Decides-eqb}
@@ -61,5 +61,4 @@ pub HasLoop-IsPath : (game : ParityGame) (path : List ℕ) → IsPath game path 
     vertex_count game < length path → HasLoop path
 HasLoop-IsPath game path is_path long =
     let IsVertex : ℕ → Type 0 = λ v. v < vertex_count game in
-    repeats (vertex_count game) path (λ k d within. subst IsVertex (get_or_default path k 0 d within)
-    (is_path.vertices k within)) long
+    repeats (vertex_count game) path (λ k d within. search (rules, get_or_default, is_path.vertices)) long

@@ -19,8 +19,7 @@ first_edge game v is_game is_vertex = search (rules, Contains-get_or)
 
 pub whole_game : (game : ParityGame) → IsGame game → IsSubgame game (has (replicate (vertex_count game) true))
 whole_game game is_game =
-    let size : length (replicate (vertex_count game) true) ≡ vertex_count game =
-    length-replicate (vertex_count game) true in
+    let size : length (replicate (vertex_count game) true) ≡ vertex_count game = search (rules, length-replicate) in
     let is_vertex = λ (v : ℕ) (inside : has (replicate (vertex_count game) true) v ≡ true). let below =
     has-below (replicate (vertex_count game) true) v inside in
     let less : v < vertex_count game = omega arith in less in
@@ -30,9 +29,7 @@ whole_game game is_game =
         get_or (successors_of game v) 0 0,
         record {
           edge = edge;
-          inside =
-              get_or-replicate (vertex_count game) (get_or (successors_of game v) 0 0) true false
-              (is_game.within v (get_or (successors_of game v) 0 0) edge);
+          inside = search (rules, get_or-replicate, is_game.within);
         },
       );
     }

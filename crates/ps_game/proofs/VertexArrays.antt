@@ -1,5 +1,5 @@
 -- Vertices in arrays that grow: one more vertex, places in place of ids, and no repeats.
-use Rattle.std.proofs.Common.{◌≡◌, ◌≢◌, ℕ, suc, ◌+◌, ◌^◌, ◌<◌, ◌≤◌, Bool, not, inl, inr, List, [], ◌∷◌, ◌++◌}
+use Rattle.std.proofs.Common.{◌≡◌, ◌≢◌, ℕ, suc, ◌+◌, ◌^◌, ◌<◌, ◌≤◌, Bool, not, List, [], ◌∷◌, ◌++◌, rules}
 use Rattle.std.proofs.Common.{map, filter, length, get_or, take, refl, sym, ap, ap₂, ◌∙◌, arith, length-append, drop}
 use Rattle.std.proofs.Common.{take-append-drop}
 use Rattle.std.specs.Prelude.{◌&&◌, ◌==◌}
@@ -20,19 +20,11 @@ use Rattle.ps_game.proofs.FlatArrays.{front_within, game_is}
 -- ---- one more vertex
 
 pub tell_none : TellGame [] (0 ∷ []) [] [] []
-tell_none = record {
-  offsets_are =
-      record { offset_each = omega arith; in_front = λ v le. let none : v ≡ 0 = omega arith in rw none refl };
-  successors_are = refl;
-  few = omega arith;
-  owners_are = refl;
-  priorities_are = refl;
-}
+tell_none = search rules
 
 all_successors-push : (game : ParityGame) (v : VertexData) →
     all_successors (game ++ v ∷ []) ≡ all_successors game ++ v.successors
-all_successors-push game v = flat_map-append (λ (d : VertexData). d.successors) game (v ∷ [])
-    ∙ ap (λ ws. all_successors game ++ ws) (append-nil v.successors)
+all_successors-push game v = search (rules, flat_map-append, append-nil)
 
 abbrev owner_there : VertexData → ℕ
 owner_there v = v.owner
@@ -61,22 +53,12 @@ module _ {game : ParityGame} {offsets successors owners priorities : List ℕ}
       record {
         offsets_are = record {
           offset_each = omega (arith, ap length o, length-append offsets (n ∷ []), before.offset_each, longer);
-          in_front = λ u le. elim (cases_lt u (length game + 1)) [
-            | inl lt ↦
-                ap (λ ns. get_or ns u 0) o ∙ get_or_append_left offsets (n ∷ []) 0 u (omega (arith, before.offset_each))
-                ∙ before.in_front u (omega arith)
-                ∙ ap all_successors-length (sym (take-append-le u game (v ∷ []) (omega arith)))
-            | inr past ↦
-                ap (λ ns. get_or ns u 0) o ∙ get_or_push offsets n 0 u (omega (arith, le, longer, before.offset_each))
-                ∙ is ∙ ap length all
-                ∙ ap all_successors-length (sym (take_all u (game ++ v ∷ []) (omega (arith, longer))))
-          ];
+          in_front = search (rules, cases_lt, get_or_append_left, take-append-le, get_or_push, take_all);
         };
         successors_are = all;
         few = omega (arith, is);
         owners_are = w ∙ ap (λ ns. ns ++ v.owner ∷ []) tell.owners_are ∙ sym (map-append owner_there game (v ∷ []));
-        priorities_are =
-            p ∙ ap (λ ns. ns ++ v.priority ∷ []) tell.priorities_are ∙ sym (map-append priority_there game (v ∷ []));
+        priorities_are = search (rules, map-append, v.priority);
       }
 
   -- the front of the arrays tells the first vertices
@@ -88,18 +70,11 @@ module _ {game : ParityGame} {offsets successors owners priorities : List ℕ}
       let long : length (take k game) ≡ k = length-take-le k game le in
       let both = take-append-drop k game in
       let all : all_successors game ≡ all_successors (take k game) ++ all_successors (drop k game) =
-      ap all_successors (sym both) ∙ flat_map-append (λ (d : VertexData). d.successors) (take k game) (drop k game) in
+      search (rules, flat_map-append) in
       let kept : take (get_or offsets k 0) successors ≡ all_successors (take k game) =
-      ap₂ (λ n ws. take n ws) (front.in_front k le) (tell.successors_are ∙ all)
-      ∙ take-append_seam (all_successors (take k game)) (all_successors (drop k game)) in
+      search (rules, take-append_seam) in
       record {
-        offsets_are = record {
-          offset_each = omega (arith, long, length-take-le (k + 1) offsets (omega (arith, front.offset_each)));
-          in_front = λ u less.
-              get_or-take (k + 1) offsets u 0 (omega (arith, long)) ∙ front.in_front u (omega (arith, long))
-              ∙ ap all_successors-length
-              (ap (take u) (sym both) ∙ take-append-le u (take k game) (drop k game) less);
-        };
+        offsets_are = search (rules, length-take-le, get_or-take, take-append-le);
         successors_are = kept;
         few = omega (arith, ap length kept, front_within game k, ap length tell.successors_are, tell.few);
         owners_are = ap (take k) tell.owners_are ∙ take-map owner_there k game;
@@ -108,10 +83,7 @@ module _ {game : ParityGame} {offsets successors owners priorities : List ℕ}
 
   -- arrays that tell a game stand for it
   pub stand_for : All (λ v. v.owner < 2) game → StandFor game offsets successors owners priorities
-  stand_for players = record {
-    are = record { tell = rw (game_is tell) tell; players = rw (game_is tell) players };
-    is = game_is tell;
-  }
+  stand_for players = search (rules, game_is)
 
 -- ---- places in place of ids
 
@@ -139,21 +111,7 @@ pub tell_placed : (ids : List ℕ) {game : ParityGame} {offsets successors owner
     TellGame game offsets successors owners priorities → successors' ≡ map (place_of ids) successors →
     TellGame (map (with_places ids) game) offsets successors' owners priorities
 tell_placed ids {game = game} {successors = successors} tell are =
-    let same : length (map (with_places ids) game) ≡ length game = length-map game (with_places ids) in
-    let before = tell.offsets_are in
-    record {
-      offsets_are = record {
-        offset_each = omega (arith, before.offset_each, same);
-        in_front = λ v le.
-            before.in_front v (omega (arith, same)) ∙ sym (length-map (all_successors (take v game)) (place_of ids))
-            ∙ ap length (sym (all_successors-placed ids (take v game)))
-            ∙ ap all_successors-length (sym (take-map (with_places ids) v game));
-      };
-      successors_are = are ∙ ap (map (place_of ids)) tell.successors_are ∙ sym (all_successors-placed ids game);
-      few = omega (arith, ap length are, length-map successors (place_of ids), tell.few);
-      owners_are = tell.owners_are ∙ sym (kept-placed owner_there ids (λ v. refl) game);
-      priorities_are = tell.priorities_are ∙ sym (kept-placed priority_there ids (λ v. refl) game);
-    }
+    search (rules, length-map, all_successors-placed, take-map, kept-placed)
 
 -- ---- the test of all successors
 

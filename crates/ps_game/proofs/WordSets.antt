@@ -1,5 +1,6 @@
 -- Sets of vertices in words: what each change of a word does to the set.
-use Rattle.std.proofs.Common.{◌≡◌, ◌≢◌, ℕ, zero, suc, ◌+◌, ◌-◌, ◌*◌, ◌/◌, ◌%◌, ◌^◌, ◌<◌, ◌≤◌, inl, inr, Bool, true}
+use Rattle.std.proofs.Common.{◌≡◌, ◌≢◌, ℕ, zero, suc, ◌+◌, ◌-◌, ◌*◌, ◌/◌, ◌%◌, ◌^◌, ◌<◌, ◌≤◌, Bool, true}
+use Rattle.std.proofs.Common.{rules}
 use Rattle.std.proofs.Common.{false, not, cond, ◌==◌, ◌&&◌, List, [], ◌∷◌, ◌++◌, map, length, take, get_or, set, max}
 use Rattle.std.proofs.Common.{length-set, add-zero, w64, refl, sym, ap, ap₂, ◌∙◌, subst, arith}
 use Rattle.std.specs.Prelude.{◌||◌, replicate, count_by, count_ones}
@@ -49,10 +50,7 @@ pub record AreWords (places : ℕ) (words : List ℕ) (region : List Bool) : Typ
 pub empty_is : (places n : ℕ) → members places (replicate n 0) ≡ replicate places false
 empty_is places n =
     members_are places (replicate n 0) (replicate places false) (length-replicate places false)
-    (λ v lt. get_or-replicate places v false false lt ∙ sym (elim (cases_lt (v / 64) n) [
-      | inl less ↦ rw (get_or-replicate {A = ℕ} n (v / 64) 0 0 less, bit_at-zero (v % 64))
-      | inr past ↦ bit_past (replicate n 0) v (omega (arith, length-replicate {A = ℕ} n 0))
-    ]))
+    (λ v lt. search (rules, get_or-replicate, cases_lt, bit_at-zero, bit_past, length-replicate))
 
 -- ---- all places
 
@@ -71,10 +69,7 @@ full_words places words few enough no_more all none_past = record {
 -- the last word is full, where the places fill it
 pub full_whole : (places n : ℕ) → places < 2 ^ 64 → places % 64 ≡ 0 → n ≡ places / 64 →
     AreWords places (replicate n (2 ^ 64 - 1)) (replicate places true)
-full_whole places n few none is =
-    let long = length-replicate n (2 ^ 64 - 1) in
-    full_words places (replicate n (2 ^ 64 - 1)) few (omega arith) (omega arith) (λ v lt. ones_bit n v (omega arith))
-    (λ v past. bit_past (replicate n (2 ^ 64 - 1)) v (omega arith))
+full_whole places n few none is = search (rules, length-replicate, full_words, ones_bit, bit_past)
 
 -- else it has the bits of the places that are left
 pub full_part : (places n : ℕ) → places < 2 ^ 64 → 0 < places % 64 → n ≡ places / 64 + 1 →
@@ -92,14 +87,8 @@ full_part places n few some is =
     let in_last : (v : ℕ) → v / 64 ≡ places / 64 → bit_in words v ≡ (bit_at (2 ^ rest - 1) (v % 64) == 1) =
     λ v same. rw (get_or-set_at ones (places / 64) (v / 64) last 0 same (omega arith), last_is) in
     full_words places words few (omega arith) (omega arith)
-    (λ v lt. elim (cases_eq (v / 64) (places / 64)) [
-      | inl same ↦ in_last v same ∙ ap (λ b. b == 1) (bit_at_ones rest (v % 64) (omega arith))
-      | inr other ↦ rw (get_or-set_other ones (places / 64) (v / 64) last 0 other) (ones_bit n v (omega arith))
-    ])
-    (λ v past. elim (cases_eq (v / 64) (places / 64)) [
-      | inl same ↦ in_last v same ∙ ap (λ b. b == 1) (bit_at_ones_above rest (v % 64) (omega arith))
-      | inr other ↦ bit_past words v (omega arith)
-    ])
+    (λ v lt. search (rules, cases_eq, bit_at_ones, get_or-set_other, ones_bit))
+    (λ v past. search (rules, cases_eq, bit_at_ones_above, bit_past))
 
 -- ---- one bit
 
@@ -113,16 +102,7 @@ record IsChanged (before after : List ℕ) (v : ℕ) (b : Bool) : Type 0 where
 one_word : (words : List ℕ) (v w : ℕ) (b : Bool) → v / 64 < length words → (bit_at w (v % 64) == 1) ≡ b →
     ((i : ℕ) → i < 64 → i ≢ v % 64 → bit_at w i ≡ bit_at (get_or words (v / 64) 0) i) →
     IsChanged words (set words (v / 64) w) v b
-one_word words v w b within is others = record {
-  long = length-set words (v / 64) w;
-  here = rw (get_or-set_at words (v / 64) (v / 64) w 0 refl within) is;
-  elsewhere = λ u apart. elim (cases_eq (u / 64) (v / 64)) [
-    | inl same ↦
-        rw (get_or-set_at words (v / 64) (u / 64) w 0 same within, same)
-        (ap (λ n. n == 1) (others (u % 64) (omega arith) (λ e. apart (omega arith))))
-    | inr other ↦ rw (get_or-set_other words (v / 64) (u / 64) w 0 other)
-  ];
-}
+one_word words v w b within is others = search (rules, get_or-set_at, cases_eq, get_or-set_other)
 
 module _ {places : ℕ} {words : List ℕ} {region : List Bool} (packed : ArePacked places words)
     (is : members places words ≡ region) where
@@ -131,10 +111,7 @@ module _ {places : ℕ} {words : List ℕ} {region : List Bool} (packed : ArePac
 
   -- no bit is set past the last place, so the set has what the bits say everywhere
   has-bit : (v : ℕ) → has region v ≡ bit_in words v
-  has-bit v = elim (cases_lt v places) [
-    | inl lt ↦ ap (λ (set : List Bool). has set v) (sym is) ∙ has-inside places words v lt
-    | inr past ↦ get_or_past region v false (omega (arith, places_are)) ∙ sym (packed.none_past v past)
-  ]
+  has-bit v = search (rules, cases_lt, has-inside, get_or_past, places_are)
 
   word_there : {v : ℕ} → v < length region → v / 64 < length words
   word_there lt = omega (arith, places_are, packed.enough)
@@ -142,25 +119,25 @@ module _ {places : ℕ} {words : List ℕ} {region : List Bool} (packed : ArePac
   -- a bit is read by a shift
   pub bit_read : {v w : ℕ} → v < length region → w ≡ get_or words (v / 64) w →
       (bit_and (w / 2 ^ (v % 64)) 1 == 1) ≡ has region v
-  bit_read {v = v} {w = w} lt read =
-      ap (λ n. n == 1) (shr_and_one w (v % 64)) ∙ ap (λ n. bit_at n (v % 64) == 1)
-      (read ∙ get_or_default_zero words (v / 64) w (word_there lt)) ∙ sym (has-bit v)
+  bit_read {v = v} {w = w} lt read = search (rules, shr_and_one, get_or_default_zero, word_there, has-bit)
 
   changed : {after : List ℕ} {v : ℕ} {b : Bool} → v < length region → IsChanged words after v b →
       AreWords places after (set region v b)
   changed {after = after} {v = v} {b = b} lt change =
       let long = places_are in
       record {
-        packed = record {
-          few = packed.few;
-          enough = omega (arith, change.long, packed.enough);
-          no_more = omega (arith, change.long, packed.no_more);
-          none_past = λ u past. change.elsewhere u (λ e. omega arith) ∙ packed.none_past u past;
-        };
-        are = members_are places after (set region v b) (length-set region v b ∙ long) (λ u less. elim (cases_eq u v) [
-          | inl same ↦ get_or-set_at region v u b false same lt ∙ sym change.here ∙ ap (bit_in after) (sym same)
-          | inr other ↦ get_or-set_other region v u b false other ∙ has-bit u ∙ sym (change.elsewhere u other)
-        ]);
+        packed = search (rules, change.long, change.elsewhere);
+        are =
+            members_are places after (set region v b) (length-set region v b ∙ long)
+            (λ u less. search (
+              rules,
+              cases_eq,
+              get_or-set_at,
+              get_or-set_other,
+              has-bit,
+              change.here,
+              change.elsewhere,
+            ));
       }
 
   pub bit_set : {v w : ℕ} → v < length region → w ≡ get_or words (v / 64) w →
@@ -182,22 +159,10 @@ module _ {places : ℕ} {words : List ℕ} {region : List Bool} (packed : ArePac
 -- ---- the bits of two sets
 
 either : (x y : ℕ) → x < 2 → y < 2 → (max x y == 1) ≡ ((x == 1) || (y == 1))
-either zero zero hx hy = refl
-either zero (suc zero) hx hy = refl
-either (suc zero) zero hx hy = refl
-either (suc zero) (suc zero) hx hy = refl
-either (suc (suc x)) y hx hy = absurd (omega arith)
-either zero (suc (suc y)) hx hy = absurd (omega arith)
-either (suc zero) (suc (suc y)) hx hy = absurd (omega arith)
+either x y h1 h2 = search rules
 
 first_only : (x y : ℕ) → x < 2 → y < 2 → (min x (1 - y) == 1) ≡ ((x == 1) && not (y == 1))
-first_only zero zero hx hy = refl
-first_only zero (suc zero) hx hy = refl
-first_only (suc zero) zero hx hy = refl
-first_only (suc zero) (suc zero) hx hy = refl
-first_only (suc (suc x)) y hx hy = absurd (omega arith)
-first_only zero (suc (suc y)) hx hy = absurd (omega arith)
-first_only (suc zero) (suc (suc y)) hx hy = absurd (omega arith)
+first_only x y h1 h2 = search rules
 
 -- the words of a set that is made of two sets by a rule on each vertex
 pub record IsMade (places : ℕ) (new : List ℕ) (region other : List Bool) (rule : Bool → Bool → Bool) : Type 0 where
@@ -218,16 +183,9 @@ module _ {places others_places : ℕ} {words others : List ℕ} {region other : 
         ((v : ℕ) → bit_in new v ≡ rule (bit_in old v) (bit_in lent v)) → IsMade places new region other rule
     made rule none each =
         let lengths = ap length from in
-        let past_others = λ (v : ℕ) (past : places ≤ v). other_packed.none_past v (omega
-        (arith, places_are packed is, places_are other_packed other_is)) in
-        let bits : (v : ℕ) → bit_in new v ≡ rule (bit_in words v) (bit_in others v) =
-        λ v. rw (← from, ← also) (each v) in
-        let whole : ArePacked places new = record {
-          few = packed.few;
-          enough = omega (arith, packed.enough);
-          no_more = omega (arith, packed.no_more);
-          none_past = λ v past. bits v ∙ ap₂ rule (packed.none_past v past) (past_others v past) ∙ none;
-        } in
+        let past_others = λ (v : ℕ) (past : places ≤ v). other_packed.none_past v (search (rules, places_are)) in
+        let bits : (v : ℕ) → bit_in new v ≡ rule (bit_in words v) (bit_in others v) = search rules in
+        let whole : ArePacked places new = search rules in
         record {
           packed = whole;
           as_many = length-members places new ∙ sym (places_are packed is);
@@ -238,11 +196,7 @@ module _ {places others_places : ℕ} {words others : List ℕ} {region other : 
     pub union_made : ((k : ℕ) → get_or new k 0 ≡ bit_or (get_or old k 0) (get_or lent k 0)) →
         IsMade places new region other (λ a b. a || b)
     union_made each =
-        made (λ a b. a || b) refl (λ v.
-        let x = get_or old (v / 64) 0 in
-        let y = get_or lent (v / 64) 0 in
-        let i = v % 64 in
-        rw (each (v / 64), bit_at_or x y i) (either (bit_at x i) (bit_at y i) (bit_at-lt x i) (bit_at-lt y i)))
+        made (λ a b. a || b) refl (λ v. search (rules, bit_at_or, either, bit_at-lt))
 
     pub difference_made : ((k : ℕ) → get_or lent k 0 < 2 ^ 64) →
         ((k : ℕ) → get_or new k 0 ≡ bit_and (get_or old k 0) (bit_not w64 (get_or lent k 0))) →
@@ -277,9 +231,7 @@ none_counted p n (suc m) none =
     ∙ ap₂ (λ b k. cond b 1 0 + k) (none n (omega arith)) (none_counted p (n + 1) m (λ v past. none v (omega arith)))
 
 bit_again : (x : ℕ) → x < 2 → cond (x == 1) 1 0 ≡ x
-bit_again zero lt = refl
-bit_again (suc zero) lt = refl
-bit_again (suc (suc x)) lt = absurd (omega arith)
+bit_again x h1 = search rules
 
 -- the places of a word, counted
 word_counted : (words : List ℕ) (k : ℕ) → get_or words k 0 < 2 ^ 64 →
@@ -313,9 +265,7 @@ words_counted words fits (suc k) le =
     ∙ sym (sum_by_more count_ones words k 0 (omega arith)) ∙ ap (λ n. sum_by count_ones (take n words)) g
 
 bit_is_none : (x : ℕ) → x < 2 → (x == 1) ≡ false → x ≡ 0
-bit_is_none zero lt e = refl
-bit_is_none (suc zero) lt e = cc
-bit_is_none (suc (suc x)) lt e = absurd (omega arith)
+bit_is_none x h1 h2 = search rules
 
 -- the words of a set as they are lent, each of which fits
 module _ {places : ℕ} {words lent : List ℕ} {region : List Bool} (packed : ArePacked places words)
@@ -332,16 +282,12 @@ module _ {places : ℕ} {words lent : List ℕ} {region : List Bool} (packed : A
       words_counted words (rw from at fits) many (omega arith)
       ∙ ap (sum_by count_ones) (take_all many words (omega arith)) in
       let split : count_by p (range_with_len 0 (many * 64)) ≡ count_by p (range_with_len 0 places) +
-      count_by p (range_with_len (0 + places) rest) =
-      ap (λ n. count_by p (range_with_len 0 n)) e ∙ ap (count_by p) (range_split 0 places rest)
-      ∙ sum_by-append test (range_with_len 0 places) (range_with_len (0 + places) rest) in
-      let none : count_by p (range_with_len (0 + places) rest) ≡ 0 =
-      none_counted p (0 + places) rest (λ v past. packed.none_past v (omega arith)) in
+      count_by p (range_with_len (0 + places) rest) = search (rules, range_split, sum_by-append) in
+      let none : count_by p (range_with_len (0 + places) rest) ≡ 0 = search (rules, none_counted) in
       rw (← is, from) (counted_map p (range_with_len 0 places) 0 ∙ omega (arith, whole, split, none))
 
   pub count_fits : sum_by count_ones lent < 2 ^ 64
-  count_fits =
-      omega (arith, packed.few, count_is, count_by-le-length (λ (member : Bool). member) region, places_are packed is)
+  count_fits = search (rules, count_is, count_by-le-length, places_are)
 
   -- no word has a bit where no vertex is in the set
   pub clear_has_none : ((k : ℕ) → get_or lent k 0 ≡ 0) → (v : ℕ) → has region v ≡ false

@@ -1,4 +1,4 @@
-use Rattle.std.proofs.Common.{◌≡◌, get_or, sym, ◌∙◌, below_more, rules}
+use Rattle.std.proofs.Common.{◌≡◌, get_or, ◌∙◌, below_more, rules}
 use Rattle.std.proofs.lemmas.List.{get_or_default}
 use Rattle.ps_game.specs.Games.{vertex_count, successors_of, no_vertex}
 use Rattle.ps_game.proofs.Unknown.{all_from_find}
@@ -9,5 +9,4 @@ unfolding vertex_count successors_of
 loop-number-preserved c =
     let vertex : get_or c.args.vertices.now c.loop-number.number no_vertex ≡ c.index-vertices-number.result
     = search (rules, get_or_default) in
-    below_more _ _ c.loop-number.invariant (rw vertex (all_from_find _ _
-    (sym c.unknown_successor.ensures ∙ c.in_default.is)))
+    below_more _ _ c.loop-number.invariant (rw vertex (search (rules, all_from_find, c.unknown_successor.ensures)))

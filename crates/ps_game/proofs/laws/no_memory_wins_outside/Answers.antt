@@ -1,8 +1,8 @@
+use Rattle.std.proofs.Common.{rules}
 use Rattle.ps_game.proofs.Beaten.{histories_beaten}
 use Rattle.ps_game.proofs.Memory.{WinsByNoMemory-AllHistoriesBeaten}
 use Rattle.ps_game.proofs.laws.no_memory_wins_outside.Goals as goal
 
 pub returns : goal.returns
 returns c game player set table is_game is_player holds v is_vertex inside =
-    WinsByNoMemory-AllHistoriesBeaten game player v is_player (histories_beaten game player set table is_game is_player
-    holds v is_vertex inside)
+    search (rules, WinsByNoMemory-AllHistoriesBeaten, histories_beaten)

@@ -1,4 +1,4 @@
-use Rattle.std.proofs.Common.{map, sym, subst, ◌∙◌, arith}
+use Rattle.std.proofs.Common.{map, sym, subst, ◌∙◌, arith, rules}
 use Rattle.std.specs.List.{Contains}
 use Rattle.std.proofs.lemmas.List.{ext_get_or, length-map, get_or-map}
 use Rattle.ps_ids.specs.Ids.{place_of}
@@ -14,10 +14,5 @@ unwrap-place-requires c =
 pub returns : goal.returns
 returns c =
     let old = c.args.numbers.now in
-    ext_get_or 0 _ (map (place_of c.args.ids.now) old) (omega (
-      arith,
-      c.loop-at.auto.numbers,
-      length-map old (place_of c.args.ids.now),
-    ))
-    (λ k lt. c.loop-at.invariant.done k (omega (arith, c.loop-at-test.false))
-    ∙ sym (get_or-map (place_of c.args.ids.now) old k 0 0 (omega (arith, c.loop-at.auto.numbers))))
+    ext_get_or 0 _ (map (place_of c.args.ids.now) old) (search (rules, length-map, c.loop-at.auto.numbers))
+    (λ k lt. search (rules, get_or-map, c.loop-at.invariant.done, c.loop-at-test.false, c.loop-at.auto.numbers))

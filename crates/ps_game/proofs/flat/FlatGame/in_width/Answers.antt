@@ -12,13 +12,7 @@ in_width-requires-2 g c =
     (omega (arith, s.owners.ok.0, s.owners.small))
 
 pub invariant_of-result : goal.invariant_of-result
-invariant_of-result g c =
-    let owners = c.in_ok-owners.ensures.items_if_clones_equal (λ x y e. e) ∙ c.deref.ensures.value in
-    let priorities = c.in_ok-priorities.ensures.items_if_clones_equal (λ x y e. e) ∙ c.deref-2.ensures.value in
-    rw (c.in_ok-offsets.ensures, c.in_ok-successors.ensures, owners, priorities) c.self.invariant
+invariant_of-result g c = search rules
 
 pub returns : goal.returns
-returns g c =
-    let owners = c.in_ok-owners.ensures.items_if_clones_equal (λ x y e. e) ∙ c.deref.ensures.value in
-    let priorities = c.in_ok-priorities.ensures.items_if_clones_equal (λ x y e. e) ∙ c.deref-2.ensures.value in
-    rw (c.in_ok-offsets.ensures, c.in_ok-successors.ensures, owners, priorities) c.self.view_is
+returns g c = search rules

@@ -1,10 +1,9 @@
-use Rattle.std.proofs.Common.{arith}
+use Rattle.std.proofs.Common.{rules}
 use Rattle.ps_game.proofs.WordSets.{places_are, bit_read}
 use Rattle.ps_game.proofs.regions.Region.contains.Goals as goal
 
 pub index-requires : goal.index-requires
-index-requires c =
-    omega (arith, places_are c.self.invariant c.self.view_is, c.self.invariant.enough, c.self.inside.words.ok.0)
+index-requires c = search (rules, places_are)
 
 pub returns : goal.returns
-returns c = bit_read c.self.invariant c.self.view_is c.requires c.index.ensures
+returns c = search (rules, bit_read)

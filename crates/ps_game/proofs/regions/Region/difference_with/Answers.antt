@@ -1,4 +1,4 @@
-use Rattle.std.proofs.Common.{◌∙◌, ◌&&◌, not, length, sym, ap, arith}
+use Rattle.std.proofs.Common.{◌∙◌, ◌&&◌, not, rules}
 use Rattle.std.specs.Vec.{with_items}
 use Rattle.std.proofs.lemmas.List.{with_items_is}
 use Rattle.ps_game.proofs.WordSets.{IsMade, same_words, difference_made}
@@ -10,20 +10,12 @@ made : (c : After-subtract) →
     IsMade c.self.inside.places (with_items c.self.inside.words c.subtract.new.words).items c.args.self.now
     c.args.other.now (λ a b. a && not b)
 made c =
-    rw (with_items_is c.self.inside.words c.subtract.new.words (omega (
-      arith,
-      c.subtract.auto.words,
-      c.deref_mut.ensures.len,
-    )))
-    (difference_made c.self.invariant c.self.view_is c.other.invariant c.other.view_is c.requires
-    c.deref_mut.ensures.value c.deref.ensures.value c.subtract.auto.words c.subtract.ensures.in_range
-    c.subtract.ensures.subtracted)
+    rw (with_items_is c.self.inside.words c.subtract.new.words
+    (search (rules, c.subtract.auto.words, c.deref_mut.ensures.len)))
+    (search (rules, difference_made, c.self.invariant, c.self.view_is, c.other.invariant, c.other.view_is, c.requires))
 
 pub subtract-requires : goal.subtract-requires
-subtract-requires c =
-    ap length c.deref.ensures.value
-    ∙ same_words c.self.invariant c.self.view_is c.other.invariant c.other.view_is c.requires
-    ∙ sym (ap length c.deref_mut.ensures.value)
+subtract-requires c = search (rules, same_words)
 
 pub invariant_of-self : goal.invariant_of-self
 invariant_of-self c = (made (goal.at.invariant_of-self c).After-subtract).packed

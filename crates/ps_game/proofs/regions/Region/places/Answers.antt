@@ -1,6 +1,6 @@
-use Rattle.std.proofs.Common.{sym}
+use Rattle.std.proofs.Common.{rules}
 use Rattle.ps_game.proofs.WordSets.{places_are}
 use Rattle.ps_game.proofs.regions.Region.places.Goals as goal
 
 pub returns : goal.returns
-returns c = sym (places_are c.self.invariant c.self.view_is)
+returns c = search (rules, places_are)

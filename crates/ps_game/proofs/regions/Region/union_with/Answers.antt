@@ -1,4 +1,4 @@
-use Rattle.std.proofs.Common.{◌∙◌, length, sym, ap, arith}
+use Rattle.std.proofs.Common.{◌∙◌, rules}
 use Rattle.std.specs.Prelude.{◌||◌}
 use Rattle.std.specs.Vec.{with_items}
 use Rattle.std.proofs.lemmas.List.{with_items_is}
@@ -11,19 +11,12 @@ made : (c : After-unite) →
     IsMade c.self.inside.places (with_items c.self.inside.words c.unite.new.words).items c.args.self.now
     c.args.other.now (λ a b. a || b)
 made c =
-    rw (with_items_is c.self.inside.words c.unite.new.words (omega (
-      arith,
-      c.unite.auto.words,
-      c.deref_mut.ensures.len,
-    )))
-    (union_made c.self.invariant c.self.view_is c.other.invariant c.other.view_is c.requires
-    c.deref_mut.ensures.value c.deref.ensures.value c.unite.auto.words c.unite.ensures)
+    rw (with_items_is c.self.inside.words c.unite.new.words (search
+    (rules, c.unite.auto.words, c.deref_mut.ensures.len)))
+    (search (rules, union_made, c.self.invariant, c.self.view_is, c.other.invariant, c.other.view_is, c.requires))
 
 pub unite-requires : goal.unite-requires
-unite-requires c =
-    ap length c.deref.ensures.value
-    ∙ same_words c.self.invariant c.self.view_is c.other.invariant c.other.view_is c.requires
-    ∙ sym (ap length c.deref_mut.ensures.value)
+unite-requires c = search (rules, same_words)
 
 pub invariant_of-self : goal.invariant_of-self
 invariant_of-self c = (made (goal.at.invariant_of-self c).After-unite).packed

@@ -1,4 +1,4 @@
-use Rattle.std.proofs.Common.{◌∙◌}
+use Rattle.std.proofs.Common.{◌∙◌, rules}
 use Rattle.std.proofs.lemmas.List.{map-id}
 use Rattle.ps_game.proofs.FlatArrays.{game_flat}
 use Rattle.ps_game.proofs.vertices.Vertices.as_game.Goals as goal
@@ -10,7 +10,4 @@ invariant_of-result c =
     rw (offsets, successors) (game_flat c.self.invariant.tell (rw c.self.view_is c.requires))
 
 pub returns : goal.returns
-returns c =
-    let offsets = c.of.ensures ∙ map-id _ in
-    let successors = c.of-2.ensures ∙ map-id _ in
-    rw (offsets, successors) c.self.view_is
+returns c = search (rules, map-id)

@@ -1,4 +1,4 @@
-use Rattle.std.proofs.Common.{sym, subst, ◌∙◌}
+use Rattle.std.proofs.Common.{subst, ◌∙◌, rules}
 use Rattle.ps_game.specs.Games.{IsGame}
 use Rattle.ps_game.proofs.Finished.{IsGame-without_repeats}
 use Rattle.ps_game.proofs.VertexArrays.{without_repeats-same}
@@ -7,8 +7,7 @@ use Rattle.ps_game.proofs.vertices.Vertices.into_game.Goals as goal
 pub as_game-requires : goal.as_game-requires
 as_game-requires c =
     subst IsGame (without_repeats-same c.args.self c.if-are_distinct.ensures)
-    (IsGame-without_repeats c.args.self (rw c.self.view_is at c.self.invariant.players) c.requires.bare
-    c.requires.known)
+    (search (rules, IsGame-without_repeats, c.self.invariant.players, c.requires.bare, c.requires.known))
 
 pub returns-then-are_distinct : goal.returns-then-are_distinct
-returns-then-are_distinct c = c.as_game.ensures ∙ sym (without_repeats-same c.args.self c.if-are_distinct.ensures)
+returns-then-are_distinct c = search (rules, without_repeats-same)

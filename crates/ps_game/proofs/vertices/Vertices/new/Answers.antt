@@ -1,4 +1,4 @@
-use Rattle.std.proofs.Common.{[], ◌∷◌, ◌++◌, ap, ◌∙◌, arith}
+use Rattle.std.proofs.Common.{[], ◌∷◌, ◌++◌, ap, ◌∙◌, arith, rules}
 use Rattle.ps_game.proofs.VertexArrays.{StandFor, stand_for, tell_none}
 use Rattle.ps_game.proofs.vertices.Vertices.new.Goals as goal
 use Rattle.ps_game.proofs.vertices.Vertices.new.Goals.{After-new-3}
@@ -11,7 +11,7 @@ none c =
     (stand_for tell_none (λ k d lt. absurd (omega arith)))
 
 pub invariant_of-result : goal.invariant_of-result
-invariant_of-result c = (none (goal.at.invariant_of-result c).After-new-3).are
+invariant_of-result c = search (rules, none)
 
 pub returns : goal.returns
-returns c = (none (goal.at.returns c).After-new-3).is
+returns c = search (rules, none)

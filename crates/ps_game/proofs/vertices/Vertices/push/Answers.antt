@@ -1,4 +1,4 @@
-use Rattle.std.proofs.Common.{ℕ, ◌<◌, List, [], ◌∷◌, ◌++◌, ap, ◌∙◌, arith}
+use Rattle.std.proofs.Common.{ℕ, ◌<◌, List, [], ◌∷◌, ◌++◌, ap, ◌∙◌, arith, rules}
 use Rattle.std.proofs.lemmas.List.Elements.{All-push}
 use Rattle.ps_game.specs.Games.{VertexData}
 use Rattle.ps_game.proofs.VertexArrays.{StandFor, stand_for, tell_more}
@@ -25,7 +25,7 @@ more c =
     (All-push (λ (v : VertexData). v.owner < 2) _ vertex (rw c.self.view_is at c.self.invariant.players) c.requires)
 
 pub invariant_of-self-2 : goal.invariant_of-self-2
-invariant_of-self-2 c = (more (goal.at.invariant_of-self-2 c).After-push_reserved-3).are
+invariant_of-self-2 c = search (rules, more)
 
 pub returns-clause-ok : goal.returns-clause-ok
-returns-clause-ok c = (more (goal.at.returns-clause-ok c).After-push_reserved-3).is
+returns-clause-ok c = search (rules, more)

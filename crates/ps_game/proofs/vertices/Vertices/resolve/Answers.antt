@@ -1,4 +1,4 @@
-use Rattle.std.proofs.Common.{◌≡◌, ◌++◌, map, take, drop, length, arith}
+use Rattle.std.proofs.Common.{◌≡◌, ◌++◌, map, take, drop, length, arith, rules}
 use Rattle.std.proofs.lemmas.Grind.{common_steps}
 use Rattle.std.specs.List.{Contains}
 use Rattle.ps_ids.specs.Ids.{place_of}
@@ -29,7 +29,7 @@ placed c =
     (players-placed ids c.args.self.now (rw c.self.view_is at c.self.invariant.players))
 
 pub invariant_of-self : goal.invariant_of-self
-invariant_of-self c = (placed (goal.at.invariant_of-self c).After-places_in).are
+invariant_of-self c = search (rules, placed)
 
 pub returns : goal.returns
-returns c = (placed (goal.at.returns c).After-places_in).is
+returns c = search (rules, placed)

@@ -1,4 +1,4 @@
-use Rattle.std.proofs.Common.{◌<◌, ◌≤◌, length, take, ap, ◌∙◌, arith}
+use Rattle.std.proofs.Common.{◌<◌, ◌≤◌, length, take, ap, ◌∙◌, arith, rules}
 use Rattle.std.proofs.lemmas.Grind.{get_or_default_zero}
 use Rattle.std.proofs.lemmas.List.Elements.{All-take}
 use Rattle.ps_game.specs.Games.{VertexData, vertex_count}
@@ -26,7 +26,7 @@ front c =
     (All-take (λ (v : VertexData). v.owner < 2) k c.args.self.now (rw c.self.view_is at c.self.invariant.players)))
 
 pub invariant_of-self : goal.invariant_of-self
-invariant_of-self c = (front (goal.at.invariant_of-self c).After-truncate-4).are
+invariant_of-self c = search (rules, front)
 
 pub returns : goal.returns
-returns c = (front (goal.at.returns c).After-truncate-4).is
+returns c = search (rules, front)
