@@ -1,6 +1,7 @@
 -- The answer to a text, from its two readings.
 use Rattle.std.proofs.Common.{◌≡◌, ℕ, ◌≤◌, List, length, Option, None, Some, Result, Ok, Err, IsErrAnd, IfOk, refl, sym}
-use Rattle.std.proofs.Common.{ap, subst, ◌∙◌, zero, suc, ◌+◌, ◌-◌, Bool, true, false, cond, [], ◌∷◌, ◌++◌, arith}
+use Rattle.std.proofs.Common.{rules}
+use Rattle.std.proofs.Common.{ap, subst, ◌∙◌, zero, suc, ◌+◌, ◌-◌, Bool, cond, [], ◌∷◌, ◌++◌, arith}
 use Rattle.std.proofs.Common.{length-append}
 use Rattle.std.specs.Result.{IfErr}
 use Rattle.std.proofs.lemmas.Result.{err_from_is_err_and}
@@ -32,8 +33,7 @@ module _ (text : List ℕ) (short : length text ≤ text_limit) where
 
   pub first_exit : (e : PgFault) (r : Result NamedGameData PgFault) → FaultAnswers None (stream_of text) (found_of e) →
       IsErrAnd r (λ y. y ≡ e) → IsGameAnswer text r
-  first_exit e r h i =
-      let y = err_from_is_err_and r i in subst (IsGameAnswer text) (sym (y.1 ∙ ap Err y.2)) (first_fault e h)
+  first_exit e r h i = search (rules, err_from_is_err_and, first_fault)
 
   module _ (nodes : List NodeData) (first : PartAnswers pg_causes (game None) (stream_of text) (Ok nodes)) where
     pub unknown_answer : (e : PgFault) → FaultAnswers (Some (ids_of nodes)) (stream_of text) (found_of e) →
@@ -54,8 +54,7 @@ pub none_unknown : (text : List ℕ) (nodes other : List NodeData) →
     PartAnswers pg_causes (game (Some (ids_of nodes))) (stream_of text) (Ok other) → KnowsAll (ids_of nodes) nodes
 none_unknown text nodes other first second =
     let same = same_nodes (Some (ids_of nodes)) (signs (stream_of text).pieces) first.0 second.0 in
-    subst (KnowsAll (ids_of nodes)) (sym same) (knows_all (ids_of nodes) (signs (stream_of text).pieces) other
-    second.0 second.1)
+    subst (KnowsAll (ids_of nodes)) (sym same) (search (rules, knows_all, second.0, second.1))
 
 -- ## Each refusal stands within the text
 
@@ -64,8 +63,7 @@ AllWithin n [] = Unit {0}
 AllWithin n (p ∷ ps) = (p.start ≤ n) × AllWithin n ps
 
 chosen : (n : ℕ) (t : Bool) (xs ys : List (Piece Sign)) → AllWithin n xs → AllWithin n ys → AllWithin n (cond t xs ys)
-chosen n true xs ys x y = x
-chosen n false xs ys x y = y
+chosen n t xs ys h1 h2 = search rules
 
 lex_within : (n skip : ℕ) (before bytes : List ℕ) → length before + length bytes ≤ n →
     AllWithin n (lex skip before bytes)
@@ -89,13 +87,7 @@ offset_within n (p ∷ front) rest h = offset_within n front rest h.1
 
 refused_within : {text : List ℕ} {stream : Stream Sign} (found : Found PgCause) (known : Option (List ℕ)) →
     HasTokens text stream → PartAnswers pg_causes (game known) stream (Err found) → found.offset ≤ length text
-refused_within {text} {stream} found known t p =
-    let same_stream : stream ≡ stream_of text = only_tokens text stream t.tokens in
-    let split : lex 0 [] text ≡ p.front ++ p.rest = sym (ap (λ s. s.pieces) same_stream) ∙ p.split in
-    let offset : found.offset ≡ offset_of p.rest (length text) = p.offset
-    ∙ ap (λ s. offset_of p.rest s.end) same_stream in
-    subst (λ n. n ≤ length text) (sym offset) (offset_within (length text) p.front p.rest
-    (subst (AllWithin (length text)) split (lex_within (length text) 0 [] text (omega arith))))
+refused_within {text} {stream} found known t p = search (rules, only_tokens, offset_within, lex_within)
 
 abbrev refuses : Found PgCause → Result NamedGameData (Found PgCause)
 refuses f = Err f
@@ -104,14 +96,12 @@ same_refusal : {f g : Found PgCause} → refuses f ≡ refuses g → f ≡ g
 same_refusal {f} {g} e = let x : refuses f ≡ refuses g = e in cc
 
 answer_within : {text : List ℕ} {found : Found PgCause} → Answer text (Err found) → found.offset ≤ length text
-answer_within {found} (too_long l e) =
-    let x : found.offset ≡ text_limit = ap (λ f. f.offset) (same_refusal e) in omega (arith, x, l)
+answer_within {found} (too_long l e) = search (rules, same_refusal)
 answer_within {text} (refused stream f t p e) =
     subst (λ g. g.offset ≤ length text) (sym (same_refusal e)) (refused_within f None t p)
 answer_within {text} (unknown stream nodes f t p q e) =
     subst (λ g. g.offset ≤ length text) (sym (same_refusal e)) (refused_within f (Some (ids_of nodes)) t q)
-answer_within {found} (meaning stream nodes t p q e) =
-    absurd (let x : refuses found ≡ Ok (named_game_of nodes) = e in cc)
+answer_within {found} (meaning stream nodes t p q e) = search rules
 
 pub within_text : (text : List ℕ) (r : Result NamedGameData PgFault) → IsGameAnswer text r →
     IfErr r (StandsWithin (length text))

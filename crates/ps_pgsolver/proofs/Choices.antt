@@ -73,7 +73,7 @@ name_done old {new} {inner} e n = let is : next_of old ≡ Some (Name inner) =
     named (next_of old) inner e in left_entered found_of pg_causes laws_one_name laws_no_name
     (λ n. n) old new (Ok (Some inner)) (λ t h k. k) (subst (λ there. Enters (one {F = PgCause} name_in NoBad) there)
     (sym is) (enters_one name_in NoBad (Name inner) (inl (Some inner, refl))))
-    (meets_next found_of pg_causes name_in NoBad (λ n. n) old new (Name inner) (Some inner) is n refl (λ f b. b))
+    (search (rules, meets_next))
 
 -- ## Loops
 

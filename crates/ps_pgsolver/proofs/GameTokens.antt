@@ -212,17 +212,9 @@ not_both b f t = let x : false ≡ true = sym f ∙ t in cc
 token_is : (before text rest : List ℕ) (t : Sign) → IsToken before t text rest →
     IsFound before (text ++ rest) t (length text)
 token_is before text rest (Number n) h =
-    let p = digits_are before h.0 in (
-      p.0 ∙ ap (λ e. cond e Wrong (Number (decimal_value (take_while is_digit (text ++ rest))))) h.2
-          ∙ ap (λ z. Number (decimal_value z)) (run_taken h.0).1 ∙ ap Number (sym h.1),
-      p.1,
-    )
+    let p = digits_are before h.0 in (search (rules, run_taken, h.2, h.0, h.1))
 token_is before text rest (Word letters) h =
-    let p = letters_are before h.0 in (
-      p.0 ∙ ap (λ e. cond e Wrong (Word (take_while is_letter (text ++ rest)))) h.2
-          ∙ ap Word (run_taken h.0).1 ∙ ap Word (sym h.1),
-      p.1,
-    )
+    let p = letters_are before h.0 in (search (rules, run_taken, h.2, h.0, h.1))
 token_is before text rest (Name inner) h =
     let bs : List ℕ = (inner ++ 34 ∷ []) ++ rest in
     let p = at_quote before bs (ap (λ z. z ++ rest) h.0) refl in
@@ -239,11 +231,8 @@ token_is before text rest Wrong (number_behind_word r e) = let p = digits_are be
 token_is before text rest Wrong (word_behind_number r e) =
     let p = letters_are before r in (p.0 ∙ ap (λ e. cond e Wrong (Word (take_while is_letter (text ++ rest)))) e, p.1)
 token_is before text rest Wrong (stray b x s) =
-    let p = at_mark before b rest (ap (λ z. z ++ rest) x) s.no_digit s.no_letter (ne_eqb b 34 s.no_quote) in (
-      p.0 ∙ ap (λ e. cond e Comma (cond (eqb b 59) Semicolon Wrong)) (ne_eqb b 44 s.no_comma)
-          ∙ ap (λ e. cond e Semicolon Wrong) (ne_eqb b 59 s.no_semicolon),
-      p.1 ∙ ap length (sym x),
-    )
+    let p = at_mark before b rest (ap (λ z. z ++ rest) x) s.no_digit s.no_letter (ne_eqb b 34 s.no_quote) in
+    (search (rules, s.no_comma, s.no_semicolon))
 
 -- ## The whole text
 

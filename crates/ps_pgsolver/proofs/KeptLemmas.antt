@@ -165,10 +165,10 @@ names_pushed {count} padded old (Some name) few full same =
     let whole : length padded ≡ count = full refl in
     let last = name_bytes (Some name) in
     let e : map name_bytes (padded ++ Some name ∷ []) ≡ map name_bytes padded ++ last ∷ [] =
-    map-append name_bytes padded (Some name ∷ []) in
+    search (rules, map-append) in
     ap (with_none (count + 1)) e ∙ with_none-all (count + 1) (map name_bytes padded ++ last ∷ [])
     (omega (arith, length-append (map name_bytes padded) (last ∷ []), length-map padded name_bytes)) ∙ ap (λ xs. xs ++
-    last ∷ []) (sym (with_none-all count (map name_bytes padded) (omega (arith, length-map padded name_bytes))) ∙ same)
+    last ∷ []) (search (rules, with_none-all, length-map))
 
 pub plain_kept : (count : ℕ) (names : List (Option (List ℕ))) → All HasNoQuote (with_none count names) →
     All HasNoQuote names

@@ -1,5 +1,6 @@
 -- What the code answers to a token is what the grammar's single signs say of it.
 use Rattle.std.proofs.Common.{◌≡◌, ℕ, ◌≤◌, true, false, ltb, List, Option, None, Some, Result, Ok, Err, refl, sym, ap}
+use Rattle.std.proofs.Common.{rules}
 use Rattle.std.proofs.Common.{subst, inl, inr, ⊎_elim, ◌∙◌, arith}
 use Rattle.std.proofs.lemmas.Bool.{cases_Bool, ltb-true, ltb-false, lt-ltb}
 use Rattle.std.specs.List.{Contains}
@@ -79,10 +80,8 @@ number_fits _ at = refused refl (λ f b. b) refl
 
 id_fits : (ids : List ℕ) (t : Sign) (at : ℕ) → Fits number_in (BadId ids) t at (id_answer ids (Some t) at)
 id_fits ids (Number n) at = ⊎_elim (λ (yes : ltb n too_large ≡ true). ⊎_elim
-    (λ (old : is_member ids n ≡ true). bad causes.NodeTwice (inr
-    (ltb-true n too_large yes, Contains-any n ids old, refl))
-    (λ g b. ⊎_elim (λ h. absurd (omega (arith, ltb-true n too_large yes, h.0))) (λ h. least_here h.2)
-    b) (rw (yes, old) refl)) (λ (new : is_member ids n ≡ false). taken n refl
+    (λ (old : is_member ids n ≡ true). bad causes.NodeTwice (search (rules, ltb-true, Contains-any))
+    (λ g b. search (rules, ltb-true, least_here)) (rw (yes, old) refl)) (λ (new : is_member ids n ≡ false). taken n refl
     (λ f b. ⊎_elim (λ h. omega (arith, ltb-true n too_large yes, h.0))
     (λ h. true_false (sym (any-from_Contains n ids h.1) ∙ new)) b) (rw (yes, new) refl)) (cases_Bool (is_member ids n)))
     (λ (no : ltb n too_large ≡ false). bad causes.Number (inl (ltb-false n too_large no, refl))
@@ -95,13 +94,11 @@ owner_fits (Number n) at = ⊎_elim (λ (yes : ltb n 2 ≡ true).
     let small : ltb n too_large ≡ true = lt-ltb n too_large (omega (arith, ltb-true n 2 yes)) in
     taken n refl (λ f b. omega (arith, ltb-true n 2 yes, b.0)) (rw (small, yes) refl))
     (λ (no : ltb n 2 ≡ false). bad causes.Number (ltb-false n 2 no, refl) (λ g b. least_here b.1)
-    (⊎_elim (λ (small : ltb n too_large ≡ true). rw (small, no) refl)
-    (λ (large : ltb n too_large ≡ false). rw large refl) (cases_Bool (ltb n too_large)))) (cases_Bool (ltb n 2))
+    (search (rules, cases_Bool))) (cases_Bool (ltb n 2))
 owner_fits _ at = refused refl (λ f b. b) refl
 
 known_yes : (known : Option (List ℕ)) (n : ℕ) → is_known known n ≡ true → IsUnknown known n → ⊥
-known_yes None n e h = h
-known_yes (Some ids) n e h = h (Contains-any n ids e)
+known_yes known n h1 h2 = search (rules, Contains-any)
 
 known_no : (known : Option (List ℕ)) (n : ℕ) → is_known known n ≡ false → IsUnknown known n
 known_no None n e = true_false e
@@ -114,8 +111,7 @@ successor_fits known (Number n) at = ⊎_elim (λ (yes : ltb n too_large ≡ tru
     (λ f b. ⊎_elim (λ h. omega (arith, ltb-true n too_large yes, h.0)) (λ h. known_yes known n is h.1) b)
     (rw (yes, is) refl)) (λ (not_known : is_known known n ≡ false). bad causes.UnknownSuccessor
     (inr (ltb-true n too_large yes, known_no known n not_known, refl))
-    (λ g b. ⊎_elim (λ h. absurd (omega (arith, ltb-true n too_large yes, h.0)))
-    (λ h. least_here h.2) b) (rw (yes, not_known) refl)) (cases_Bool (is_known known n)))
+    (λ g b. search (rules, ltb-true, least_here)) (rw (yes, not_known) refl)) (cases_Bool (is_known known n)))
     (λ (no : ltb n too_large ≡ false). bad causes.Number (inl (ltb-false n too_large no, refl))
     (λ g b. ⊎_elim (λ h. least_here h.1) (λ h. absurd (omega (arith, ltb-false n too_large no, h.0))) b) (rw no refl))
     (cases_Bool (ltb n too_large))
@@ -203,8 +199,7 @@ successor_known known ids (Some (Number m)) at n h e = ⊎_elim (λ (small : ltb
     (λ (yes : is_known known m ≡ true).
     let is : n ≡ m = same_number (e ∙ rw (small, yes) refl) in
     rw (small, any-from_Contains m ids (subst (λ x. Contains ids x) is h)) (ap found_number is))
-    (λ (no : is_known known m ≡ false). absurd (no_fault n (faults.Text causes.UnknownSuccessor at)
-    (e ∙ rw (small, no) refl))) (cases_Bool (is_known known m)))
+    (λ (no : is_known known m ≡ false). search (rules, no_fault)) (cases_Bool (is_known known m)))
     (λ (large : ltb m too_large ≡ false). absurd (no_fault n (faults.Text causes.Number at) (e ∙ rw large refl)))
     (cases_Bool (ltb m too_large))
 successor_known known ids _ at n h e = absurd (no_fault n (faults.Text causes.Syntax at) e)

@@ -1,10 +1,9 @@
 -- Each game text has an answer.
-use Rattle.std.proofs.Common.{◌≡◌, ℕ, suc, ◌<◌, ◌≤◌, ◌⊎◌, List, [], ◌∷◌, ◌++◌, length, Option, None, Some}
-use Rattle.std.proofs.Common.{Result, Ok, Err, refl, sym, subst, inl, inr}
-use Rattle.std.specs.Prelude.{codes}
+use Rattle.std.proofs.Common.{◌≡◌, ℕ, ◌<◌, ◌≤◌, ◌⊎◌, List, [], ◌∷◌, ◌++◌, length, Option, None, Some, rules}
+use Rattle.std.proofs.Common.{Result, Ok, Err, refl, sym, inl, inr}
 use Rattle.std.specs.List.{Contains}
 use Rattle.std.proofs.lemmas.Bool.{cases_lt}
-use Rattle.ps_text.specs.Answers.{Stream, Found, signs}
+use Rattle.ps_text.specs.Answers.{Stream, Found}
 use Rattle.ps_text.specs.Parts.{Part, PartAnswers, NoBad}
 use Rattle.ps_text.specs.Outcomes.{HasOutcomes}
 use Rattle.ps_text.proofs.Outcomes.{Judged, good, bad_only, has_give, has_one, has_mapped, has_then, has_either}
@@ -54,8 +53,7 @@ module _ (A : Type 0) (cause : PgCause) (n : ℕ) where
 
   judge_two : Decided A → Judged cause_number OneOf
   judge_two holds = judge_as cause_number to from
-      (judge_one cause_number (judge_cause cause_number causes.Number (decide_below too_large n))
-      (judge_cause cause_number cause (decide_both (decide_below (suc n) too_large) holds)))
+      (search (rules, judge_one, judge_cause, decide_below, decide_both))
     where
       to : (f : PgCause) → ((too_large ≤ n) × (f ≡ causes.Number)) ⊎ (((n < too_large) × A) × (f ≡ cause)) → OneOf f
       to f (inl h) = inl h
@@ -131,8 +129,7 @@ has_name = has_either pg_causes laws_one_name laws_no_name (λ t h k. k)
 module _ (known : Option (List ℕ)) where
   has_more : (list : List ℕ) → Has (more_successor known list)
   unfolding more_successor
-  has_more list = has_then pg_causes (joint_more known list) has_comma
-      (λ _. has_mapped pg_causes (λ n. list ++ n ∷ []) (successor known) (has_successor known))
+  has_more list = search (rules, has_then, joint_more, has_comma, has_mapped, has_successor)
 
   has_successors : Has (successors known)
   unfolding successors
@@ -144,10 +141,17 @@ module _ (known : Option (List ℕ)) where
   has_node ids =
       has_then pg_causes (joint_id known ids) (has_id ids) (λ id.
       has_then pg_causes (joint_priority known ids id) has_number (λ priority.
-      has_then pg_causes (joint_owner known ids id priority) has_owner (λ owner'.
-      has_then pg_causes (joint_list known ids id priority owner') has_successors (λ list.
-      has_then pg_causes (joint_name known ids id priority owner' list) has_name (λ name'.
-      has_mapped pg_causes _ semicolon has_semicolon)))))
+      has_then pg_causes (joint_owner known ids id priority) has_owner
+      (λ owner'. search (
+        rules,
+        has_then,
+        joint_list,
+        has_successors,
+        joint_name,
+        has_name,
+        has_mapped,
+        has_semicolon,
+      ))))
 
   has_entry : (nodes : List NodeData) → Has (entry known nodes)
   unfolding entry
@@ -169,8 +173,7 @@ has_setting word = has_either pg_causes (laws_line word) (laws_no_line word) (λ
 
 has_game : (known : Option (List ℕ)) → Has (game known)
 unfolding game
-has_game known = has_then pg_causes (joint_parity known) (has_setting (codes "parity"))
-    (λ _. has_then pg_causes (joint_start known) (has_setting (codes "start")) (λ _. has_entries known))
+has_game known = search (rules, has_then, joint_parity, has_setting, joint_start, has_entries)
 
 -- ## The answer
 
@@ -192,8 +195,7 @@ module _ (text : List ℕ) (short : length text ≤ text_limit) where
       (answer : Result NamedGameData (Found PgCause)) × Answer text answer
   again nodes p (Ok others) q = (
     Ok (named_game_of nodes),
-    meaning stream nodes has_tokens p (subst (λ z. PartAnswers pg_causes (game (Some (ids_of nodes))) stream (Ok z))
-        (sym (same_nodes (Some (ids_of nodes)) (signs stream.pieces) p.0 q.0)) q) refl,
+    meaning stream nodes has_tokens p (search (rules, same_nodes, p.0, q.0)) refl,
   )
   again nodes p (Err found) q = (Err found, unknown stream nodes found has_tokens p q refl)
 

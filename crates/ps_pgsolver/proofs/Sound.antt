@@ -1,6 +1,7 @@
 -- What is true of the value of a text in which no cause of the part stands; and that the ids that are known change no
 -- text.
 use Rattle.std.proofs.Common.{◌≡◌, ℕ, zero, suc, true, false, ltb, List, [], ◌∷◌, ◌++◌, Option, None, Some, refl, sym}
+use Rattle.std.proofs.Common.{rules}
 use Rattle.std.proofs.Common.{ap, subst, inl, inr, ⊎_elim, ◌∙◌, append_assoc, arith}
 use Rattle.std.proofs.lemmas.Bool.{cases_Bool, ltb-true, ltb-false}
 use Rattle.std.proofs.lemmas.List.Elements.{All-push}
@@ -10,7 +11,7 @@ use Rattle.ps_text.specs.Answers.{IsClean}
 use Rattle.ps_text.specs.Parts.{Part, IsWrong, by_part, one, then_by, times, many, mapped}
 use Rattle.ps_pgsolver.specs.GameTexts.{pg_causes, too_large, number_in, BadFirst, BadSuccessor, number, new_id, owner}
 use Rattle.ps_pgsolver.specs.GameTexts.{successor, first_successor, more_successor, successors, node, entry, entries}
-use Rattle.ps_pgsolver.specs.GameTexts.{setting, game, comma}
+use Rattle.ps_pgsolver.specs.GameTexts.{setting, game}
 use Rattle.ps_pgsolver.specs.Nodes.{NodeData, ids_of, is_member, KnowsAll}
 use Rattle.ps_pgsolver.specs.Signs.{Sign, Number}
 use Rattle.ps_pgsolver.specs.declared.fault.PgCause.{PgCause}
@@ -44,8 +45,8 @@ sound_then {P} Q l r = record {
   good = λ text v h q. let left_quiet : Quiet P h.left = λ front rest t f e c. q front
       (rest ++ h.right) t f (h.split ∙ ap (λ x. x ++ h.right) e ∙ append_assoc front (t ∷ rest) h.right) (inl c) in
       let right_quiet : Quiet (Q h.value) h.right = λ front rest t f e c. q
-      (h.left ++ front) rest t f (h.split ∙ ap (λ x. h.left ++ x) e ∙ sym (append_assoc h.left front (t ∷ rest))) (inr
-      (record { left = h.left; right = front; value = h.value; split = refl; is_left = h.is_left; is_cause = c })) in
+      (h.left ++ front) rest t f (h.split ∙ ap (λ x. h.left ++ x) e ∙ sym (append_assoc h.left front (t ∷ rest)))
+      (search rules) in
       (r h.value (l.good h.left h.value h.is_left left_quiet)).good h.right v h.is_right right_quiet;
 }
 
@@ -101,15 +102,14 @@ module _ (ids : List ℕ) where
   sound_more : (list : List ℕ) → Known list → Sound (more_successor (Some ids) list) Known
   unfolding more_successor
   sound_more list k = sound_then (λ _. mapped (λ n. list ++ n ∷ []) (successor (Some ids))) (sound_any)
-      (λ _ _. sound_mapped (λ n. list ++ n ∷ []) (λ n h. All-push (λ n. Contains ids n) list n k h) sound_successor)
+      (λ _ _. search (rules, sound_mapped, All-push, sound_successor))
 
   one_known : (n : ℕ) → Contains ids n → Known (n ∷ [])
   one_known n h = All-push (λ m. Contains ids m) [] n (λ k d l. absurd (omega (arith, l))) h
 
   sound_successors : Sound (successors (Some ids)) Known
   unfolding successors
-  sound_successors = sound_then (λ n. many (more_successor (Some ids)) (n ∷ [])) sound_first
-      (λ n h. sound_many (more_successor (Some ids)) sound_more (n ∷ []) (one_known n h))
+  sound_successors = search (rules, sound_then, sound_first, sound_many, sound_more, one_known)
 
   abbrev KnownNode : NodeData → Type 0
   KnownNode n = Known n.successors
@@ -146,15 +146,7 @@ Same {V} P Q = (text : List Sign) (v : V) → P.IsText text v → Q.IsText text 
 
 same_then : {A B : Type 0} (P P' : Part Sign A PgCause) (Q Q' : A → Part Sign B PgCause) → Same P P' →
     ((a : A) → Same (Q a) (Q' a)) → Same (then_by P Q) (then_by P' Q')
-same_then P P' Q Q' l r text v h =
-    record {
-      left = h.left;
-      right = h.right;
-      value = h.value;
-      split = h.split;
-      is_left = l h.left h.value h.is_left;
-      is_right = r h.value h.right v h.is_right;
-    }
+same_then P P' Q Q' l r text v h = search rules
 
 same_mapped : {A B : Type 0} (h : A → B) (P P' : Part Sign A PgCause) → Same P P' → Same (mapped h P) (mapped h P')
 same_mapped h P P' s text v i = (i.0, s text i.0 i.1, i.2)
@@ -180,15 +172,11 @@ module _ (k : Option (List ℕ)) where
 
   same_more : (list : List ℕ) → Same (more_successor k list) (more_successor None list)
   unfolding more_successor
-  same_more list = same_then comma comma
-      (λ _. mapped (λ n. list ++ n ∷ []) (successor k)) (λ _. mapped (λ n. list ++ n ∷ []) (successor None))
-      (λ text v h. h) (λ _. same_mapped (λ n. list ++ n ∷ []) (successor k) (successor None) same_successor)
+  same_more list = search (rules, same_then, same_mapped, same_successor)
 
   same_successors : Same (successors k) (successors None)
   unfolding successors
-  same_successors = same_then (first_successor k) (first_successor None)
-      (λ n. many (more_successor k) (n ∷ [])) (λ n. many (more_successor None) (n ∷ [])) same_first
-      (λ n. same_many (more_successor k) (more_successor None) same_more (n ∷ []))
+  same_successors = search (rules, same_then, same_first, same_many, same_more)
 
   same_node : (ids : List ℕ) → Same (node k ids) (node None ids)
   unfolding node
@@ -200,19 +188,16 @@ module _ (k : Option (List ℕ)) where
 
   same_entry : (nodes : List NodeData) → Same (entry k nodes) (entry None nodes)
   unfolding entry
-  same_entry nodes =
-      same_mapped (λ n. nodes ++ n ∷ []) (node k (ids_of nodes)) (node None (ids_of nodes)) (same_node (ids_of nodes))
+  same_entry nodes = search (rules, same_mapped, same_node)
 
   same_entries : Same (entries k) (entries None)
   unfolding entries
-  same_entries = same_then (entry k []) (entry None []) (λ nodes. many (entry k) nodes)
-      (λ nodes. many (entry None) nodes) (same_entry []) (λ nodes. same_many (entry k) (entry None) same_entry nodes)
+  same_entries = search (rules, same_then, same_entry, same_many)
 
   same_game : Same (game k) (game None)
   unfolding game
   same_game = same_then (setting (codes "parity")) (setting (codes "parity"))
-      (λ _. from_start k) (λ _. from_start None) (λ text v h. h) (λ _. same_then (setting (codes "start"))
-      (setting (codes "start")) (λ _. entries k) (λ _. entries None) (λ text v h. h) (λ _. same_entries))
+      (λ _. from_start k) (λ _. from_start None) (λ text v h. h) (λ _. search (rules, same_then, same_entries))
 
   pub same_nodes : (text : List Sign) {nodes other : List NodeData} → (game None).IsText text nodes →
       (game k).IsText text other → nodes ≡ other

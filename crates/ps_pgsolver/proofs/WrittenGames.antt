@@ -3,7 +3,8 @@
 --     readable      nodes of different ids can be read, one behind the other
 --     reads_again      the whole text
 use Rattle.std.proofs.Common.{◌≡◌, ℕ, suc, ◌+◌, ◌<◌, ◌≤◌, Bool, true, cond, eqb, ltb, List, [], ◌∷◌, ◌++◌, length}
-use Rattle.std.proofs.Common.{get_or, map, drop, Option, Some, None, Ok, refl, sym, ap, ap₂, subst, ⊎_elim, ◌∙◌, arith}
+use Rattle.std.proofs.Common.{rules}
+use Rattle.std.proofs.Common.{get_or, map, drop, Option, Some, None, Ok, refl, sym, ap, ap₂, subst, ◌∙◌, arith}
 use Rattle.std.proofs.Common.{append_assoc, length-append}
 use Rattle.std.specs.Prelude.{not}
 use Rattle.std.specs.Option.{unwrap_or}
@@ -140,8 +141,7 @@ module _ (ids : List ℕ) (names : List (Option (List ℕ))) (small : (w : ℕ) 
         owner = is.owner;
         some = omega (arith, is.some, length-map x.successors (id_at ids));
         successors =
-            All-map (IsKnown known) (id_at ids) x.successors (λ i d lt.
-            (omega (arith, small (get_or x.successors i d)), knows (get_or x.successors i d) (kept.within i d lt)));
+            All-map (IsKnown known) (id_at ids) x.successors (λ i d lt. search (rules, small, x.successors));
       } in
       All-cons (IsPlainNode known) (node_made ids names v x) (nodes_made ids names (v + 1) vertices) one
       (made_plain (v + 1) vertices (All-tail IsPlainVertex x vertices h) (All-tail (IsKept (length ids)) x vertices k))
@@ -152,24 +152,15 @@ module _ (named : NamedGameData) (is : IsNamedGame named) (some : 0 < vertex_cou
     (words : All IsWord named.ids) (priorities : All (λ vertex. IsWord vertex.priority) named.game)
     (word : IsWord (greatest named.ids)) where
   small : (w : ℕ) → IsWord (id_at named.ids w)
-  small w =
-      ⊎_elim (λ lt. words w 0 lt) (λ le. let e = get_or_past named.ids w 0 le in omega (arith, e))
-      (cases_lt w (length named.ids))
+  small w = search (rules, get_or_past, cases_lt)
 
   plain : (v : ℕ) → HasNoQuote (get_or named.names v None)
-  plain v =
-      ⊎_elim (λ lt. is.names_plain v None lt) (λ le. subst HasNoQuote (sym (get_or_past named.names v None le)) tt)
-      (cases_lt v (length named.names))
+  plain v = search (rules, get_or_past, cases_lt)
 
   vertices_plain : All IsPlainVertex named.game
   unfolding vertex_count owner_of successors_of
   vertices_plain =
-      All-from_get_or IsPlainVertex named.game no_vertex (λ v lt.
-      record {
-        priority = priorities v no_vertex lt;
-        owner = is.is_game.owners v lt;
-        some = is.is_game.has_successor v lt;
-      })
+      All-from_get_or IsPlainVertex named.game no_vertex (λ v lt. search rules)
 
   vertices_kept : All (IsKept (length named.ids)) named.game
   unfolding vertex_count successors_of

@@ -3,7 +3,8 @@
 --     AreReadable known before nodes      so can each of these nodes, one behind the other
 --     written_answers      the answer to the signs of a whole text
 use Rattle.std.proofs.Common.{◌≡◌, ℕ, ◌<◌, List, [], ◌∷◌, ◌++◌, length, Option, Some, None, Ok, refl, sym, ap, subst}
-use Rattle.std.proofs.Common.{⊎_elim, ◌∙◌, arith, append_assoc, append-nil}
+use Rattle.std.proofs.Common.{rules}
+use Rattle.std.proofs.Common.{◌∙◌, arith, append_assoc, append-nil}
 use Rattle.std.specs.Prelude.{codes}
 use Rattle.std.specs.List.{All, Contains}
 use Rattle.std.proofs.lemmas.List.Elements.{All-head, All-tail}
@@ -16,11 +17,11 @@ use Rattle.ps_text.proofs.Repeated.{read_item, read_none}
 use Rattle.ps_text.proofs.Simple.{none_is_some, read_give, read_mapped, read_one, same_some}
 use Rattle.ps_text.proofs.Whole.{answers_ok}
 use Rattle.ps_pgsolver.specs.GameTexts.{pg_causes, too_large, number_in, comma_in, semicolon_in, name_in, keyword_in}
-use Rattle.ps_pgsolver.specs.GameTexts.{BadNumber, BadId, BadOwner, BadSuccessor, BadFirst, IsUnknown, number, new_id}
+use Rattle.ps_pgsolver.specs.GameTexts.{BadNumber, BadOwner, IsUnknown, number, new_id}
 use Rattle.ps_pgsolver.specs.GameTexts.{owner, successor, first_successor, comma, semicolon, more_successor, successors}
 use Rattle.ps_pgsolver.specs.GameTexts.{name, node, entry, entries, keyword, value_line, setting, game}
 use Rattle.ps_pgsolver.specs.Nodes.{NodeData, ids_of}
-use Rattle.ps_pgsolver.specs.Signs.{Sign, Number, Word, Name, Comma, Semicolon}
+use Rattle.ps_pgsolver.specs.Signs.{Sign, Number, Word, Comma, Semicolon}
 use Rattle.ps_pgsolver.proofs.PartLaws.{IsKind, kind_of, joint_more, laws_more, joint_successors, laws_one_name}
 use Rattle.ps_pgsolver.proofs.PartLaws.{laws_no_name, joint_name, joint_list, joint_owner, joint_priority, joint_id}
 use Rattle.ps_pgsolver.proofs.GameLaws.{IsWord, laws_entry, joint_entries, joint_value, takes_word, joint_line, line}
@@ -39,8 +40,7 @@ read_number small = read_one number_in BadNumber refl (λ f b. omega (arith, sma
 read_id : (ids : List ℕ) {n : ℕ} {rest : List Sign} → n < too_large → (Contains ids n → ⊥) →
     IsRead (new_id ids) (Number n ∷ rest) n rest
 unfolding new_id
-read_id ids small new =
-    read_one number_in (BadId ids) refl (λ f. ⊎_elim (λ h. omega (arith, small, h.0)) (λ h. new h.1))
+read_id ids small new = search (rules, read_one)
 
 read_owner : {n : ℕ} {rest : List Sign} → n < 2 → IsRead owner (Number n ∷ rest) n rest
 unfolding owner
@@ -49,14 +49,12 @@ read_owner small = read_one number_in BadOwner refl (λ f b. omega (arith, small
 read_successor : (known : Option (List ℕ)) {n : ℕ} {rest : List Sign} → IsKnown known n →
     IsRead (successor known) (Number n ∷ rest) n rest
 unfolding successor
-read_successor known is =
-    read_one number_in (BadSuccessor known) refl (λ f. ⊎_elim (λ h. omega (arith, is.0, h.0)) (λ h. is.1 h.1))
+read_successor known is = search (rules, read_one)
 
 read_first : (known : Option (List ℕ)) {n : ℕ} {rest : List Sign} → IsKnown known n →
     IsRead (first_successor known) (Number n ∷ rest) n rest
 unfolding first_successor
-read_first known is =
-    read_one number_in (BadFirst known) refl (λ f. ⊎_elim (λ h. omega (arith, is.0, h.0)) (λ h. is.1 h.1))
+read_first known is = search (rules, read_one)
 
 read_comma : {rest : List Sign} → IsRead comma (Comma ∷ rest) tt rest
 unfolding comma
@@ -96,22 +94,21 @@ module _ (known : Option (List ℕ)) where
       Avoids (IsKind 3) (first_of rest) → IsRead (successors known) (list_signs ns rest) ns rest
   unfolding successors
   read_list [] some are avoids = absurd (omega (arith, some))
-  read_list (n ∷ ns) some are avoids = read_then (joint_successors known) (read_first known
-      (All-head (IsKnown known) n ns are)) (read_commas ns (n ∷ []) (All-tail (IsKnown known) n ns are) avoids)
+  read_list (n ∷ ns) some are avoids =
+      read_then (joint_successors known) (search (rules, read_first, All-head))
+      (read_commas ns (n ∷ []) (All-tail (IsKnown known) n ns are) avoids)
 
 read_name : (name' : Option (List ℕ)) (rest : List Sign) → IsRead name (name_signs name' (Semicolon ∷ rest)) name'
     (Semicolon ∷ rest)
 unfolding name
-read_name None rest = read_as (give None) name (covers_right (one name_in NoBad) (give None) laws_one_name _
-    (semicolon_avoids 2 (λ e. omega (arith, e)))) (read_give (Semicolon ∷ rest) None)
+read_name None rest = search (rules, read_as, covers_right, laws_one_name, semicolon_avoids, read_give)
 read_name (Some inner) rest = read_as (one name_in NoBad) name
     (covers_left (one name_in NoBad) (give None) laws_no_name _ (λ t e h. h)) (read_one name_in NoBad refl (λ f b. b))
 
 name_avoids : (name' : Option (List ℕ)) (rest : List Sign) →
     Avoids (IsKind 3) (first_of (name_signs name' (Semicolon ∷ rest)))
 unfolding kind_of
-name_avoids None rest = semicolon_avoids 3 (λ e. omega (arith, e))
-name_avoids (Some inner) rest = kind_avoided 3 (Name inner) (λ e. omega (arith, e))
+name_avoids name' rest = search (rules, semicolon_avoids, kind_avoided)
 
 -- ## Nodes
 
@@ -166,8 +163,7 @@ module _ (known : Option (List ℕ)) where
 
   no_start : (id : ℕ) → Avoids (IsWord (codes "start")) (Some (Number id))
   unfolding kind_of
-  no_start id t e h = let x : kind_of (Number id) ≡ kind_of (Word (codes "start")) =
-      ap kind_of (same_some (Number id) t e ∙ h) in omega (arith, x)
+  no_start id t e h = search (rules, kind_of, same_some)
 
   read_start : (id : ℕ) (rest : List Sign) → IsRead (setting (codes "start")) (Number id ∷ rest) tt (Number id ∷ rest)
   unfolding setting

@@ -5,7 +5,8 @@
 --     node_made, nodes_made      the nodes that the lines write
 --     written_tokens      the tokens of the whole text
 use Rattle.std.proofs.Common.{◌≡◌, ℕ, suc, ◌+◌, ◌^◌, ◌<◌, Bool, true, false, List, [], ◌∷◌, ◌++◌, length, get_or, map}
-use Rattle.std.proofs.Common.{Option, Some, None, refl, sym, ap, subst, ◌∙◌, arith, append_assoc, append-nil}
+use Rattle.std.proofs.Common.{rules}
+use Rattle.std.proofs.Common.{Option, Some, None, refl, sym, ap, subst, ◌∙◌, arith, append_assoc}
 use Rattle.std.specs.Prelude.{decimal, codes}
 use Rattle.std.specs.List.{All, AllByRecursion, Contains}
 use Rattle.std.proofs.lemmas.Bool.{ne_eqb}
@@ -65,8 +66,7 @@ comma_number : (n : ℕ) (rest : List ℕ) (ss : List Sign) → n < 2 ^ 64 → S
     Lexes (44 ∷ (decimal n ++ rest)) (Comma ∷ Number n ∷ ss)
 comma_number n rest ss small stops more before =
     let front = before ++ [] ++ 44 ∷ [] in
-    let plain : ends_in is_letter (front ++ []) ≡ false =
-    ap (ends_in is_letter) (append-nil front) ∙ ends_after is_letter (before ++ []) 44 in
+    let plain : ends_in is_letter (front ++ []) ≡ false = search (rules, ends_after) in
     token before [] (44 ∷ []) (decimal n ++ rest) Comma (Number n ∷ ss) tt refl
     (token front [] (decimal n) rest (Number n) ss tt (number_token (front ++ []) n rest small plain stops) (more _))
 
@@ -82,11 +82,7 @@ name_token name rest ss inner more before =
 parity_token : (rest : List ℕ) (ss : List Sign) → Lexes (32 ∷ rest) ss →
     Lexed [] (codes "parity" ++ 32 ∷ rest) (Word (codes "parity") ∷ ss)
 parity_token rest ss more =
-    token [] [] (codes "parity") (32 ∷ rest) (Word (codes "parity")) ss tt (
-      record { some = omega arith; all = (refl, (refl, (refl, (refl, (refl, (refl, tt)))))); longest = refl },
-      refl,
-      refl,
-    ) (more _)
+    token [] [] (codes "parity") (32 ∷ rest) (Word (codes "parity")) ss tt (search rules) (more _)
 
 -- ## Lists and names
 
@@ -130,8 +126,7 @@ lexes_list : (ids ws rest : List ℕ) (ss : List Sign) → ((w : ℕ) → IsWord
 lexes_list ids [] rest ss small some stops more = absurd (omega (arith, some))
 lexes_list ids (w ∷ ws) rest ss small some stops more = subst (λ z. Lexes (32 ∷ z)
     (list_signs (map (id_at ids) (w ∷ ws)) ss)) (sym (append_assoc (decimal (id_at ids w)) (commas ids ws) rest))
-    (blank_number 32 (id_at ids w) (commas ids ws ++ rest) (comma_signs (map (id_at ids) ws) ss) refl refl
-    (small w) (commas_stop ids ws rest stops) (lexes_commas ids ws rest ss small stops more))
+    (search (rules, blank_number, commas_stop, lexes_commas))
 
 inner_of : (name : List ℕ) → (Contains name 34 → ⊥) → AllOf is_inner name
 inner_of [] h = tt
@@ -145,8 +140,7 @@ lexes_name (Some name) rest ss plain more = subst (λ z. Lexes (32 ∷ 34 ∷ z)
     (sym (append_assoc name (34 ∷ []) rest)) (name_token name rest ss (inner_of name plain) more)
 
 name_stops : (name : Option (List ℕ)) (rest : List ℕ) → StopsBefore is_digit (name_text name ++ 59 ∷ rest)
-name_stops None rest = refl
-name_stops (Some name) rest = refl
+name_stops name rest = search rules
 
 -- ## Lines
 
@@ -188,8 +182,7 @@ module _ (ids : List ℕ) (names : List (Option (List ℕ))) (small : (w : ℕ) 
       let ns = map (id_at ids) vertex.successors in
       let end = name_text name ++ 59 ∷ 10 ∷ rest in
       let list = list_text ids vertex.successors ++ end in
-      let l1 : Lexes end (name_signs name (Semicolon ∷ ss)) =
-      lexes_name name (59 ∷ 10 ∷ rest) (Semicolon ∷ ss) (plain v) (semicolon_token (10 ∷ rest) ss more) in
+      let l1 : Lexes end (name_signs name (Semicolon ∷ ss)) = search (rules, lexes_name, semicolon_token) in
       let l2 : Lexes (32 ∷ list) (list_signs ns (name_signs name (Semicolon ∷ ss))) = lexes_list
       ids vertex.successors end (name_signs name (Semicolon ∷ ss)) small is.some (name_stops name (10 ∷ rest)) l1 in
       let l3 = blank_number 32 vertex.owner

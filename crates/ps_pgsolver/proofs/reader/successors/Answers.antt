@@ -1,4 +1,4 @@
-use Rattle.std.proofs.Common.{[], ◌∷◌, ◌++◌, ◌≡◌, Some, sym, ◌∙◌, ap, subst, arith}
+use Rattle.std.proofs.Common.{[], ◌∷◌, ◌++◌, ◌≡◌, Some, sym, ◌∙◌, subst, arith, rules}
 use Rattle.std.specs.List.{Contains}
 use Rattle.ps_pgsolver.specs.Nodes.{KnowsEach}
 use Rattle.ps_pgsolver.proofs.NodeLemmas.{all_last}
@@ -21,8 +21,7 @@ pub more-init : goal.more-init
 unfolding successors
 more-init c =
     let known = option_copied c.args.known in
-    let one : c.push.new.self.items ≡ c.in_ok-first_successor.field-0 ∷ [] = c.in_ok-push.ensures.items
-    ∙ ap (λ xs. xs ++ c.in_ok-first_successor.field-0 ∷ []) c.clear.ensures.items in (
+    let one : c.push.new.self.items ≡ c.in_ok-first_successor.field-0 ∷ [] = search rules in (
       omega (arith, c.in_ok-push.ensures.len),
       subst (λ xs. Continues (successors known) (many (more_successor known) xs) c.args.tokens.now
           c.first_successor.new.tokens) (sym one) (continues_then (joint_successors known) _
@@ -34,7 +33,7 @@ more-init c =
     )
 
 pub more-smaller : goal.more-smaller
-more-smaller c = more_shrinks _ _ _ _ _ c.in_ok-more_successor.ensures.part
+more-smaller c = search (rules, more_shrinks)
 
 pub more-preserved : goal.more-preserved
 more-preserved c =

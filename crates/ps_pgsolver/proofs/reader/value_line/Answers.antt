@@ -1,6 +1,6 @@
+use Rattle.std.proofs.Common.{rules}
 use Rattle.ps_text.proofs.Meeting.{then_meets}
-use Rattle.ps_pgsolver.specs.Answered.{found_of}
-use Rattle.ps_pgsolver.specs.GameTexts.{pg_causes, value_line}
+use Rattle.ps_pgsolver.specs.GameTexts.{value_line}
 use Rattle.ps_pgsolver.proofs.Exits.{exit, stops_left}
 use Rattle.ps_pgsolver.proofs.GameLaws.{joint_value}
 use Rattle.ps_pgsolver.proofs.reader.value_line.Goals as goal
@@ -12,6 +12,4 @@ returns-in_err-number c =
 
 pub returns : goal.returns
 unfolding value_line
-returns c =
-    then_meets found_of pg_causes joint_value (λ n. n) (λ u. u) _ _ _ c.in_ok-number.field-0 _ c.in_ok-number.ensures
-    c.semicolon.ensures
+returns c = search (rules, then_meets, joint_value, c.in_ok-number.ensures, c.semicolon.ensures)
