@@ -1,6 +1,6 @@
 -- The deterministic automaton of a file accepts what the file does: along a part that returns, the greatest priority is
 -- even exactly where some run of the file accepts.
-use Rattle.std.proofs.Common.{◌≡◌, ℕ, ◌+◌, ◌-◌, ◌*◌, ◌%◌, ◌^◌, ◌<◌, ◌≤◌, inl, inr, suc, zero, Bool, true}
+use Rattle.std.proofs.Common.{◌≡◌, ℕ, ◌+◌, ◌-◌, ◌*◌, ◌%◌, ◌^◌, ◌<◌, ◌≤◌, inl, inr, suc, zero, Bool, true, rules}
 use Rattle.std.proofs.Common.{false, List, length, Some, refl, ap, sym, ◌∙◌, arith, add-one, add-zero}
 use Rattle.std.specs.Prelude.{◌↔◌, IsTrue, All}
 use Rattle.std.proofs.Math.Nat.{eq-or-lt_of_le, mod-lt, mul-le-mul_left}
@@ -91,8 +91,7 @@ module _ {file : FileData} {chain : Chain} {a : Auto} (is_chain : chain_of file.
           levels_are chain (priority_at a w) sets from count (λ t low high. ((edges t).1 high).1) in (
             sets,
             record { begins = is_auto.start; goes = λ t before. ((edges t).1 before).0 },
-            sym (greatest_decides file.condition chain (part sets from count) is_chain
-                (omega (arith, part_length sets from count))) ∙ ap is_even levels ∙ even,
+            sym (search (rules, greatest_decides, part_length)) ∙ ap is_even levels ∙ even,
           )
 
   -- a run of the file goes as the automaton does
@@ -125,11 +124,7 @@ module _ (file : FileData) (chain : Chain) (a : Auto) (is_chain : chain_of file.
     (in_stem : All (λ letter. letter < 2 ^ length file.names) stem)
     (in_lap : All (λ letter. letter < 2 ^ length file.names) lap) where
   letters_are : (t : ℕ) → word stem lap t < 2 ^ length file.names
-  letters_are t = elim (cases_lt t (length stem)) [
-    | inl before ↦ rw (word_within stem lap t before) (in_stem t 0 before)
-    | inr behind ↦ rw (word_behind stem lap t behind)
-        (in_lap ((t - length stem) % length lap) 0 (mod-lt (t - length stem) some))
-  ]
+  letters_are t = search (rules, cases_lt, word_within, word_behind, mod-lt)
 
   some_letters : (laps : ℕ) → 0 < laps → 0 < laps * length lap
   some_letters laps h = omega (arith, mul-le-mul_left laps some)
@@ -171,8 +166,8 @@ module _ (file : FileData) (chain : Chain) (a : Auto) (is_chain : chain_of file.
           let end = end_is accepted.before accepted.laps in
           let run : IsRun file w (from + count) accepted.states accepted.sets = rw end accepted.run in
           let there = run_states is_chain is_auto w letters_are run in
-          let returns : state_at a w (from + count) ≡ state_at a w from = sym (there (from + count) (omega arith))
-          ∙ ap accepted.states end ∙ sym accepted.returns ∙ there from (omega arith) in
+          let returns : state_at a w (from + count) ≡ state_at a w from =
+          search (rules, accepted.states, accepted.returns) in
           ap is_even (any_return_decides
           (priorities_repeat a (laps * length lap) (word_repeats stem lap before laps) back_here)
           (priorities_repeat a count (word_repeats stem lap accepted.before accepted.laps) returns)
@@ -190,9 +185,5 @@ pub laps_decide : (file : FileData) (chain : Chain) (a : Auto) (stem lap : List 
 laps_decide file chain a stem lap before laps s is_chain is_auto some in_stem in_lap some_laps begins returns =
     let back = laps_are_read a stem lap (before + laps) ∙ returns ∙ sym begins
     ∙ sym (laps_are_read a stem lap before) in
-    let greatest = greatest_is_read a stem lap before laps ∙ ap (λ q. greatest_of_laps a q lap laps) begins in (
-      (λ even. even_is_accepted file chain a is_chain is_auto stem lap some in_stem in_lap before laps some_laps back
-          (ap is_even greatest ∙ even)),
-      (λ accepted. ap is_even (sym greatest) ∙ accepted_is_even file chain a is_chain is_auto stem lap some in_stem
-          in_lap before laps some_laps back accepted),
-    )
+    let greatest = greatest_is_read a stem lap before laps ∙ ap (λ q. greatest_of_laps a q lap laps) begins in
+    (search (rules, even_is_accepted, accepted_is_even))

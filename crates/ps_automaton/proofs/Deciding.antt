@@ -1,5 +1,5 @@
 -- A file is admitted or refused: each cause can be told, and of the edges that clash the first ones are found.
-use Rattle.std.proofs.Common.{◌≡◌, ◌≢◌, ◌∙◌, ℕ, zero, suc, ◌+◌, ◌^◌, ◌<◌, ◌≤◌, ◌⊎◌, inl, inr, Bool, true, false}
+use Rattle.std.proofs.Common.{◌≡◌, ◌≢◌, ◌∙◌, ℕ, zero, suc, ◌+◌, ◌^◌, ◌<◌, ◌≤◌, ◌⊎◌, inl, inr, Bool, true, false, rules}
 use Rattle.std.proofs.Common.{List, [], ◌∷◌, length, Option, Some, None, slice_get, refl, sym, arith}
 use Rattle.std.proofs.lemmas.Bool.{cases_eq, cases_lt}
 use Rattle.std.proofs.lemmas.Option.{slice_get_within}
@@ -24,10 +24,7 @@ least_below P tell (suc n) = elim (least_below P tell n) [
   | inl m ↦ inl m
   | inr none ↦ elim (tell n) [
     | inl here ↦ inl (n, here, λ k h. elim (cases_lt k n) [ inl lt ↦ absurd (none k lt h) | inr le ↦ le ])
-    | inr never ↦ inr (λ k lt h. elim (cases_lt k n) [
-      | inl less ↦ none k less h
-      | inr le ↦ (let e : k ≡ n = omega arith in never (rw e at h))
-    ])
+    | inr never ↦ inr (λ k lt h. search (rules, cases_lt))
   ]
 ]
 
@@ -55,10 +52,7 @@ same_tests : (f g : ℕ → Bool) (n : ℕ) → ((k : ℕ) → n ≤ k → f k �
 same_tests f g n far =
     elim (least_below (λ k. f k ≢ g k) (λ k. decide_not (same_or_not (f k) (g k))) n) [
       | inl m ↦ inr (λ same. m.1 (same m.0))
-      | inr none ↦ inl (λ k. elim (same_or_not (f k) (g k)) [
-        | inl same ↦ same
-        | inr differ ↦ elim (cases_lt k n) [ inl lt ↦ absurd (none k lt differ) | inr le ↦ far k le ]
-      ])
+      | inr none ↦ inl (λ k. search (rules, same_or_not, cases_lt))
     ]
 
 -- a number above all of a list
@@ -93,18 +87,7 @@ module _ (file : FileData) where
       (letter < 2 ^ length file.names) × (IsTaken file row one letter × IsTaken file row other letter) in
       decide_as
       (λ h. (let d = h.1.2.2 in clash_of h.0 h.1.1 h.1.2.1 d.0.1.0 d.0.1.1.0 d.0.1.1.1 d.1))
-      (λ c. (
-        c.earlier,
-        (
-          c.one,
-          c.at_first,
-          (
-            c.other,
-            c.at_second,
-            ((c.letter, (c.is_letter, (c.one_taken, c.other_taken))), c.differ),
-          ),
-        ),
-      ))
+      (λ c. search rules)
       (decide_both (decide_below (suc first) second) (decide_some (slice_get row.edges first) _ (λ one.
       decide_some (slice_get row.edges second) _ (λ other. decide_both
       (some_or_none (Both one other) (λ letter. decide_both (decide_below (suc letter) (2 ^ length file.names))
@@ -132,8 +115,9 @@ module _ (file : FileData) where
   edges_in (Some row) = length row.edges
 
   with_second_or_not : (q : ℕ) → Decided (WithSecond q)
-  with_second_or_not q = some_or_none (WithFirst q) (with_first_or_not q) (edges_in (row_of file q)) (λ second f.
-      let c = f.1 in rw c.of_state (slice_get_within c.row.edges second c.clashing.other c.clashing.at_second))
+  with_second_or_not q =
+      some_or_none (WithFirst q) (with_first_or_not q) (edges_in (row_of file q))
+      (λ second f. search (rules, slice_get_within))
 
   abbrev states_bound : List RowData → ℕ
   states_bound [] = 0
@@ -167,7 +151,7 @@ module _ (file : FileData) where
       ]
 
   pub admitted_or_refused : IsAdmitted file ⊎ ((fault : AutomatonFault) × (fault ≢ OutOfMemory) × IsRefused file fault)
-  admitted_or_refused = by (has_complement file.condition) refl (chain_of file.condition) refl deterministic_or_first
+  admitted_or_refused = search (rules, by, deterministic_or_first)
     where
       by : (b : Bool) → has_complement file.condition ≡ b → (o : Option Chain) → chain_of file.condition ≡ o →
           ((q first second : ℕ) → Clash file q first second → ⊥) ⊎
@@ -175,6 +159,5 @@ module _ (file : FileData) where
           IsAdmitted file ⊎ ((fault : AutomatonFault) × (fault ≢ OutOfMemory) × IsRefused file fault)
       by true is o e d = inr (ComplementedSet, (λ f. cc), is)
       by false plain None is d = inr (NonParity, (λ f. cc), (plain, is))
-      by false plain (Some chain) is (inl none) =
-          inl (record { plain = plain; chain = chain; is_chain = is; deterministic = none })
+      by false plain (Some chain) is (inl none) = search rules
       by false plain (Some chain) is (inr c) = inr (Nondeterministic c.0 c.1 c.2, (λ f. cc), (plain, chain, is, c.3))

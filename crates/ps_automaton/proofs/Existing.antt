@@ -1,6 +1,6 @@
 -- An admitted file has an automaton: at each state and letter the edge that is taken, or the step to the sink.
-use Rattle.std.proofs.Common.{◌≡◌, ◌∙◌, ℕ, ◌^◌, ◌<◌, ◌⊎◌, inl, inr, Bool, length, Some, slice_get}
-use Rattle.std.proofs.Common.{refl, sym, ap, suc, arith}
+use Rattle.std.proofs.Common.{◌≡◌, ◌∙◌, ℕ, ◌^◌, ◌<◌, ◌⊎◌, inl, inr, Bool, length, Some, slice_get, rules}
+use Rattle.std.proofs.Common.{refl, sym, suc, arith}
 use Rattle.std.proofs.lemmas.Bool.{cases_order}
 use Rattle.std.proofs.lemmas.Option.{slice_get_within}
 use Rattle.ps_hoa.specs.Files.{EdgeData, RowData, FileData}
@@ -36,19 +36,14 @@ module _ (file : FileData) (sound : IsSoundFile file) (chain : Chain) (determini
       (s t : TakenEdge file row (length row.edges) letter) → s.place < t.place → AreAlike row s.edge t.edge
   alike_before q {letter} {row} of_state small s t less = elim (alike_or_not row s.edge t.edge) [
     | inl alike ↦ alike
-    | inr differ ↦ absurd (deterministic q s.place t.place (record {
-      row = row;
-      of_state = of_state;
-      clashing = clash_of less s.at_place t.at_place small s.taken t.taken differ;
-    }))
+    | inr differ ↦ absurd (deterministic q s.place t.place (search
+        (rules, clash_of, s.at_place, t.at_place, s.taken, t.taken)))
   ]
 
   all_alike : (q : ℕ) {letter : ℕ} {row : RowData} → row_of file q ≡ Some row → letter < 2 ^ length file.names →
       (s t : TakenEdge file row (length row.edges) letter) → AreAlike row s.edge t.edge
   all_alike q {letter} {row} of_state small s t = elim (cases_order s.place t.place) [
-    | inl same ↦ (let e : s.edge ≡ t.edge = same_some s.edge t.edge
-        (sym s.at_place ∙ ap (slice_get row.edges) same ∙ t.at_place) in
-        (ap (λ d. d.target) e, λ set. ap (λ d. is_marked row d set) e))
+    | inl same ↦ (search (rules, same_some, s.edge, t.edge, s.at_place, row.edges, t.at_place))
     | inr (inl less) ↦ alike_before q of_state small s t less
     | inr (inr more) ↦ (let alike = alike_before q of_state small t s more in (sym alike.0, λ set. sym (alike.1 set)))
   ]
@@ -86,9 +81,7 @@ module _ (file : FileData) (sound : IsSoundFile file) (chain : Chain) (determini
       record { start = file.start; next = λ q letter. (choice q letter).0; priority = λ q letter. (choice q letter).1 }
 
   target_within : {q letter next : ℕ} {sets : ℕ → Bool} → Goes file q letter sets next → next < file.states
-  target_within {q} g =
-      let e = sound_edge file g.row (row_of_state file sound q g.row g.of_state).0 g.place g.edge g.at_place in
-      omega arith
+  target_within {q} g = search (rules, sound_edge, row_of_state)
 
   -- the sink has no row
   from_sink : {letter : ℕ} {sets : ℕ → Bool} {to : ℕ} → Goes file file.states letter sets to → ⊥
@@ -103,10 +96,7 @@ module _ (file : FileData) (sound : IsSoundFile file) (chain : Chain) (determini
       | inl e ↦ (let below = target_within e.1 in omega arith)
       | inr n ↦ omega (arith, n.1)
     ];
-    steps = λ q letter le lt. elim (choice q letter).2 [
-      | inl e ↦ inl (record { sets = e.0; goes = e.1; priority = e.2 })
-      | inr n ↦ inr (record { none = n.0; to_sink = n.1; priority = n.2 })
-    ];
+    steps = search (rules, choice);
     by_edge = λ q letter sets to g. elim (choice q letter).2 [
       | inl e ↦ (let alike = goes_alike e.1 g in (alike.0, e.2 ∙ alike.1))
       | inr n ↦ absurd (n.0 sets to g)

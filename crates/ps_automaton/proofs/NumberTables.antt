@@ -1,6 +1,7 @@
 -- The number of an edge is the greatest of those of its sets in the table, or the base's.
 use Rattle.std.proofs.Common.{◌≡◌, ℕ, ◌+◌, ◌-◌, ◌<◌, ◌≤◌, ◌⊎◌, inl, inr, max, suc, zero, Bool, true, false, cond, List}
-use Rattle.std.proofs.Common.{[], ◌∷◌, length, map, drop, set, drop-cons, get_or, get_or-set_same, get_or-set_other}
+use Rattle.std.proofs.Common.{rules}
+use Rattle.std.proofs.Common.{[], ◌∷◌, length, map, drop, set, drop-cons, get_or}
 use Rattle.std.proofs.Common.{refl, ap, sym, ◌∙◌, arith}
 use Rattle.std.specs.Prelude.{nat_eq}
 use Rattle.std.proofs.Math.Nat.{le_antisymm}
@@ -49,8 +50,7 @@ base_below_level base (link ∷ links) has = grind (
 
 level_grows : (base : Bool) (link : Link) (links : List Link) (has : ℕ → Bool) →
     level_by base links has ≤ level_by base (link ∷ links) has
-level_grows base link links has =
-    grind (arith, level_below_first base links has, raised_more link.accepts (first_number base links))
+level_grows base link links has = search (rules, level_below_first, raised_more)
 
 alone_below_level : (base : Bool) (links : List Link) (has : ℕ → Bool) (s : ℕ) → has s ≡ true →
     alone base links s ≤ level_by base links has
@@ -81,12 +81,7 @@ attained base (link ∷ links) has small =
       is = grind arith;
     })
     at false other (inl is) = inl (rw other is)
-    at false other (inr a) = inr (record {
-      set = a.set;
-      small = a.small;
-      has_it = a.has_it;
-      is = grind (arith, a.is, a.has_it);
-    })
+    at false other (inr a) = search (rules, a.set, a.small, a.has_it, a.is)
 
 pub most_is_level : {chain : Chain} {base : ℕ} {numbers : List ℕ} (has : ℕ → Bool) → AreSetsBelow 64 chain.links →
     IsTable chain base numbers → most base numbers has 64 ≡ level chain has
@@ -130,8 +125,7 @@ set_of_link links k {link} small within is =
 pub table_step : (base : Bool) (link : Link) (rest : List Link) (numbers : List ℕ) {number : ℕ} (s : ℕ) →
     length numbers ≡ 64 → link.colour < 64 → number ≡ first_number base (link ∷ rest) →
     get_or numbers s 0 ≡ alone base rest s → get_or (set numbers link.colour number) s 0 ≡ alone base (link ∷ rest) s
-table_step base link rest numbers {number} s size small is before =
-    grind (arith, get_or-set_same numbers link.colour number 0, get_or-set_other numbers link.colour s number 0)
+table_step base link rest numbers {number} s size small is before = search rules
 
 pub base_at_most : (base : Bool) → base_number base ≤ 1
 base_at_most base = grind arith

@@ -1,6 +1,6 @@
 -- Where a deterministic automaton reads a word that repeats, any two parts that return to their state have the same
 -- greatest priority.
-use Rattle.std.proofs.Common.{◌≡◌, ℕ, ◌+◌, ◌-◌, ◌*◌, ◌/◌, ◌%◌, ◌<◌, ◌≤◌, inl, inr, max, suc, zero, List, []}
+use Rattle.std.proofs.Common.{◌≡◌, ℕ, ◌+◌, ◌-◌, ◌*◌, ◌/◌, ◌%◌, ◌<◌, ◌≤◌, inl, inr, max, suc, zero, List, [], rules}
 use Rattle.std.proofs.Common.{◌∷◌, length, get_or, refl, ap, sym, ◌∙◌, arith, add-one, add-zero}
 use Rattle.std.proofs.Math.Nat.{eq-or-lt_of_le, le_antisymm, mod-lt, div-add-mod}
 use Rattle.std.proofs.Math.Nat.{add-mul-mod_self_right, mul-le-mul_left}
@@ -65,8 +65,7 @@ one_below_other {f} {a} {p} {b} {q} again later some_p some_q = all_below f a p 
 
 pub any_return_decides : {f : ℕ → ℕ} {a p b q : ℕ} → Repeats f a p → Repeats f b q → 0 < p → 0 < q →
     greatest_from f a p ≡ greatest_from f b q
-any_return_decides again later some_p some_q =
-    le_antisymm (one_below_other again later some_p some_q) (one_below_other later again some_q some_p)
+any_return_decides again later some_p some_q = search (rules, le_antisymm, one_below_other)
 
 -- ## Words
 
@@ -94,8 +93,7 @@ word_of_lap stem lap laps k within =
 
 pub states_repeat : (a : Auto) {w : ℕ → ℕ} {from : ℕ} (count : ℕ) → Repeats w from count →
     state_at a w (from + count) ≡ state_at a w from → Repeats (state_at a w) from count
-states_repeat a {w} {from} count again back zero low =
-    let start : from ≡ 0 = omega arith in rw start at back
+states_repeat a {w} {from} count again back zero low = search rules
 states_repeat a {w} {from} count again back (suc t) low = elim (eq-or-lt_of_le low) [
   | inl e ↦ rw e at back
   | inr later ↦ rw suc-add (grind (arith, again t, states_repeat a count again back t))
@@ -122,8 +120,7 @@ list_is_read a w from (x ∷ xs) each =
 pub stem_is_read : (a : Auto) (stem lap : List ℕ) → state_at a (word stem lap) (length stem) ≡
     state_behind a a.start stem
 stem_is_read a stem lap = ap (state_at a (word stem lap)) (omega arith)
-    ∙ (list_is_read a (word stem lap) 0 stem (λ k within. ap (word stem lap) (omega arith)
-    ∙ word_within stem lap k within)).state
+    ∙ (list_is_read a (word stem lap) 0 stem (λ k within. search (rules, word_within))).state
 
 pub laps_are_read : (a : Auto) (stem lap : List ℕ) (laps : ℕ) →
     state_at a (word stem lap) (length stem + laps * length lap) ≡ state_after a (state_behind a a.start stem) lap laps
@@ -142,8 +139,7 @@ laps_together a q lap m (suc n) = rw add-suc (ap (λ s. state_behind a s lap) (l
 pub greatest_is_read : (a : Auto) (stem lap : List ℕ) (before laps : ℕ) →
     greatest_from (priority_at a (word stem lap)) (length stem + before * length lap) (laps * length lap)
     ≡ greatest_of_laps a (state_after a (state_behind a a.start stem) lap before) lap laps
-greatest_is_read a stem lap before zero =
-    (let none : 0 * length lap ≡ 0 = omega arith in rw none)
+greatest_is_read a stem lap before zero = search rules
 greatest_is_read a stem lap before (suc laps) =
     let w = word stem lap in
     let from = length stem + before * length lap in

@@ -1,5 +1,5 @@
 -- The leaves of a joined row, changed to the places of steps.
-use Rattle.std.proofs.Common.{◌≡◌, ℕ, suc, ◌^◌, ◌<◌, ◌⊎◌, inl, inr, Bool, List, [], ◌∷◌, length, get_or, Option}
+use Rattle.std.proofs.Common.{◌≡◌, ℕ, suc, ◌^◌, ◌<◌, ◌⊎◌, inl, inr, Bool, List, [], ◌∷◌, length, get_or, Option, rules}
 use Rattle.std.proofs.Common.{Some, None, refl, sym, ap, subst, ◌∙◌, arith}
 use Rattle.std.specs.List.{slice_get}
 use Rattle.std.specs.Option.{option_map, unwrap_or, IsSomeAnd, IfSome}
@@ -64,17 +64,14 @@ module _ {file : FileData} (sound : IsSoundFile file) {row : RowData} (row_sound
         let d : Target = record { state = 0; sets = 0 } in
         let at : slice_get places k ≡ Some (get_or places k 0) = slice_get-get_or places k 0 low in
         let size = are_places.one_each in
-        let target : slice_get targets k ≡ Some (get_or targets k d) =
-        slice_get-get_or targets k d (omega (arith, low, size)) in
+        let target : slice_get targets k ≡ Some (get_or targets k d) = search (rules, slice_get-get_or) in
         slice_get_within steps (get_or places k 0) (step_of_target chain (get_or targets k d))
         (are_places.each k (get_or places k 0) (get_or targets k d) target at))
-    | inr high ↦ (let past : get_or places k 0 ≡ 0 = get_or_past places k 0 high in let s = sink_within in
-        omega (arith, past, s))
+    | inr high ↦ (search (rules, get_or_past, sink_within))
   ]
 
   pub made_within : (o : Option ℕ) → made_of o < length steps
-  made_within None = sink_within
-  made_within (Some k) = place_within k
+  made_within o = search (rules, sink_within, place_within)
 
   -- the step of a taken edge
   edge_step : {letter : ℕ} (e : TakenEdge file row (length row.edges) letter) (o : Option ℕ) →
@@ -85,12 +82,10 @@ module _ {file : FileData} (sound : IsSoundFile file) {row : RowData} (row_sound
   edge_step e (Some k) h sets marked =
       let within : k < length targets = slice_get_within targets k h.0 h.1 in
       let size = are_places.one_each in
-      let at : slice_get places k ≡ Some (get_or places k 0) =
-      slice_get-get_or places k 0 (omega (arith, within, size)) in
+      let at : slice_get places k ≡ Some (get_or places k 0) = search (rules, slice_get-get_or) in
       let named = are_places.each k (get_or places k 0) h.0 h.1 at in
       let levels : level chain (λ set. is_in set h.0.sets) ≡ level chain sets =
-      level_by_same chain.base chain.links (λ set. is_in set h.0.sets) sets few
-      (λ set small. h.2.sets set small ∙ sym (marked set)) in
+      search (rules, level_by_same, h.0.sets, h.2.sets) in
       let made : ℕ → ℕ → Step = λ n m. record { state = n; priority = m } in
       named ∙ ap (λ n. Some (made n (level chain (λ set. is_in set h.0.sets)))) h.2.state
       ∙ ap (λ m. Some (made e.edge.target m)) levels

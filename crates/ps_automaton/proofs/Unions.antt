@@ -1,5 +1,6 @@
 -- The edges of a row joined, one by one.
 use Rattle.std.proofs.Common.{◌≡◌, ◌≢◌, ℕ, ◌+◌, ◌^◌, ◌<◌, ◌≤◌, ◌⊎◌, inl, inr, List, length, Option, Some, None, sym, ap}
+use Rattle.std.proofs.Common.{rules}
 use Rattle.std.proofs.Common.{subst, ◌∙◌, arith}
 use Rattle.std.specs.List.{slice_get}
 use Rattle.std.specs.Option.{option_map, IsSomeAnd}
@@ -7,7 +8,6 @@ use Rattle.std.proofs.lemmas.Bool.{cases_lt}
 use Rattle.ps_text.proofs.Simple.{same_some}
 use Rattle.ps_diagram.specs.Leaves.{AreAlike as AgreeingLeaves, joined}
 use Rattle.ps_diagram.specs.Table.{Table, IsNode, Keeps, leaf_of}
-use Rattle.ps_hoa.specs.Edges.{IsTaken}
 use Rattle.ps_hoa.specs.Files.{EdgeData, RowData, FileData}
 use Rattle.ps_hoa.specs.Sound.{IsSoundFile, IsSoundRow}
 use Rattle.ps_hoa.proofs.Soundness.SoundLaws.{sound_edge}
@@ -29,34 +29,24 @@ where_marked leaf value (inr a) = inr (ap (option_map (λ _. value)) a.0, a.1)
 pub marked_shows : (file : FileData) (row : RowData) (edge : EdgeData) (t u : Table) (node marked value : ℕ) →
     ShowsEdge file row edge t node 1 → ((letter : ℕ) → leaf_of u marked letter ≡ option_map (λ _. value)
     (leaf_of t node letter)) → ShowsEdge file row edge u marked value
-marked_shows file row edge t u node marked value shows is letter small =
-    rw (is letter) (where_marked (leaf_of t node letter) value (shows letter small))
+marked_shows file row edge t u node marked value shows is letter small = search rules
 
 joined_first : (P Q : ℕ → Type 0) (o m : Option ℕ) → IsSomeAnd o P → ((x : ℕ) → P x → Q x) → IsSomeAnd (joined o m) Q
-joined_first P Q None m h f = absurd h
-joined_first P Q (Some x) m h f = f x h
+joined_first P Q o m h1 h2 = search rules
 
 joined_second : (Q : ℕ → Type 0) (o : Option ℕ) (p : ℕ) → AgreeingLeaves o (Some p) → Q p →
     IsSomeAnd (joined o (Some p)) Q
-joined_second Q None p a q = q
-joined_second Q (Some x) p a q = rw a q
+joined_second Q o p h1 h2 = search rules
 
 joined_from : (o m : Option ℕ) {x : ℕ} → joined o m ≡ Some x → (o ≡ Some x) ⊎ (m ≡ Some x)
-joined_from None m e = inr e
-joined_from (Some y) m e = inl e
+joined_from o m h1 = search rules
 
 pub at_leaf : (P : ℕ → Type 0) (o : Option ℕ) {x : ℕ} → o ≡ Some x → IsSomeAnd o P → P x
 at_leaf P o e h = rw e at h
 
 pub wider : {file : FileData} {row : RowData} {count letter : ℕ} → TakenEdge file row count letter →
     TakenEdge file row (count + 1) letter
-wider e = record {
-  place = e.place;
-  within = omega arith;
-  edge = e.edge;
-  at_place = e.at_place;
-  taken = e.taken;
-}
+wider e = search rules
 
 module _ {file : FileData} (sound : IsSoundFile file) {row : RowData} (row_sound : IsSoundRow file row) where
   -- edges that were joined do not clash
@@ -95,18 +85,14 @@ module _ {file : FileData} (sound : IsSoundFile file) {row : RowData} (row_sound
       held = held;
       joined = record {
         there = λ letter small e. rw (leaf letter) (by_place letter small e (cases_lt e.place count));
-        from = λ letter x small is_leaf. by_side letter x small (joined_from (leaf_of t node letter)
-            (leaf_of t marked letter) (sym (leaf letter) ∙ is_leaf));
+        from = search (rules, joined_from);
         within = λ i x e. by_target i x (back i x e);
       };
     }
       where
         by_target : (i : ℕ) (x : Target) → (slice_get old i ≡ Some x) ⊎ (x ≡ target) → x.state < file.states
         by_target i x (inl e) = union.joined.within i x e
-        by_target i x (inr e) =
-            let state : x.state ≡ edge.target = ap (λ (z : Target). z.state) e ∙ is.state in
-            let low = (sound_edge file row row_sound count edge at).target in
-            omega (arith, state, low)
+        by_target i x (inr e) = search (rules, sound_edge, x.state)
 
         by_place : (letter : ℕ) → letter < 2 ^ length file.names → (e : TakenEdge file row (count + 1) letter) →
             (e.place < count) ⊎ (count ≤ e.place) →
@@ -119,29 +105,13 @@ module _ {file : FileData} (sound : IsSoundFile file) {row : RowData} (row_sound
             joined_first (IsTargetAt row e.edge old) (IsTargetAt row e.edge new) (leaf_of t node letter)
             (leaf_of t marked letter) was (λ x h. (h.0, grows x h.0 h.1, h.2))
         by_place letter small e (inr high) =
-            let here : e.place ≡ count = omega (arith, high) in
-            let same : edge ≡ e.edge =
-            same_some edge e.edge (sym at ∙ ap (slice_get row.edges) (sym here) ∙ e.at_place) in
-            let taken = subst (λ d. IsTaken file row d letter) (sym same) e.taken in
-            let shown : leaf_of t marked letter ≡ Some place =
-            taken_is_shown (leaf_of t marked letter) place (shows letter small) taken in
-            let agrees = subst (AgreeingLeaves (leaf_of t node letter)) shown (agree letter) in
-            let target_at : IsTargetAt row e.edge new place =
-            (target, stored, rw same at is) in
-            subst (λ o. IsSomeAnd (joined (leaf_of t node letter) o) (IsTargetAt row e.edge new)) (sym shown)
-            (joined_second (IsTargetAt row e.edge new) (leaf_of t node letter) place agrees target_at)
+            search (rules, same_some, taken_is_shown, joined_second, e.place, e.edge, e.at_place, e.taken)
 
         by_side : (letter x : ℕ) → letter < 2 ^ length file.names →
             (leaf_of t node letter ≡ Some x) ⊎ (leaf_of t marked letter ≡ Some x) →
             TakenEdge file row (count + 1) letter
         by_side letter x small (inl e) = wider (union.joined.from letter x small (sym (node_leaf letter) ∙ e))
-        by_side letter x small (inr e) = record {
-          place = count;
-          within = omega arith;
-          edge = edge;
-          at_place = at;
-          taken = shown_is_taken place (shows letter small) e;
-        }
+        by_side letter x small (inr e) = search (rules, shown_is_taken)
 
     -- a clash of the diagrams is one of edges
     pub union_clash : AreDistinct new → (letter : ℕ) {x y : ℕ} → letter < 2 ^ length file.names →
@@ -153,9 +123,7 @@ module _ {file : FileData} (sound : IsSoundFile file) {row : RowData} (row_sound
         let there : IsTargetAt row e.edge old x =
         at_leaf (IsTargetAt row e.edge old) (leaf_of before node letter) was (union.joined.there letter small e) in
         let taken = shown_is_taken place (shows letter small) second in
-        let mark : place ≡ y =
-        same_some place y (sym (taken_is_shown (leaf_of t marked letter) place (shows letter small) taken) ∙ second)
-        in (
+        let mark : place ≡ y = search (rules, same_some, taken_is_shown) in (
           e.place,
           clash_of e.within e.at_place at small e.taken taken (λ alike.
               let same : there.0 ≡ target = target_of_alike there.2 is alike in

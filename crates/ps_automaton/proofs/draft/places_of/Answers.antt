@@ -1,4 +1,4 @@
-use Rattle.std.proofs.Common.{◌≡◌, ap, arith}
+use Rattle.std.proofs.Common.{◌≡◌, arith, rules}
 use Rattle.std.proofs.lemmas.Option.{slice_get-get_or}
 use Rattle.ps_automaton.specs.Drafts.{Extends}
 use Rattle.ps_automaton.specs.Views.{chain_data}
@@ -17,8 +17,7 @@ loop-target-preserved c =
     record {
       extends = extends_both c.args.steps.now.keys old new inv.extends more;
       within = λ states low a. step_within old step c.in_ok-place.ensures.keys
-          (let h = low c.loop-target.target-index _ at in let is : step.state ≡ _ = ap (λ s. s.state) c.step_to.ensures
-          in omega (arith, h, is)) (inv.within states low a);
+          (search (rules, c.loop-target.target-index, c.step_to.ensures)) (inv.within states low a);
       so_far = omega (arith, c.in_ok-push.ensures.len, inv.so_far);
       each = named_more (chain_data c.args.levels.now.chain) c.args.targets.now old new c.loop-target.places.items
           c.in_ok-place.place more (stored_is step_eq step_decides new c.in_ok-place.place step

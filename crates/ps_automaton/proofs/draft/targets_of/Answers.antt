@@ -1,7 +1,6 @@
-use Rattle.std.proofs.Common.{◌≡◌, List, length, get_or, ap, ◌∙◌, arith}
+use Rattle.std.proofs.Common.{◌≡◌, List, get_or, ap, ◌∙◌, arith, rules}
 use Rattle.std.proofs.lemmas.List.{length-map}
 use Rattle.std.proofs.lemmas.Option.{slice_get_within}
-use Rattle.ps_hoa.specs.Views.{edge_data, row_data}
 use Rattle.ps_hoa.specs.declared.file.Edge.{Edge}
 use Rattle.ps_automaton.proofs.Fitting.{edge_at, edge_marks_few}
 use Rattle.ps_automaton.proofs.LetterRows.{targets_more}
@@ -30,15 +29,4 @@ loop-edge-preserved c =
     }
 
 pub returns : goal.returns
-returns c =
-    let l = c.loop-edge in
-    let row = row_data c.args.guards.now.row.now in
-    let edges = c.args.guards.now.row.now.edges.items in
-    let all : l.edge-index ≡ length row.edges =
-    (let n = length-map edges edge_data in let m = c.deref-edge-items.ensures.len in omega (arith, n, m)) in
-    let size = l.invariant.so_far in
-    record {
-      one_each = size ∙ all;
-      each = λ k edge at. l.invariant.each k edge (let within = slice_get_within row.edges k edge at in
-          omega (arith, within, all)) at;
-    }
+returns c = search (rules, length-map, slice_get_within)

@@ -1,4 +1,4 @@
-use Rattle.std.proofs.Common.{◌^◌, ◌<◌, subst, refl, ◌∙◌}
+use Rattle.std.proofs.Common.{◌^◌, ◌<◌, subst, ◌∙◌, rules}
 use Rattle.ps_diagram.specs.Clashes.{TellsClash}
 use Rattle.ps_hoa.specs.Views.{edge_data, row_data}
 use Rattle.ps_automaton.specs.Drafts.{ShowsEdge}
@@ -13,10 +13,7 @@ use Rattle.ps_automaton.proofs.union.add.Goals.{In_ok-marked}
 -- the marked node shows the edge by its target's place
 shows_edge : (c : In_ok-marked) → ShowsEdge c.args.guards.now.file.now (row_data c.args.guards.now.row.now)
     (edge_data c.index-edge.result.now) c.guard.new.self c.in_ok-marked.marked c.in_ok-target.target
-shows_edge c = marked_shows c.args.guards.now.file.now (row_data c.args.guards.now.row.now)
-    (edge_data c.index-edge.result.now) c.taken.new.store c.guard.new.self c.in_ok-letters.letters c.in_ok-marked.marked
-    c.in_ok-target.target c.in_ok-letters.ensures.shows
-    c.in_ok-marked.ensures.leaf
+shows_edge c = search (rules, marked_shows)
 
 pub target_of-requires-clause-edge : goal.target_of-requires-clause-edge
 target_of-requires-clause-edge c = edge_marks_few c.requires.ready.sound c.requires.ready.row c.args.place
@@ -27,9 +24,7 @@ taken-requires-clause-fit c = fits c.requires.ready.sound c.requires.ready.row c
     (edge_at c.args.guards.now.row.now.edges.items c.args.place c.requires.within c.index-edge.ensures)
 
 pub overlay-requires-clause-first : goal.overlay-requires-clause-first
-overlay-requires-clause-first c =
-    c.guard.ensures.keeps.held c.args.union.now.node (c.in_ok-letters.ensures.keeps.held c.args.union.now.node
-    c.requires.union.held)
+overlay-requires-clause-first c = search rules
 
 pub first_clash-requires-clause-ready : goal.first_clash-requires-clause-ready
 first_clash-requires-clause-ready c =
@@ -64,8 +59,4 @@ returns-in-Ok-clause-union c =
     c.in-Ok.ensures.leaf c.in-Ok.ensures.alike
 
 pub returns-in_ok-first_clash-in-Err-Clash-clause-refused : goal.returns-in_ok-first_clash-in-Err-Clash-clause-refused
-returns-in_ok-first_clash-in-Err-Clash-clause-refused c = (
-  refl,
-  first_of_row c.requires.ready.sound c.requires.ready.row c.requires.union
-      c.in_ok-first_clash-in-Err-Clash.ensures.clashing c.in_ok-first_clash-in-Err-Clash.ensures.least,
-)
+returns-in_ok-first_clash-in-Err-Clash-clause-refused c = search (rules, first_of_row)
