@@ -54,8 +54,7 @@ module _ {X : Type 0} (kind : LineKind X) (most : ℕ) {Adds : Lines X → Lines
       let i = adds d now a in record {
         new = subst (λ z. Defines most [] z now.defined)
             (one_more kind.defines kind.defines_both before d.items i.0 i.1.items) (defines_both h.new i.2);
-        readings = i.1.readings ∙ ap (λ z. z ++ kind.reads (i.0 ∷ [])) h.readings
-            ∙ one_more kind.reads kind.reads_both read d.items i.0 i.1.items;
+        readings = search (rules, one_more, d.items);
       }
 
 module _ (most : ℕ) where

@@ -8,8 +8,8 @@ use Rattle.std.proofs.Common.{◌≡◌, ℕ, ◌^◌, ◌≤◌, List, [], ◌�
 use Rattle.std.proofs.Common.{All, refl, sym, ap, subst, ◌∙◌, arith, length-append, rules}
 use Rattle.std.specs.Prelude.{replicate, IfOk}
 use Rattle.std.proofs.lemmas.Result.{err_from_is_err_and}
-use Rattle.ps_text.specs.Answers.{Piece, Stream, Found, signs, offset_of}
-use Rattle.ps_text.specs.Parts.{PartAnswers, IsRead, then_by, times, many}
+use Rattle.ps_text.specs.Answers.{Piece, Stream, Found, offset_of}
+use Rattle.ps_text.specs.Parts.{PartAnswers, then_by, times, many}
 use Rattle.ps_text.specs.Readers.{Reads as ReadsPart, Stops}
 use Rattle.ps_text.proofs.Whole.{answers_ok, answers_fault, answers_trailing}
 use Rattle.ps_text.proofs.Simple.{same_some}
@@ -21,8 +21,7 @@ use Rattle.ps_circuit.specs.declared.fault.AigCause.{AigCause}
 use Rattle.ps_circuit.specs.declared.fault.AigCause.TheVariants.{Syntax}
 use Rattle.ps_circuit.specs.Causes.{AigFault}
 use Rattle.ps_text.specs.declared.faults.Fault.TheVariants.{Text, OutOfMemory}
-use Rattle.ps_components.specs.Graphs.{Way}
-use Rattle.ps_circuit.specs.Circuits.{CircuitData, IsCircuit, ReadsGate}
+use Rattle.ps_circuit.specs.Circuits.{CircuitData, IsCircuit}
 use Rattle.ps_circuit.specs.Signs.{Seen, Field, aig_causes, stream_of}
 use Rattle.ps_circuit.specs.Cursors.{next_byte, place_of, found_of, saturated}
 use Rattle.ps_circuit.specs.Texts.{HeaderData, header, Lines, no_lines, input_line, NamesData, no_names, symbol_line}
@@ -46,8 +45,7 @@ text_stops text OutOfMemory s = tt
 pub text_reads : (text : List ℕ) (new : Stream Seen) (d : DraftData) → new.pieces ≡ [] →
     ReadsPart circuit_text (stream_of text) d new → PartAnswers aig_causes circuit_text (stream_of text) (Ok d)
 text_reads text new d e m =
-    answers_ok laws_text.laws (stream_of text) d (subst (λ ps. IsRead circuit_text (signs (stream_of text).pieces) d
-    (signs ps)) e m.1)
+    answers_ok laws_text.laws (stream_of text) d (search (rules, m.1))
 
 pub text_trails : (text : List ℕ) (new : Stream Seen) (d : DraftData) {b : ℕ} {e : AigFault} →
     ReadsPart circuit_text (stream_of text) d new → next_byte new ≡ Some b → e ≡ Text Syntax (place_of new) →
@@ -56,9 +54,7 @@ text_trails text new d {b} m n is = subst (λ x. FoundAnswers text (found_of x))
   where
     go : (ps : List (Piece Seen)) → new.pieces ≡ ps → PartAnswers aig_causes circuit_text (stream_of text)
         (Err (record { cause = Syntax; offset = place_of new }))
-    go [] y =
-        absurd (let z : next_byte (record { pieces = []; end = new.end }) ≡ Some b = subst
-        (λ ps. next_byte (record { pieces = ps; end = new.end }) ≡ Some b) y n in cc)
+    go [] y = search (rules, new.end)
     go (p ∷ ps) y =
         let o : p.start ≡ place_of new = sym (ap (λ z. offset_of z new.end) y) in
         subst (λ x. PartAnswers aig_causes circuit_text (stream_of text) (Err (record { cause = Syntax; offset = x })))
@@ -140,8 +136,7 @@ module _ (most : ℕ) (i : Lines ℕ) (l : Lines Latch) (u : Lines ℕ) (a : Lin
 
 pub answer_fails : (text : List ℕ) (e : AigFault) (r : Result CircuitData AigFault) → FoundAnswers text (found_of e) →
     IsErrAnd r (λ y. y ≡ e) → IsCircuitAnswer text r
-answer_fails text e r m i =
-    let y = err_from_is_err_and r i in subst (IsCircuitAnswer text) (sym (y.1 ∙ ap Err y.2)) (go e m)
+answer_fails text e r m i = search (rules, err_from_is_err_and, go)
   where
     go : (e : AigFault) → FoundAnswers text (found_of e) → IsCircuitAnswer text (Err e)
     go (Text cause offset) m = refused (record { cause = cause; offset = offset }) m refl
@@ -157,8 +152,7 @@ module _ (text : List ℕ) (d : DraftData) (okay : PartAnswers aig_causes circui
       IfOk r (λ c. c ≡ d.circuit) → IfOk r IsCircuit → ((e : AigFault) → r ≡ Err e →
       TellsCyclic d.circuit.gates d.starts (found_of e)) → IsCircuitAnswer text r
   answered known (Ok c) same is cause =
-      meaning d okay known (λ i. subst (λ (x : CircuitData). (i : ℕ) → Way (ReadsGate x.gates) i i → ⊥) same is.acyclic
-      i) (ap Ok same)
+      meaning d okay known (λ i. search (rules, is.acyclic)) (ap Ok same)
   answered known (Err (Text f offset)) same is cause =
       let k = cause (Text f offset) refl in
       cyclic d k.0 offset okay known k.2 k.3 (ap (λ x. Err (record { cause = x; offset = offset })) k.1)

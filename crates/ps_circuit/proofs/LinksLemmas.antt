@@ -67,7 +67,7 @@ module _ (gates : List Gate) (once : AllPairs (λ g h. variable g.literal ≢ va
     forth = λ k g at.
         let within : k < length gates = slice_get_within gates k g at in
         position_here (gate_variables gates) (variable g.literal) k apart (omega (arith, many))
-        (variable_at k 0 no_gate within ∙ ap (λ h. variable h.literal) (get_or_from_slice_get gates k g no_gate at));
+        (search (rules, variable_at, no_gate, get_or_from_slice_get));
   }
 
 length-links_by : (place_of : ℕ → Option ℕ) (gates : List Gate) → length (links_by place_of gates) ≡ length gates
@@ -120,8 +120,7 @@ module _ (gates : List Gate) (links : List Links) (a : AreLinksOf gates links) w
   acyclic-of_links none i w = none i (Way-map a.reads_link w)
 
   pub cyclic-of_links : {i : ℕ} → IsFirstOnCycle (Link (graph_of links)) i → IsFirstOnCycle (ReadsGate gates) i
-  cyclic-of_links c =
-      record { cyclic = Way-map a.link_reads c.cyclic; first = λ j w. c.first j (Way-map a.reads_link w) }
+  cyclic-of_links c = search (rules, Way-map, c.cyclic, c.first)
 
 -- no two gates of a circuit have one variable
 pub gates_once : (c : CircuitData) → AllPairs (λ l m. variable l ≢ variable m) (definitions c) →
@@ -135,8 +134,7 @@ gates_once c once i j d lt within e =
   where
     at_gate : (i : ℕ) (d : Gate) → i < length c.gates → get_or (definitions c)
         (length (c.inputs ++ map (λ l. l.literal) c.latches) + i) 0 ≡ (get_or c.gates i d).literal
-    at_gate i d lt = get_or-append-add (c.inputs ++ map (λ l. l.literal) c.latches) (map (λ g. g.literal) c.gates) i 0
-        ∙ get_or-map (λ g. g.literal) c.gates i d 0 lt
+    at_gate i d lt = search (rules, get_or-append-add, get_or-map, c.inputs, c.latches, c.gates)
 
 -- where a side of a gate leads is a gate
 pub side_within : (links : List Links) (item place : ℕ) {sides : Links} → IsWithin (graph_of links) →

@@ -1,7 +1,7 @@
 -- Gates made of literals that are held: where there is a literal for each variable they are sound, and what is made has
 -- the bit that is asked for.
 use Rattle.std.proofs.Common.{if◌then◌else◌, ◌≡◌, ◌∙◌, ℕ, ◌+◌, ◌*◌, ◌/◌, ◌^◌, ◌<◌, ◌==◌, ◌&&◌, ◌||◌, rules}
-use Rattle.std.proofs.Common.{Bool, true, false, not, cond, nat_lt, refl, sym, ap, ap₂, arith}
+use Rattle.std.proofs.Common.{Bool, true, false, not, cond, nat_lt, refl, sym, ap, arith}
 use Rattle.std.specs.List.{list_any}
 use Rattle.std.proofs.lemmas.Bool.{and_parts, cases_eq, eq-eqb, eqb-false, eqb-true, ltb-false, ltb-true, or_cases}
 use Rattle.std.proofs.lemmas.Bool.{or_parts}
@@ -70,14 +70,11 @@ gate_makes {d} x y sound sides = record {
       let s : Sides = record { first = x; second = y } in
       let new : Drafted = (gate_of d s).draft in
       let place = place_of d s in
-      let full : list_any (has_sides s) d.gates ≡ false → IsFull d → ⊥ =
-      λ none full. (let above = above-new d s full none in omega (arith, above, room)) in
+      let full : list_any (has_sides s) d.gates ≡ false → IsFull d → ⊥ = search (rules, above-new) in
       let p = placed d new s place sound sides full refl refl (s, gate_at d, sides_same s) in
       record {
         sound = p.sound;
-        held = (let within = slice_get_within new.gates place s p.at in
-            let half : 2 * (d.given + 1 + place) / 2 ≡ d.given + 1 + place = omega arith in
-            omega (arith, within, half));
+        held = search (rules, slice_get_within, d.given);
         is = λ v meets. placed-bit new s place p.at v meets;
       };
 }
@@ -118,18 +115,9 @@ and_makes x y sound hx hy =
     (λ e. there 0 sound (omega arith) (λ v zero. zero ∙ sym (never_is x y e v zero))) (λ a.
     by_test (x == 1 || x == y) _ _ (λ e. there y sound hy (second_is x y e)) (λ b.
     by_test (y == 1) _ _ (λ e. there x sound hx (first_is x y e)) (λ c. let apart = differ x y a b c in
-    by_test (nat_lt y x) _ _ (λ e. gate_makes x y sound (record {
-      below = omega (arith, hx);
-      falls = ltb-true y x e;
-      different = λ s. apart.different (sym s);
-      not_constant = (let p = apart.second in let q = apart.second_varies in omega arith);
-    }))
-    (λ e. seen_as (λ v. bit v x && bit v y) (gate_makes y x sound (record {
-      below = omega (arith, hy);
-      falls = (let p = (λ (s : x ≡ y). apart.different (ap variable s)) in omega (arith, ltb-false y x e));
-      different = apart.different;
-      not_constant = (let p = apart.first in let q = apart.first_varies in omega arith);
-    })) (λ v zero. and_comm (bit v y) (bit v x))))))
+    by_test (nat_lt y x) _ _ (λ e. search (rules, gate_makes, ltb-true))
+    (λ e. seen_as (λ v. bit v x && bit v y) (search (rules, gate_makes, ltb-false))
+    (λ v zero. and_comm (bit v y) (bit v x))))))
 
 or_makes : {d : Drafted} (x y : ℕ) → IsSoundDraft d → IsHeld d x → IsHeld d y →
     Makes (or_of d x y) (λ v. bit v x || bit v y)
@@ -208,23 +196,24 @@ unfolding mux_of
 mux-made d s high low sound hs hh hl room =
     let wanted : (ℕ → Bool) → Bool = λ v. cond (bit v s) (bit v high) (bit v low) in
     let m : Makes (mux_of d s high low) wanted =
-    by_test (high == low) _ _ (λ e. there high sound hh (λ v zero. by_same (bit v s)
-    ∙ ap (λ l. cond (bit v s) (bit v high) (bit v l)) (eqb-true high low e))) (λ _.
-    by_test (high == 1 && low == 0) _ _ (λ e. let both = and_parts (high == 1) (low == 0) e in
-    there s sound hs (λ v zero. by_itself (bit v s)
-    ∙ sym (ap₂ (cond (bit v s)) (one_is v high zero both.0) (zero_is v low zero both.1)))) (λ _.
-    by_test (high == 0 && low == 1) _ _ (λ e. let both = and_parts (high == 0) (low == 1) e in
-    there (negated s) sound (held-negated d s hs) (λ v zero. bit-negated v s ∙ by_other (bit v s)
-    ∙ sym (ap₂ (cond (bit v s)) (zero_is v high zero both.0) (one_is v low zero both.1)))) (λ _.
-    by_test (high == 1) _ _ (λ e. seen_as wanted (or_makes s low sound hs hl) (λ v zero. then_true (bit v s) (bit v low)
-    ∙ sym (ap (λ t. cond (bit v s) t (bit v low)) (one_is v high zero e)))) (λ _.
-    by_test (high == 0) _ _ (λ e. seen_as wanted (and_makes (negated s) low sound (held-negated d s hs) hl) (λ v zero.
-    ap (λ t. t && bit v low) (bit-negated v s) ∙ then_false (bit v s) (bit v low)
-    ∙ sym (ap (λ t. cond (bit v s) t (bit v low)) (zero_is v high zero e)))) (λ _.
-    by_test (low == 0) _ _ (λ e. seen_as wanted (and_makes s high sound hs hh) (λ v zero.
-    else_false (bit v s) (bit v high) ∙ sym (ap (cond (bit v s) (bit v high)) (zero_is v low zero e)))) (λ _.
-    by_test (low == 1) _ _ (λ e. seen_as wanted (or_makes (negated s) high sound (held-negated d s hs) hh) (λ v zero.
-    ap (λ t. t || bit v high) (bit-negated v s) ∙ else_true (bit v s) (bit v high)
-    ∙ sym (ap (cond (bit v s) (bit v high)) (one_is v low zero e)))) (λ _.
-    chosen_makes s high low sound hs hh hl))))))) in
+    by_test (high == low) _ _ (λ e. search (rules, there, by_same, eqb-true)) (λ _.
+    by_test (high == 1 && low == 0) _ _ (λ e. search (rules, and_parts, there, by_itself, one_is, zero_is)) (λ _.
+    by_test (high == 0 && low == 1) _ _ (λ e. search (
+      rules,
+      and_parts,
+      there,
+      held-negated,
+      bit-negated,
+      by_other,
+      zero_is,
+      one_is,
+    )) (λ _.
+    by_test (high == 1) _ _ (λ e. seen_as wanted (or_makes s low sound hs hl)
+    (λ v zero. search (rules, then_true, one_is))) (λ _.
+    by_test (high == 0) _ _ (λ e. seen_as wanted (and_makes (negated s) low sound (held-negated d s hs) hl)
+    (λ v zero. search (rules, bit-negated, then_false, zero_is))) (λ _.
+    by_test (low == 0) _ _ (λ e. seen_as wanted (and_makes s high sound hs hh)
+    (λ v zero. search (rules, else_false, zero_is))) (λ _.
+    by_test (low == 1) _ _ (λ e. seen_as wanted (or_makes (negated s) high sound (held-negated d s hs) hh)
+    (λ v zero. search (rules, bit-negated, else_true, one_is))) (λ _. search (rules, chosen_makes)))))))) in
     m.made room

@@ -136,8 +136,7 @@ module _ {V : Type 0} (p : ℕ → Bool) (see : ℕ → List ℕ → V) (Bad : L
         (sym (value ∙ ap₂ see (sym x.place ∙ sym (first_with r x.rest some)) (sym bytes)))
         (subst (λ z. IsRead (run p see Bad) z (see (first_at text) (bytes_of text)) (signs new.pieces)) (sym parts)
         (run_read text (signs new.pieces) (length_with x.at r x.rest some) (subst (AllOf p) (sym bytes) x.all)
-        (subst (λ z. (c : Seen) → first_of (signs z) ≡ Some c → p c.byte ≡ false) (sym x.new_is)
-        (next_stops (x.at + length r) x.rest x.longest))
+        (search (rules, x.new_is, x.at, x.rest, x.longest))
         (λ t more f e b. good f (bad_is (begins_there x some t more (parts ∙ e)) b)))),
   )
     where

@@ -2,7 +2,7 @@
 --     AtLetter      a letter of a symbol comes, and one step goes behind it
 --     past_letter, past_number, past_space, past_name      what is left of the line behind them
 use Rattle.std.proofs.Common.{◌≡◌, ◌≢◌, ℕ, zero, suc, ◌+◌, ◌^◌, ◌<◌, true, false, List, [], ◌∷◌, ◌++◌}
-use Rattle.std.proofs.Common.{length, map, set, Option, None, Some, Vec, refl, sym, ap, ap₂, subst, inl, inr, ◌∙◌}
+use Rattle.std.proofs.Common.{length, map, set, Option, None, Some, Vec, refl, sym, ap, subst, inl, inr, ◌∙◌}
 use Rattle.std.proofs.Common.{arith, rules}
 use Rattle.std.specs.Prelude.{slice_get, All}
 use Rattle.std.specs.Global.{Global}
@@ -11,7 +11,7 @@ use Rattle.std.proofs.lemmas.Bool.{eqb-true, or_cases}
 use Rattle.std.proofs.lemmas.List.{append-nil, length-map, map-set}
 use Rattle.std.proofs.lemmas.Option.{slice_get_within}
 use Rattle.ps_text.specs.Answers.{Piece, Stream, Found, signs, first_of, next_of}
-use Rattle.ps_text.specs.Parts.{NoBad, StopsAt, times, many}
+use Rattle.ps_text.specs.Parts.{StopsAt, times, many}
 use Rattle.ps_text.specs.Readers.{tail, tail_of, Reads, Stops, Carries}
 use Rattle.ps_text.specs.Digits.{decimal_value}
 use Rattle.ps_text.specs.Runs.{AllOf}
@@ -27,7 +27,7 @@ use Rattle.ps_circuit.specs.declared.fault.AigCause.TheVariants.{Syntax}
 use Rattle.ps_circuit.specs.Causes.{AigFault}
 use Rattle.ps_text.specs.declared.faults.Fault.TheVariants.{Text}
 use Rattle.ps_circuit.specs.Drafts.{name_bytes}
-use Rattle.ps_circuit.specs.Signs.{Seen, pieces_at, bytes_of, aig_causes, is_digit, is_inner, take_byte, byte}
+use Rattle.ps_circuit.specs.Signs.{Seen, pieces_at, bytes_of, aig_causes, is_digit, is_inner, byte}
 use Rattle.ps_circuit.specs.Signs.{rest_of_line, newline}
 use Rattle.ps_circuit.specs.Cursors.{next_byte, place_of, found_of, Passes, IsAhead, NumberIs}
 use Rattle.ps_circuit.specs.Texts.{Kind, NamesData, names_of, put_names, add_name, take_kind, IsBadSymbol, symbol_line}
@@ -109,22 +109,14 @@ module _ {all : NamesData} {kind : Kind} {names : List (Option (Vec ℕ Global))
         letter = a.is;
         digits = x.run;
         number = record { rest = d.rest; split = d.split; some = x.some; all = d.all; longest = d.longest };
-        not_free = λ f.
-            let there : slice_get (map name_bytes names) (decimal_value x.run) ≡ Some None = rw a.same at f in
-            let value : decimal_value x.run ≡ _ = omega (
-              arith,
-              x.value,
-              length-map names name_bytes,
-              slice_get_within (map name_bytes names) (decimal_value x.run) None there,
-            ) in
-            taken (rw value at there);
+        not_free = search (rules, length-map, slice_get_within, x.run, x.value);
         cause = refl;
       }) (λ g b. syntax_least g) (ap found_of is))
 
   module _ {s2 : Stream Seen} {n : Number} (x : NumberIs s1 s2 n) (small : length names < 2 ^ 64)
       (free : slice_get (map name_bytes names) n.value ≡ Some None) where
     within : n.value < length names
-    within = omega (arith, length-map names name_bytes, slice_get_within (map name_bytes names) n.value None free)
+    within = search (rules, length-map, slice_get_within)
 
     abbrev k : Number
     k = (number_any x).0
@@ -150,9 +142,7 @@ module _ {all : NamesData} {kind : Kind} {names : List (Option (Vec ℕ Global))
         symbol_reads v l e f =
             let value : n.value ≡ k.value = omega (arith, (number_any x).1, within) in
             reads_last (λ _. add_name all kind k.value name) past_name l
-            (ap (put_names all kind) (ap (map name_bytes) e ∙ map-set name_bytes names n.value (Some v)
-            ∙ ap₂ (λ (xs : List (Option (List ℕ))) (y : List ℕ). set xs n.value (Some y)) (sym a.same) f)
-            ∙ ap (λ i. add_name all kind i name) value)
+            (search (rules, map-set))
 
 -- ## Which line comes
 
@@ -271,8 +261,7 @@ pub comment_reads : {s new : Stream Seen} → next_byte s ≡ Some 99 → new.pi
 unfolding comment byte
 comment_reads {s} e left end =
     let t = next_is (next_of s) e in
-    let first : Enters (byte 99) (next_of s) =
-    subst (Enters (byte 99)) (sym t.1) (enters_one (take_byte 99) NoBad t.0 (inl (tt, byte_taken t.0 t.2))) in (
+    let first : Enters (byte 99) (next_of s) = search (rules, Enters, enters_one, byte_taken) in (
       reads_as (left_entered chain_c_line.whole.laws (laws_give Odd tt) (next_of s) (λ t h k. k)
           (enters_then (byte 99) (λ _. anything) chain_c_line.joint (next_of s) first))
           (reads_then chain_c_line.joint (byte_reads e refl) (anything_reads left end)),

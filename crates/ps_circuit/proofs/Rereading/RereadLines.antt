@@ -56,8 +56,8 @@ header_data c =
 
 reread_sections : {rest : List ℕ} → Rereads (sections 4) (λ u. u ≡ tt) (10 ∷ rest) rest
 unfolding sections
-reread_sections {rest} = reread_then (chain_sections 3) reread_no_more (λ b h.
-    subst (λ z. Rereads (by_more (section 4) (give tt) z) (λ u. u ≡ tt) rest rest) (sym h) (reread_give tt refl))
+reread_sections {rest} =
+    reread_then (chain_sections 3) reread_no_more (λ b h. search (rules, Rereads, section, reread_give))
 
 counted : {n : ℕ} → n < 2 ^ 64 → IsGood AnyNumber n
 counted small = record { small = small; right = λ f x. x }
@@ -67,10 +67,8 @@ pub reread_header : (c : CircuitData) → IsWritable c → (rest : List ℕ) →
 unfolding header
 reread_header c w rest = reread_as regrouped
     (reread_then chain_header (reread_word (codes "aag")) (λ _ _.
-    field_then judge_most chain_0 c.most (record {
-      small = omega (arith, w.draft.limit);
-      right = λ f x. omega (arith, w.draft.limit, x.0);
-    }) refl (λ m gm. field_then judge_any (chain_1 m) (length c.inputs) (counted w.inputs) refl
+    field_then judge_most chain_0 c.most (search (rules, w.draft.limit)) refl
+    (λ m gm. field_then judge_any (chain_1 m) (length c.inputs) (counted w.inputs) refl
     (λ i gi. field_then judge_any (chain_2 m i) (length c.latches) (counted w.latches) refl
     (λ l gl. field_then judge_any (chain_3 m i l) (length c.outputs) (counted w.outputs) refl
     (λ o go. field_then judge_any (chain_4 m i l o) (length c.gates) (counted w.gates) refl
@@ -115,9 +113,8 @@ reset_stops r rest = search rules
 reread_reset : (r : Bool) (latch : ℕ) {rest : List ℕ} → 2 ≤ latch →
     Rereads (reset latch) (λ b. b ≡ r) (reset_text r rest) rest
 unfolding reset
-reread_reset false latch {rest} two = reread_then (chain_reset latch) reread_no_more (λ b h.
-    subst (λ z. Rereads (by_more (reset_value latch) (give false) z) (λ b. b ≡ false) rest rest) (sym h)
-    (reread_give false refl))
+reread_reset false latch {rest} two =
+    reread_then (chain_reset latch) reread_no_more (λ b h. search (rules, Rereads, reset_value, reread_give))
 reread_reset true latch {rest} two = reread_then (chain_reset latch) (reread_more 1 (10 ∷ rest) (omega arith)) (λ b h.
     subst (λ z. Rereads (by_more (reset_value latch) (give false) z) (λ b. b ≡ true) (decimal 1 ++ 10 ∷ rest) rest)
     (sym h) (number_then (chain_value latch) 1 (record { small = omega arith; right = good }) refl

@@ -13,9 +13,8 @@ use Rattle.ps_text.proofs.Whole.{answers_ok}
 use Rattle.ps_circuit.specs.declared.cursor.Number.{Number}
 use Rattle.ps_circuit.specs.declared.parts.Latch.{Latch}
 use Rattle.ps_circuit.specs.declared.parts.Gate.{Gate}
-use Rattle.ps_circuit.specs.Circuits.{CircuitData, definitions, readings, IsCircuit, ReadsGate}
+use Rattle.ps_circuit.specs.Circuits.{CircuitData, definitions, readings, IsCircuit}
 use Rattle.ps_circuit.specs.Literals.{variable}
-use Rattle.ps_components.specs.Graphs.{Way}
 use Rattle.ps_circuit.specs.Signs.{stream_of, ends_line, closed, aig_causes, pieces_at}
 use Rattle.ps_circuit.specs.Texts.{Lines, no_lines, OfInput, OfLatch, OfOutput, NamesData, no_names, symbol_line}
 use Rattle.ps_circuit.specs.Texts.{DraftData, draft_of, symbols, body, circuit_text, IsDefined, ReadsCircuit, meaning}
@@ -96,8 +95,9 @@ module _ {c : CircuitData} (w : IsWritable c) where
 
   reread_text : Rereads circuit_text (IsDraftOf c) (text_of c) []
   unfolding circuit_text
-  reread_text = reread_as text_is (reread_then chain_text (reread_header c w body_text) (λ h g.
-      subst (λ z. Rereads (body z) (IsDraftOf c) body_text []) (sym g) reread_body))
+  reread_text =
+      reread_as text_is (reread_then chain_text (reread_header c w body_text)
+      (λ h g. search (rules, Rereads, reread_body)))
     where
       text_is : text_of c ≡ header_line c ++ body_text
       text_is =
@@ -183,8 +183,7 @@ known_numbers defined numbers e h k d l =
 pub reads_again : {c : CircuitData} → IsCircuit c → length c.inputs < 2 ^ 64 → length c.latches < 2 ^ 64 →
     length c.outputs < 2 ^ 64 → length c.gates < 2 ^ 64 → ReadsCircuit (text_of c) (Ok c)
 reads_again {c} circuit i l o a =
-    meaning d answers known (subst (λ (z : CircuitData). (i : ℕ) → Way (ReadsGate z.gates) i i → ⊥) (sym is.circuit)
-    circuit.acyclic) (ap Ok (sym is.circuit))
+    meaning d answers known (search (rules, circuit.acyclic)) (ap Ok (sym is.circuit))
   where
     again : Reread circuit_text (IsDraftOf c) (text_of c) [] (length (text_of c)) 0
     again = (reread_text (record { draft = circuit.draft; inputs = i; latches = l; outputs = o; gates = a })).there

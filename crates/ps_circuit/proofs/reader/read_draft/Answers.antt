@@ -1,8 +1,8 @@
-use Rattle.std.proofs.Common.{◌≡◌, ℕ, [], subst, arith}
+use Rattle.std.proofs.Common.{◌≡◌, ℕ, [], arith, rules}
 use Rattle.ps_circuit.specs.declared.parts.Gate.{Gate}
 use Rattle.ps_circuit.specs.declared.parts.Latch.{Latch}
 use Rattle.ps_circuit.specs.Names.{names_data}
-use Rattle.ps_circuit.specs.Reading.{lines_of, AddsInput, Grown}
+use Rattle.ps_circuit.specs.Reading.{lines_of}
 use Rattle.ps_circuit.specs.Texts.{Lines, input_line, latch_line, output_line, gate_line, symbols, HeaderData}
 use Rattle.ps_circuit.proofs.Exits.{stops_at}
 use Rattle.ps_circuit.proofs.TextLaws.{laws_input_line, laws_latch_line, laws_output_line, laws_gate_line, body_latches}
@@ -135,8 +135,7 @@ returns-in_err-gates-clause-exact c =
     c.in_err-gates.ensures.exact) c.from_residual-in_err-gates.ensures.1
 
 pub returns-in_err-names-clause-exact : goal.returns-in_err-names-clause-exact
-returns-in_err-names-clause-exact c =
-    draft_memory c.args.text.now _ c.in_err-names.ensures.memory c.from_residual-in_err-names.ensures.1
+returns-in_err-names-clause-exact c = search (rules, draft_memory)
 
 pub returns-in_err-symbols-clause-exact : goal.returns-in_err-symbols-clause-exact
 returns-in_err-symbols-clause-exact c =
@@ -167,12 +166,11 @@ returns-clause-sound c =
     let read = draft_reads c.args.text.now c.new-cursor.ensures.stream c.in_ok-comment.ensures.1
     (all_reads _ _ _ _ _ (behind_gates b) (none_yet b) c.in_ok-symbols.ensures.exact c.in_ok-comment.ensures.0) in
     sound_draft most (names_data c.symbols.new.names) c.in_ok-header.ensures.small (gates_placed _ _ read.0)
-    (subst (λ (x : Lines ℕ). Grown (AddsInput most) x (inputs_of d)) c.nothing-noted.ensures
-    c.in_ok-inputs.ensures.grown)
+    (search (rules, c.nothing-noted.ensures, c.in_ok-inputs.ensures.grown))
     c.in_ok-latches.ensures.grown c.in_ok-outputs.ensures.grown c.in_ok-gates.ensures.grown
-    (each_named c.symbols.new.names.inputs c.in_ok-inputs.inputs n.inputs_each k.inputs_each c.len.ensures)
-    (each_named c.symbols.new.names.latches c.in_ok-latches.latches n.latches_each k.latches_each c.len-2.ensures)
-    (each_named c.symbols.new.names.outputs c.in_ok-outputs.outputs n.outputs_each k.outputs_each c.len-3.ensures)
+    (search (rules, each_named, c.len.ensures))
+    (search (rules, each_named, c.len-2.ensures))
+    (search (rules, each_named, c.len-3.ensures))
     n.inputs_named n.latches_named n.outputs_named
 
 pub lines-requires-clause-row : goal.lines-requires-clause-row
