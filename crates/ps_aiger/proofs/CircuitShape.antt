@@ -1,8 +1,8 @@
 -- The circuit of some gates: what it is made of is a circuit, and tidy.
 use Rattle.std.proofs.Common.{◌≡◌, ◌≢◌, ◌∙◌, ℕ, zero, suc, ◌+◌, ◌-◌, ◌*◌, ◌/◌, ◌<◌, ◌≤◌, false, List, [], ◌∷◌, ◌++◌}
+use Rattle.std.proofs.Common.{rules}
 use Rattle.std.proofs.Common.{map, length, get_or, slice_get, Option, Some, None, refl, sym, ap, subst, arith, inl, inr}
 use Rattle.std.proofs.Common.{All, replicate}
-use Rattle.std.specs.Prelude.{slice_index_or}
 use Rattle.std.specs.List.{flat_map}
 use Rattle.std.proofs.lemmas.Bool.{cases_eq}
 use Rattle.std.proofs.lemmas.List.{length-map, get_or-map, same_lists, length-replicate}
@@ -36,9 +36,7 @@ none_at (suc n) zero e lt = refl
 none_at (suc n) (suc k) e lt = none_at n k e (omega arith)
 
 two_hold : (P : ℕ → Type 0) (x y : ℕ) → P x → P y → All P (x ∷ y ∷ [])
-two_hold P x y a b zero e lt = a
-two_hold P x y a b (suc zero) e lt = b
-two_hold P x y a b (suc (suc k)) e lt = absurd (omega arith)
+two_hold P x y h1 h2 = search rules
 
 each_side : (P : ℕ → Type 0) (gates : List Gate) → All (λ g. P g.first × P g.second) gates →
     All P (flat_map (λ g. g.first ∷ g.second ∷ []) gates)
@@ -54,17 +52,15 @@ module _ (m : Behaviour) (d : Drafted) (sound : IsSoundDraft d) (latches : ℕ) 
     (given : d.given ≡ length m.inputs + latches) (many : length next ≡ latches) where
   latch_is : (k : ℕ) → k < latches → get_or c.latches k no_latch ≡ record
       { literal = 2 * (length m.inputs + 1 + k); next = get_or next k 0; reset = false }
-  latch_is k lt = get_or_from_slice_get c.latches k _ no_latch (built.latches.each k (subst (λ n. k < n) (sym many) lt))
+  latch_is k lt = search (rules, get_or_from_slice_get, no_latch)
 
   many_latches : length c.latches ≡ latches
   many_latches = built.latches.many ∙ many
 
   latch_literals : map (λ l. l.literal) c.latches ≡ even_literals (length m.inputs + 1) latches
   latch_literals =
-      same_lists _ _ (length-map c.latches (λ l. l.literal) ∙ many_latches
-      ∙ sym (length-even (length m.inputs + 1) latches))
-      (λ k e lt. (let within : k < latches = subst (λ n. k < n)
-      (length-map c.latches (λ l. l.literal) ∙ many_latches) lt in
+      same_lists _ _ (search (rules, length-map, many_latches, length-even))
+      (λ k e lt. (let within : k < latches = search (rules, length-map, many_latches) in
       get_or-map (λ (l : Latch). l.literal) c.latches k no_latch e (subst (λ n. k < n) (sym many_latches) within)
       ∙ ap (λ (l : Latch). l.literal) (latch_is k within) ∙ sym (even-at (length m.inputs + 1) latches k e within)))
 
@@ -91,10 +87,8 @@ module _ (m : Behaviour) (d : Drafted) (sound : IsSoundDraft d) (latches : ℕ) 
 
   gate_literals : map (λ g. g.literal) c.gates ≡ even_literals (d.given + 1) (length d.gates)
   gate_literals =
-      same_lists _ _ (length-map c.gates (λ g. g.literal) ∙ many_gates
-      ∙ sym (length-even (d.given + 1) (length d.gates)))
-      (λ k e lt. (let within : k < length d.gates = subst (λ n. k < n)
-      (length-map c.gates (λ g. g.literal) ∙ many_gates) lt in
+      same_lists _ _ (search (rules, length-map, many_gates, length-even))
+      (λ k e lt. (let within : k < length d.gates = search (rules, length-map, many_gates) in
       get_or-map (λ (g : Gate). g.literal) c.gates k no_gate e (subst (λ n. k < n) (sym many_gates) within)
       ∙ ap (λ (g : Gate). g.literal) (gate_is k no_gate within)
       ∙ sym (even-at (d.given + 1) (length d.gates) k e within)))
@@ -105,19 +99,7 @@ module _ (m : Behaviour) (d : Drafted) (sound : IsSoundDraft d) (latches : ℕ) 
   most_is = built.most ∙ ap (λ n. n + length d.gates) given
 
   definitions_are : definitions c ≡ even_literals 1 c.most
-  definitions_are =
-      (let i = length m.inputs in
-      let a = length d.gates in
-      let before : even_literals 1 (i + latches) ≡ even_literals 1 i ++ even_literals (i + 1) latches =
-      even-append 1 i latches ∙ ap (λ x. even_literals 1 i ++ even_literals x latches)
-      (let e : 1 + i ≡ i + 1 = omega arith in e) in
-      let all : even_literals 1 (i + latches + a) ≡ even_literals 1 (i + latches) ++ even_literals (d.given + 1) a =
-      even-append 1 (i + latches) a ∙ ap (λ x. even_literals 1 (i + latches) ++ even_literals x a)
-      (let e : 1 + (i + latches) ≡ d.given + 1 = omega arith in e) in
-      ap (λ xs. xs ++ map (λ l. l.literal) c.latches ++ map (λ g. g.literal) c.gates) built.inputs
-      ∙ ap (λ xs. even_literals 1 i ++ xs ++ map (λ g. g.literal) c.gates) latch_literals
-      ∙ ap (λ xs. even_literals 1 i ++ even_literals (i + 1) latches ++ xs) gate_literals
-      ∙ ap (λ xs. xs ++ even_literals (d.given + 1) a) (sym before) ∙ sym all ∙ ap (even_literals 1) (sym most_is))
+  definitions_are = search (rules, even_literals, even-append, latch_literals, gate_literals, most_is)
 
   many_definitions : length (definitions c) ≡ c.most
   many_definitions = ap length definitions_are ∙ length-even 1 c.most
@@ -167,9 +149,7 @@ module _ (m : Behaviour) (d : Drafted) (sound : IsSoundDraft d) (latches : ℕ) 
         (known_of (get_or next k 0) (next_held k within))))
 
     outputs_known : All (IsKnown (definitions c)) c.outputs
-    outputs_known =
-        subst (λ xs. All (IsKnown (definitions c)) xs) (sym built.output_literals)
-        (λ k e lt. known_of (get_or outputs k e) (outputs_held k e lt))
+    outputs_known = search (rules, known_of)
 
     sides_known : All (IsKnown (definitions c)) (flat_map (λ g. g.first ∷ g.second ∷ []) c.gates)
     sides_known = each_side (IsKnown (definitions c)) c.gates (λ k e lt.
@@ -187,22 +167,13 @@ module _ (m : Behaviour) (d : Drafted) (sound : IsSoundDraft d) (latches : ℕ) 
           (omega arith, omega arith, omega arith));
       once = λ i j e lt within. (let there = within_most j within in let here : i < c.most = omega arith in
           subst (λ x. variable x ≢ variable (get_or (definitions c) j e)) (sym (definition_at i e here))
-          (subst (λ y. variable (2 * (1 + i)) ≢ variable y) (sym (definition_at j e there))
-          (λ same. (let a = half i in let b = half j in absurd (omega arith)))));
-      known =
-          All-append (IsKnown (definitions c)) (map (λ l. l.next) c.latches ++ c.outputs)
-          (flat_map (λ g. g.first ∷ g.second ∷ []) c.gates) (All-append (IsKnown (definitions c))
-          (map (λ l. l.next) c.latches) c.outputs next_known outputs_known) sides_known;
-      inputs_named = ap length built.input_names ∙ length-map m.inputs (λ p. Some (slice_index_or m.names p []))
-          ∙ sym (ap length built.inputs ∙ length-even 1 (length m.inputs));
+          (search (rules, definition_at, half)));
+      known = search (rules, All-append, next_known, outputs_known, sides_known);
+      inputs_named = search (rules, length-map, length-even);
       latches_named = ap length built.latch_names ∙ length-replicate (length next) None ∙ sym built.latches.many;
-      outputs_named = ap length built.output_names ∙ length-map m.outputs (λ p. Some (slice_index_or m.names p []))
-          ∙ many_outputs ∙ sym (ap length built.output_literals);
+      outputs_named = search (rules, length-map);
       input_names = subst (λ xs. All IsName xs) (sym built.input_names) named_in;
-      latch_names =
-          subst (λ xs. All IsName xs) (sym built.latch_names) (λ k e lt.
-          subst IsName (sym (none_at (length next) k e (subst (λ n. k < n) (length-replicate (length next) None) lt)))
-          tt);
+      latch_names = search (rules, none_at, length-replicate);
       output_names = subst (λ xs. All IsName xs) (sym built.output_names) named_out;
     }
 
@@ -219,15 +190,12 @@ module _ (m : Behaviour) (d : Drafted) (sound : IsSoundDraft d) (latches : ℕ) 
       let read : r.read ≡ record { literal = 2 * (d.given + 1 + j); first = (side j).first; second = (side j).second } =
       sym (get_or_from_slice_get c.gates j r.read no_gate r.at_j) ∙ gate_is j no_gate j_lt in
       let a = are_sides i i_lt in
-      let own : variable r.read.literal ≡ d.given + 1 + j = ap (λ (g : Gate). variable g.literal) read
-      ∙ (let e : 2 * (d.given + 1 + j) / 2 ≡ d.given + 1 + j = omega arith in e) in
+      let own : variable r.read.literal ≡ d.given + 1 + j = search rules in
       let below : variable (side i).first < d.given + 1 + i = a.below in
       let falls : (side i).second < (side i).first = a.falls in
       elim r.side [
-        | inl e ↦ let f : variable (side i).first ≡ d.given + 1 + j = sym (ap (λ (g : Gate). variable g.first) reader)
-            ∙ e ∙ own in omega arith
-        | inr e ↦ let f : variable (side i).second ≡ d.given + 1 + j = sym (ap (λ (g : Gate). variable g.second) reader)
-            ∙ e ∙ own in omega arith
+        | inl e ↦ let f : variable (side i).first ≡ d.given + 1 + j = search rules in omega arith
+        | inr e ↦ let f : variable (side i).second ≡ d.given + 1 + j = search rules in omega arith
       ])
 
   pub is_tidy : IsTidy c
@@ -235,12 +203,7 @@ module _ (m : Behaviour) (d : Drafted) (sound : IsSoundDraft d) (latches : ℕ) 
     numbered = definitions_are;
     gates =
         λ k e lt. (let within : k < length d.gates = subst (λ n. k < n) many_gates lt in let a = are_sides k within in
-        subst IsTidyGate (sym (gate_is k e within)) (record {
-          below = (let p = a.below in omega arith);
-          falls = a.falls;
-          different = a.different;
-          not_constant = a.not_constant;
-        }));
+        subst IsTidyGate (sym (gate_is k e within)) (search rules));
     once = λ i j e lt within.
         (let there : j < length d.gates = subst (λ n. j < n) many_gates within in
         let here : i < length d.gates = omega arith in

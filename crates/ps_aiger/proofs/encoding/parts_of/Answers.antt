@@ -1,4 +1,4 @@
-use Rattle.std.proofs.Common.{◌<◌, ℕ, List, All, length, subst, sym}
+use Rattle.std.proofs.Common.{◌<◌, ℕ, List, All, length, subst, sym, rules}
 use Rattle.ps_machine.specs.Machines.{behaviour}
 use Rattle.ps_aiger.proofs.EncodeLemmas.{inputs_within, outputs_within}
 use Rattle.ps_aiger.proofs.encoding.parts_of.Goals as goal
@@ -16,4 +16,4 @@ symbols-requires-2 c =
     (outputs_within (behaviour m) c.outputs.ensures.machine.is_machine)
 
 pub returns-clause-machine : goal.returns-clause-machine
-returns-clause-machine c = c.inputs-inputs.ensures.machine.is_machine
+returns-clause-machine c = search rules

@@ -1,9 +1,10 @@
-use Rattle.std.proofs.Common.{◌≡◌, ◌∙◌, ℕ, ◌+◌, ◌*◌, Err, None, false, ◌<◌, ◌≤◌, List, Some, slice_get, ap, sym, subst}
-use Rattle.std.proofs.Common.{arith, length, nat_eq}
+use Rattle.std.proofs.Common.{◌≡◌, ◌∙◌, ℕ, ◌+◌, ◌*◌, false, ◌<◌, ◌≤◌, List, sym, subst}
+use Rattle.std.proofs.Common.{rules}
+use Rattle.std.proofs.Common.{nat_eq}
 use Rattle.std.proofs.lemmas.Result.{IfOk-weaker}
 use Rattle.ps_hoa.specs.Files.{is_among}
 use Rattle.indexmap.specs.IndexMap.{get}
-use Rattle.ps_diagram.specs.Table.{Table, leaf_of}
+use Rattle.ps_diagram.specs.Table.{Table}
 use Rattle.ps_diagram.specs.Views.{SeesTest}
 use Rattle.ps_circuit.specs.Building.{variables_of}
 use Rattle.ps_circuit.specs.Gates.{Made}
@@ -15,40 +16,24 @@ use Rattle.ps_aiger.proofs.WiredLemmas.{choice-made, choice-above, choice-above_
 use Rattle.ps_aiger.proofs.functions.+over_inputs.Goals as goal
 
 pub overflow_cast-place : goal.overflow_cast-place
-overflow_cast-place t c = let lt : c.in-Some.place < length c.args.machine.now.inputs =
-    place_small c.args.machine.now.inputs c.inputs.result.now c.in-Some.place c.in-Test.proposition
-    c.inputs.ensures.inputs c.in-Some.ensures.found in let few = c.requires.small in omega arith
+overflow_cast-place t c = search (rules, place_small)
 
 pub overflow_add-place : goal.overflow_add-place
-overflow_add-place t c = let lt : c.in-Some.place < length c.args.machine.now.inputs =
-    place_small c.args.machine.now.inputs c.inputs.result.now c.in-Some.place c.in-Test.proposition
-    c.inputs.ensures.inputs c.in-Some.ensures.found in let few = c.requires.small in omega arith
+overflow_add-place t c = search (rules, place_small)
 
 pub positive-input-requires : goal.positive-input-requires
-positive-input-requires t c = let lt : c.in-Some.place < length c.args.machine.now.inputs =
-    place_small c.args.machine.now.inputs c.inputs.result.now c.in-Some.place c.in-Test.proposition
-    c.inputs.ensures.inputs c.in-Some.ensures.found in let few = c.requires.small in omega arith
+positive-input-requires t c = search (rules, place_small)
 
 pub mux-requires-clause-chooses : goal.mux-requires-clause-chooses
-mux-requires-clause-chooses t c =
-    let given = c.over_inputs-in-Test-2.ensures.extends.given ∙ c.over_inputs-in-Test.ensures.extends.given in
-    rw c.positive-input.ensures (held_place c.over_inputs-in-Test-2.new.builder (length c.args.machine.now.inputs)
-    c.in-Some.place
-    (place_small c.args.machine.now.inputs c.inputs.result.now c.in-Some.place c.in-Test.proposition
-    c.inputs.ensures.inputs c.in-Some.ensures.found)
-    (subst (λ n. length c.args.machine.now.inputs ≤ n) (sym given) c.requires.given))
+mux-requires-clause-chooses t c = search (rules, held_place, place_small)
 
 pub returns-in-Nothing-clause-made : goal.returns-in-Nothing-clause-made
-returns-in-Nothing-clause-made t c =
-    made-nothing c.args.machine.now c.args.wanted c.args.node c.args.builder.now
-    (subst (λ (s : Table). (letter : ℕ) → leaf_of s c.args.node letter ≡ None) c.store.ensures.store
-    c.in-Nothing.ensures)
+returns-in-Nothing-clause-made t c = search (rules, made-nothing)
 
 pub returns-in-Leaf-clause-made : goal.returns-in-Leaf-clause-made
 returns-in-Leaf-clause-made t c =
     made-leaf c.args.machine.now c.args.wanted c.args.node c.in-Leaf.leaf c.constant.result c.args.builder.now
-    (subst (λ (s : Table). (letter : ℕ) → leaf_of s c.args.node letter ≡ Some c.in-Leaf.leaf) c.store.ensures.store
-    c.in-Leaf.ensures) c.constant.ensures
+    (search (rules, c.store.ensures.store, c.in-Leaf.ensures)) c.constant.ensures
 
 pub returns-in_default-clause-made : goal.returns-in_default-clause-made
 returns-in_default-clause-made t c =
@@ -90,14 +75,10 @@ returns-in_err-where_true-in-Test-clause-too_large t c e =
     let whole =
     made-test m w c.args.node c.in-Test.proposition c.in-Test.low c.in-Test.high c.in-Some.place c.args.builder.now
     c.inputs.ensures.machine.is_machine
-    (subst (λ (t : Table). SeesTest t c.args.node c.in-Test.proposition c.in-Test.low c.in-Test.high)
-    c.store.ensures.store c.in-Test.ensures)
-    (subst (λ (xs : List ℕ). slice_get xs c.in-Some.place ≡ Some c.in-Test.proposition) c.inputs.ensures.inputs
-    c.in-Some.ensures.found) in
+    (search (rules, c.store.ensures.store, c.in-Test.ensures))
+    (search (rules, c.inputs.ensures.inputs, c.in-Some.ensures.found)) in
     choice-above _ _ (node_made m w c.in-Test.low) s whole (inputs-extends m w c.in-Test.low)
-    (c.over_inputs-in-Test.ensures.too_large (c.in_err-where_true-in-Test.was
-    ∙ ap (λ f. Err f) (passed c.from_residual.result c.in_err-where_true-in-Test.field-0.0 _
-    c.from_residual.ensures.1 e)))
+    (search (rules, passed, c.over_inputs-in-Test.ensures.too_large, c.from_residual.ensures.1))
 
 pub returns-in_err-where_false-in-Test-clause-too_large : goal.returns-in_err-where_false-in-Test-clause-too_large
 returns-in_err-where_false-in-Test-clause-too_large t c e =
@@ -107,15 +88,15 @@ returns-in_err-where_false-in-Test-clause-too_large t c e =
     let whole =
     made-test m w c.args.node c.in-Test.proposition c.in-Test.low c.in-Test.high c.in-Some.place c.args.builder.now
     c.inputs.ensures.machine.is_machine
-    (subst (λ (t : Table). SeesTest t c.args.node c.in-Test.proposition c.in-Test.low c.in-Test.high)
-    c.store.ensures.store c.in-Test.ensures)
-    (subst (λ (xs : List ℕ). slice_get xs c.in-Some.place ≡ Some c.in-Test.proposition) c.inputs.ensures.inputs
-    c.in-Some.ensures.found) in
+    (search (rules, c.store.ensures.store, c.in-Test.ensures))
+    (search (rules, c.inputs.ensures.inputs, c.in-Some.ensures.found)) in
     choice-above_low _ _ (node_made m w c.in-Test.low) c.over_inputs-in-Test.new.builder s
     c.in_ok-where_true-in-Test.where_true whole c.in_ok-where_true-in-Test.ensures.made
-    (c.over_inputs-in-Test-2.ensures.too_large (c.in_err-where_false-in-Test.was
-    ∙ ap (λ f. Err f) (passed c.from_residual-in_err-where_false-in-Test.result
-    c.in_err-where_false-in-Test.field-0.0 _ c.from_residual-in_err-where_false-in-Test.ensures.1 e)))
+    (c.over_inputs-in-Test-2.ensures.too_large (search (
+      rules,
+      passed,
+      c.from_residual-in_err-where_false-in-Test.ensures.1,
+    )))
 
 pub returns-in_err-literal-in-Test-clause-too_large : goal.returns-in_err-literal-in-Test-clause-too_large
 returns-in_err-literal-in-Test-clause-too_large t c e =
@@ -125,18 +106,15 @@ returns-in_err-literal-in-Test-clause-too_large t c e =
     let whole =
     made-test m w c.args.node c.in-Test.proposition c.in-Test.low c.in-Test.high c.in-Some.place c.args.builder.now
     c.inputs.ensures.machine.is_machine
-    (subst (λ (t : Table). SeesTest t c.args.node c.in-Test.proposition c.in-Test.low c.in-Test.high)
-    c.store.ensures.store c.in-Test.ensures)
-    (subst (λ (xs : List ℕ). slice_get xs c.in-Some.place ≡ Some c.in-Test.proposition) c.inputs.ensures.inputs
-    c.in-Some.ensures.found) in
+    (search (rules, c.store.ensures.store, c.in-Test.ensures))
+    (search (rules, c.inputs.ensures.inputs, c.in-Some.ensures.found)) in
     subst (λ (n : Made). 2147483647 < variables_of n.draft) (sym
     (choice-made _ _ (node_made m w c.in-Test.low) c.over_inputs-in-Test.new.builder
     c.over_inputs-in-Test-2.new.builder s c.in_ok-where_true-in-Test.where_true
     c.in_ok-where_false-in-Test.where_false whole c.in_ok-where_true-in-Test.ensures.made
     c.in_ok-where_false-in-Test.ensures.made))
-    (rw c.positive-input.ensures at (c.mux.ensures.above (c.in_err-literal-in-Test.was
-    ∙ ap (λ f. Err f) (passed c.from_residual-in_err-literal-in-Test.result c.in_err-literal-in-Test.field-0.0 _
-    c.from_residual-in_err-literal-in-Test.ensures.1 e))))
+    (rw c.positive-input.ensures at (c.mux.ensures.above (search
+    (rules, passed, c.from_residual-in_err-literal-in-Test.ensures.1))))
 
 pub returns-in_ok-insert-in-Test-clause-made : goal.returns-in_ok-insert-in-Test-clause-made
 returns-in_ok-insert-in-Test-clause-made t c =
@@ -146,10 +124,8 @@ returns-in_ok-insert-in-Test-clause-made t c =
     let whole =
     made-test m w c.args.node c.in-Test.proposition c.in-Test.low c.in-Test.high c.in-Some.place c.args.builder.now
     c.inputs.ensures.machine.is_machine
-    (subst (λ (t : Table). SeesTest t c.args.node c.in-Test.proposition c.in-Test.low c.in-Test.high)
-    c.store.ensures.store c.in-Test.ensures)
-    (subst (λ (xs : List ℕ). slice_get xs c.in-Some.place ≡ Some c.in-Test.proposition) c.inputs.ensures.inputs
-    c.in-Some.ensures.found) in
+    (search (rules, c.store.ensures.store, c.in-Test.ensures))
+    (search (rules, c.inputs.ensures.inputs, c.in-Some.ensures.found)) in
     choice-made _ _ (node_made m w c.in-Test.low) c.over_inputs-in-Test.new.builder c.over_inputs-in-Test-2.new.builder
     s c.in_ok-where_true-in-Test.where_true c.in_ok-where_false-in-Test.where_false whole
     c.in_ok-where_true-in-Test.ensures.made c.in_ok-where_false-in-Test.ensures.made
@@ -163,15 +139,12 @@ returns-in_ok-insert-in-Test-clause-known_made t c =
     let whole =
     made-test m w c.args.node c.in-Test.proposition c.in-Test.low c.in-Test.high c.in-Some.place c.args.builder.now
     c.inputs.ensures.machine.is_machine
-    (subst (λ (t : Table). SeesTest t c.args.node c.in-Test.proposition c.in-Test.low c.in-Test.high)
-    c.store.ensures.store c.in-Test.ensures)
-    (subst (λ (xs : List ℕ). slice_get xs c.in-Some.place ≡ Some c.in-Test.proposition) c.inputs.ensures.inputs
-    c.in-Some.ensures.found) in
+    (search (rules, c.store.ensures.store, c.in-Test.ensures))
+    (search (rules, c.inputs.ensures.inputs, c.in-Some.ensures.found)) in
     made-more m w c.args.builder.now c.mux.new.self (get nat_eq c.over_inputs-in-Test-2.new.known)
     (get nat_eq c.insert.new.self) c.args.node c.in_ok-literal-in-Test.literal
     c.in_ok-insert-in-Test.ensures.updates.0
-    (made-kept m w c.over_inputs-in-Test-2.new.builder c.mux.new.self (get nat_eq c.over_inputs-in-Test-2.new.known)
-    c.mux.ensures.extends c.in_ok-where_false-in-Test.ensures.known_made)
+    (search (rules, made-kept, c.mux.ensures.extends, c.in_ok-where_false-in-Test.ensures.known_made))
     c.in_ok-literal-in-Test.ensures.held
     (choice-made _ _ (node_made m w c.in-Test.low) c.over_inputs-in-Test.new.builder c.over_inputs-in-Test-2.new.builder
     s c.in_ok-where_true-in-Test.where_true c.in_ok-where_false-in-Test.where_false whole
