@@ -141,13 +141,11 @@ quoted_sound (suc fuel) (b ∷ bs) n short is =
       | inr p ↦
           (elim (eqb_tells b 92) [
             | inl q ↦
-                (let m = some_more (quoted_len bs true) n (sym (quoted_more b bs p.1
-                ∙ ap (λ (t : Bool). one_more (quoted_len bs t)) q.0) ∙ is) in
+                (let m = some_more (quoted_len bs true) n (search (rules, quoted_more)) in
                 rw m.2 (pair_case b bs q.1 (λ c cs k e f. quoted_sound fuel cs k (let l = ap length e in omega arith) f)
                 m.0 m.1))
             | inr q ↦
-                (let m = some_more (quoted_len bs false) n (sym (quoted_more b bs p.1
-                ∙ ap (λ (t : Bool). one_more (quoted_len bs t)) q.0) ∙ is) in
+                (let m = some_more (quoted_len bs false) n (search (rules, quoted_more)) in
                 let inner = quoted_sound fuel bs m.0 less m.1 in
                 rw m.2 (b ∷ inner.0, plain p.1 q.1 inner.1, ap (λ (xs : List ℕ). b ∷ xs) inner.2, omega arith))
           ])

@@ -244,8 +244,7 @@ module _ (h : HeaderData) (b : BodyData) where
   LastIsRight = (row : RowData) → last_row b ≡ Some row → HasRightCount h row
 
   keeps_state_begins : Keeps (state_begins h b) (λ _. LastIsRight)
-  keeps_state_begins = keeps_one state_value (IsBadNext h b) (λ t v e good row l wrong.
-      good causes.Labels ((λ k. none_is_some v (sym k ∙ e)), ((row, l, wrong), refl)))
+  keeps_state_begins = keeps_one state_value (IsBadNext h b) (λ t v e good row l wrong. search (rules, none_is_some))
 
   starts : (label : Option Expression) (n : ℕ) (ns : List ℕ) → IfSome label (IsScoped h) → IsStateOf h.states n →
       AreSets h ns → b.edges ≤ edge_limit → RowOf h b.edges n (empty_row n label ns)
@@ -257,8 +256,7 @@ module _ (h : HeaderData) (b : BodyData) where
       keeps_behind state_name (λ _. keeps_then (keeps_marks h) (λ ns a.
       keeps_mapped _ (with_row b) (edges h b.edges (empty_row n label ns)) (λ text row i q.
       let e =
-      keeps_edges h b.edges n (empty_row n label ns) (starts label n ns l (is_state h.states n (λ f c. g f (inl c)))
-      a k.few) text row i q in
+      keeps_edges h b.edges n (empty_row n label ns) (search (rules, starts, is_state, k.few)) text row i q in
       let new : has_row n b.rows ≡ false = false_from_ne_true (has_row n b.rows) (λ t. g causes.StateTwice
       (inr (t, refl))) in
       record {
@@ -271,13 +269,8 @@ module _ (h : HeaderData) (b : BodyData) where
 
   keeps_ended : IsBodyKept h b → Keeps (ended h b) (IsBodyDone h)
   keeps_ended k = keeps_mapped _ (λ _. b) (one (mark_in is_end) (IsBadClose h b))
-      (keeps_one (mark_in is_end) (IsBadClose h b) (λ t v e good. record {
-        rows = k.rows;
-        once = k.once;
-        counts = search (rules, last_right, taken_mark);
-        few = subst (λ m. m ≤ edge_limit) k.edges k.few;
-      }))
+      (keeps_one (mark_in is_end) (IsBadClose h b) (λ t v e good.
+      search (rules, last_right, taken_mark, k.rows, k.once, k.edges, k.few)))
 
 pub keeps_body : (h : HeaderData) → Keeps (body h) (IsBodyDone h)
-keeps_body h = keeps_then (keeps_many (state h) (keeps_state h) no_rows (record
-    { rows = tt; once = tt; counts = tt; edges = refl; few = omega arith })) (keeps_ended h)
+keeps_body h = keeps_then (keeps_many (state h) (keeps_state h) no_rows (search rules)) (keeps_ended h)

@@ -5,18 +5,17 @@ use Rattle.std.proofs.Common.{◌≡◌, ℕ, zero, suc, ◌+◌, ◌<◌, ◌�
 use Rattle.std.proofs.Common.{Some, refl, sym, subst, inl, inr, ◌∙◌, arith, length-append, rules}
 use Rattle.std.specs.Option.{IfSome}
 use Rattle.ps_label.specs.Expression.{Expression}
-use Rattle.ps_text.specs.Parts.{one, times, many, barred}
+use Rattle.ps_text.specs.Parts.{one, times, many}
 use Rattle.ps_text.proofs.Simple.{none_is_some, same_some}
 use Rattle.ps_hoa.specs.Header.{HeaderData, no_items, names_of, state_limit, proposition_limit, alias_limit, set_limit}
-use Rattle.ps_hoa.specs.Header.{item_name, int_in, int, IsAlternating, is_name_among, with_start, string_in, IsBadName}
-use Rattle.ps_hoa.specs.Header.{with_name, proposition_name, with_names, alias_value, IsBadAlias, header_scope}
-use Rattle.ps_hoa.specs.Header.{with_alias, with_acceptance, index, with_controllable, read_over_value, read_over}
+use Rattle.ps_hoa.specs.Header.{item_name, int_in, int, is_name_among, string_in, IsBadName}
+use Rattle.ps_hoa.specs.Header.{with_name, proposition_name, alias_value, IsBadAlias, header_scope}
+use Rattle.ps_hoa.specs.Header.{with_alias, index, with_controllable, read_over_value, read_over}
 use Rattle.ps_hoa.specs.Header.{form_of, item, AnAliasBeyond, IsBadHeader, out_of_range, body_value, IsBadBody}
 use Rattle.ps_hoa.specs.Header.{body_mark, header, is_empty, has_control, kept}
 use Rattle.ps_hoa.specs.ItemNames as items
 use Rattle.ps_hoa.specs.ItemNames.{ItemName}
 use Rattle.ps_hoa.specs.Labels.{label}
-use Rattle.ps_hoa.specs.Conditions.{condition}
 use Rattle.ps_hoa.specs.Operands.{number_limit, nesting_limit}
 use Rattle.ps_hoa.specs.Tokens.{Sign}
 use Rattle.ps_hoa.specs.declared.fault.HoaCause.{HoaCause}
@@ -133,12 +132,9 @@ keeps_read_over h k = search (rules, keeps_one, same_value)
 
 keeps_form : (h : HeaderData) → Kept h → (name : ItemName) → Keeps (form_of h name) Kept
 keeps_form h k items.states = search (rules, keeps_behind, keeps_mapped, keeps_int)
-keeps_form h k items.start = keeps_behind (start_name h) (λ _. keeps_mapped _ (with_start h)
-    (barred (int number_limit) IsAlternating) (λ text n i q. k))
+keeps_form h k items.start = keeps_behind (start_name h) (λ _. search (rules, keeps_mapped))
 keeps_form h k items.propositions = keeps_behind (item_name (codes "AP:")) (λ _.
-    keeps_then (keeps_int proposition_limit) (λ n l.
-    keeps_mapped _ (with_names h) (times n proposition_name []) (λ text names i q.
-    let m = keeps_names n [] tt text names i q in (k.0, (omega (arith, l, m.0), m.1), k.2, k.3, k.4))))
+    keeps_then (keeps_int proposition_limit) (λ n l. search (rules, keeps_mapped, keeps_names, k.0, k.2, k.3, k.4)))
 keeps_form h k items.alias = keeps_behind (item_name (codes "Alias:")) (λ _.
     keeps_then {S = λ _. length h.alias_names < alias_limit} (keeps_one (λ s. alias_value s.kind s.text)
     (IsBadAlias h.alias_names) (few_more h.alias_names)) (λ name l.
@@ -146,8 +142,7 @@ keeps_form h k items.alias = keeps_behind (item_name (codes "Alias:")) (λ _.
     let a = one_more_alias h.alias_names h.aliases name e k.2 l
     (keeps_label (header_scope h) nesting_limit text e i q).0 in (k.0, k.1, a, k.3, k.4))))
 keeps_form h k items.acceptance = keeps_behind (item_name (codes "Acceptance:")) (λ _.
-    keeps_then (keeps_int set_limit) (λ n l.
-    keeps_mapped _ (with_acceptance h n) (condition nesting_limit) (λ text c i q. (k.0, k.1, k.2, l, k.4))))
+    keeps_then (keeps_int set_limit) (λ n l. search (rules, keeps_mapped, k.0, k.1, k.2, k.4)))
 keeps_form h k items.controllable = keeps_behind (item_name (codes "controllable-AP:")) (λ _.
     keeps_mapped _ (with_controllable h) (many index []) (λ text ns i q. (
       k.0,
@@ -173,8 +168,7 @@ same_header : (h g : HeaderData) (kind : Kind) → body_value h kind ≡ Some g 
 same_header h g kind h1 = search (rules, same_some, none_is_some)
 
 keeps_body_mark : (h : HeaderData) → Kept h → Keeps (body_mark h) (λ g. Kept g × HasNoFlaw g)
-keeps_body_mark h k = keeps_one (λ s. body_value h s.kind) (IsBadBody h) (λ t g e good.
-    let p = same_header h g t.kind e in subst (λ z. Kept z × HasNoFlaw z) p.1 (k, λ f b. good f (p.0, b)))
+keeps_body_mark h k = keeps_one (λ s. body_value h s.kind) (IsBadBody h) (λ t g e good. search (rules, same_header))
 
 no_items_kept : Kept no_items
 no_items_kept = (tt, (omega arith, tt), record { one_each = refl; few = omega arith; rise = tt }, tt, tt)

@@ -1,4 +1,4 @@
-use Rattle.std.proofs.Common.{refl, ◌≡◌, ◌-◌, arith, length, take, drop, length-drop, sym, ◌∙◌, ap}
+use Rattle.std.proofs.Common.{◌≡◌, ◌-◌, arith, length, take, drop, length-drop, sym, ◌∙◌, ap, rules}
 use Rattle.std.proofs.lemmas.List.{take_all}
 use Rattle.ps_hoa.specs.declared.tokens.Step.TheVariants.{Skip}
 use Rattle.ps_hoa.specs.Scan.{step_of}
@@ -13,14 +13,11 @@ blanks-preserved c =
     take_all _ bytes (rw length-drop (omega arith)) in
     let is : step_of bytes ≡ Skip c.in-Skip.count = sym (ap step_of whole) ∙ sym c.in-Skip.ensures.value in
     record {
-      blanks =
-          more_blanks c.args.source.now c.args.from c.blanks.at c.in-Skip.count c.blanks.invariant.blanks is;
+      blanks = search (rules, more_blanks, c.blanks.invariant.blanks);
       from = omega arith;
       within = (let w = c.in-Skip.ensures.within in omega (arith, w, simp (whole, length-drop) at w));
-      same = lex_step c.args.source.now c.args.from c.blanks.at c.in-Skip.count is c.in-Skip.ensures.skips
-          c.blanks.invariant.same;
+      same = search (rules, lex_step, c.in-Skip.ensures.skips, c.blanks.invariant.same);
     }
 
 pub blanks-init : goal.blanks-init
-blanks-init c =
-    record { from = omega arith; blanks = no_blanks c.args.source.now c.args.from; within = omega arith; same = refl }
+blanks-init c = search (rules, no_blanks)
