@@ -110,8 +110,7 @@ module _ {c : CircuitData} (is : IsCircuit c) where
 
 pub moved_small : {size front : ℕ} {places : List ℕ} → AreMoved size front places → size ≤ 2 ^ 31 →
     All (λ p. p < 2 ^ 31) places
-moved_small {places} are few k d lt =
-    omega (arith, are.within k (omega (arith, are.each)), get_or_default places k d 0 lt)
+moved_small {places} are few k d lt = search (rules, get_or_default)
 
 -- gates that stand one behind another
 pub length-rows_from : (place : ℕ) (gates : List Operands) → length (rows_from place gates) ≡ length gates
@@ -202,8 +201,8 @@ gate_on front gates values initial a b k lane less lt la lb first second before 
     let at : get_or rows k no_row ≡ row_of_operands (front + k) (get_or gates k no_operands) =
     rows_from_at front gates k lt in
     rw (ap (λ (r : Row). r.target) at) at (worked_on rows values initial a b k lane less
-    (omega (arith, length-rows_from front gates)) la lb (first ∙ ap (λ (r : Row). read (lane_of values lane) r.first)
-    (sym at)) (second ∙ ap (λ (r : Row). read (lane_of values lane) r.second) (sym at)) before)
+    (omega (arith, length-rows_from front gates)) la lb (search rules)
+    (second ∙ ap (λ (r : Row). read (lane_of values lane) r.second) (sym at)) before)
 
 -- the literals of a gate within the table
 pub gate_fits : (front size : ℕ) (gates : List Operands) (k : ℕ) → k < length gates →
@@ -212,16 +211,12 @@ pub gate_fits : (front size : ℕ) (gates : List Operands) (k : ℕ) → k < len
 gate_fits front size gates k lt within =
     let there : IsWithin size (get_or (rows_from front gates) k no_row) =
     within k no_row (omega (arith, length-rows_from front gates)) in
-    let e = rows_from_at front gates k lt in (
-      omega (arith, there.first, ap (λ (r : Row). r.first.place) e),
-      omega (arith, there.second, ap (λ (r : Row). r.second.place) e),
-    )
+    let e = rows_from_at front gates k lt in (search rules)
 
 -- the gates have their places in the table
 pub gates_end : (front size : ℕ) (gates : List Operands) (rows : List Row) (places : List ℕ) →
     rows_from front gates ≡ map (move_row places) rows → front + length rows ≤ size → front + length gates ≤ size
-gates_end front size gates rows places e fit =
-    omega (arith, ap length e, length-rows_from front gates, length-map rows (move_row places))
+gates_end front size gates rows places e fit = search (rules, length-rows_from, length-map)
 
 -- behind the last gate
 pub all_done : (front : ℕ) (gates : List Operands) (k : ℕ) → length gates ≤ k → (values initial : List Bool)

@@ -171,8 +171,7 @@ pub HasRead-next : {names : List (List ℕ)} {c d : CircuitData} {stem lap seen 
     (seen' : List (List Bool)) {old new : List ℕ} {from latches last : List Bool} → d ≡ c → latches ≡ from →
     HasRead names c stem lap seen old from → IsSeen seen seen' latches None → ReadsWord names d from lap old new last →
     length from ≡ length c.latches → HasRead names c stem lap seen' new last
-HasRead-next seen' same at h s r wide =
-    rw (s.1, at) (HasRead-lap h (rw same at r) wide (λ k lt e. s.0 k lt (e ∙ sym at)))
+HasRead-next seen' same at h s r wide = search (rules, HasRead-lap)
 
 -- the lists of bits that are left grow fewer
 pub fewer : {names : List (List ℕ)} {c : CircuitData} {stem lap seen' : List (List Bool)} {new : List ℕ}
@@ -216,8 +215,7 @@ pub lap_length : {names : List (List ℕ)} {c : CircuitData} {stem lap : List (L
     → count + (length stem + i * length lap) ≡ length letters → count ≡ (h.j - i) * length lap
 lap_length {names} {c} {stem} {lap} {i} count {letters} h e =
     let size = length_of_letters h in
-    let back : count ≡ length lap * h.j - length lap * i =
-    omega (arith, e, size, mul_comm (length lap) h.j, mul_comm (length lap) i) in
+    let back : count ≡ length lap * h.j - length lap * i = search (rules, mul_comm, h.j) in
     back ∙ sym (mul-sub (length lap) h.j i) ∙ mul_comm (length lap) (h.j - i)
 
 -- the same of letters that the code keeps
@@ -238,8 +236,7 @@ pub verdict : (file : FileData) {names all : List (List ℕ)} {c : CircuitData} 
 verdict file {names} {c} stem lap {letters} {before} {behind} {i} accepted same of_file h front back size asked =
     let e_stem = length-map stem (λ (l : Vec Bool Global). l.items) in
     let e_lap = length-map lap (λ (l : Vec Bool Global). l.items) in
-    let start : length stem + i * length lap ≡ length (letters_of stem) + i * length (letters_of lap) =
-    ap (λ n. n + i * length lap) (sym e_stem) ∙ ap (λ n. length (letters_of stem) + i * n) (sym e_lap) in
+    let start : length stem + i * length lap ≡ length (letters_of stem) + i * length (letters_of lap) = search rules in
     record {
       i = i;
       j = h.j;

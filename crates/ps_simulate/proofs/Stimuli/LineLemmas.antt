@@ -1,7 +1,7 @@
 -- The lines of a text, and what is wrong in one line.
-use Rattle.std.proofs.Common.{◌≡◌, ◌≢◌, ℕ, zero, suc, ◌+◌, ◌-◌, ◌<◌, ◌≤◌, ◌==◌, ◌⊎◌, inl, inr, Bool, true, false}
+use Rattle.std.proofs.Common.{◌≡◌, ◌≢◌, ℕ, zero, suc, ◌+◌, ◌-◌, ◌<◌, ◌≤◌, ◌==◌, ◌⊎◌, Bool, true, false, rules}
 use Rattle.std.proofs.Common.{List, [], ◌∷◌, ◌++◌, length, get_or, take, drop, refl, sym, ap, ◌∙◌, arith, Some}
-use Rattle.std.proofs.Common.{None, Option, slice_get, option_map, All, length-take, length-drop}
+use Rattle.std.proofs.Common.{slice_get, All, length-take, length-drop}
 use Rattle.std.proofs.lemmas.List.{length-map, get_or-take, get_or-drop, take-append-drop, drop-drop, drop_more}
 use Rattle.std.proofs.lemmas.List.{drop_all, take_all}
 use Rattle.std.proofs.lemmas.List.Elements.{All-head, All-tail, All-from_get_or}
@@ -9,7 +9,6 @@ use Rattle.std.proofs.lemmas.List.Sums.{sum_by-cons}
 use Rattle.std.proofs.lemmas.Option.{slice_get-map, slice_get_within}
 use Rattle.std.proofs.lemmas.Bool.{ne_eqb}
 use Rattle.ps_simulate.specs.declared.fault.StimulusCause.{StimulusCause}
-use Rattle.ps_simulate.specs.declared.fault.StimulusCause.TheVariants.{Width, Stimulus}
 use Rattle.ps_simulate.specs.StimulusTexts.{lines_of, start_of, digit_of, digits_of, divider, IsDigit}
 use Rattle.ps_simulate.specs.StimulusTexts.{StandsInLine}
 
@@ -37,21 +36,16 @@ module _ (text : List ℕ) (start end : ℕ) (from : start ≤ end) (within : en
   front_has_none : All NoNewline (take (end - start) (drop start text))
   front_has_none = All-from_get_or NoNewline (take (end - start) (drop start text)) 0
       (λ k lt e. (let less : k < end - start = omega (arith, lt, length-take (end - start) (drop start text)) in
-      none (start + k) (omega arith) (omega arith) (sym (get_or-drop start text k 0)
-      ∙ sym (get_or-take (end - start) (drop start text) k 0 less) ∙ e)))
+      none (start + k) (omega arith) (omega arith) (search (rules, get_or-drop, get_or-take))))
 
   split_here : take (end - start) (drop start text) ++ drop end text ≡ drop start text
   split_here = ap (λ rest. take (end - start) (drop start text) ++ rest)
-      (let e : start + (end - start) ≡ end = omega arith in ap (λ n. drop n text) (sym e)
-      ∙ sym (drop-drop (end - start) start text)) ∙ take-append-drop (end - start) (drop start text)
+      (search (rules, drop-drop)) ∙ take-append-drop (end - start) (drop start text)
 
   -- a line that a newline ends
   pub lines_of-drop_ended : end < length text → get_or text end 0 ≡ 10
       → lines_of (drop start text) ≡ take (end - start) (drop start text) ∷ lines_of (drop (end + 1) text)
-  lines_of-drop_ended lt newline =
-      ap lines_of (sym split_here ∙ ap (λ rest. take (end - start) (drop start text) ++ rest)
-      (drop_more text end 0 lt ∙ ap (λ b. b ∷ drop (end + 1) text) newline))
-      ∙ lines_of-ended (take (end - start) (drop start text)) (drop (end + 1) text) front_has_none
+  lines_of-drop_ended lt newline = search (rules, split_here, drop_more, lines_of-ended, front_has_none)
 
 -- the last line, which no newline ends
 pub lines_of-drop_last : (text : List ℕ) (start : ℕ) → start < length text →
@@ -94,12 +88,10 @@ start_of-later (l ∷ lines) (suc k) (suc m) {line} there less within = omega (
 -- ## One line
 
 pub digit_is : (bit : Bool) → IsDigit (digit_of bit)
-digit_is true = inr refl
-digit_is false = inl refl
+digit_is bit = search rules
 
 pub digit_of-is : (byte : ℕ) → IsDigit byte → digit_of (byte == 49) ≡ byte
-digit_of-is byte (inl e) = ap (λ b. digit_of (b == 49)) e ∙ sym e
-digit_of-is byte (inr e) = ap (λ b. digit_of (b == 49)) e ∙ sym e
+digit_of-is byte h1 = search rules
 
 -- a letter's line is no divider
 pub digits_of-divider : (letter : List Bool) → digits_of letter ≢ divider
@@ -110,22 +102,13 @@ digits_of-divider (false ∷ letter) e = omega (arith, ap (λ (l : List ℕ). ge
 -- nothing is wrong with the line of a letter
 pub letter_none : (letter : List Bool) {line : List ℕ} (start : ℕ) {width : ℕ} (cause : StimulusCause) (offset : ℕ)
     → line ≡ digits_of letter → length letter ≡ width → StandsInLine line start width cause offset → ⊥
-letter_none letter start Width offset is each h = h.0 (ap length is ∙ length-map letter digit_of ∙ each)
-letter_none letter start Stimulus offset is each (j, byte, there, wrong, at) =
-    found (slice_get letter j) (sym (slice_get-map digit_of letter j)
-    ∙ ap (λ (l : List ℕ). slice_get l j) (sym is) ∙ there)
-  where
-    found : (o : Option Bool) → option_map digit_of o ≡ Some byte → ⊥
-    found None e = cc
-    found (Some bit) e = wrong (let same : digit_of bit ≡ byte = cc in rw same at (digit_is bit))
+letter_none letter start cause offset h1 h2 h3 = search (rules, length-map, slice_get-map, digit_is)
 
 -- where the causes of a line stand
 pub in_line_from : (line : List ℕ) (start width : ℕ) (cause : StimulusCause) (offset : ℕ) →
     StandsInLine line start width cause offset → start ≤ offset
-in_line_from line start width Width offset h = omega (arith, h.1)
-in_line_from line start width Stimulus offset h = omega (arith, h.4)
+in_line_from line start width cause offset h1 = search rules
 
 pub in_line_within : (line : List ℕ) (start width : ℕ) (cause : StimulusCause) (offset : ℕ) →
     StandsInLine line start width cause offset → (offset ≡ start) ⊎ (offset < start + length line)
-in_line_within line start width Width offset h = inl h.1
-in_line_within line start width Stimulus offset h = inr (omega (arith, h.4, slice_get_within line h.0 h.1 h.2))
+in_line_within line start width cause offset h1 = search (rules, slice_get_within)

@@ -1,5 +1,6 @@
 -- Each text of a stimulus has an answer: its letters, or the first cause, line by line.
 use Rattle.std.proofs.Common.{◌≡◌, ℕ, zero, suc, ◌+◌, ◌<◌, ◌≤◌, ◌≢◌, ◌==◌, ◌⊎◌, inl, inr, Bool, true, false, cond, List}
+use Rattle.std.proofs.Common.{rules}
 use Rattle.std.proofs.Common.{[], ◌∷◌, length, take, drop, refl, sym, ap, ap₂, ◌∙◌, arith, Some, Ok, Err}
 use Rattle.std.proofs.Common.{slice_get, length-drop}
 use Rattle.std.proofs.lemmas.Bool.{cases_eq, cases_lt, eq-eqb, ne_eqb}
@@ -74,20 +75,14 @@ module _ (line : List ℕ) (start width : ℕ) where
           (start + w.place < there) ⊎ ((start + w.place ≡ there) × (rank Stimulus ≤ rank cause))
       least (inl e) Width there h = absurd (h.0 e)
       least (inr e) Width there h = inr (omega (arith, e, h.1), omega arith)
-      least f Stimulus there h = by (cases_lt w.place h.0)
-        where
-          by : (suc w.place ≤ h.0) ⊎ (h.0 ≤ w.place) →
-              (start + w.place < there) ⊎ ((start + w.place ≡ there) × (rank Stimulus ≤ rank Stimulus))
-          by (inl less) = inl (omega (arith, less, h.4))
-          by (inr le) = inr (omega (arith, le, h.4, w.least h.0 h.1 h.2 h.3), omega arith)
+      least f Stimulus there h = search (rules, cases_lt, w.place, h.0, h.4, w.least, h.1)
 
   line_answer : LineAnswer
   line_answer = go (cases_eq (length line) width) (letter_or_wrong line)
     where
       by_place : length line ≢ width → (w : FirstWrong line) → Decided (w.place ≡ 0) → LineFault
       by_place other w (inl e) = wrong_byte w (inr e)
-      by_place other w (inr n) = wrong_width other (λ there h.
-          let far : w.place ≤ h.0 = w.least h.0 h.1 h.2 h.3 in omega (arith, far, h.4, n))
+      by_place other w (inr n) = search (rules, wrong_width, w.place, w.least)
 
       go : Decided (length line ≡ width) → IsLetter line ⊎ FirstWrong line → LineAnswer
       go (inl e) (inl (letter, is)) = inl (letter, is, e)
@@ -113,8 +108,7 @@ first_line (b ∷ bytes) some = go (cases_eq b 10) bytes (first_line bytes)
   where
     go : Decided (b ≡ 10) → (rest : List ℕ) → (0 < length rest → (size : ℕ) × FirstLine rest size) →
         (size : ℕ) × FirstLine (b ∷ rest) size
-    go (inl e) rest next =
-        (0, (omega arith, ap (λ t. cond t ([] ∷ lines_of rest) (put_byte b (lines_of rest))) (eq-eqb b 10 e)))
+    go (inl e) rest next = search (rules, eq-eqb)
     go (inr n) [] next = (1, (omega arith, ap (λ t. cond t ([] ∷ []) (put_byte b [])) (ne_eqb b 10 n)))
     go (inr n) (c ∷ rest) next = let l = next (omega arith) in (
       suc l.0,

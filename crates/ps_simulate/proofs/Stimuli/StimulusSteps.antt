@@ -1,5 +1,6 @@
 -- The reader of stimuli, line by line.
 use Rattle.std.proofs.Common.{◌≡◌, ℕ, ◌+◌, ◌<◌, ◌≤◌, ◌⊎◌, inl, inr, Bool, true, false, List, [], ◌∷◌, ◌++◌, map, length}
+use Rattle.std.proofs.Common.{rules}
 use Rattle.std.proofs.Common.{drop, refl, sym, ap, subst, ◌∙◌, arith, Some, Err, slice_get, All, length-append}
 use Rattle.std.specs.Prelude.{Vec}
 use Rattle.std.specs.Global.{Global}
@@ -28,10 +29,7 @@ with_letter true s letter = record { stem = s.stem; lap = s.lap ++ letter ∷ []
 
 spelled-with_letter : (in_lap : Bool) (s : StimulusData) (letter : List Bool) →
     spelled in_lap (with_letter in_lap s letter) ≡ spelled in_lap s ++ digits_of letter ∷ []
-spelled-with_letter false s letter = map_push digits_of s.stem letter
-spelled-with_letter true s letter =
-    ap (λ (lap : List (List ℕ)). map digits_of s.stem ++ divider ∷ lap) (map_push digits_of s.lap letter)
-    ∙ sym (append_assoc (map digits_of s.stem) (divider ∷ map digits_of s.lap) (digits_of letter ∷ []))
+spelled-with_letter in_lap s letter = search (rules, map_push, append_assoc)
 
 widths_with : (in_lap : Bool) (s : StimulusData) (letter : List Bool) {width : ℕ} → All (λ l. length l ≡ width) s.stem →
     All (λ l. length l ≡ width) s.lap → length letter ≡ width
@@ -42,19 +40,11 @@ widths_with true s letter {width} stem lap each = (stem, All-push (λ l. length 
 
 no_lap_with : (in_lap : Bool) (s : StimulusData) (letter : List Bool) → (in_lap ≡ false → s.lap ≡ []) → in_lap ≡ false →
     (with_letter in_lap s letter).lap ≡ []
-no_lap_with false s letter none e = none e
-no_lap_with true s letter none e = cc
+no_lap_with in_lap s letter h1 h2 = search rules
 
 pub HasRead-start : (text : List ℕ) (width : ℕ) (split : Bool) →
     HasRead text width split false 0 (record { stem = []; lap = [] })
-HasRead-start text width split = record {
-  lines = refl;
-  start_is = refl;
-  stem_widths = All-nil (λ l. length l ≡ width);
-  lap_widths = All-nil (λ l. length l ≡ width);
-  wanted = λ e. cc;
-  no_lap = λ e. refl;
-}
+HasRead-start text width split = search (rules, All-nil)
 
 module _ {text : List ℕ} {width : ℕ} {split in_lap : Bool} {start end : ℕ} {s : StimulusData}
     (h : HasRead text width split in_lap start s) {line : List ℕ}
@@ -67,15 +57,14 @@ module _ {text : List ℕ} {width : ℕ} {split in_lap : Bool} {start end : ℕ}
     pushed = behind ∙ sym (append_assoc (spelled in_lap s) (line ∷ []) (lines_of (drop (end + 1) text)))
 
     end_is : end + 1 ≡ extent (spelled in_lap s ++ line ∷ [])
-    end_is =
-        omega (arith, h.start_is, length_is, sum_by_push (λ (bytes : List ℕ). length bytes + 1) (spelled in_lap s) line)
+    end_is = search (rules, sum_by_push)
 
     -- a letter's line
     pub HasRead-letter : (letter : List Bool) → line ≡ digits_of letter → length line ≡ width →
         HasRead text width split in_lap (end + 1) (with_letter in_lap s letter)
     HasRead-letter letter is each =
         let spells : spelled in_lap s ++ line ∷ [] ≡ spelled in_lap (with_letter in_lap s letter) =
-        ap (λ (l : List ℕ). spelled in_lap s ++ l ∷ []) is ∙ sym (spelled-with_letter in_lap s letter) in
+        search (rules, spelled-with_letter) in
         let widths = widths_with in_lap s letter h.stem_widths h.lap_widths
         (sym (length-map letter _) ∙ ap length (sym is) ∙ each) in
         record {
@@ -94,22 +83,14 @@ module _ {text : List ℕ} {width : ℕ} {split in_lap : Bool} {start end : ℕ}
         0 (omega arith)
 
     start_here : start_of (lines_of text) (length (spelled in_lap s)) ≡ start
-    start_here = ap (λ (ls : List (List ℕ)). start_of ls (length (spelled in_lap s))) behind
-        ∙ ap extent (take_at (spelled in_lap s) (line ∷ lines_of (drop (end + 1) text))
-        (length (spelled in_lap s)) refl)
-        ∙ sym h.start_is
+    start_here = search (rules, behind, take_at)
 
     -- the first cause in a line is the first in the text
     pub IsFirst-in_line : start < length text → end ≤ length text →
         ¬ Divides split (lines_of text) (length (spelled in_lap s)) → {cause : StimulusCause} {offset : ℕ} →
         IsFirst (StandsInLine line start width) cause offset → IsFirst (Stands text width split) cause offset
     IsFirst-in_line some within letter {cause} {offset} first = record {
-      stands = inl (record {
-        k = here;
-        line = line;
-        is_letter = record { there = at_line; letter = letter };
-        in_line = rw start_here first.stands;
-      });
+      stands = search (rules, at_line, start_here, first.stands);
       least =
           λ other there stands. elim stands [ inl l ↦ in_letter other there l | inr m ↦ inl (missing other there m) ];
     }
@@ -154,8 +135,7 @@ pub HasRead-divider : {text : List ℕ} {width : ℕ} {split : Bool} {start end 
     → lines_of (drop start text) ≡ line ∷ lines_of (drop (end + 1) text) → start + length line ≡ end → line ≡ divider →
     split ≡ true → HasRead text width split true (end + 1) s
 HasRead-divider {text} {width} {split} {start} {end} {s} h {line} next length_is is wanted =
-    let spells : spelled false s ++ line ∷ [] ≡ spelled true s = ap (λ (l : List ℕ). map digits_of s.stem ++ l ∷ []) is
-    ∙ ap (λ (lap : List (List Bool)). map digits_of s.stem ++ divider ∷ map digits_of lap) (sym (h.no_lap refl)) in
+    let spells : spelled false s ++ line ∷ [] ≡ spelled true s = search (rules, s.stem, h.no_lap) in
     record {
       lines = pushed h next length_is ∙ ap (λ (front : List (List ℕ)). front ++ lines_of (drop (end + 1) text)) spells;
       start_is = end_is h next length_is ∙ ap extent spells;
@@ -186,16 +166,10 @@ not_divides in_lap h (inr (inr plain)) d = (let e = d.wanted in cc)
 module _ {text : List ℕ} {width : ℕ} {split in_lap : Bool} {start : ℕ} {s : StimulusData}
     (h : HasRead text width split in_lap start s) (past : length text ≤ start) where
   all_lines : lines_of text ≡ spelled in_lap s
-  all_lines = h.lines ∙ ap (λ (bytes : List ℕ). spelled in_lap s ++ lines_of bytes) (drop_all start text past)
-      ∙ append-nil (spelled in_lap s)
+  all_lines = search (rules, drop_all, append-nil)
 
   pub IsStimulus-end : in_lap ≡ split → IsStimulus text width split s
-  IsStimulus-end e = record {
-    lines = all_lines ∙ ap (λ (b : Bool). spelled b s) e;
-    stem_widths = h.stem_widths;
-    lap_widths = h.lap_widths;
-    no_lap = λ plain. h.no_lap (e ∙ plain);
-  }
+  IsStimulus-end e = search (rules, all_lines)
 
 pub IsFirst-end : {text : List ℕ} {width : ℕ} {split : Bool} {start : ℕ} {s : StimulusData} →
     HasRead text width split false start s → length text ≤ start → split ≡ true
@@ -227,8 +201,7 @@ pub HasRead-same : (text : List ℕ) (width : ℕ) (split in_lap in_lap' : Bool)
     (stem stem' lap lap' : List (List Bool)) → in_lap ≡ in_lap' → stem ≡ stem' → lap ≡ lap'
     → HasRead text width split in_lap start (record { stem = stem; lap = lap }) →
     HasRead text width split in_lap' start (record { stem = stem'; lap = lap' })
-HasRead-same text width split in_lap in_lap' start stem stem' lap lap' same_side same_stem same_lap h =
-    rw (← same_side, ← same_stem, ← same_lap) h
+HasRead-same text width split in_lap in_lap' start stem stem' lap lap' same_side same_stem same_lap h = search rules
 
 pub letters_of-push : (letters : List (Vec Bool Global)) (letter : Vec Bool Global) →
     letters_of (letters ++ letter ∷ []) ≡ letters_of letters ++ letter.items ∷ []
@@ -242,7 +215,5 @@ pub IsStimulusAnswer-line : {text : List ℕ} {width : ℕ} {split in_lap : Bool
     → (in_lap ≡ true) ⊎ (¬ (slice_get (lines_of text) (length (spelled in_lap s)) ≡ Some divider) ⊎ (split ≡ false))
     → (fault : StimulusFault) → ReadsLine line start width (Err fault) → IsStimulusAnswer text width split (Err fault)
 IsStimulusAnswer-line {text} {width} {split} {in_lap} {start} {end} {s} h {line} next length_is some within plain
-    (Text cause offset) first =
-    IsFirst-in_line h next length_is some within
-    (not_divides in_lap h plain) first
+    (Text cause offset) first = search (rules, IsFirst-in_line, not_divides)
 IsStimulusAnswer-line h next length_is some within plain OutOfMemory first = tt

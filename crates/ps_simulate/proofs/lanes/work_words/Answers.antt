@@ -2,7 +2,6 @@ use Rattle.std.proofs.Common.{◌∙◌, ap, length, rules, arith}
 use Rattle.std.proofs.lemmas.List.{get_or_default}
 use Rattle.ps_circuit.specs.Literals.{variable}
 use Rattle.ps_simulate.specs.declared.lane_plan.Operands.{Operands}
-use Rattle.ps_simulate.specs.Lanes.{lane_of}
 use Rattle.ps_simulate.proofs.LanePlanLemmas.{all_done, gate_on, gate_fits, no_operands}
 use Rattle.ps_simulate.proofs.lanes.work_words.Goals as goal
 
@@ -34,6 +33,4 @@ bits-requires-in-loop-number c =
     omega (arith, fits.1, c.loop-number.auto.values, ap (λ (g : Operands). variable g.second) is)
 
 pub returns : goal.returns
-returns c lane lt =
-    all_done c.args.front c.args.gates.now c.loop-number.number (omega (arith, c.loop-number-test.false))
-    (lane_of c.loop-number.values lane) (lane_of c.args.values.now lane) (c.loop-number.invariant lane lt)
+returns c lane lt = search (rules, all_done)

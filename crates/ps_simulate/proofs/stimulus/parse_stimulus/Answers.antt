@@ -1,4 +1,4 @@
-use Rattle.std.proofs.Common.{◌≡◌, ◌∙◌, ◌+◌, ◌-◌, ◌≤◌, ◌⊎◌, Bool, Some, Vec, true, false, refl, inl, inr}
+use Rattle.std.proofs.Common.{◌≡◌, ◌∙◌, ◌+◌, ◌-◌, ◌≤◌, ◌⊎◌, Bool, Some, Vec, true, false, refl, rules}
 use Rattle.std.proofs.Common.{sym, ap, take, drop, length, slice_get, arith}
 use Rattle.std.specs.Global.{Global}
 use Rattle.std.proofs.lemmas.Result.{err_from_is_err_and}
@@ -10,9 +10,6 @@ use Rattle.ps_simulate.proofs.Stimuli.LineLemmas.{line_length}
 use Rattle.ps_simulate.proofs.stimulus.parse_stimulus.Goals as goal
 use Rattle.ps_simulate.proofs.stimulus.parse_stimulus.Goals.{then-split+then-not-in_lap+then-is_divider}
 use Rattle.ps_simulate.proofs.stimulus.parse_stimulus.Goals.{else-split+in_ok-letter+then-in_lap+in_ok-push}
-use Rattle.ps_simulate.proofs.stimulus.parse_stimulus.Goals.{else-split-via-then-split+then-not-in_lap+else-is_divider}
-use Rattle.ps_simulate.proofs.stimulus.parse_stimulus.Goals.{else-split-via-then-split+else-not-in_lap}
-use Rattle.ps_simulate.proofs.stimulus.parse_stimulus.Goals.{else-split-via-else-split}
 use Rattle.ps_simulate.proofs.stimulus.parse_stimulus.Goals.{else-split+in_ok-letter+else-in_lap+in_ok-push-2}
 
 pub returns-then-not-in_lap-2 : goal.returns-then-not-in_lap-2
@@ -40,17 +37,13 @@ loop-start-preserved c =
       | else-split+in_ok-letter+then-in_lap+in_ok-push w ↦ HasRead-same text c.args.width c.args.split true
           c.if-split.in_lap (end + 1) stem _ _ _ (sym w.if-in_lap.true ∙ sym w.in_lap-is)
           (ap (λ (v : Vec (Vec Bool Global) Global). letters_of v.items) (sym w.stem-is))
-          (sym (letters_of-push c.loop-start.lap.items w.in_ok-letter.letter)
-          ∙ ap letters_of (sym w.in_ok-push.ensures.items) ∙ ap (λ (v : Vec (Vec Bool Global) Global).
-          letters_of v.items) (sym w.lap-is)) (HasRead-letter
+          (search (rules, letters_of-push)) (HasRead-letter
           (HasRead-same text c.args.width c.args.split c.loop-start.in_lap true start stem stem lap lap w.if-in_lap.true
           refl refl c.loop-start.invariant) c.line_end-end.ensures.lines ends w.in_ok-letter.letter.items
           w.in_ok-letter.ensures.0 w.in_ok-letter.ensures.1)
       | else-split+in_ok-letter+else-in_lap+in_ok-push-2 w ↦ HasRead-same text c.args.width c.args.split false
           c.if-split.in_lap (end + 1) _ _ lap _ (sym w.if-in_lap.false ∙ sym w.in_lap-is)
-          (sym (letters_of-push c.loop-start.stem.items w.in_ok-letter.letter)
-          ∙ ap letters_of (sym w.in_ok-push-2.ensures.items) ∙ ap
-          (λ (v : Vec (Vec Bool Global) Global). letters_of v.items) (sym w.stem-is))
+          (search (rules, letters_of-push))
           (ap (λ (v : Vec (Vec Bool Global) Global). letters_of v.items) (sym w.lap-is)) (HasRead-letter
           (HasRead-same text c.args.width c.args.split c.loop-start.in_lap false start stem stem lap lap
           w.if-in_lap.false refl refl c.loop-start.invariant) c.line_end-end.ensures.lines ends
@@ -68,14 +61,7 @@ returns-in_err-letter c =
     let ends = line_length text start end c.line_end-end.ensures.from c.line_end-end.ensures.within in
     let here = at_line c.loop-start.invariant c.line_end-end.ensures.lines ends in
     let plain : (c.loop-start.in_lap ≡ true) ⊎ (¬ (slice_get (lines_of text) (length (spelled c.loop-start.in_lap s)) ≡
-    Some divider) ⊎ (c.args.split ≡ false)) =
-    elim c.else-split.branch [
-      | else-split-via-then-split+then-not-in_lap+else-is_divider w ↦
-          inr (inl (λ there. let same : line ≡ divider = cc in let yes = w.is_divider.ensures.1 same in
-          let no = w.if-is_divider.false in cc))
-      | else-split-via-then-split+else-not-in_lap w ↦ inl w.if-not-in_lap.false
-      | else-split-via-else-split w ↦ inr (inr w.if-split.false)
-    ] in
+    Some divider) ⊎ (c.args.split ≡ false)) = search rules in
     let p = err_from_is_err_and c.from_residual.result c.from_residual.ensures.1 in
     rw (p.1, p.2) (IsStimulusAnswer-line c.loop-start.invariant c.line_end-end.ensures.lines ends c.loop-start-test.true
     c.line_end-end.ensures.within plain c.in_err-letter.field-0.0 c.in_err-letter.ensures)

@@ -1,4 +1,5 @@
 use Rattle.std.proofs.Common.{◌≡◌, ◌∙◌, ℕ, ◌+◌, ◌-◌, ◌^◌, ◌<◌, ◌≤◌, List, length, map, All, ap, ap₂, refl, subst, sym}
+use Rattle.std.proofs.Common.{rules}
 use Rattle.std.proofs.Common.{arith}
 use Rattle.ps_simulate.specs.declared.plan.Row.{Row}
 use Rattle.ps_simulate.specs.declared.plan.Wire.{Wire}
@@ -20,15 +21,7 @@ front_is c = omega (arith, ap length c.gates-gates.ensures.gates, size_is c, len
 
 are_moved : (c : After-deref-2) → AreMoved c.in_ok-plan.plan.size
     (c.in_ok-plan.plan.size - length c.gates-gates.result.now) c.in_ok-places.places.items
-are_moved c =
-    let p = c.in_ok-plan.plan in
-    AreMoved_at c.gates-gates.ensures.well_formed p.rows.items c.in_ok-plan.ensures.rows_are
-    c.in_ok-plan.ensures.size_is (omega (
-      arith,
-      ap length c.gates-gates.ensures.gates,
-      c.in_ok-plan.ensures.size_is,
-      length-variables c.args.circuit.now,
-    )) c.deref.ensures.value c.in_ok-places.ensures.size c.in_ok-places.ensures.kept c.in_ok-places.ensures.in_order
+are_moved c = search (rules, AreMoved_at, length-variables)
 
 -- the places of the table have room in literals
 small : (c : After-deref-2) → All (λ p. p < 2 ^ 31) c.in_ok-places.places.items
@@ -39,64 +32,31 @@ many : (c : After-deref-2) → length c.in_ok-places.places.items ≡ length (va
 many c = c.in_ok-places.ensures.size ∙ c.in_ok-plan.ensures.size_is
 
 pub moved_places-requires-clause-fit : goal.moved_places-requires-clause-fit
-moved_places-requires-clause-fit c =
-    let a = (goal.at.moved_places-requires-clause-fit c).After-deref in
-    let p = c.in_ok-plan.plan in
-    omega (
-      arith,
-      front_is a,
-      size_is a,
-      few_rows c.gates-gates.ensures.well_formed p.rows.items c.in_ok-plan.ensures.rows_are,
-      ap length c.deref.ensures.value,
-      length-variables c.args.circuit.now,
-    )
+moved_places-requires-clause-fit c = search (rules, front_is, size_is, few_rows, length-variables)
 
 pub moved_places-requires-clause-gates : goal.moved_places-requires-clause-gates
-moved_places-requires-clause-gates c =
-    let a = (goal.at.moved_places-requires-clause-gates c).After-deref in
-    let p = c.in_ok-plan.plan in
-    gate_rows_at c.gates-gates.ensures.well_formed p.rows.items c.in_ok-plan.ensures.rows_are (size_is a) (front_is a)
-    c.deref.ensures.value
+moved_places-requires-clause-gates c = search (rules, gate_rows_at, size_is, front_is)
 
 pub moved_places-requires-clause-once : goal.moved_places-requires-clause-once
-moved_places-requires-clause-once c = rows_once_at c.gates-gates.ensures.well_formed c.in_ok-plan.plan.rows.items
-    c.in_ok-plan.ensures.rows_are c.deref.ensures.value
+moved_places-requires-clause-once c = search (rules, rows_once_at)
 
 pub gates_of-requires-clause-places : goal.gates_of-requires-clause-places
-gates_of-requires-clause-places c =
-    rw c.deref-2.ensures.value (small (goal.at.gates_of-requires-clause-places c).After-deref-2)
+gates_of-requires-clause-places c = search (rules, small)
 
 pub gates_of-requires-clause-within : goal.gates_of-requires-clause-within
-gates_of-requires-clause-within c = rw (
-  c.deref-3.ensures.value,
-  c.deref-2.ensures.value,
-  many (goal.at.gates_of-requires-clause-within c).After-deref-2,
-)
-    (rows_within c.gates-gates.ensures.well_formed c.in_ok-plan.ensures)
+gates_of-requires-clause-within c = search (rules, many, rows_within)
 
 pub literals-requires-clause-places : goal.literals-requires-clause-places
-literals-requires-clause-places c =
-    rw c.deref-4.ensures.value (small (goal.at.literals-requires-clause-places c).After-deref-2)
+literals-requires-clause-places c = search (rules, small)
 
 pub literals-requires-clause-within : goal.literals-requires-clause-within
-literals-requires-clause-within c = rw (
-  c.deref-5.ensures.value,
-  c.deref-4.ensures.value,
-  many (goal.at.literals-requires-clause-within c).After-deref-2,
-)
-    (outputs_within c.gates-gates.ensures.well_formed c.in_ok-plan.ensures)
+literals-requires-clause-within c = search (rules, many, outputs_within)
 
 pub literals-requires-2-clause-places : goal.literals-requires-2-clause-places
-literals-requires-2-clause-places c =
-    rw c.deref-6.ensures.value (small (goal.at.literals-requires-2-clause-places c).After-deref-2)
+literals-requires-2-clause-places c = search (rules, small)
 
 pub literals-requires-2-clause-within : goal.literals-requires-2-clause-within
-literals-requires-2-clause-within c = rw (
-  c.deref-7.ensures.value,
-  c.deref-6.ensures.value,
-  many (goal.at.literals-requires-2-clause-within c).After-deref-2,
-)
-    (nexts_within c.gates-gates.ensures.well_formed c.in_ok-plan.ensures)
+literals-requires-2-clause-within c = search (rules, many, nexts_within)
 
 pub returns-clause-plan : goal.returns-clause-plan
 returns-clause-plan c =

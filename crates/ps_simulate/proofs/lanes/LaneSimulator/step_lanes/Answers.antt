@@ -1,4 +1,4 @@
-use Rattle.std.proofs.Common.{◌≡◌, ◌∙◌, ◌++◌, ℕ, ◌/◌, ◌<◌, List, length, take, drop, ap}
+use Rattle.std.proofs.Common.{◌≡◌, ◌∙◌, ◌++◌, ℕ, ◌/◌, ◌<◌, length, take, drop, ap, rules}
 use Rattle.std.proofs.Common.{sym, arith}
 use Rattle.std.proofs.lemmas.List.{take_at}
 use Rattle.ps_simulate.specs.LanePlans.{rows_from}
@@ -14,8 +14,7 @@ use Rattle.ps_simulate.proofs.lanes.LaneSimulator.step_lanes.Goals.{After-fill_w
 table_is : (c : After-fill_words) → take c.self.inside.values.len
     (c.fill_words.new.values ++ drop (length c.fill_words.new.values) c.self.inside.values.items) ≡
     c.fill_words.new.values
-table_is c = take_at c.fill_words.new.values _ _
-    (omega (arith, c.fill_words.auto.values, c.deref_mut.ensures.len))
+table_is c = search (rules, take_at)
 
 size_is : (c : After-fill_words) → length c.deref_mut.result.now ≡ c.self.inside.plan.size
 size_is c = ap length c.deref_mut.ensures.value ∙ c.self.invariant.values_each
@@ -31,21 +30,14 @@ worked c lane lt = rw (c.deref.ensures.value, c.deref-2.ensures.value, size_is c
 next_is : (c : After-read_words-2) → take c.self.inside.latches.len
     (c.read_words-2.new.words ++ drop (length c.read_words-2.new.words) c.self.inside.latches.items) ≡
     c.read_words-2.new.words
-next_is c = take_at c.read_words-2.new.words _ _
-    (omega (arith, c.read_words-2.auto.words, c.deref_mut-2.ensures.len))
+next_is c = search (rules, take_at)
 
 pub fill_words-requires-clause-within : goal.fill_words-requires-clause-within
 fill_words-requires-clause-within c =
     rw (c.deref.ensures.value, c.deref_mut.ensures.value, c.self.invariant.values_each) (gates_within c.self.invariant)
 
 pub fill_words-requires-clause-fit : goal.fill_words-requires-clause-fit
-fill_words-requires-clause-fit c = omega (
-  arith,
-  gates_fit c.self.invariant,
-  ap length c.deref.ensures.value,
-  ap length c.deref_mut.ensures.value,
-  c.self.invariant.values_each,
-)
+fill_words-requires-clause-fit c = search (rules, gates_fit)
 
 pub fill_words-requires-clause-room : goal.fill_words-requires-clause-room
 fill_words-requires-clause-room c =
@@ -86,14 +78,7 @@ read_words-requires-2-clause-within c =
 
 pub read_words-requires-2-clause-fit : goal.read_words-requires-2-clause-fit
 read_words-requires-2-clause-fit c =
-    let t = c.self.invariant in
-    omega (
-      arith,
-      ap length c.deref_mut-2.ensures.value,
-      latches_many t,
-      ap length c.deref-5.ensures.value,
-      nexts_many t,
-    )
+    search (rules, latches_many, nexts_many, c.self.invariant, c.deref_mut-2.ensures.value, c.deref-5.ensures.value)
 
 -- the letters fit the circuit
 letters_fit : (c : After-read_words-2) → length c.args.inputs.now ≡ length c.self.inside.circuit.now.inputs
@@ -126,5 +111,11 @@ returns-clause-steps c lane lt =
     take s.latches.len (c.read_words-2.new.words ++ drop (length c.read_words-2.new.words) s.latches.items) in
     rw (← c.self.view_is) (Steps-lane c.self.invariant c.args.inputs.now c.fill_words.new.values lane lt (letters_fit b)
     (worked a lane lt) c.read_words.new.words next (rw (c.deref-4.ensures.value, table_is a, c.deref-3.ensures.value) at
-    (c.read_words.ensures lane lt)) (ap (λ (ws : List (List ℕ)). lane_of ws lane) (next_is b) ∙ rw
-    (c.deref-6.ensures.value, table_is a, c.deref-5.ensures.value) at (c.read_words-2.ensures lane lt)))
+    (c.read_words.ensures lane lt)) (search (
+      rules,
+      next_is,
+      table_is,
+      c.deref-6.ensures.value,
+      c.deref-5.ensures.value,
+      c.read_words-2.ensures,
+    )))
