@@ -1,5 +1,5 @@
 -- The classes of letters, from a divided diagram and its leaves.
-use Rattle.std.proofs.Common.{◌≡◌, ◌↔◌, ℕ, ◌<◌, ◌^◌, Bool, true, false, List, length, Option, Some, refl, ap, rules}
+use Rattle.std.proofs.Common.{◌≡◌, ◌↔◌, ℕ, ◌<◌, ◌^◌, Bool, true, false, List, length, Option, Some, rules}
 use Rattle.std.proofs.Common.{sym, ◌∙◌, arith, inl, inr}
 use Rattle.std.proofs.lemmas.Bool.{cases_lt, false_from_ne_true}
 use Rattle.std.proofs.lemmas.List.{get_or_default}
@@ -40,21 +40,15 @@ listed t node own leaves list h o =
     record {
       least = λ i lt. rw (o.rest i (within i lt), o.letter i (within i lt)) (h.least i (0, 0) (within i lt));
       complete = λ f k e.
-          (let there = h.each k (letter_of n f) (letter_lt n f, sym (leaf_by_number n (tree_of t node) own f) ∙ e) in (
-            there.0,
-            omega (arith, there.2),
-            o.rest there.0 there.2
-                ∙ ap (λ (p : ℕ × ℕ). p.0) (get_or_default leaves there.0 (0, 0) there.1 there.2 ∙ there.3) ∙ there.4,
-          ));
-      rising = λ i j lt below. (let before : i < length list = omega arith in
-          rw (o.letter i (within i before), o.letter j (within j below)) (h.rising i j (0, 0) lt (within j below)));
+          (let there = h.each k (letter_of n f) (letter_lt n f, sym (leaf_by_number n (tree_of t node) own f) ∙ e) in
+          (search (rules, get_or_default, o.rest)));
+      rising = search (rules, o.letter, h.rising);
     }
 
 -- the leaves of a node stay
 leads_kept : {t u : Table} → Keeps t u → {node : ℕ} → IsNode t node → (leaf letter : ℕ) →
     LeadsTo t node leaf letter ↔ LeadsTo u node leaf letter
-leads_kept k {node} h leaf letter =
-    (λ e. rw (k.same node h, k.propositions) e, λ e. rw (k.same node h, k.propositions) at e)
+leads_kept k {node} h leaf letter = search rules
 
 least_kept : {t u : Table} → Keeps t u → {node leaf letter : ℕ} → IsNode t node → IsLeast (LeadsTo t node leaf) letter →
     IsLeast (LeadsTo u node leaf) letter
@@ -127,16 +121,8 @@ module _ {s u : Table} (m : Made s u) where
   place_at f =
       let x = m.division f in
       let there = m.listed.complete f x.0 x.1 in
-      let rest : leaf_at (tree_of u m.divided) f ≡ Some (class_at m.list there.0).rest = rw there.2 x.1 in (
-        there.0,
-        record {
-          within = there.1;
-          is = rw (m.mapped f, rest) (m.placed.placed there.0 there.1);
-          rest = rest;
-          held = rw there.2 x.2;
-          leaf = rw there.2 x.3;
-        },
-      )
+      let rest : leaf_at (tree_of u m.divided) f ≡ Some (class_at m.list there.0).rest =
+      rw there.2 x.1 in (search rules)
 
   known_at : (f : ℕ → Bool) {k : ℕ} → leaf_at (tree_of u m.at) f ≡ Some k → IsPlaceOf s u m f k
   known_at f {k} e =
@@ -146,14 +132,12 @@ module _ {s u : Table} (m : Made s u) where
       rw (← same) x.1
 
   same_letters : (f g : ℕ → Bool) → ((q : ℕ) → f q ≡ g q) → leaf_at (tree_of s m.node) f ≡ leaf_at (tree_of s m.node) g
-  same_letters f g e = blind-from 0 s.propositions (tree_of s m.node) (m.node_sound.ordered m.node m.node_held) f g
-      (λ q le. e q)
+  same_letters f g e = search (rules, blind-from)
 
   -- the division heeds the mask alone
   heeds_mask : (f g : ℕ → Bool) → ((q : ℕ) → is_in q m.mask ≡ true → f q ≡ g q) →
       leaf_at (tree_of u m.divided) f ≡ leaf_at (tree_of u m.divided) g
-  heeds_mask f g on = divided_alike m.sound m.mask (tree_of s m.node) (tree_of u m.divided) m.division f g
-      (λ w. same_letters (mixed m.mask f w) (mixed m.mask g w) (λ q. mixed_alike m.mask f g w q on))
+  heeds_mask f g on = search (rules, divided_alike, same_letters, mixed_alike)
 
   -- letters of one place lead alike
   together : (x y : ℕ) → leaf_of u m.at x ≡ leaf_of u m.at y → LeadAlike s m.node m.mask x y
@@ -197,29 +181,16 @@ module _ {s u : Table} (m : Made s u) where
       let n = u.propositions in
       let d = tree_of u m.divided in
       let g = changed (assignment c.letter) p false in
-      let lt : p < n = elim (cases_lt p n) [
-        | inl l ↦ l
-        | inr ge ↦ let none = no_bit n c.letter p first.here.0 ge in cc
-      ] in
-      let same : leaf_at d g ≡ leaf_at d (assignment c.letter) = heeds_mask g (assignment c.letter)
-      (λ q on. changed-other (assignment c.letter) p false q (λ e. let on_p = rw e at on in cc)) in
-      first.none_before (letter_of n g) (
-        letter_lt n g,
-        sym (leaf_by_number n d (m.sound.ordered m.divided m.divided_held) g) ∙ same ∙ first.here.1,
-      ) (record {
-        first = p;
-        is_false = letter_is n g p lt ∙ changed-here (assignment c.letter) p false;
-        is_true = is;
-        same = λ q below. letter_is n g q (omega arith)
-            ∙ changed-other (assignment c.letter) p false q (λ e. omega arith);
-      }))
+      let lt : p < n = search (rules, cases_lt, no_bit, c.letter, first.here.0) in
+      let same : leaf_at d g ≡ leaf_at d (assignment c.letter) = search (rules, heeds_mask, changed-other, c.letter) in
+      first.none_before (letter_of n g) (search (rules, letter_lt, leaf_by_number, first.here.1))
+      (search (rules, letter_is, changed-here, changed-other, c.letter)))
 
   class_is : (k : ℕ) → k < length m.list → IsClass s u m.node m.mask m.at k (class_at m.list k)
   class_is k lt =
       let c = class_at m.list k in
       let first = m.listed.least k lt in
-      let its_own : leaf_of u m.at c.letter ≡ Some k =
-      rw (m.mapped (assignment c.letter), first.here.1) (m.placed.placed k lt) in
+      let its_own : leaf_of u m.at c.letter ≡ Some k = search rules in
       let here = known_at (assignment c.letter) its_own in
       record {
         least = record {
@@ -228,16 +199,14 @@ module _ {s u : Table} (m : Made s u) where
         };
         masked = masked c first;
         held = here.held;
-        others = λ y z off. here.leaf (assignment y) ∙ same_letters _ _ (λ i. mixed_second m.mask c.letter y z i off)
-            ∙ sym (here.leaf (assignment z));
-        shared = λ y e. (known_at (assignment y) e).leaf (assignment y) ∙ same_letters _ _
-            (λ i. mixed_first m.mask y y i (λ p is. refl));
+        others = search (rules, same_letters, mixed_second);
+        shared = search (rules, known_at, same_letters, mixed_first);
       }
 
   are_classes : IsNode u m.at → AreClasses s u m.node m.mask m.at m.list
   are_classes held = record {
     held = held;
-    read = λ x y on. rw (m.mapped (assignment x), m.mapped (assignment y), heeds_mask (assignment x) (assignment y) on);
+    read = search (rules, heeds_mask);
     placed = λ x. (let p = (place_at (assignment x)).1 in rw p.is p.within);
     alike = λ x y hx hy. (together x y, apart x y hx hy);
     each = λ k c e. (let none : Class = record { letter = 0; rest = 0 } in

@@ -1,7 +1,8 @@
 -- Leaves gathered, low side first: each with the least letter that leads to it.
 use Rattle.std.proofs.Common.{◌≡◌, ℕ, suc, ◌+◌, ◌*◌, ◌%◌, ◌^◌, ◌<◌, ◌≤◌, Bool, true, false, cond, List, [], ◌∷◌, ◌++◌}
+use Rattle.std.proofs.Common.{rules}
 use Rattle.std.proofs.Common.{Option, Some, None, nat_eq, eqb, refl, ap, sym, subst, ◌∙◌, arith, append_assoc}
-use Rattle.std.proofs.Common.{append-nil, inl, inr}
+use Rattle.std.proofs.Common.{inl, inr}
 use Rattle.std.proofs.lemmas.Bool.{cases_order, eq-eqb, eqb-true}
 use Rattle.std.proofs.lemmas.List.Elements.{All-from_recursion}
 use Rattle.std.proofs.lemmas.List.Kept.{AllPairs-cons}
@@ -17,7 +18,7 @@ use Rattle.ps_diagram.specs.Parts.{IsChoice}
 use Rattle.ps_diagram.specs.Reached.{LeadsTo, AreLeaves, IsFound, IsFirst, AreRising, Gathers, IsGathered, HaveFound}
 use Rattle.ps_diagram.specs.Split.{root_of}
 use Rattle.ps_diagram.specs.Table.{Table, tree_of}
-use Rattle.ps_diagram.specs.Tree.{Tree, empty, final, choice, leaf_at, IsFrom}
+use Rattle.ps_diagram.specs.Tree.{Tree, final, choice, leaf_at, IsFrom}
 use Rattle.ps_diagram.proofs.Cells.{bool_cases}
 use Rattle.ps_diagram.proofs.Halving.{one_bit}
 use Rattle.ps_diagram.proofs.Letters.{no_bit, top_bit, lower_bit}
@@ -33,8 +34,7 @@ lookup-append test (x ∷ xs) ys = elim (bool_cases (test x.0)) [
 ]
 
 none_front : (a b : Option ℕ) → joined a b ≡ None → a ≡ None
-none_front None b e = refl
-none_front (Some k) b e = cc
+none_front a b h1 = search rules
 
 found_last : (xs : List (ℕ × ℕ)) (k z : ℕ) → lookup (nat_eq k) xs ≡ None →
     lookup (nat_eq k) (xs ++ (k, z) ∷ []) ≡ Some z
@@ -68,19 +68,16 @@ rising_append P Q (x ∷ xs) ys f ps qs h g = (
 )
 
 pub some_of : (o : Option ℕ) → is_some o ≡ true → (z : ℕ) × (o ≡ Some z)
-some_of None e = cc
-some_of (Some z) e = (z, refl)
+some_of o h1 = search rules
 
 pub none_of : (o : Option ℕ) → is_some o ≡ false → o ≡ None
-none_of None e = refl
-none_of (Some z) e = cc
+none_of o h1 = search rules
 
 -- ## Nodes without leaves of their own
 
 pub gathers_none : (n : ℕ) (t : Tree) (letter : ℕ) (old : List (ℕ × ℕ)) →
     ((f : ℕ → Bool) (leaf : ℕ) → leaf_at t f ≡ Some leaf → IsFound old leaf) → Gathers n t letter old old
-gathers_none n t letter old h =
-    record { added = []; is = sym (append-nil old); first = tt; fresh = tt; rising = tt; whole = h }
+gathers_none n t letter old h = search rules
 
 pub leaf_found : {t : Tree} (k : ℕ) {letter : ℕ} (found : List (ℕ × ℕ)) → t ≡ final k →
     lookup (nat_eq k) found ≡ Some letter → (f : ℕ → Bool) (leaf : ℕ) → leaf_at t f ≡ Some leaf → IsFound found leaf
@@ -95,15 +92,7 @@ gathers_leaf n {t} k letter old {new} e lt none is =
     record {
       added = (k, letter) ∷ [];
       is = is;
-      first = (
-        record {
-          within = rw e at lt;
-          there = rw e;
-          same = λ q _. refl;
-          least = λ x _ before. before.is_true;
-        },
-        tt,
-      );
+      first = search rules;
       fresh = (none, tt);
       rising = (tt, tt);
       whole = leaf_found k new e (ap (lookup (nat_eq k)) is ∙ found_last old k letter none);
@@ -112,27 +101,11 @@ gathers_leaf n {t} k letter old {new} e lt none is =
 -- ## Tests
 
 pub root_later : (n p : ℕ) (t : Tree) → IsFrom (p + 1) n t → p < n → p < root_of n t
-root_later n p empty o lt = lt
-root_later n p (final k) o lt = lt
-root_later n p (choice q low high) o lt = omega arith
+root_later n p t h1 h2 = search rules
 
 first_low : {n : ℕ} (p : ℕ) {letter : ℕ} {low : Tree} (high : Tree) → letter < 2 ^ p → p < root_of n low →
     {leaf place : ℕ} → IsFirst n low letter leaf place → IsFirst n (choice p low high) letter leaf place
-first_low p {letter} {low} high lt root {place} h =
-    let bit : is_in p place ≡ false = h.same p root ∙ no_bit p letter p lt (omega arith) in
-    record {
-      within = h.within;
-      there = rw bit h.there;
-      same = λ q less. h.same q (omega arith);
-      least = λ x e before. elim (bool_cases (is_in p x)) [
-        | inl is ↦ elim (cases_order before.first p) [
-          | inl same ↦ let not = rw same at before.is_false in cc
-          | inr (inl less) ↦ sym (h.same before.first (omega arith)) ∙ before.is_true
-          | inr (inr less) ↦ let both = before.same p less in cc
-        ]
-        | inr isnt ↦ h.least x (rw isnt at e) before
-      ];
-    }
+first_low p {letter} {low} high lt root {place} h = search (rules, no_bit, bool_cases, cases_order)
 
 first_high : {n : ℕ} (p letter : ℕ) (low : Tree) {high : Tree} → letter < 2 ^ p → p < root_of n high →
     {leaf place : ℕ} → ((f : ℕ → Bool) → leaf_at low f ≡ Some leaf → ⊥) → IsFirst n high (letter + 2 ^ p) leaf place →
@@ -182,13 +155,11 @@ gathers_choice {n} p {letter} {low} {high} {old} {mid} {new} lt rl rh a b =
       added = a.added ++ b.added;
       is = rw (b.is, a.is) (append_assoc old a.added b.added);
       first = all_append C a.added b.added (all_map L C a.added (λ pair h. first_low p high lt rl h) a.first)
-          (all_both N H C b.added (λ pair none h. first_high p letter low lt rh
-          (λ f e. not_found mid pair.0 none (a.whole f pair.0 e)) h) b.fresh b.first);
-      fresh = all_append O a.added b.added a.fresh
-          (all_map N O b.added (λ pair none. none_front _ (lookup (nat_eq pair.0) a.added)
-          (rw (a.is, lookup-append (nat_eq pair.0) old a.added) at none)) b.fresh);
-      rising = rising_append L H a.added b.added (λ x y hx hy. low_before_high p lt rl rh
-          hx hy) a.first b.first a.rising b.rising;
+          (all_both N H C b.added (λ pair none h. search (rules, first_high, not_found, a.whole)) b.fresh b.first);
+      fresh = search (rules, all_append, all_map, none_front, lookup-append, a.added, b.added, a.fresh, a.is, b.fresh);
+      rising =
+          rising_append L H a.added b.added (λ x y hx hy. search (rules, low_before_high)) a.first b.first
+          a.rising b.rising;
       whole = λ f leaf e. elim (bool_cases (f p)) [
         | inl is ↦ b.whole f leaf (rw is at e)
         | inr isnt ↦ rw b.is (found_more mid b.added leaf (a.whole f leaf (rw isnt at e)))
@@ -201,15 +172,11 @@ begun_below letter h lt = rw h.tree at lt
 
 pub begun_low : {t : Table} {node p low high : ℕ} (letter : ℕ) → IsChoice t node p low high →
     letter < 2 ^ root_of t.propositions (tree_of t node) → letter < 2 ^ root_of t.propositions (tree_of t low)
-begun_low {t} {node} {p} {low} {high} letter h lt =
-    let r = root_later t.propositions p (tree_of t low) h.low_from h.below in
-    let le : p ≤ root_of t.propositions (tree_of t low) = omega (arith, r) in
-    omega (arith, begun_below letter h lt, pow_mono {i = p} {j = root_of t.propositions (tree_of t low)} le)
+begun_low {t} {node} {p} {low} {high} letter h lt = search (rules, root_later, begun_below, pow_mono)
 
 -- the bit that is set, as the code makes it
 pub set_bit : {t : Table} {node p low high : ℕ} → IsChoice t node p low high → 1 * 2 ^ p % 2 ^ 64 ≡ 2 ^ p
-set_bit {p} h =
-    one_bit p (omega arith)
+set_bit {p} h = search (rules, one_bit)
 
 pub begun_high : {t : Table} {node p low high : ℕ} (letter : ℕ) → IsChoice t node p low high →
     letter < 2 ^ root_of t.propositions (tree_of t node) → letter + 2 ^ p < 2 ^ root_of t.propositions (tree_of t high)
@@ -228,18 +195,13 @@ pub gathers_test : {t : Table} {node p low high letter : ℕ} {old mid new : Lis
     Gathers t.propositions (tree_of t low) letter old mid → Gathers t.propositions (tree_of t high) (letter + 2 ^ p) mid
     new → Gathers t.propositions (tree_of t node) letter old new
 gathers_test {t} {node} {p} {low} {high} {letter} {old} {mid} {new} h lt a b =
-    let n = t.propositions in
-    rw h.tree (gathers_choice p (begun_below letter h lt) (root_later n p (tree_of t low) h.low_from h.below)
-    (root_later n p (tree_of t high) h.high_from h.below) a b)
+    search (rules, gathers_choice, begun_below, root_later)
 
 -- one node more was seen
 pub seen_more : (t : Table) (old new : ℕ → Bool) (node : ℕ) (found : List (ℕ × ℕ)) →
     ((q : ℕ) → new q ≡ cond (eqb node q) true (old q)) → HaveFound t old found →
     ((f : ℕ → Bool) (leaf : ℕ) → leaf_at (tree_of t node) f ≡ Some leaf → IsFound found leaf) → HaveFound t new found
-seen_more t old new node found update h own q is f leaf e = elim (bool_cases (eqb node q)) [
-  | inl same ↦ own f leaf (rw (eqb-true node q same) e)
-  | inr isnt ↦ h q (sym (rw isnt at (update q)) ∙ is) f leaf e
-]
+seen_more t old new node found update h own q is f leaf e = search (rules, bool_cases, eqb-true)
 
 -- ## What was gathered from the whole node
 
@@ -248,10 +210,7 @@ zero_bit q = no_bit 0 0 q (omega arith) (omega arith)
 
 least_of : (t : Table) (node : ℕ) {leaf place : ℕ} → IsFirst t.propositions (tree_of t node) 0 leaf place →
     IsLeast (LeadsTo t node leaf) place
-least_of t node h = record {
-  here = (h.within, h.there);
-  none_before = λ x e before. let is = h.least x e.1 before in let not = zero_bit before.first in cc;
-}
+least_of t node h = search (rules, zero_bit)
 
 entry_of : (P : ℕ → ℕ → Type 0) (es : List (ℕ × ℕ)) (leaf : ℕ) {z : ℕ} → AllByRecursion (λ pair. P pair.0 pair.1) es →
     lookup (nat_eq leaf) es ≡ Some z → P leaf z
@@ -298,6 +257,6 @@ are_leaves {t} {node} {found} h = record {
       (all_map (λ pair. IsFirst t.propositions (tree_of t node) 0 pair.0 pair.1)
       (λ pair. IsLeast (LeadsTo t node pair.0) pair.1) found (λ pair f. least_of t node f)
       (firsts h));
-  each = λ leaf letter at. (let w = h.all.whole (assignment letter) leaf at.1 in any_of_found found leaf w.1);
+  each = search (rules, any_of_found, h.all.whole);
   rising = pairs_of found (subst AreRising (sym h.all.is) h.all.rising);
 }

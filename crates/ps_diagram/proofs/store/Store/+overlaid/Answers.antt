@@ -1,4 +1,4 @@
-use Rattle.std.proofs.Common.{sym, ℕ, true, false}
+use Rattle.std.proofs.Common.{sym, ℕ, true, false, rules}
 use Rattle.indexmap.specs.IndexMap.{get}
 use Rattle.ps_diagram.specs.Table.{tree_of}
 use Rattle.ps_diagram.specs.Known.{IsOverlay, pair_eq}
@@ -21,7 +21,7 @@ returns-in_err-low-clause-clash t c =
     (clash_side s.first_sides s.second_sides false _ c.in_err-low.ensures.clash)
 
 pub returns-in_err-high-clause-keeps : goal.returns-in_err-high-clause-keeps
-returns-in_err-high-clause-keeps t c = keeps_trans c.overlaid.ensures.keeps c.overlaid-2.ensures.keeps
+returns-in_err-high-clause-keeps t c = search (rules, keeps_trans)
 
 pub returns-in_err-high-clause-clash : goal.returns-in_err-high-clause-clash
 returns-in_err-high-clause-clash t c =
@@ -32,32 +32,23 @@ returns-in_err-high-clause-clash t c =
     (rw (← k.same _ a.high_held, ← k.same _ b.high_held) c.in_err-high.ensures.clash))
 
 pub returns-in_err-node-clause-keeps : goal.returns-in_err-node-clause-keeps
-returns-in_err-node-clause-keeps t c =
-    keeps_trans (keeps_trans c.overlaid.ensures.keeps c.overlaid-2.ensures.keeps) c.test.ensures.keeps
+returns-in_err-node-clause-keeps t c = search (rules, keeps_trans)
 
 pub returns-in_err-node-clause-known : goal.returns-in_err-node-clause-known
-returns-in_err-node-clause-known t c =
-    pairs_kept IsOverlay (get pair_eq c.overlaid-2.new.known) c.test.ensures.keeps c.overlaid-2.ensures.known
+returns-in_err-node-clause-known t c = search (rules, pairs_kept)
 
 pub returns-in_err-insert-clause-keeps : goal.returns-in_err-insert-clause-keeps
-returns-in_err-insert-clause-keeps t c =
-    keeps_trans (keeps_trans c.overlaid.ensures.keeps c.overlaid-2.ensures.keeps) c.test.ensures.keeps
+returns-in_err-insert-clause-keeps t c = search (rules, keeps_trans)
 
 pub returns-in_err-insert-clause-known : goal.returns-in_err-insert-clause-known
-returns-in_err-insert-clause-known t c =
-    rw c.in_err-insert.ensures.err
-    (pairs_kept IsOverlay (get pair_eq c.overlaid-2.new.known) c.test.ensures.keeps c.overlaid-2.ensures.known)
+returns-in_err-insert-clause-known t c = search (rules, pairs_kept)
 
 pub returns-clause-keeps : goal.returns-clause-keeps
-returns-clause-keeps t c =
-    keeps_trans (keeps_trans c.overlaid.ensures.keeps c.overlaid-2.ensures.keeps) c.test.ensures.keeps
+returns-clause-keeps t c = search (rules, keeps_trans)
 
 joins : (t : ℕ) (c : goal.In_ok-insert t) → IsOverlay (tree_of c.args.self.now c.args.first)
     (tree_of c.args.self.now c.args.second) (tree_of c.test.new.self c.in_ok-node.node)
-joins t c =
-    let s = c.in-Some-split.ensures in
-    overlay_sides c.test.new.self c.overlaid.ensures.keeps c.overlaid-2.ensures.keeps _ _ s.first_sides s.second_sides
-    c.in_ok-low.ensures.held c.in_ok-low.ensures.leaf c.in_ok-high.ensures.leaf c.in_ok-node.ensures.leaf
+joins t c = search (rules, overlay_sides)
 
 pub returns-clause-known : goal.returns-clause-known
 returns-clause-known t c =

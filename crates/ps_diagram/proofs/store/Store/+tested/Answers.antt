@@ -23,8 +23,7 @@ returns-in-Some-clause-leaf t c =
     (c.requires.tests c.args.proposition c.args.low c.args.high c.in-Some.made.now (sym c.in-Some.ensures.value)).3
 
 pub returns-in_default-split-clause-tests : goal.returns-in_default-split-clause-tests
-returns-in_default-split-clause-tests t c =
-    tests_kept (get test_eq c.args.tests.now) c.tested_leaves.ensures.keeps c.requires.tests
+returns-in_default-split-clause-tests t c = search (rules, tests_kept)
 
 pub tested-requires : goal.tested-requires
 tested-requires t c =
@@ -91,12 +90,10 @@ test-requires-clause-high_later t c =
     (kept later k a.high_held a.high_later) (kept later k b.high_held b.high_later)
 
 pub returns-in_err-made-clause-tests : goal.returns-in_err-made-clause-tests
-returns-in_err-made-clause-tests t c =
-    tests_kept (get test_eq c.tested-2.new.tests) c.test.ensures.keeps c.tested-2.ensures.tests
+returns-in_err-made-clause-tests t c = search (rules, tests_kept)
 
 pub returns-in_err-insert-clause-keeps : goal.returns-in_err-insert-clause-keeps
-returns-in_err-insert-clause-keeps t c =
-    keeps_trans (keeps_trans c.tested.ensures.keeps c.tested-2.ensures.keeps) c.test.ensures.keeps
+returns-in_err-insert-clause-keeps t c = search (rules, keeps_trans)
 
 pub returns-in_err-insert-clause-tests : goal.returns-in_err-insert-clause-tests
 returns-in_err-insert-clause-tests t c =
@@ -104,8 +101,7 @@ returns-in_err-insert-clause-tests t c =
     (tests_kept (get test_eq c.tested-2.new.tests) c.test.ensures.keeps c.tested-2.ensures.tests)
 
 pub returns-clause-keeps : goal.returns-clause-keeps
-returns-clause-keeps t c =
-    keeps_trans (keeps_trans c.tested.ensures.keeps c.tested-2.ensures.keeps) c.test.ensures.keeps
+returns-clause-keeps t c = search (rules, keeps_trans)
 
 pub returns-clause-leaf : goal.returns-clause-leaf
 returns-clause-leaf t c =
