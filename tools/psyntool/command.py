@@ -58,7 +58,7 @@ Before COMMAND:
 The program is $PSYN, or the one that `rt run` leaves at crates/psyn/out/psyn.
 """
 REFUSED = 2
-KIT = "rattle-kit-13f"
+KIT = "rattle-kit-13b"
 
 
 class Settings:

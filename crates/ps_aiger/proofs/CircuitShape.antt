@@ -1,8 +1,7 @@
 -- The circuit of some gates: what it is made of is a circuit, and tidy.
-use Rattle.std.proofs.Common.{◌≡◌, ◌≢◌, ◌∙◌, ℕ, zero, suc, ◌+◌, ◌-◌, ◌*◌, ◌/◌, ◌<◌, ◌≤◌, false, List, [], ◌∷◌, ◌++◌}
-use Rattle.std.proofs.Common.{rules}
-use Rattle.std.proofs.Common.{map, length, get_or, slice_get, Option, Some, None, refl, sym, ap, subst, arith, inl, inr}
-use Rattle.std.proofs.Common.{All, replicate}
+use Rattle.std.proofs.Common.{◌≡◌, ◌∙◌, ℕ, zero, suc, ◌+◌, ◌-◌, ◌*◌, ◌<◌, ◌≤◌, false, List, [], ◌∷◌, rules, map, length}
+use Rattle.std.proofs.Common.{get_or, slice_get, Option, Some, None, refl, sym, ap, subst, arith, inl, inr, All}
+use Rattle.std.proofs.Common.{replicate}
 use Rattle.std.specs.List.{flat_map}
 use Rattle.std.proofs.lemmas.Bool.{cases_eq}
 use Rattle.std.proofs.lemmas.List.{length-map, get_or-map, same_lists, length-replicate}
@@ -36,7 +35,7 @@ none_at (suc n) zero e lt = refl
 none_at (suc n) (suc k) e lt = none_at n k e (omega arith)
 
 two_hold : (P : ℕ → Type 0) (x y : ℕ) → P x → P y → All P (x ∷ y ∷ [])
-two_hold P x y h1 h2 = search rules
+two_hold P x y h k = search rules
 
 each_side : (P : ℕ → Type 0) (gates : List Gate) → All (λ g. P g.first × P g.second) gates →
     All P (flat_map (λ g. g.first ∷ g.second ∷ []) gates)
@@ -58,8 +57,7 @@ module _ (m : Behaviour) (d : Drafted) (sound : IsSoundDraft d) (latches : ℕ) 
   many_latches = built.latches.many ∙ many
 
   latch_literals : map (λ l. l.literal) c.latches ≡ even_literals (length m.inputs + 1) latches
-  latch_literals =
-      same_lists _ _ (search (rules, length-map, many_latches, length-even))
+  latch_literals = same_lists _ _ (search (rules, length-map, many_latches, length-even))
       (λ k e lt. (let within : k < latches = search (rules, length-map, many_latches) in
       get_or-map (λ (l : Latch). l.literal) c.latches k no_latch e (subst (λ n. k < n) (sym many_latches) within)
       ∙ ap (λ (l : Latch). l.literal) (latch_is k within) ∙ sym (even-at (length m.inputs + 1) latches k e within)))
@@ -86,12 +84,10 @@ module _ (m : Behaviour) (d : Drafted) (sound : IsSoundDraft d) (latches : ℕ) 
   gate_is k e lt = get_or_from_slice_get c.gates k _ e (gate_at k lt)
 
   gate_literals : map (λ g. g.literal) c.gates ≡ even_literals (d.given + 1) (length d.gates)
-  gate_literals =
-      same_lists _ _ (search (rules, length-map, many_gates, length-even))
+  gate_literals = same_lists _ _ (search (rules, length-map, many_gates, length-even))
       (λ k e lt. (let within : k < length d.gates = search (rules, length-map, many_gates) in
       get_or-map (λ (g : Gate). g.literal) c.gates k no_gate e (subst (λ n. k < n) (sym many_gates) within)
-      ∙ ap (λ (g : Gate). g.literal) (gate_is k no_gate within)
-      ∙ sym (even-at (d.given + 1) (length d.gates) k e within)))
+      ∙ ap (λ (g : Gate). g.literal) (gate_is k no_gate within) ∙ sym (grind (arith, even-at))))
 
   -- ## The circuit
 
@@ -130,9 +126,7 @@ module _ (m : Behaviour) (d : Drafted) (sound : IsSoundDraft d) (latches : ℕ) 
   ]
 
   side_below : (k : ℕ) → k < length d.gates → (variable (side k).first ≤ c.most) × (variable (side k).second ≤ c.most)
-  side_below k lt =
-      (let a = (are_sides k lt).below in let b = (are_sides k lt).falls in let e = most_is in
-      (omega arith, omega arith))
+  side_below k lt = grind (arith, are_sides k lt, most_is)
 
   module _ (next_held : (k : ℕ) → k < latches → variable (get_or next k 0) ≤ c.most)
       (outputs_held : (k e : ℕ) → k < length outputs → variable (get_or outputs k e) ≤ c.most) where
@@ -143,10 +137,8 @@ module _ (m : Behaviour) (d : Drafted) (sound : IsSoundDraft d) (latches : ℕ) 
           literal = 2 * (length m.inputs + 1 + k);
           next = get_or next k 0;
           reset = false;
-        } = get_or_from_slice_get c.latches k _ e
-        (built.latches.each k (subst (λ n. k < n) (sym many) within)) in
-        subst (λ (l : Latch). IsKnown (definitions c) l.next) (sym is)
-        (known_of (get_or next k 0) (next_held k within))))
+        } = get_or_from_slice_get c.latches k _ e (built.latches.each k (subst (λ n. k < n) (sym many) within)) in
+        subst (λ (l : Latch). IsKnown (definitions c) l.next) (sym is) (grind (arith, known_of))))
 
     outputs_known : All (IsKnown (definitions c)) c.outputs
     outputs_known = search (rules, known_of)
@@ -162,12 +154,9 @@ module _ (m : Behaviour) (d : Drafted) (sound : IsSoundDraft d) (latches : ℕ) 
         length m.outputs ≡ length outputs → IsDraft c
     is_draft named_in named_out many_outputs = record {
       limit = subst (λ n. n < 2147483648) (sym built.most) sound.room;
-      defined =
-          λ k e lt. (let within = within_most k lt in subst (IsDefinition c.most) (sym (definition_at k e within))
-          (omega arith, omega arith, omega arith));
-      once = λ i j e lt within. (let there = within_most j within in let here : i < c.most = omega arith in
-          subst (λ x. variable x ≢ variable (get_or (definitions c) j e)) (sym (definition_at i e here))
-          (search (rules, definition_at, half)));
+      defined = λ k e lt. (let within = within_most k lt in
+          subst (IsDefinition c.most) (sym (definition_at k e within)) (omega arith, omega arith, omega arith));
+      once = λ i j e lt within. grind (arith, within_most j within, definition_at, half);
       known = search (rules, All-append, next_known, outputs_known, sides_known);
       inputs_named = search (rules, length-map, length-even);
       latches_named = ap length built.latch_names ∙ length-replicate (length next) None ∙ sym built.latches.many;
@@ -178,15 +167,13 @@ module _ (m : Behaviour) (d : Drafted) (sound : IsSoundDraft d) (latches : ℕ) 
     }
 
   pub ordered : (i j : ℕ) → ReadsGate c.gates i j → j < i
-  ordered i j r =
-      (let i_lt : i < length d.gates = subst (λ n. i < n) many_gates (slice_get_within c.gates i r.reader r.at_i) in
+  ordered i j r = (let i_lt : i < length d.gates = grind (arith, many_gates, slice_get_within) in
       let j_lt : j < length d.gates = subst (λ n. j < n) many_gates (slice_get_within c.gates j r.read r.at_j) in
       let reader : r.reader ≡ record {
         literal = 2 * (d.given + 1 + i);
         first = (side i).first;
         second = (side i).second;
-      } = sym (get_or_from_slice_get c.gates i r.reader no_gate r.at_i)
-      ∙ gate_is i no_gate i_lt in
+      } = sym (get_or_from_slice_get c.gates i r.reader no_gate r.at_i) ∙ gate_is i no_gate i_lt in
       let read : r.read ≡ record { literal = 2 * (d.given + 1 + j); first = (side j).first; second = (side j).second } =
       sym (get_or_from_slice_get c.gates j r.read no_gate r.at_j) ∙ gate_is j no_gate j_lt in
       let a = are_sides i i_lt in
@@ -204,13 +191,11 @@ module _ (m : Behaviour) (d : Drafted) (sound : IsSoundDraft d) (latches : ℕ) 
     gates =
         λ k e lt. (let within : k < length d.gates = subst (λ n. k < n) many_gates lt in let a = are_sides k within in
         subst IsTidyGate (sym (gate_is k e within)) (search rules));
-    once = λ i j e lt within.
-        (let there : j < length d.gates = subst (λ n. j < n) many_gates within in
+    once = λ i j e lt within. (let there : j < length d.gates = subst (λ n. j < n) many_gates within in
         let here : i < length d.gates = omega arith in
         subst (λ (g : Gate). ¬ ((g.first ≡ (get_or c.gates j e).first) × (g.second ≡ (get_or c.gates j e).second)))
-        (sym (gate_is i e here))
-        (subst (λ (h : Gate). ¬ (((side i).first ≡ h.first) × ((side i).second ≡ h.second))) (sym (gate_is j e there))
-        (λ both. (let same : side i ≡ side j = sides_are (side i) (side j) both.0 both.1 in
+        (sym (gate_is i e here)) (subst (λ (h : Gate). ¬ (((side i).first ≡ h.first) × ((side i).second ≡ h.second)))
+        (sym (gate_is j e there)) (λ both. (let same : side i ≡ side j = sides_are (side i) (side j) both.0 both.1 in
         let one : i ≡ j = sound.once i j (side i) (side_at i here) (side_at j there ∙ ap (λ s. Some s) (sym same)) in
         absurd (omega arith)))));
   }

@@ -1,7 +1,6 @@
 -- The step of the circuit of a machine is the machine's.
-use Rattle.std.proofs.Common.{◌≡◌, ◌∙◌, ℕ, ◌+◌, ◌*◌, ◌^◌, ◌<◌, ◌≤◌, Bool, false, List, map, length}
-use Rattle.std.proofs.Common.{get_or}
-use Rattle.std.proofs.Common.{None, sym, refl, ap, ap₂, subst, arith, All, IsTrue}
+use Rattle.std.proofs.Common.{rules, ◌≡◌, ◌∙◌, ℕ, ◌+◌, ◌*◌, ◌^◌, ◌<◌, ◌≤◌, Bool, false, List, map, length, get_or, sym}
+use Rattle.std.proofs.Common.{refl, ap, ap₂, subst, arith, All, IsTrue}
 use Rattle.std.specs.List.{range_with_len}
 use Rattle.std.proofs.lemmas.List.{length-map, get_or-map, get_or_default, same_lists, length-replicate}
 use Rattle.std.proofs.lemmas.List.Elements.{All-map}
@@ -9,7 +8,6 @@ use Rattle.std.proofs.lemmas.List.FromFn.{length-map-range_with_len, get_or-map-
 use Rattle.std.proofs.lemmas.Option.{slice_get_within, get_or_from_slice_get}
 use Rattle.ps_circuit.specs.declared.parts.Gate.{Gate}
 use Rattle.ps_circuit.specs.declared.parts.Latch.{Latch}
-use Rattle.ps_label.specs.Truth.{is_in}
 use Rattle.ps_machine.specs.Behaviours.{Behaviour, IsMachine}
 use Rattle.ps_circuit.specs.Building.{Drafted, Meets, bit}
 use Rattle.ps_circuit.specs.Circuits.{CircuitData, IsCircuit}
@@ -32,8 +30,7 @@ module _ (m : Behaviour) (machine : IsMachine m) (d : Drafted) (latches : ℕ) (
   where
     latch_is : (k : ℕ) → k < latches → get_or c.latches k no_latch ≡ record
         { literal = 2 * (length m.inputs + 1 + k); next = get_or next k 0; reset = false }
-    latch_is k lt =
-        get_or_from_slice_get c.latches k _ no_latch (built.latches.each k (subst (λ n. k < n) (sym many) lt))
+    latch_is k lt = grind (arith, get_or_from_slice_get, no_latch)
 
     many_latches : length c.latches ≡ latches
     many_latches = built.latches.many ∙ many
@@ -43,19 +40,14 @@ module _ (m : Behaviour) (machine : IsMachine m) (d : Drafted) (latches : ℕ) (
       v = value_of s.values
 
       many_inputs : length inputs ≡ length m.inputs
-      many_inputs = sym (ap length s.are_values.inputs_are) ∙ length-map c.inputs (bit_of s.values)
-          ∙ ap length built.inputs ∙ length-even 1 (length m.inputs)
+      many_inputs = grind (arith, length-map, length-even)
 
       many_states : length states ≡ latches
-      many_states =
-          sym (ap length s.are_values.latches_are) ∙ length-map c.latches (λ l. bit_of s.values l.literal)
-          ∙ many_latches
+      many_states = grind (arith, length-map, many_latches)
 
       input_bit : (k : ℕ) → k < length m.inputs → get_or inputs k false ≡ v (1 + k)
       unfolding v
-      input_bit k lt =
-          (let within : k < length c.inputs = subst (λ n. k < n) (sym
-          (ap length built.inputs ∙ length-even 1 (length m.inputs))) lt in
+      input_bit k lt = (let within : k < length c.inputs = grind (arith, length-even) in
           sym (ap (λ bits. get_or bits k false) s.are_values.inputs_are)
           ∙ get_or-map (bit_of s.values) c.inputs k 0 false within
           ∙ ap (bit_of s.values) (ap (λ xs. get_or xs k 0) built.inputs ∙ even-at 1 (length m.inputs) k 0 lt)
@@ -74,28 +66,21 @@ module _ (m : Behaviour) (machine : IsMachine m) (d : Drafted) (latches : ℕ) (
       unfolding v
       meets = record {
         constant = s.are_values.constant;
-        each = λ k t e.
-            (let at = built.gates.each k t e in
-            let meets_gate =
-            subst (λ (g : Gate). MeetsGate s.values g) (get_or_from_slice_get c.gates k _ no_gate at)
+        each = λ k t e. (let at = built.gates.each k t e in
+            let meets_gate = subst (λ (g : Gate). MeetsGate s.values g) (get_or_from_slice_get c.gates k _ no_gate at)
             (s.are_values.gates_are k no_gate (slice_get_within c.gates k _ at)) in
             sym (bit-plain (value_of s.values) (d.given + 1 + k)) ∙ meets_gate);
       }
 
       letter : letter_read m v ≡ letter_over m.inputs inputs
-      letter =
-          ap (letter_over m.inputs) (same_lists (map v (range_with_len 1 (length m.inputs))) inputs
-          (length-map-range_with_len v 1 (length m.inputs) ∙ sym many_inputs)
-          (λ k e lt. (let within : k < length m.inputs = subst (λ n. k < n)
-          (length-map-range_with_len v 1 (length m.inputs)) lt in
+      letter = ap (letter_over m.inputs) (same_lists (map v (range_with_len 1 (length m.inputs))) inputs
+          (length-map-range_with_len v 1 (length m.inputs) ∙ sym many_inputs) (λ k e lt.
+          (let within : k < length m.inputs = subst (λ n. k < n) (length-map-range_with_len v 1 (length m.inputs)) lt in
           get_or-map-range_with_len v 1 (length m.inputs) k (1 + k) e within refl ∙ sym (input_bit k within)
           ∙ get_or_default inputs k false e (subst (λ n. k < n) (sym many_inputs) within))))
 
       memory : memory_at m (0 + code_read m latches v) ≡ memory_of m states
-      memory =
-          ap (memory_at m) ((let e : 0 + code_read m latches v ≡ code_read m latches v = omega arith in e)
-          ∙ sym (number_of_letter states (λ j. v (length m.inputs + 1 + j))
-          (λ j lt. state_bit j (subst (λ n. j < n) many_states lt)) ∙ ap (λ n. code_read m n v) many_states))
+      memory = grind (arith, v, number_of_letter, state_bit, many_states)
 
       literal_bit : (f : StepBit) (literal : ℕ) → IsBit m latches f d literal →
           bit v literal ≡ f (memory_of m states) (letter_over m.inputs inputs)
@@ -103,16 +88,12 @@ module _ (m : Behaviour) (machine : IsMachine m) (d : Drafted) (latches : ℕ) (
 
       played_are : played ≡ bits_over m.outputs (m.plays (memory_of m states) (letter_over m.inputs inputs))
       unfolding v
-      played_are =
-          s.outputs_are ∙ ap (map (bit_of s.values)) built.output_literals
-          ∙ same_lists _ _ (length-map outputs (bit_of s.values) ∙ output_bits.many
-          ∙ sym (length-map m.outputs (λ p. is_in p (m.plays (memory_of m states) (letter_over m.inputs inputs)))))
-          (λ k e lt. (let within : k < length outputs = subst (λ n. k < n) (length-map outputs (bit_of s.values)) lt in
+      played_are = s.outputs_are ∙ ap (map (bit_of s.values)) built.output_literals ∙ same_lists _ _
+          (grind (arith, length-map)) (λ k e lt. (let within : k < length outputs = grind (arith, length-map) in
           let there : k < length m.outputs = subst (λ n. k < n) output_bits.many within in
           get_or-map (bit_of s.values) outputs k 0 e within
           ∙ literal_bit (output_bit m (get_or m.outputs k 0)) (get_or outputs k 0) (output_bits.each k there)
-          ∙ sym (get_or-map (λ q. is_in q (m.plays (memory_of m states) (letter_over m.inputs inputs)))
-          m.outputs k 0 e there)))
+          ∙ sym (search (rules, get_or-map))))
 
       many_behind : length behind ≡ latches
       many_behind = ap length s.next_are ∙ length-map c.latches (λ l. bit_of s.values l.next) ∙ many_latches
@@ -120,44 +101,33 @@ module _ (m : Behaviour) (machine : IsMachine m) (d : Drafted) (latches : ℕ) (
       behind_is : number_of behind ≡ m.next (memory_of m states) (letter_over m.inputs inputs)
       unfolding v
       behind_is =
-          let below =
-          machine.next_within (memory_of m states) (letter_over m.inputs inputs)
+          let below = machine.next_within (memory_of m states) (letter_over m.inputs inputs)
           (memory_within m (number_of states) machine.some) in
-          number_is behind _ (subst (λ n. m.next (memory_of m states) (letter_over m.inputs inputs) < 2 ^ n)
-          (sym many_behind) (omega (arith, below, room)))
+          number_is behind _ (grind (arith, many_behind))
           (λ j lt. (let within : j < latches = subst (λ n. j < n) many_behind lt in
           ap (λ bits. get_or bits j false) s.next_are ∙ get_or-map (λ (l : Latch). bit_of s.values l.next) c.latches j
-          no_latch false (subst (λ n. j < n) (sym many_latches) within)
-          ∙ ap (λ (l : Latch). bit_of s.values l.next) (latch_is j within)
-          ∙ literal_bit (next_bit m j) (get_or next j 0) (next_bits j within)))
+          no_latch false (subst (λ n. j < n) (sym many_latches) within) ∙ ap (λ (l : Latch). bit_of s.values l.next)
+          (latch_is j within) ∙ literal_bit (next_bit m j) (get_or next j 0) (next_bits j within)))
 
     resets_are : All (λ bit. bit ≡ false) (resets c)
     resets_are = All-map (λ bit. bit ≡ false) (λ (l : Latch). l.reset) c.latches (λ k e lt.
-        (let within : k < latches = subst (λ n. k < n) many_latches lt in
-        ap (λ (l : Latch). l.reset) (get_or_from_slice_get c.latches k _ e
-        (built.latches.each k (subst (λ n. k < n) (sym many) within)))))
+        grind (arith, get_or_from_slice_get c.latches k _ e (built.latches.each k (grind arith))))
 
     pub encodes : IsCircuit c → ((n : ℕ) → m.memories ≤ 2 ^ n → latches ≤ n) → Encodes m c
     encodes is least = record {
       is_circuit = is;
       input_names = built.input_names;
       output_names = built.output_names;
-      latch_names =
-          subst (λ xs. All (λ name. name ≡ None) xs) (sym built.latch_names)
-          (λ k e lt. none_at (length next) k e (subst (λ n. k < n) (length-replicate (length next) None) lt));
+      latch_names = grind (arith, none_at, length-replicate);
       resets_are = resets_are;
       room = subst (λ n. m.memories ≤ 2 ^ n) (sym many_latches) room;
       needed = λ n h. subst (λ k. k ≤ n) (sym many_latches) (least n h);
-      steps = λ states inputs played behind s. record {
-        outputs_are = played_are states inputs played behind s;
-        next_is = behind_is states inputs played behind s;
-      };
+      steps = search (rules, played_are, behind_is);
     }
 
 -- who moves first plays the same whatever is read
 pub sees : (m : Behaviour) (c : CircuitData) → IsMachine m → Encodes m c → IsTrue m.is_first → SeesNoInput c
-sees m c machine encodes first states inputs others played other_played behind other_behind s t =
-    (encodes.steps states inputs played behind s).outputs_are
-    ∙ ap (λ y. bits_over m.outputs y) (machine.blind first (memory_of m states)
+sees m c machine encodes first states inputs others played other_played behind other_behind s t = (encodes.steps states
+    inputs played behind s).outputs_are ∙ ap (λ y. bits_over m.outputs y) (machine.blind first (memory_of m states)
     (letter_over m.inputs inputs) (letter_over m.inputs others) (memory_within m (number_of states) machine.some))
     ∙ sym (encodes.steps states others other_played other_behind t).outputs_are

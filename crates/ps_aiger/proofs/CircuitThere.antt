@@ -1,6 +1,6 @@
 -- The circuit of a machine is there: of its wires one is made, where there is a literal for each variable.
-use Rattle.std.proofs.Common.{◌≡◌, ◌∙◌, ℕ, zero, suc, ◌+◌, ◌*◌, ◌^◌, ◌<◌, ◌≤◌, ◌⊎◌, false, List, length, map, get_or}
-use Rattle.std.proofs.Common.{Some, None, refl, sym, ap, subst, arith, inl, inr, pow_mono, replicate}
+use Rattle.std.proofs.Common.{rules, ◌≡◌, ◌∙◌, ℕ, zero, suc, ◌+◌, ◌*◌, ◌^◌, ◌<◌, ◌≤◌, ◌⊎◌, false, List, length, map}
+use Rattle.std.proofs.Common.{get_or, Some, None, sym, ap, subst, arith, inl, inr, replicate}
 use Rattle.std.specs.List.{range_with_len}
 use Rattle.std.proofs.Math.Nat.{pow-suc}
 use Rattle.std.proofs.lemmas.Bool.{cases_lt}
@@ -19,7 +19,7 @@ use Rattle.ps_circuit.proofs.Ordered.{acyclic}
 use Rattle.ps_machine.specs.Behaviours.{Behaviour, IsMachine}
 use Rattle.ps_aiger.specs.Built.{AreLatches, IsBuilt}
 use Rattle.ps_aiger.specs.Encoded.{Encodes, IsTidy, symbols_of}
-use Rattle.ps_aiger.specs.Wires.{AreGates, IsOutOfLiterals, IsWired, Wired, next_bit, next_wires, output_wires}
+use Rattle.ps_aiger.specs.Wires.{AreGates, IsOutOfLiterals, IsWired, next_bit, next_wires, output_wires}
 use Rattle.ps_aiger.proofs.CircuitShape as shape
 use Rattle.ps_aiger.proofs.CircuitSteps as steps
 use Rattle.ps_aiger.proofs.EncodeLemmas.{inputs_within, named, outputs_within}
@@ -39,12 +39,7 @@ pub record IsWhole (b : Behaviour) (latches : ℕ) (c : CircuitData) : Type 0 wh
 pub whole : (b : Behaviour) (latches : ℕ) (d : Drafted) (next outputs : List ℕ) (c : CircuitData) → IsSoundDraft d →
     next ≡ (next_wires b latches).literals → output_wires b latches ≡ record { draft = d; literals = outputs } →
     IsBuilt b d next outputs c → IsWhole b latches c
-whole b latches d next outputs c sound next_wired output_wired built = record {
-  room = subst (λ (w : Wired). HasRoom w.draft) (sym output_wired) sound.room;
-  built =
-      subst (λ (w : Wired). IsBuilt b w.draft (next_wires b latches).literals w.literals c) (sym output_wired)
-      (subst (λ xs. IsBuilt b d xs outputs c) next_wired built);
-}
+whole b latches d next outputs c sound next_wired output_wired built = grind (arith, built)
 
 module _ (b : Behaviour) (machine : IsMachine b) (latches : ℕ) (c : CircuitData) (w : IsWhole b latches c) where
   made : AreWires b latches
@@ -52,47 +47,38 @@ module _ (b : Behaviour) (machine : IsMachine b) (latches : ℕ) (c : CircuitDat
 
   next_bits : (j : ℕ) → j < latches → IsBit b latches (next_bit b j) (output_wires b latches).draft
       (get_or (next_wires b latches).literals j 0)
-  next_bits j lt =
-      subst (λ n. IsBit b latches (next_bit b n) (output_wires b latches).draft
-      (get_or (next_wires b latches).literals j 0))
-      (get_or-range_with_len 0 latches j 0 lt ∙ (let e : 0 + j ≡ j = omega arith in e))
+  next_bits j lt = subst (λ n. IsBit b latches (next_bit b n) (output_wires b latches).draft
+      (get_or (next_wires b latches).literals j 0)) (grind (arith, get_or-range_with_len))
       (made.next.each j (subst (λ n. j < n) (sym (length-range_with_len 0 latches)) lt))
 
   next_held : (k : ℕ) → k < latches → variable (get_or (next_wires b latches).literals k 0) ≤ c.most
-  next_held k lt = subst (λ n. variable (get_or (next_wires b latches).literals k 0) ≤ n) (sym w.built.most)
-      (next_bits k lt).held
+  next_held k lt = grind (arith, next_bits)
 
   outputs_held : (k e : ℕ) → k < length (output_wires b latches).literals →
       variable (get_or (output_wires b latches).literals k e) ≤ c.most
-  outputs_held k e lt =
-      subst (λ l. variable l ≤ c.most) (get_or_default (output_wires b latches).literals k 0 e lt)
+  outputs_held k e lt = subst (λ l. variable l ≤ c.most) (get_or_default (output_wires b latches).literals k 0 e lt)
       (subst (λ n. variable (get_or (output_wires b latches).literals k 0) ≤ n) (sym w.built.most)
       (made.outputs.each k (subst (λ n. k < n) made.outputs.many lt)).held)
 
   pub draft : IsDraft c
-  draft =
-      shape.is_draft b (output_wires b latches).draft made.outputs.sound latches (next_wires b latches).literals
+  draft = shape.is_draft b (output_wires b latches).draft made.outputs.sound latches (next_wires b latches).literals
       (output_wires b latches).literals c w.built (output_given b latches) (next_many b latches) next_held outputs_held
       (named b machine b.inputs (inputs_within b machine)) (named b machine b.outputs (outputs_within b machine))
       (sym made.outputs.many)
 
   pub ordered : (i j : ℕ) → ReadsGate c.gates i j → j < i
-  ordered =
-      shape.ordered b (output_wires b latches).draft made.outputs.sound latches (next_wires b latches).literals
+  ordered = shape.ordered b (output_wires b latches).draft made.outputs.sound latches (next_wires b latches).literals
       (output_wires b latches).literals c w.built (output_given b latches) (next_many b latches)
 
   pub is_tidy : IsTidy c
-  is_tidy =
-      shape.is_tidy b (output_wires b latches).draft made.outputs.sound latches (next_wires b latches).literals
+  is_tidy = shape.is_tidy b (output_wires b latches).draft made.outputs.sound latches (next_wires b latches).literals
       (output_wires b latches).literals c w.built (output_given b latches) (next_many b latches)
 
   pub wired : IsWired b c
-  wired =
-      is_wired b latches (next_wires b latches).literals c (next_many b latches) (output_given b latches) w.built refl
+  wired = grind (arith, is_wired, next_many, output_given)
 
   pub encodes : b.memories ≤ 2 ^ latches → ((n : ℕ) → b.memories ≤ 2 ^ n → latches ≤ n) → IsCircuit c → Encodes b c
-  encodes room least is =
-      steps.encodes b machine (output_wires b latches).draft latches (next_wires b latches).literals
+  encodes room least is = steps.encodes b machine (output_wires b latches).draft latches (next_wires b latches).literals
       (output_wires b latches).literals c w.built (next_many b latches) room next_bits made.outputs is least
 
 -- ## The circuit
@@ -105,10 +91,7 @@ least (suc n) = (let before = least n in elim (cases_lt n (2 ^ before.0)) [
   | inr more ↦ (
     suc before.0,
     omega (arith, before.1, pow-suc 2 before.0, positive before.0),
-    λ k le. elim (cases_lt before.0 k) [
-      | inl lt ↦ omega (arith, lt)
-      | inr ge ↦ (let fewer : 2 ^ k ≤ 2 ^ before.0 = pow_mono ge in absurd (omega (arith, le, more, fewer)))
-    ],
+    grind arith,
   )
 ])
 
@@ -124,8 +107,7 @@ gates_are from sides =
     let many = length-map-range_with_len (gate_at from sides) 0 (length sides) in
     record {
       many = many;
-      each = λ k s at.
-          (let lt = slice_get_within sides k s at in
+      each = λ k s at. (let lt = slice_get_within sides k s at in
           let e : 0 + k ≡ k = omega arith in
           let none = gate_at from sides 0 in
           slice_get-get_or _ k none (subst (λ n. k < n) (sym many) lt)
@@ -145,8 +127,7 @@ latches_are from next =
     let many = length-map-range_with_len (latch_at from next) 0 (length next) in
     record {
       many = many;
-      each = λ k lt.
-          (let e : 0 + k ≡ k = omega arith in
+      each = λ k lt. (let e : 0 + k ≡ k = omega arith in
           let none = latch_at from next 0 in
           slice_get-get_or _ k none (subst (λ n. k < n) (sym many) lt)
           ∙ ap (λ l. Some l) (get_or-map-range_with_len (latch_at from next) 0 (length next) k k none lt e));
@@ -162,8 +143,7 @@ circuit b latches =
       latches = map (latch_at (length b.inputs + 1) next) (range_with_len 0 (length next));
       outputs = outputs.literals;
       gates =
-          map (gate_at (outputs.draft.given + 1) outputs.draft.gates)
-          (range_with_len 0 (length outputs.draft.gates));
+          map (gate_at (outputs.draft.given + 1) outputs.draft.gates) (range_with_len 0 (length outputs.draft.gates));
       input_names = symbols_of b.names b.inputs;
       latch_names = replicate (length next) None;
       output_names = symbols_of b.names b.outputs;
@@ -173,16 +153,7 @@ built : (b : Behaviour) (latches : ℕ) →
     IsBuilt b (output_wires b latches).draft (next_wires b latches).literals (output_wires b latches).literals
     (circuit b latches)
 unfolding circuit
-built b latches = record {
-  most = refl;
-  inputs = refl;
-  latches = latches_are (length b.inputs + 1) (next_wires b latches).literals;
-  output_literals = refl;
-  gates = gates_are ((output_wires b latches).draft.given + 1) (output_wires b latches).draft.gates;
-  input_names = refl;
-  output_names = refl;
-  latch_names = refl;
-}
+built b latches = search (rules, latches_are, gates_are)
 
 pub circuit_there : (b : Behaviour) → IsMachine b →
     IsOutOfLiterals b ⊎ ((c : CircuitData) × Encodes b c × IsTidy c × IsWired b c)
@@ -195,11 +166,9 @@ circuit_there b machine =
           let c = circuit b latches in
           let w : IsWhole b latches c = record { room = omega (arith, le); built = built b latches } in
           let order = ordered b machine latches c w in
-          let well : IsCircuit c =
-          record {
+          let well : IsCircuit c = record {
             draft = draft b machine latches c w;
-            acyclic = acyclic (ReadsGate c.gates) (length c.gates) order
-                (λ i j r. slice_get_within c.gates i _ r.at_i);
+            acyclic = acyclic (ReadsGate c.gates) (length c.gates) order (λ i j r. slice_get_within c.gates i _ r.at_i);
           } in
           inr (
             c,

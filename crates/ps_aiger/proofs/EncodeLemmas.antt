@@ -1,7 +1,8 @@
 -- Names of propositions as symbols, and how many they are.
+use Rattle.std.proofs.Common.{rules}
 use Rattle.std.proofs.Common.{◌≡◌, ◌≢◌, ◌∙◌, ℕ, zero, suc, ◌+◌, ◌<◌, ◌≤◌, ◌||◌, Bool, true, false, cond, nat_eq}
 use Rattle.std.proofs.Common.{List, [], ◌∷◌, ◌++◌, map, length, get_or, slice_get, Option, Some, refl, sym, ap, subst}
-use Rattle.std.proofs.Common.{arith, inl, inr, All, take, Vec, Result, Ok, Err, IfOk}
+use Rattle.std.proofs.Common.{arith, inl, inr, All, take, Vec, Result, IfOk}
 use Rattle.std.specs.Prelude.{slice_index_or}
 use Rattle.std.specs.Global.{Global}
 use Rattle.std.proofs.lemmas.Bool.{eq-eqb}
@@ -24,20 +25,15 @@ use Rattle.ps_aiger.proofs.LetterLemmas.{few_rise}
 use Rattle.ps_circuit.proofs.GateLemmas.{bool_cases, true_is_not_false}
 
 no_control : (b : ℕ) (rest : Bool) → cond (is_control b) true rest ≡ false → (is_control b ≡ false) × (rest ≡ false)
-no_control b rest h = elim (bool_cases (is_control b)) [
-  | inl e ↦ absurd (true_is_not_false (sym (ap (λ t. cond t true rest) e) ∙ h))
-  | inr e ↦ (e, sym (ap (λ t. cond t true rest) e) ∙ h)
-]
+no_control b rest h = grind (arith, bool_cases (is_control b))
 
 no_newline : (bs : List ℕ) → has_control bs ≡ false → All (λ b. b ≢ 10) bs
 no_newline [] h k e lt = absurd (omega arith)
-no_newline (b ∷ bs) h zero e lt =
-    λ same. true_is_not_false (sym (ap is_control same) ∙ (no_control b (has_control bs) h).0)
+no_newline (b ∷ bs) h zero e lt = grind (arith, true_is_not_false, no_control)
 no_newline (b ∷ bs) h (suc k) e lt = no_newline bs (no_control b (has_control bs) h).1 k e (omega arith)
 
 name_is : (name : List ℕ) → (is_empty name || has_control name) ≡ false → IsName (Some name)
-name_is [] h = absurd (true_is_not_false h)
-name_is (b ∷ bs) h = (omega arith, no_newline (b ∷ bs) h)
+name_is name h = grind (arith, true_is_not_false, no_newline)
 
 name_ok : (names : List (List ℕ)) → AreNames names → (p : ℕ) → p < length names →
     IsName (Some (slice_index_or names p []))
@@ -48,12 +44,7 @@ name_ok (name ∷ names) are (suc p) lt = name_ok names are.2 p (omega arith)
 among : (ps : List ℕ) (k e : ℕ) → k < length ps → is_among (get_or ps k e) ps ≡ true
 among [] k e lt = absurd (omega arith)
 among (p ∷ ps) zero e lt = ap (λ t. cond t true (is_among p ps)) (eq-eqb p p refl)
-among (p ∷ ps) (suc k) e lt =
-    which (nat_eq (get_or ps k e) p) (is_among (get_or ps k e) ps) (among ps k e (omega arith))
-  where
-    which : (a b : Bool) → b ≡ true → cond a true b ≡ true
-    which true b h = refl
-    which false b h = h
+among (p ∷ ps) (suc k) e lt = grind (arith, nat_eq (get_or ps k e) p, among ps k e (omega arith))
 
 -- the propositions of a machine are few
 pub inputs_within : (m : Behaviour) → IsMachine m → All (λ p. p < length m.names) m.inputs
@@ -64,30 +55,23 @@ outputs_within m machine k e lt = (machine.each (get_or m.outputs k e)).1 (inr (
 
 pub few_inputs : (m : Behaviour) → IsMachine m → length m.inputs ≤ 64
 few_inputs m machine =
-    let few : length m.inputs + 0 ≤ 64 =
-    few_rise 0 64 m.inputs (record { from = λ k lt. omega arith; rise = machine.inputs_rise })
-    (λ k lt. (let h = inputs_within m machine k 0 lt in let n = machine.few_names in omega arith)) (omega arith) in
+    let few : length m.inputs + 0 ≤ 64 = grind (arith, few_rise, inputs_within) in
     omega arith
 
 pub named : (m : Behaviour) → IsMachine m → (ps : List ℕ) → All (λ p. p < length m.names) ps →
     All IsName (symbols_of m.names ps)
-named m machine ps below =
-    All-map IsName (λ (p : ℕ). Some (slice_index_or m.names p [])) ps
-    (λ k e lt. name_ok m.names machine.are_names (get_or ps k e) (below k e lt))
+named m machine ps below = search (rules, All-map, name_ok)
 
 pub next_bits_within : (latches : ℕ) (bits : List Wanted) → latches ≤ 64 → length bits ≡ latches →
     ((k : ℕ) → k < latches → slice_get bits k ≡ Some (Next k)) → All (λ bit. wanted_place bit < 64) bits
 next_bits_within latches bits few many each k e lt =
     let within : k < latches = subst (λ n. k < n) many lt in
-    subst (λ (w : Wanted). wanted_place w < 64) (sym (get_or_from_slice_get bits k (Next k) e (each k within)))
-    (let less : k < 64 = omega arith in less)
+    grind (arith, get_or_from_slice_get bits k (Next k) e (each k within))
 
 pub output_bits_within : (m : Behaviour) → IsMachine m → (bits : List Wanted) →
     bits ≡ map Output m.outputs → All (λ bit. wanted_place bit < 64) bits
-output_bits_within m machine bits e =
-    subst (λ xs. All (λ bit. wanted_place bit < 64) xs) (sym e)
-    (All-map (λ bit. wanted_place bit < 64) Output m.outputs
-    (λ k d lt. (let h = outputs_within m machine k d lt in let n = machine.few_names in omega arith)))
+output_bits_within m machine bits e = subst (λ xs. All (λ bit. wanted_place bit < 64) xs) (sym e)
+    (All-map (λ bit. wanted_place bit < 64) Output m.outputs (λ k d lt. grind (arith, outputs_within)))
 
 pub symbol_more : (m : MachineData) (names : List (Vec ℕ Global)) (ps : List ℕ) (i : ℕ)
     (old new : List (Option (Vec ℕ Global))) (r name : Vec ℕ Global) → map bytes_of names ≡ m.names → i < length ps →
@@ -96,16 +80,12 @@ pub symbol_more : (m : MachineData) (names : List (Vec ℕ Global)) (ps : List �
     map name_bytes old ≡ symbols_of m.names (take i ps) → map name_bytes new ≡ symbols_of m.names (take (i + 1) ps)
 symbol_more m names ps i old new r name names_are lt known is same added before =
     let p = get_or ps i 0 in
-    let within : p < length names =
-    subst (λ n. p < n) (sym (sym (length-map names bytes_of) ∙ ap length names_are)) known in
-    let here : name.items ≡ get_or m.names p [] = same ∙ ap (λ (v : Vec ℕ Global). v.items) is
-    ∙ sym (get_or-map bytes_of names p r [] within) ∙ ap (λ ns. get_or ns p []) names_are in
-    ap (map name_bytes) added ∙ map-append name_bytes old (Some name ∷ [])
-    ∙ ap (λ xs. xs ++ Some name.items ∷ []) before ∙ ap (λ b. symbols_of m.names (take i ps) ++ Some b ∷ []) here
-    ∙ sym (ap (symbols_of m.names) (take_more ps i 0 lt) ∙ map-append (λ q. Some (slice_index_or m.names q []))
-    (take i ps) (p ∷ []))
+    let within : p < length names = grind (arith, length-map names bytes_of) in
+    let here : name.items ≡ get_or m.names p [] = search (rules, get_or-map) in
+    ap (map name_bytes) added ∙ map-append name_bytes old (Some name ∷ []) ∙ ap (λ xs. xs ++ Some name.items ∷ [])
+    before ∙ ap (λ b. symbols_of m.names (take i ps) ++ Some b ∷ []) here ∙ sym (ap (symbols_of m.names)
+    (take_more ps i 0 lt) ∙ map-append (λ q. Some (slice_index_or m.names q [])) (take i ps) (p ∷ []))
 
 pub ok_with : {T E : Type 0} (r : Result T E) (P Q R : T → Type 0) → ((x : T) → P x → Q x → R x) → IfOk r P →
     IfOk r Q → IfOk r R
-ok_with (Ok x) P Q R f p q = f x p q
-ok_with (Err e) P Q R f p q = tt
+ok_with r P Q R f p q = grind arith

@@ -1,5 +1,5 @@
 -- Constant literals, nodes without a leaf, and codes that fit.
-use Rattle.std.proofs.Common.{◌≡◌, ◌∙◌, ℕ, zero, suc, ◌+◌, ◌-◌, ◌*◌, ◌/◌, ◌%◌, ◌^◌, ◌<◌, ◌≤◌, Bool, true, false, not}
+use Rattle.std.proofs.Common.{◌≡◌, ℕ, zero, suc, ◌+◌, ◌-◌, ◌*◌, ◌/◌, ◌%◌, ◌^◌, ◌<◌, ◌≤◌, Bool, false}
 use Rattle.std.proofs.Common.{cond, nat_eq, List, [], ◌∷◌, length, get_or, slice_get, Some, refl, sym, ap, subst, arith}
 use Rattle.std.proofs.Common.{inl, inr, if◌then◌else◌}
 use Rattle.std.proofs.lemmas.Bool.{eqb-true, cases_eq}
@@ -12,7 +12,6 @@ use Rattle.ps_label.specs.Truth.{is_in}
 use Rattle.ps_hoa.specs.Files.{is_among}
 use Rattle.ps_machine.specs.Machines.{MachineData, row_of}
 use Rattle.ps_aiger.specs.declared.functions.Wanted.{Wanted}
-use Rattle.ps_aiger.specs.declared.functions.Wanted.TheVariants.{Next, Output}
 use Rattle.ps_circuit.specs.Building.{Drafted, IsHeld, bit}
 use Rattle.ps_aiger.specs.Functions.{wanted_bit}
 use Rattle.ps_circuit.proofs.GateLemmas.{bool_cases}
@@ -34,20 +33,16 @@ pub no_row : (m : MachineData) → row_of m (length m.rows) ≡ record { memory 
 no_row m = get_or_past m.rows (length m.rows) _ (omega arith)
 
 pub nothing_wanted : (w : Wanted) → wanted_bit w (record { memory = 0; letter = 0 }) ≡ false
-nothing_wanted (Next j) = no_bits j
-nothing_wanted (Output p) = no_bits p
+nothing_wanted w = grind (arith, no_bits)
 
 pub constant_bit : (v : ℕ → Bool) (b : Bool) → v 0 ≡ false → bit v (if b then 1 else 0) ≡ b
-constant_bit v true e = ap not e
-constant_bit v false e = e
+constant_bit v b e = grind arith
 
 pub constant_held : (d : Drafted) (b : Bool) → IsHeld d (if b then 1 else 0)
-constant_held d true = omega arith
-constant_held d false = omega arith
+constant_held d b = grind arith
 
 pub by_cond : {X Y : Type 0} (f : X → Y) (b : Bool) (h l : X) → cond b (f h) (f l) ≡ f (cond b h l)
-by_cond f true h l = refl
-by_cond f false h l = refl
+by_cond f b h l = grind arith
 
 pub place_small : (inputs list : List ℕ) (place p : ℕ) → list ≡ inputs → slice_get list place ≡ Some p →
     place < length inputs
@@ -58,11 +53,7 @@ held_place d n place lt le = let half : 2 * (place + 1) / 2 ≡ place + 1 = omeg
 
 pub halves : (latches : ℕ) → (latches ≡ 0 → ⊥) → 2 ^ latches ≡ 2 ^ (latches - 1) + 2 ^ (latches - 1)
 halves zero h = absurd (h refl)
-halves (suc n) h = let e : suc n - 1 ≡ n = omega arith in ap (λ k. 2 ^ k) (let f : suc n ≡ n + 1 = omega arith in f)
-    ∙ (let g : 2 ^ (n + 1) ≡ 2 ^ n + 2 ^ n = two n in g) ∙ ap (λ k. 2 ^ k + 2 ^ k) (sym e)
-  where
-    two : (n : ℕ) → 2 ^ (n + 1) ≡ 2 ^ n + 2 ^ n
-    two n = omega (arith, pow-suc 2 n, ap (λ k. 2 ^ k) (let f : n + 1 ≡ suc n = omega arith in f))
+halves (suc n) h = grind (arith, pow-suc)
 
 pub shl_is : (latch : ℕ) → latch < 64 → 1 * 2 ^ latch % 18446744073709551616 ≡ 2 ^ latch
 shl_is latch lt = one_shl latch 64 lt

@@ -1,7 +1,7 @@
 -- Letters over some propositions, and numbers by their bits.
-use Rattle.std.proofs.Common.{◌≡◌, ◌∙◌, ℕ, zero, suc, ◌+◌, ◌-◌, ◌*◌, ◌/◌, ◌%◌, ◌^◌, ◌<◌, ◌≤◌, Bool, true, false, cond}
-use Rattle.std.proofs.Common.{nat_eq, List, [], ◌∷◌, length, get_or, slice_get, Some, refl, sym, ap, arith, inl, inr}
-use Rattle.std.proofs.Common.{AllPairs}
+use Rattle.std.proofs.Common.{rules, ◌≡◌, ◌∙◌, ℕ, zero, suc, ◌+◌, ◌-◌, ◌*◌, ◌/◌, ◌%◌, ◌^◌, ◌<◌, ◌≤◌, Bool, true, false}
+use Rattle.std.proofs.Common.{cond, nat_eq, List, [], ◌∷◌, length, get_or, slice_get, Some, refl, sym, ap, arith, inl}
+use Rattle.std.proofs.Common.{inr, AllPairs}
 use Rattle.std.specs.Int.{bit_at}
 use Rattle.std.proofs.Math.Nat.{add-mul, pow-suc}
 use Rattle.std.proofs.lemmas.Bool.{eqb-true, eq-eqb, cases_eq, cases_lt}
@@ -41,24 +41,19 @@ power : (p m : ℕ) → m ≤ p → 2 ^ p ≡ 2 ^ (p - m) * 2 ^ m
 power p m le = ap (λ n. 2 ^ n) (let e : p ≡ p - m + m = omega arith in e) ∙ pow-add 2 (p - m) m
 
 one_multiple : (b : Bool) (p m : ℕ) → m ≤ p → cond b (2 ^ p) 0 ≡ cond b (2 ^ (p - m)) 0 * 2 ^ m
-one_multiple true p m le = power p m le
-one_multiple false p m le = omega arith
+one_multiple b p m le = grind (arith, power)
 
 multiple_more : (m p : ℕ) (b : Bool) (ps : List ℕ) (bits : List Bool) → m ≤ p →
     ((n : ℕ) × (letter_over ps bits ≡ n * 2 ^ m)) → (n : ℕ) × (cond b (2 ^ p) 0 + letter_over ps bits ≡ n * 2 ^ m)
-multiple_more m p b ps bits le rest = (
-  cond b (2 ^ (p - m)) 0 + rest.0,
-  ap (λ n. n + letter_over ps bits) (one_multiple b p m le)
-      ∙ ap (λ n. cond b (2 ^ (p - m)) 0 * 2 ^ m + n) rest.1 ∙ sym (add-mul (cond b (2 ^ (p - m)) 0) rest.0 (2 ^ m)),
-)
+multiple_more m p b ps bits le rest =
+    grind (arith, one_multiple b p m le, add-mul (cond b (2 ^ (p - m)) 0) rest.0 (2 ^ m))
 
 -- a letter over propositions from m on is a multiple of 2 to the m
 multiple : (m : ℕ) (ps : List ℕ) (bits : List Bool) → AreFrom m ps → (n : ℕ) × (letter_over ps bits ≡ n * 2 ^ m)
 multiple m [] bits a = (0, omega arith)
 multiple m (p ∷ ps) [] a = (0, omega arith)
-multiple m (p ∷ ps) (b ∷ bits) a =
-    multiple_more m p b ps bits (a.from 0 (omega arith)) (multiple m ps bits
-    (record { from = λ k lt. a.from (suc k) (omega arith); rise = (from-tail m p ps a).rise }))
+multiple m (p ∷ ps) (b ∷ bits) a = multiple_more m p b ps bits (a.from 0 (omega arith))
+    (multiple m ps bits (record { from = λ k lt. a.from (suc k) (omega arith); rise = (from-tail m p ps a).rise }))
 
 no_bits : (q : ℕ) → is_in q 0 ≡ false
 no_bits q = ap (λ n. nat_eq n 1) (bit_at_above 0 0 q (omega arith) (omega arith))
@@ -69,8 +64,7 @@ positive zero = omega arith
 positive (suc n) = omega (arith, pow-suc 2 n, positive n)
 
 one_small : (b : Bool) (p : ℕ) → cond b (2 ^ p) 0 < 2 ^ (p + 1)
-one_small true p = omega (arith, pow-suc 2 p, ap (λ n. 2 ^ n) (let e : p + 1 ≡ suc p = omega arith in e), positive p)
-one_small false p = positive (p + 1)
+one_small b p = grind (arith, pow-suc 2 p, positive p)
 
 one_here : (b : Bool) (p : ℕ) → is_in p (cond b (2 ^ p) 0) ≡ b
 one_here true p = ap (is_in p) (let e : 2 ^ p ≡ 0 + 2 ^ p = omega arith in e) ∙ top_bit p 0 (positive p)
@@ -84,16 +78,16 @@ turned : (c x : ℕ) → c + x ≡ x + c
 turned c x = omega arith
 
 bit_low : (b : Bool) (p n q : ℕ) → q < p + 1 → is_in q (cond b (2 ^ p) 0 + n * 2 ^ (p + 1)) ≡ is_in q (cond b (2 ^ p) 0)
-bit_low b p n q lt =
-    ap (λ x. nat_eq x 1) (ap (λ x. bit_at x q) (turned (cond b (2 ^ p) 0) (n * 2 ^ (p + 1)))
+bit_low b p n q lt = ap (λ x. nat_eq x 1) (ap (λ x. bit_at x q) (turned (cond b (2 ^ p) 0) (n * 2 ^ (p + 1)))
     ∙ bit_at_cat_low n (p + 1) (cond b (2 ^ p) 0) q lt)
 
 bit_high : (b : Bool) (p n q : ℕ) → p + 1 ≤ q → is_in q (cond b (2 ^ p) 0 + n * 2 ^ (p + 1)) ≡ is_in q (n * 2 ^ (p + 1))
-bit_high b p n q le =
-    ap (λ x. nat_eq x 1) (ap (λ x. bit_at x q) (turned (cond b (2 ^ p) 0) (n * 2 ^ (p + 1)))
-    ∙ bit_at_cat_high n (p + 1) (cond b (2 ^ p) 0) q (one_small b p) le
-    ∙ sym (bit_at_cat_high n (p + 1) 0 q (one_small false p) le)
-    ∙ ap (λ x. bit_at x q) (let e : n * 2 ^ (p + 1) + 0 ≡ n * 2 ^ (p + 1) = omega arith in e))
+bit_high b p n q le = grind (
+  arith,
+  turned (cond b (2 ^ p) 0) (n * 2 ^ (p + 1)),
+  bit_at_cat_high n (p + 1) (cond b (2 ^ p) 0) q (one_small b p) le,
+  bit_at_cat_high n (p + 1) 0 q (one_small false p) le,
+)
 
 none_for : (ps : List ℕ) (bits : List Bool) (q : ℕ) → ((k : ℕ) → k < length ps → get_or ps k 0 ≡ q → ⊥) →
     bit_for ps bits q ≡ false
@@ -106,14 +100,10 @@ letter_bit_more : (p : ℕ) (b : Bool) (ps : List ℕ) (bits : List Bool) (q n :
     letter_over ps bits ≡ n * 2 ^ (p + 1) → is_in q (letter_over ps bits) ≡ bit_for ps bits q →
     is_in q (cond b (2 ^ p) 0 + n * 2 ^ (p + 1)) ≡ cond (nat_eq p q) b (bit_for ps bits q)
 letter_bit_more p b ps bits q n later is rest = elim (cases_eq p q) [
-  | inl e ↦ bit_low b p n q (omega arith) ∙ ap (λ x. is_in x (cond b (2 ^ p) 0)) (sym e) ∙ one_here b p
-      ∙ sym (ap (λ t. cond t b (bit_for ps bits q)) (eq-eqb p q e))
+  | inl e ↦ grind (arith, bit_low, one_here, eq-eqb)
   | inr ne ↦ elim (cases_lt q p) [
-    | inl lt ↦ bit_low b p n q (omega arith) ∙ one_below b p q lt
-        ∙ sym (ap (λ t. cond t b (bit_for ps bits q)) (no_test p q ne)
-        ∙ none_for ps bits q (λ k within e. (let h = later.from k within in absurd (omega arith))))
-    | inr le ↦ bit_high b p n q (omega arith) ∙ ap (is_in q) (sym is) ∙ rest
-        ∙ sym (ap (λ t. cond t b (bit_for ps bits q)) (no_test p q ne))
+    | inl lt ↦ grind (arith, bit_low, one_below, no_test, none_for)
+    | inr le ↦ grind (arith, bit_high, no_test)
   ]
 ]
 
@@ -124,8 +114,7 @@ letter_bit m (p ∷ ps) [] q a = no_bits q
 letter_bit m (p ∷ ps) (b ∷ bits) q a =
     let later : AreFrom (p + 1) ps = from-tail m p ps a in
     let rest = multiple (p + 1) ps bits later in
-    ap (λ n. is_in q (cond b (2 ^ p) 0 + n)) rest.1 ∙ letter_bit_more p b ps bits q rest.0 later rest.1
-    (letter_bit (p + 1) ps bits q later)
+    search (rules, letter_bit_more, letter_bit (p + 1) ps bits q later)
 
 pub bit_for-at : (m : ℕ) (ps : List ℕ) (bits : List Bool) (k p : ℕ) → AreFrom m ps → slice_get ps k ≡ Some p →
     k < length bits → bit_for ps bits p ≡ get_or bits k false
@@ -138,13 +127,11 @@ bit_for-at m (x ∷ ps) (b ∷ bits) zero p a at lt = ap (λ t. cond t b (bit_fo
   where
     some_is : (c d : ℕ) → Some c ≡ Some d → c ≡ d
     some_is c d e = cc
-bit_for-at m (x ∷ ps) (b ∷ bits) (suc k) p a at lt =
-    ap (λ t. cond t b (bit_for ps bits p)) (no_test x p other)
+bit_for-at m (x ∷ ps) (b ∷ bits) (suc k) p a at lt = ap (λ t. cond t b (bit_for ps bits p)) (no_test x p other)
     ∙ bit_for-at (x + 1) ps bits k p (from-tail m x ps a) at (omega arith)
   where
     other : x ≡ p → ⊥
-    other e =
-        (let within = slice_get_within ps k p at in let is = get_or_from_slice_get ps k p 0 at in
+    other e = (let within = slice_get_within ps k p at in let is = get_or_from_slice_get ps k p 0 at in
         let h = (from-tail m x ps a).from k within in absurd (omega arith))
 
 pub bit_for-none : (ps : List ℕ) (bits : List Bool) (q : ℕ) → is_among q ps ≡ false → bit_for ps bits q ≡ false
@@ -170,23 +157,10 @@ few_rise m n (p ∷ ps) a below le =
 -- ## Numbers
 
 first_bit : (n : ℕ) → cond (is_in 0 n) 1 0 ≡ n % 2
-first_bit n = elim (cases_eq (n / 2 ^ 0 % 2) 1) [
-  | inl e ↦ ap (λ t. cond t 1 0) (eq-eqb (n / 2 ^ 0 % 2) 1 e) ∙ sym (same n e)
-  | inr ne ↦ ap (λ t. cond t 1 0) (no_test (n / 2 ^ 0 % 2) 1 ne)
-      ∙ (let r : n % 2 ≡ 1 → ⊥ = (λ e. ne (under n ∙ e)) in let z : 0 ≡ n % 2 = omega arith in z)
-]
-  where
-    under : (n : ℕ) → n / 2 ^ 0 % 2 ≡ n % 2
-    under n = ap (λ x. x % 2) (let e : n / 1 ≡ n = omega arith in e)
-
-    same : (n : ℕ) → n / 2 ^ 0 % 2 ≡ 1 → n % 2 ≡ 1
-    same n e = sym (under n) ∙ e
+first_bit n = grind (arith, cases_eq, eq-eqb, no_test)
 
 later_bit : (j n : ℕ) → is_in (suc j) n ≡ is_in j (n / 2)
-later_bit j n =
-    ap (λ x. nat_eq x 1) (ap (λ x. bit_at x (suc j)) (let e : n ≡ n / 2 * 2 ^ 1 + n % 2 = omega arith in e)
-    ∙ bit_at_cat_high (n / 2) 1 (n % 2) (suc j) (omega arith) (omega arith)
-    ∙ ap (bit_at (n / 2)) (let e : suc j - 1 ≡ j = omega arith in e))
+later_bit j n = grind (arith, bit_at_cat_high (n / 2) 1 (n % 2) (suc j) (omega arith) (omega arith))
 
 -- a number whose bits these are, all of them
 pub number_is : (bits : List Bool) (n : ℕ) → n < 2 ^ length bits →
@@ -195,13 +169,10 @@ number_is [] n lt h = omega arith
 number_is (b ∷ bits) n lt h =
     let here : cond b 1 0 ≡ n % 2 = ap (λ t. cond t 1 0) (h 0 (omega arith)) ∙ first_bit n in
     let small : n / 2 < 2 ^ length bits = omega (arith, pow-suc 2 (length bits)) in
-    let rest : number_of bits ≡ n / 2 =
-    number_is bits (n / 2) small (λ j within. h (suc j) (omega arith) ∙ later_bit j n) in
+    let rest : number_of bits ≡ n / 2 = number_is bits (n / 2) small (λ j within. grind (arith, later_bit j n)) in
     omega arith
 
 -- the number of bits that a letter has
 pub number_of_letter : (bits : List Bool) (f : ℕ → Bool) → ((j : ℕ) → j < length bits → get_or bits j false ≡ f j) →
     number_of bits ≡ letter_of (length bits) f
-number_of_letter bits f h =
-    number_is bits (letter_of (length bits) f) (letter_lt (length bits) f)
-    (λ j within. h j within ∙ sym (letter_is (length bits) f j within))
+number_of_letter bits f h = search (rules, number_is, letter_lt, letter_is)

@@ -1,4 +1,5 @@
 -- The literals of functions: they are there when they are asked for again, and a diagram has the gates of its function.
+use Rattle.std.proofs.Common.{rules}
 use Rattle.std.proofs.Common.{◌≡◌, ◌∙◌, ℕ, zero, suc, ◌+◌, ◌*◌, ◌<◌, Bool, true, false, cond, if◌then◌else◌, List, []}
 use Rattle.std.proofs.Common.{◌∷◌, length, get_or, slice_get, Option, Some, None, refl, sym, ap, subst, arith, inl, inr}
 use Rattle.std.specs.List.{range_with_len}
@@ -40,10 +41,13 @@ unfolding over_variables
 over-extends [] f d = extends-refl d
 over-extends (v ∷ vs) f d =
     let high = over_variables vs (onto true f) d in
-    let low = over_variables vs (onto false f) high.draft in
-    extends-trans d high.draft _ (over-extends vs (onto true f) d)
-    (extends-trans high.draft low.draft _ (over-extends vs (onto false f) high.draft)
-    (mux-extends low.draft (2 * v) high.literal low.literal))
+    search (
+      rules,
+      extends-trans,
+      mux-extends,
+      over-extends vs (onto true f) d,
+      over-extends vs (onto false f) high.draft,
+    )
 
 pub over-again : (vs : List ℕ) (f : List Bool → Bool) (d e : Drafted) → Extends (over_variables vs f d).draft e →
     IsThere (over_variables vs f d) (over_variables vs f) e
@@ -52,20 +56,16 @@ over-again [] f d e x = refl
 over-again (v ∷ vs) f d e x =
     let high = over_variables vs (onto true f) d in
     let low = over_variables vs (onto false f) high.draft in
-    let xl : Extends low.draft e =
-    extends-trans low.draft _ e (mux-extends low.draft (2 * v) high.literal low.literal) x in
+    let xl : Extends low.draft e = search (rules, extends-trans, mux-extends) in
     let xh : Extends high.draft e =
     extends-trans high.draft low.draft e (over-extends vs (onto false f) high.draft) xl in
-    ap (λ h. choose (2 * v) h (over_variables vs (onto false f) h.draft)) (over-again vs (onto true f) d e xh)
-    ∙ ap (choose (2 * v) (record { draft = e; literal = high.literal })) (over-again vs (onto false f) high.draft e xl)
-    ∙ mux-again low.draft e (2 * v) high.literal low.literal x
+    search (rules, mux-again, over-again vs (onto true f) d e xh, over-again vs (onto false f) high.draft e xl)
 
 pub over-same : (vs : List ℕ) (f g : List Bool → Bool) (d : Drafted) → AreSame (length vs) f g →
     over_variables vs f d ≡ over_variables vs g d
 unfolding over_variables
 over-same [] f g d h = ap (λ b. record { draft = d; literal = cond b 1 0 }) (h [] refl)
-over-same (v ∷ vs) f g d h =
-    ap (λ m. choose (2 * v) m (over_variables vs (onto false f) m.draft))
+over-same (v ∷ vs) f g d h = ap (λ m. choose (2 * v) m (over_variables vs (onto false f) m.draft))
     (over-same vs (onto true f) (onto true g) d (λ bits e. h (true ∷ bits) (ap suc e)))
     ∙ ap (choose (2 * v) (over_variables vs (onto true g) d)) (over-same vs (onto false f) (onto false g)
     (over_variables vs (onto true g) d).draft (λ bits e. h (false ∷ bits) (ap suc e)))
@@ -77,15 +77,13 @@ unfolding over_variables
 over-skip v vs f d h =
     let high = over_variables vs (onto true f) d in
     ap (choose (2 * v) high) (over-same vs (onto false f) (onto true f) high.draft (λ bits e. sym (h bits e))
-    ∙ over-again vs (onto true f) d high.draft (extends-refl high.draft))
-    ∙ mux-same high.draft (2 * v) high.literal
+    ∙ over-again vs (onto true f) d high.draft (extends-refl high.draft)) ∙ mux-same high.draft (2 * v) high.literal
 
 pub over-constant : (b : Bool) (vs : List ℕ) (f : List Bool → Bool) (d : Drafted) → AreSame (length vs) f (λ bits. b) →
     over_variables vs f d ≡ record { draft = d; literal = if b then 1 else 0 }
 unfolding over_variables
 over-constant b [] f d h = ap (λ t. record { draft = d; literal = cond t 1 0 }) (h [] refl)
-over-constant b (v ∷ vs) f d h =
-    over-skip v vs f d (λ bits e. h (true ∷ bits) (ap suc e) ∙ sym (h (false ∷ bits) (ap suc e)))
+over-constant b (v ∷ vs) f d h = over-skip v vs f d (λ bits e. grind arith)
     ∙ over-constant b vs (onto true f) d (λ bits e. h (true ∷ bits) (ap suc e))
 
 -- the bits behind place k settle it
@@ -97,38 +95,32 @@ abbrev choice_over : List ℕ → ℕ → (List Bool → Bool) → (List Bool �
 choice_over vs s h l d = choose s (over_variables vs h d) (over_variables vs l (over_variables vs h d).draft)
 
 heads_differ : (bits : List Bool) (k j : ℕ) → k < j → get_or (true ∷ bits) j false ≡ get_or (false ∷ bits) j false
-heads_differ bits k zero lt = absurd (omega arith)
-heads_differ bits k (suc j) lt = refl
+heads_differ bits k j lt = grind arith
 
 heads_same : (a b : List Bool) (x : Bool) (k : ℕ) → ((j : ℕ) → k < j → get_or a j false ≡ get_or b j false) → (j : ℕ) →
     suc k < j → get_or (x ∷ a) j false ≡ get_or (x ∷ b) j false
-heads_same a b x k h zero lt = absurd (omega arith)
-heads_same a b x k h (suc j) lt = h j (omega arith)
+heads_same a b x k h j lt = grind arith
 
 behind-head : (n k : ℕ) (f : List Bool → Bool) → IsBehind (suc n) k f → AreSame n (onto true f) (onto false f)
 behind-head n k f h bits e = h (true ∷ bits) (false ∷ bits) (ap suc e) (ap suc e) (λ j lt. heads_differ bits k j lt)
 
 behind-tail : (n k : ℕ) (f : List Bool → Bool) → IsBehind (suc n) (suc k) f → IsBehind n k (onto true f)
-behind-tail n k f h a b ea eb same =
-    h (true ∷ a) (true ∷ b) (ap suc ea) (ap suc eb) (λ j lt. heads_same a b true k same j lt)
+behind-tail n k f h a b ea eb same = grind arith
 
 pub over-test : (k : ℕ) (vs : List ℕ) (f h l : List Bool → Bool) (d : Drafted) → k < length vs →
-    AreSame (length vs) f (λ bits. cond (get_or bits k false) (h bits) (l bits)) →
-    IsBehind (length vs) k h → IsBehind (length vs) k l → over_variables vs f d ≡ choice_over vs
-    (2 * get_or vs k 0) h l d
+    AreSame (length vs) f (λ bits. cond (get_or bits k false) (h bits) (l bits)) → IsBehind (length vs) k h →
+    IsBehind (length vs) k l → over_variables vs f d ≡ choice_over vs (2 * get_or vs k 0) h l d
 unfolding over_variables
 over-test k [] f h l d lt test hb lb = absurd (omega arith)
 over-test zero (v ∷ vs) f h l d lt test hb lb =
     let n = length vs in
     let above = over_variables vs (onto true h) d in
     let high : over_variables (v ∷ vs) h d ≡ above = over-skip v vs h d (behind-head n 0 h hb) in
-    let low : over_variables (v ∷ vs) l above.draft ≡ over_variables vs (onto false l) above.draft =
-    over-skip v vs l above.draft (behind-head n 0 l lb) ∙ over-same vs (onto true l) (onto false l) above.draft
-    (behind-head n 0 l lb) in
+    let low : over_variables (v ∷ vs) l above.draft ≡ over_variables vs (onto false l) above.draft = over-skip v vs l
+    above.draft (behind-head n 0 l lb) ∙ over-same vs (onto true l) (onto false l) above.draft (behind-head n 0 l lb) in
     ap (λ m. choose (2 * v) m (over_variables vs (onto false f) m.draft))
-    (over-same vs (onto true f) (onto true h) d (λ bits e. test (true ∷ bits) (ap suc e)))
-    ∙ ap (choose (2 * v) above) (over-same vs (onto false f) (onto false l) above.draft
-    (λ bits e. test (false ∷ bits) (ap suc e)))
+    (over-same vs (onto true f) (onto true h) d (λ bits e. test (true ∷ bits) (ap suc e))) ∙ ap (choose (2 * v) above)
+    (over-same vs (onto false f) (onto false l) above.draft (λ bits e. test (false ∷ bits) (ap suc e)))
     ∙ sym (ap (λ m. choose (2 * v) m (over_variables (v ∷ vs) l m.draft)) high ∙ ap (choose (2 * v) above) low)
 over-test (suc k) (v ∷ vs) f h l d lt test hb lb =
     let n = length vs in
@@ -163,19 +155,14 @@ bit_at m w leaf = wanted_bit w (row_of m (unwrap_or leaf (length m.rows)))
 pub made-nothing : (m : MachineData) (w : Wanted) (node : ℕ) (d : Drafted) →
     ((letter : ℕ) → leaf_of m.store node letter ≡ None) → node_made m w node d ≡ record { draft = d; literal = 0 }
 unfolding node_made
-made-nothing m w node d h =
-    over-constant false (range_with_len 1 (length m.inputs)) _ d
+made-nothing m w node d h = over-constant false (range_with_len 1 (length m.inputs)) _ d
     (λ bits e. ap (bit_at m w) (h (letter_over m.inputs bits)) ∙ ap (wanted_bit w) (no_row m) ∙ nothing_wanted w)
 
 pub made-leaf : (m : MachineData) (w : Wanted) (node leaf literal : ℕ) (d : Drafted) →
-    ((letter : ℕ) → leaf_of m.store node letter ≡ Some leaf) →
-    literal ≡ (if wanted_bit w (row_of m leaf) then 1 else 0) →
-    node_made m w node d ≡ record { draft = d; literal = literal }
+    ((letter : ℕ) → leaf_of m.store node letter ≡ Some leaf) → literal ≡ (if wanted_bit w (row_of m leaf) then 1 else 0)
+    → node_made m w node d ≡ record { draft = d; literal = literal }
 unfolding node_made
-made-leaf m w node leaf literal d h e =
-    over-constant (wanted_bit w (row_of m leaf)) (range_with_len 1 (length m.inputs)) _ d
-    (λ bits e. ap (bit_at m w) (h (letter_over m.inputs bits)))
-    ∙ ap (λ n. record { draft = d; literal = n }) (sym e)
+made-leaf m w node leaf literal d h e = grind (arith, over-constant)
 
 rising : (m : MachineData) → IsMachine (behaviour m) → AreFrom 0 m.inputs
 rising m machine = record { from = λ k lt. omega arith; rise = machine.inputs_rise }
@@ -183,11 +170,8 @@ rising m machine = record { from = λ k lt. omega arith; rise = machine.inputs_r
 pub made-low : (m : MachineData) (w : Wanted) (node p low high : ℕ) (d : Drafted) → IsMachine (behaviour m) →
     SeesTest m.store node p low high → is_among p m.inputs ≡ false → node_made m w node d ≡ node_made m w low d
 unfolding node_made
-made-low m w node p low high d machine sees none =
-    over-same (range_with_len 1 (length m.inputs)) _ _ d (λ bits e.
-    (let x = letter_over m.inputs bits in
-    ap (bit_at m w) (sees.leaf x ∙ ap (λ b. cond b (leaf_of m.store high x) (leaf_of m.store low x))
-    (letter_bit 0 m.inputs bits p (rising m machine) ∙ bit_for-none m.inputs bits p none))))
+made-low m w node p low high d machine sees none = over-same (range_with_len 1 (length m.inputs)) _ _ d
+    (λ bits e. grind (arith, letter_bit 0 m.inputs bits p (rising m machine), bit_for-none m.inputs bits p none))
 
 -- a letter's bit at q is settled by the bits at its places
 settled : (ps : List ℕ) (a b : List Bool) (q : ℕ) → length a ≡ length ps → length b ≡ length ps →
@@ -197,8 +181,7 @@ settled [] a b q ea eb h = refl
 settled (p ∷ ps) [] b q ea eb h = absurd (omega arith)
 settled (p ∷ ps) (x ∷ a) [] q ea eb h = absurd (omega arith)
 settled (p ∷ ps) (x ∷ a) (y ∷ b) q ea eb h = elim (cases_eq p q) [
-  | inl e ↦ ap (λ t. cond t x (bit_for ps a q)) (eq-eqb p q e) ∙ h 0 (omega arith) e
-      ∙ sym (ap (λ t. cond t y (bit_for ps b q)) (eq-eqb p q e))
+  | inl e ↦ ap (λ t. cond t x (bit_for ps a q)) (eq-eqb p q e) ∙ h 0 (omega arith) e ∙ sym (grind (arith, eq-eqb))
   | inr ne ↦ ap (λ t. cond t x (bit_for ps a q)) (no_test p q ne)
       ∙ settled ps a b q (omega arith) (omega arith) (λ j lt e. h (suc j) (omega arith) e)
       ∙ sym (ap (λ t. cond t y (bit_for ps b q)) (no_test p q ne))
@@ -208,27 +191,16 @@ settled (p ∷ ps) (x ∷ a) (y ∷ b) q ea eb h = elim (cases_eq p q) [
 node_behind : (m : MachineData) (w : Wanted) (node p place : ℕ) → IsMachine (behaviour m) →
     slice_get m.inputs place ≡ Some p → HeedsBehind m.store node p → (n : ℕ) → n ≡ length m.inputs →
     IsBehind n place (λ bits. wanted_bit w (row_by m node (letter_over m.inputs bits)))
-node_behind m w node p place machine at heeds n is a b ea eb same =
-    ap (bit_at m w) (heeds (letter_over m.inputs a) (letter_over m.inputs b)
-    (λ q lt. letter_bit 0 m.inputs a q (rising m machine)
-    ∙ settled m.inputs a b q (ea ∙ is) (eb ∙ is) (λ j within e. same j (later q j lt within e))
+node_behind m w node p place machine at heeds n is a b ea eb same = ap (bit_at m w)
+    (heeds (letter_over m.inputs a) (letter_over m.inputs b) (λ q lt. letter_bit 0 m.inputs a q (rising m machine)
+    ∙ settled m.inputs a b q (grind arith) (eb ∙ is) (λ j within e. grind (arith, later q j lt within e))
     ∙ sym (letter_bit 0 m.inputs b q (rising m machine))))
   where
     own : get_or m.inputs place 0 ≡ p
     own = get_or_from_slice_get m.inputs place p 0 at
 
     later : (q j : ℕ) → p < q → j < length m.inputs → get_or m.inputs j 0 ≡ q → place < j
-    later q j lt within e = elim (cases_lt place j) [
-      | inl before ↦ before
-      | inr le ↦ elim (cases_eq j place) [
-        | inl one ↦ let same : get_or m.inputs j 0 ≡ p = ap (λ k. get_or m.inputs k 0) one ∙ own in absurd (omega arith)
-        | inr ne ↦
-            let rise : get_or m.inputs j 0 < get_or m.inputs place 0 =
-            machine.inputs_rise j place 0 (omega arith) (slice_get_within m.inputs place p at) in
-            let mine = own in
-            absurd (omega arith)
-      ]
-    ]
+    later q j lt within e = grind (arith, cases_lt, cases_eq, own, slice_get_within)
 
 abbrev pub choice_made : MachineData → Wanted → ℕ → ℕ → ℕ → Drafted → Made
 choice_made m w s high low d = choose s (node_made m w high d) (node_made m w low (node_made m w high d).draft)
@@ -246,13 +218,10 @@ made-test m w node p low high place d machine sees at =
     let fh : List Bool → Bool = λ bits. wanted_bit w (row_by m high (letter_over m.inputs bits)) in
     let fl : List Bool → Bool = λ bits. wanted_bit w (row_by m low (letter_over m.inputs bits)) in
     over-test place vs (λ bits. wanted_bit w (row_by m node (letter_over m.inputs bits))) fh fl d
-    (subst (λ n. place < n) (sym many) within)
-    (λ bits e.
-    (let x = letter_over m.inputs bits in
+    (subst (λ n. place < n) (sym many) within) (λ bits e. (let x = letter_over m.inputs bits in
     let isin : is_in p x ≡ get_or bits place false = letter_bit 0 m.inputs bits p (rising m machine)
     ∙ bit_for-at 0 m.inputs bits place p (rising m machine) at (subst (λ n. place < n) (sym (e ∙ many)) within) in
     ap (bit_at m w) (sees.leaf x ∙ ap (λ b. cond b (leaf_of m.store high x) (leaf_of m.store low x)) isin)
     ∙ sym (by_cond (bit_at m w) (get_or bits place false) (leaf_of m.store high x) (leaf_of m.store low x))))
     (node_behind m w high p place machine at sees.high_behind (length vs) many)
-    (node_behind m w low p place machine at sees.low_behind (length vs) many)
-    ∙ ap (λ t. choice_over vs t fh fl d) s
+    (node_behind m w low p place machine at sees.low_behind (length vs) many) ∙ ap (λ t. choice_over vs t fh fl d) s

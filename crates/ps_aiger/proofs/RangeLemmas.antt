@@ -9,12 +9,9 @@ abbrev pub even_literals : ℕ → ℕ → List ℕ
 even_literals from count = map (λ v. 2 * v) (range_with_len from count)
 
 pub even-append : (a n k : ℕ) → even_literals a (n + k) ≡ even_literals a n ++ even_literals (a + n) k
-even-append a zero k = ap (even_literals a) (let e : 0 + k ≡ k = omega arith in e)
-    ∙ ap (λ x. even_literals x k) (let e : a ≡ a + 0 = omega arith in e)
-even-append a (suc n) k =
-    ap (even_literals a) (let e : suc n + k ≡ suc (n + k) = omega arith in e)
-    ∙ ap (λ xs. (2 * a) ∷ xs) (even-append (a + 1) n k ∙ ap (λ x. even_literals (a + 1) n ++ even_literals x k)
-    (let e : a + 1 + n ≡ a + suc n = omega arith in e))
+even-append a zero k = grind arith
+even-append a (suc n) k = ap (even_literals a) (let e : suc n + k ≡ suc (n + k) = omega arith in e) ∙ ap (λ xs. (2 * a)
+    ∷ xs) (even-append (a + 1) n k ∙ ap (λ x. even_literals (a + 1) n ++ even_literals x k) (grind arith))
 
 pub length-even : (a n : ℕ) → length (even_literals a n) ≡ n
 length-even a n = length-map-range_with_len (λ v. 2 * v) a n

@@ -1,5 +1,5 @@
 -- The gates of a whole circuit, made one function after another.
-use Rattle.std.proofs.Common.{◌≡◌, ◌∙◌, ℕ, suc, ◌+◌, ◌*◌, ◌^◌, ◌<◌, ◌≤◌, List, [], ◌∷◌, ◌++◌, map, length, drop}
+use Rattle.std.proofs.Common.{rules, ◌≡◌, ◌∙◌, ℕ, suc, ◌+◌, ◌*◌, ◌^◌, ◌<◌, ◌≤◌, List, [], ◌∷◌, ◌++◌, map, length, drop}
 use Rattle.std.proofs.Common.{slice_get, Option, Some, refl, sym, ap, subst, arith, eqb, cond, inl, inr, append_assoc}
 use Rattle.std.proofs.Common.{append-nil}
 use Rattle.std.specs.Prelude.{slice_index}
@@ -18,10 +18,10 @@ use Rattle.ps_circuit.specs.Building.{Drafted, Extends, IsHeld, variables_of}
 use Rattle.ps_aiger.specs.Built.{IsBuilt}
 use Rattle.ps_circuit.specs.Circuits.{CircuitData}
 use Rattle.ps_aiger.specs.Encoded.{memory_at}
-use Rattle.ps_aiger.specs.Functions.{KnowsMade, bit_wanted, bits_wired, code_wanted, node_made}
+use Rattle.ps_aiger.specs.Functions.{KnowsMade, bits_wired, code_wanted, node_made}
 use Rattle.ps_circuit.specs.Gates.{Made, mux_of}
-use Rattle.ps_aiger.specs.Wires.{AreGates, IsOutOfLiterals, IsWired, IsWiredBy, Wired, code_made, next_bit, next_wires}
-use Rattle.ps_aiger.specs.Wires.{output_bit, output_wires, wired}
+use Rattle.ps_aiger.specs.Wires.{AreGates, IsOutOfLiterals, IsWired, IsWiredBy, Wired, code_made, next_wires}
+use Rattle.ps_aiger.specs.Wires.{output_wires, wired}
 use Rattle.ps_aiger.proofs.CircuitShape.{no_latch}
 use Rattle.ps_circuit.proofs.GateLemmas.{bool_cases, drafted_are, extends-refl, extends-trans, held-extends}
 use Rattle.ps_circuit.proofs.MadeLemmas.{above-extends, mux-extends}
@@ -32,28 +32,18 @@ use Rattle.ps_aiger.proofs.WireLemmas.{wired-extends}
 
 pub choice-made : (whole high : Made) (low : Drafted → Made) (a b : Drafted) (s t f : ℕ) →
     whole ≡ choose s high (low high.draft) → high ≡ record { draft = a; literal = t } →
-    low a ≡ record { draft = b; literal = f } →
-    whole ≡ mux_of b s t f
-choice-made whole high low a b s t f is h l =
-    is ∙ ap (λ m. choose s m (low m.draft)) h ∙ ap (choose s (record { draft = a; literal = t })) l
+    low a ≡ record { draft = b; literal = f } → whole ≡ mux_of b s t f
+choice-made whole high low a b s t f is h l = grind arith
 
 pub choice-above : (whole high : Made) (low : Drafted → Made) (s : ℕ) → whole ≡ choose s high (low high.draft) →
     ((d : Drafted) → Extends d (low d).draft) → 2147483647 < variables_of high.draft →
     2147483647 < variables_of whole.draft
-choice-above whole high low s is grows above =
-    let under = low high.draft in
-    subst (λ (m : Made). 2147483647 < variables_of m.draft) (sym is)
-    (above-extends high.draft (choose s high under).draft (extends-trans high.draft under.draft _ (grows high.draft)
-    (mux-extends under.draft s high.literal under.literal)) above)
+choice-above whole high low s is grows above = grind (arith, above-extends, extends-trans, mux-extends)
 
 pub choice-above_low : (whole high : Made) (low : Drafted → Made) (a : Drafted) (s t : ℕ) →
     whole ≡ choose s high (low high.draft) → high ≡ record { draft = a; literal = t } →
-    2147483647 < variables_of (low a).draft →
-    2147483647 < variables_of whole.draft
-choice-above_low whole high low a s t is h above =
-    subst (λ (m : Made). 2147483647 < variables_of m.draft) (sym (is ∙ ap (λ m. choose s m (low m.draft)) h))
-    (above-extends (low a).draft (choose s (record { draft = a; literal = t }) (low a)).draft
-    (mux-extends (low a).draft s t (low a).literal) above)
+    2147483647 < variables_of (low a).draft → 2147483647 < variables_of whole.draft
+choice-above_low whole high low a s t is h above = grind (arith, above-extends, mux-extends)
 
 -- ## Tables of nodes
 
@@ -61,32 +51,15 @@ pub made-kept : (m : MachineData) (w : Wanted) (d e : Drafted) (known : ℕ → 
     KnowsMade m w d known → KnowsMade m w e known
 made-kept m w d e known x h node literal is =
     let there = h node literal is in
-    record {
-      held = held-extends d e x literal there.held;
-      made =
-          inputs-again m w node d e (subst (λ (n : Made). Extends n.draft e) (sym there.made) x)
-          ∙ ap (λ (n : Made). record { draft = e; literal = n.literal }) there.made;
-    }
+    grind (arith, held-extends, inputs-again)
 
 pub made-more : (m : MachineData) (w : Wanted) (d e : Drafted) (known new : ℕ → Option ℕ) (key value : ℕ) →
     ((q : ℕ) → new q ≡ cond (eqb key q) (Some value) (known q)) → KnowsMade m w e known → IsHeld e value →
     node_made m w key d ≡ record { draft = e; literal = value } → KnowsMade m w e new
-made-more m w d e known new key value update h held made node literal is =
-    elim (bool_cases (eqb key node)) [
-      | inl one ↦
-          let same : key ≡ node = eqb-true key node one in
-          let value_is : value ≡ literal =
-          some_is value literal (sym (update node ∙ ap (λ b. cond b (Some value) (known node)) one) ∙ is) in
-          let there = inputs-again m w key d e (subst (λ (n : Made). Extends n.draft e) (sym made) (extends-refl e)) in
-          record {
-            held = subst (IsHeld e) value_is held;
-            made =
-                ap (λ k. node_made m w k e) (sym same) ∙ there
-                ∙ ap (λ (n : Made). record { draft = e; literal = n.literal }) made
-                ∙ ap (λ n. record { draft = e; literal = n }) value_is;
-          }
-      | inr other ↦ h node literal (sym (update node ∙ ap (λ b. cond b (Some value) (known node)) other) ∙ is)
-    ]
+made-more m w d e known new key value update h held made node literal is = elim (bool_cases (eqb key node)) [
+  | inl one ↦ grind (arith, eqb-true, some_is, inputs-again, extends-refl)
+  | inr other ↦ h node literal (sym (update node ∙ ap (λ b. cond b (Some value) (known node)) other) ∙ is)
+]
   where
     some_is : (a b : ℕ) → Some a ≡ Some b → a ≡ b
     some_is a b same = cc
@@ -96,20 +69,14 @@ made-more m w d e known new key value update h held made node literal is =
 pub code-zero : (m : MachineData) (w : Wanted) (latches code node : ℕ) (d : Drafted) → latches ≡ 0 →
     node ≡ slice_index m.nodes (memory_at (behaviour m) code) → code_wanted m w latches code d ≡ node_made m w node d
 unfolding code_made node_made
-code-zero m w latches code node d none is =
-    ap (λ n. code_wanted m w n code d) none ∙ ap (λ n. node_made m w n d) (sym is)
+code-zero m w latches code node d none is = grind arith
 
 pub code-suc : (m : MachineData) (w : Wanted) (latches latch code upper s : ℕ) (d : Drafted) → latches ≡ suc latch →
     upper ≡ code + 2 ^ latch → s ≡ 2 * (length m.inputs + 1 + latch) →
     code_wanted m w latches code d ≡ choose s (code_wanted m w latch upper d)
     (code_wanted m w latch code (code_wanted m w latch upper d).draft)
 unfolding code_made
-code-suc m w latches latch code upper s d es eu e =
-    ap (λ n. code_wanted m w n code d) es
-    ∙ sym (ap (λ u. choose s (code_wanted m w latch u d) (code_wanted m w latch code (code_wanted m w latch u d).draft))
-    eu
-    ∙ ap (λ t. choose t (code_wanted m w latch (code + 2 ^ latch) d)
-    (code_wanted m w latch code (code_wanted m w latch (code + 2 ^ latch) d).draft)) e)
+code-suc m w latches latch code upper s d es eu e = grind arith
 
 -- ## One function after another
 
@@ -120,9 +87,7 @@ behind literals rest = record { draft = rest.draft; literals = literals ++ rest.
 pub wired-end : (m : MachineData) (latches i : ℕ) (ws : List Wanted) (d : Drafted) (literals : List ℕ) → length ws ≤ i →
     behind literals (bits_wired m latches (drop i ws) d) ≡ record { draft = d; literals = literals }
 unfolding wired
-wired-end m latches i ws d literals done =
-    ap (λ xs. behind literals (bits_wired m latches xs d)) (drop_all i ws done)
-    ∙ ap (λ xs. record { draft = d; literals = xs }) (append-nil literals)
+wired-end m latches i ws d literals done = grind (arith, drop_all, append-nil)
 
 wired_first : (m : MachineData) (latches : ℕ) (w : Wanted) (ws : List Wanted) (d : Drafted) →
     bits_wired m latches (w ∷ ws) d ≡ behind ((code_wanted m w latches 0 d).literal ∷ [])
@@ -136,25 +101,13 @@ pub wired-step : (m : MachineData) (latches i literal : ℕ) (ws : List Wanted) 
     new ≡ literals ++ literal ∷ [] → behind literals (bits_wired m latches (drop i ws) d) ≡ behind new
     (bits_wired m latches (drop (i + 1) ws) e)
 wired-step m latches i literal ws w d e literals new lt at made added =
-    let rest = drop (i + 1) ws in
-    let all : drop i ws ≡ w ∷ rest = drop_more ws i w lt ∙ ap (λ x. x ∷ rest) (get_or_from_slice_get ws i w w at) in
-    ap (λ xs. behind literals (bits_wired m latches xs d)) all ∙ ap (behind literals) (wired_first m latches w rest d)
-    ∙ ap (λ (n : Made). behind literals (behind (n.literal ∷ []) (bits_wired m latches rest n.draft))) made
-    ∙ ap (λ xs. record { draft = (bits_wired m latches rest e).draft; literals = xs })
-    (sym (append_assoc literals (literal ∷ []) (bits_wired m latches rest e).literals))
-    ∙ ap (λ xs. behind xs (bits_wired m latches rest e)) (sym added)
+    grind (arith, drop_more ws i w lt, get_or_from_slice_get ws i w w at, wired_first, append_assoc)
 
 pub wired-above : (m : MachineData) (latches i : ℕ) (ws : List Wanted) (w : Wanted) (d : Drafted) (literals : List ℕ) →
     i < length ws → slice_get ws i ≡ Some w → 2147483647 < variables_of (code_wanted m w latches 0 d).draft →
     2147483647 < variables_of (behind literals (bits_wired m latches (drop i ws) d)).draft
 wired-above m latches i ws w d literals lt at above =
-    let rest = drop (i + 1) ws in
-    let first = code_wanted m w latches 0 d in
-    let all : drop i ws ≡ w ∷ rest = drop_more ws i w lt ∙ ap (λ x. x ∷ rest) (get_or_from_slice_get ws i w w at) in
-    subst (λ (n : Wired). 2147483647 < variables_of n.draft) (sym
-    (ap (λ xs. bits_wired m latches xs d) all ∙ wired_first m latches w rest d))
-    (above-extends first.draft (bits_wired m latches rest first.draft).draft
-    (wired-extends (behaviour m) latches (map (bit_wanted (behaviour m)) rest) first.draft) above)
+    grind (arith, drop_more ws i w lt, get_or_from_slice_get ws i w w at, wired_first, above-extends, wired-extends)
 
 -- ## The circuit
 
@@ -163,53 +116,34 @@ pub bits_are : (latches : ℕ) (bits : List Wanted) → length bits ≡ latches 
 bits_are latches bits many each =
     let counted = length-range_with_len 0 latches in
     same_lists bits (map Next (range_with_len 0 latches)) (many ∙ sym counted
-    ∙ sym (length-map (range_with_len 0 latches) Next))
-    (λ k e lt. (let within : k < latches = omega arith in
-    get_or_from_slice_get bits k (Next k) e (each k within) ∙ ap Next
-    (let n : k ≡ 0 + k = omega arith in n ∙ sym (get_or-range_with_len 0 latches k 0 within))
+    ∙ sym (length-map (range_with_len 0 latches) Next)) (λ k e lt. (let within : k < latches = omega arith in
+    get_or_from_slice_get bits k (Next k) e (each k within) ∙ ap Next (grind (arith, get_or-range_with_len))
     ∙ sym (get_or-map Next (range_with_len 0 latches) k 0 e (omega arith))))
 
 pub first_wired : (m : MachineData) (latches : ℕ) (bits given_bits : List Wanted) (d : Drafted) → given_bits ≡ bits →
     bits ≡ map Next (range_with_len 0 latches) → d.given ≡ length m.inputs + latches → d.gates ≡ [] →
     bits_wired m latches given_bits d ≡ next_wires (behaviour m) latches
-first_wired m latches bits given_bits d eb is given none =
-    ap (λ xs. bits_wired m latches xs d) (eb ∙ is) ∙ ap (λ fs. wired (behaviour m) latches fs d)
-    (map-map (bit_wanted (behaviour m)) Next (range_with_len 0 latches))
-    ∙ ap (wired (behaviour m) latches (map (next_bit (behaviour m)) (range_with_len 0 latches)))
-    (drafted_are d (record { given = length m.inputs + latches; gates = [] }) given none)
+first_wired m latches bits given_bits d eb is given none = grind (arith, map-map, drafted_are)
 
 -- the outputs are wired behind the next values
 pub all_wired : (m : MachineData) (latches : ℕ) (bits : List Wanted) (d : Drafted) →
     d ≡ (next_wires (behaviour m) latches).draft → bits ≡ map Output m.outputs →
     output_wires (behaviour m) latches ≡ bits_wired m latches bits d
-all_wired m latches bits d behind is =
-    ap (λ fs. wired (behaviour m) latches fs (next_wires (behaviour m) latches).draft)
-    (sym (map-map (bit_wanted (behaviour m)) Output m.outputs))
-    ∙ ap (λ (e : Drafted). bits_wired m latches (map Output m.outputs) e) (sym behind)
-    ∙ ap (λ ws. bits_wired m latches ws d) (sym is)
+all_wired m latches bits d behind is = grind (arith, map-map)
 
 pub outputs_are : (m : MachineData) (latches : ℕ) (given_bits : List Wanted) (d : Drafted) (next : List ℕ) →
     next_wires (behaviour m) latches ≡ record { draft = d; literals = next } → given_bits ≡ map Output m.outputs →
     output_wires (behaviour m) latches ≡ bits_wired m latches given_bits d
-outputs_are m latches given_bits d next made is =
-    all_wired m latches given_bits d (ap (λ (n : Wired). n.draft) (sym made)) is
+outputs_are m latches given_bits d next made is = grind (arith, all_wired)
 
 pub above-outputs : (m : MachineData) (latches : ℕ) → 2147483647 < variables_of (next_wires (behaviour m) latches).draft
     → 2147483647 < variables_of (output_wires (behaviour m) latches).draft
-above-outputs m latches above =
-    above-extends (next_wires (behaviour m) latches).draft (output_wires (behaviour m) latches).draft
-    (wired-extends (behaviour m) latches (map (output_bit (behaviour m)) m.outputs)
-    (next_wires (behaviour m) latches).draft) above
+above-outputs m latches above = grind (arith, above-extends, wired-extends)
 
 pub out_of_literals : (m : MachineData) (latches memories : ℕ) → memories ≡ length m.nodes → memories ≤ 2 ^ latches →
     ((n : ℕ) → memories ≤ 2 ^ n → latches ≤ n) → 2147483647 < variables_of (output_wires (behaviour m) latches).draft →
     IsOutOfLiterals (behaviour m)
-out_of_literals m latches memories e room least above = record {
-  latches = latches;
-  room = subst (λ n. n ≤ 2 ^ latches) e room;
-  needed = λ n h. least n (subst (λ k. k ≤ 2 ^ n) (sym e) h);
-  above = above;
-}
+out_of_literals m latches memories e room least above = grind arith
 
 pub is_wired : (b : Behaviour) (latches : ℕ) (next : List ℕ) (c : CircuitData) → length next ≡ latches →
     (output_wires b latches).draft.given ≡ length b.inputs + latches →
@@ -218,13 +152,10 @@ pub is_wired : (b : Behaviour) (latches : ℕ) (next : List ℕ) (c : CircuitDat
 is_wired b latches next c many given built is =
     let count : latches ≡ length c.latches = sym many ∙ sym built.latches.many in
     let as_built : IsWiredBy b c latches = record {
-      next =
-          same_lists (map (λ (l : Latch). l.next) c.latches) next
-          (length-map c.latches (λ (l : Latch). l.next) ∙ built.latches.many)
-          (λ k e lt. (let within : k < length next = subst (λ n. k < n)
+      next = same_lists (map (λ (l : Latch). l.next) c.latches) next (length-map c.latches (λ (l : Latch). l.next)
+          ∙ built.latches.many) (λ k e lt. (let within : k < length next = subst (λ n. k < n)
           (length-map c.latches (λ (l : Latch). l.next) ∙ built.latches.many) lt in
-          get_or-map (λ (l : Latch). l.next) c.latches k no_latch e
-          (subst (λ n. k < n) (length-map c.latches (λ (l : Latch). l.next)) lt)
+          get_or-map (λ (l : Latch). l.next) c.latches k no_latch e (search (rules, length-map))
           ∙ ap (λ (l : Latch). l.next) (get_or_from_slice_get c.latches k _ no_latch (built.latches.each k within))
           ∙ get_or_default next k 0 e within)) ∙ is;
       outputs = built.output_literals;

@@ -21,41 +21,35 @@ use Rattle.ps_aiger.proofs.WireLemmas.{code-extends, wired-extends}
 
 -- ## Choices
 
-choose_made : (d : Drafted) (high low : Made) (s : ℕ) (p q : (ℕ → Bool) → Bool) → s ≤ d.given →
-    Extends d high.draft → Extends high.draft low.draft → IsMade high p → IsMade low q →
-    HasRoom (choose (2 * s) high low).draft →
+choose_made : (d : Drafted) (high low : Made) (s : ℕ) (p q : (ℕ → Bool) → Bool) → s ≤ d.given → Extends d high.draft →
+    Extends high.draft low.draft → IsMade high p → IsMade low q → HasRoom (choose (2 * s) high low).draft →
     IsMade (choose (2 * s) high low) (λ v. cond (v s) (p v) (q v))
 choose_made d high low s p q within xh xl h l room =
     let held : IsHeld low.draft (2 * s) =
     (let half : 2 * s / 2 ≡ s = omega arith in let a = xh.given in let b = xl.given in omega arith) in
-    let mux =
-    mux-made low.draft (2 * s) high.literal low.literal l.sound held
+    let mux = mux-made low.draft (2 * s) high.literal low.literal l.sound held
     (held-extends high.draft low.draft xl high.literal h.held) l.held room in
     record {
       sound = mux.sound;
       held = mux.held;
-      is = λ v meets.
-          (let behind =
-          meets-extends low.draft (choose (2 * s) high low).draft (mux-extends low.draft (2 * s) high.literal
-          low.literal) v meets in
+      is = λ v meets. (let behind = meets-extends low.draft (choose (2 * s) high low).draft
+          (mux-extends low.draft (2 * s) high.literal low.literal) v meets in
           mux.is v meets ∙ ap (λ b. cond b (bit v high.literal) (bit v low.literal)) (bit-plain v s)
           ∙ ap₂ (cond (v s)) (h.is v (meets-extends high.draft low.draft xl v behind)) (l.is v behind));
     }
 
 by_head : (f : Bool → Bool) (b : Bool) → cond b (f true) (f false) ≡ f b
-by_head f true = refl
-by_head f false = refl
+by_head f b = grind arith
 
 -- a function of these variables' bits
 over-made : (vs : List ℕ) (f : List Bool → Bool) (d : Drafted) → IsSoundDraft d → All (λ v. v ≤ d.given) vs →
     HasRoom (over_variables vs f d).draft → IsMade (over_variables vs f d) (λ v. f (map v vs))
 unfolding over_variables
-over-made [] f d sound within room =
-    record {
-      sound = sound;
-      held = constant_held d (f []);
-      is = λ v meets. constant_bit v (f []) meets.constant;
-    }
+over-made [] f d sound within room = record {
+  sound = sound;
+  held = constant_held d (f []);
+  is = λ v meets. constant_bit v (f []) meets.constant;
+}
 over-made (s ∷ vs) f d sound within room =
     let high = over_variables vs (λ bits. f (true ∷ bits)) d in
     let low = over_variables vs (λ bits. f (false ∷ bits)) high.draft in
@@ -63,16 +57,13 @@ over-made (s ∷ vs) f d sound within room =
     let xl : Extends high.draft low.draft = over-extends vs (λ bits. f (false ∷ bits)) high.draft in
     let room_l : HasRoom low.draft =
     room-before low.draft _ (mux-extends low.draft (2 * s) high.literal low.literal) room in
-    let h =
-    over-made vs (λ bits. f (true ∷ bits)) d sound (λ k e lt. within (suc k) e (omega arith))
+    let h = over-made vs (λ bits. f (true ∷ bits)) d sound (λ k e lt. within (suc k) e (omega arith))
     (room-before high.draft low.draft xl room_l) in
-    let l =
-    over-made vs (λ bits. f (false ∷ bits)) high.draft h.sound
+    let l = over-made vs (λ bits. f (false ∷ bits)) high.draft h.sound
     (λ k e lt. subst (λ n. get_or vs k e ≤ n) (sym xh.given) (within (suc k) e (omega arith))) room_l in
     made-as (choose (2 * s) high low) (λ v. cond (v s) (f (true ∷ map v vs)) (f (false ∷ map v vs)))
-    (λ v. f (v s ∷ map v vs)) (λ v zero. by_head (λ b. f (b ∷ map v vs)) (v s))
-    (choose_made d high low s (λ v. f (true ∷ map v vs)) (λ v. f (false ∷ map v vs)) (within 0 0 (omega arith)) xh xl
-    h l room)
+    (λ v. f (v s ∷ map v vs)) (λ v zero. by_head (λ b. f (b ∷ map v vs)) (v s)) (choose_made d high low s
+    (λ v. f (true ∷ map v vs)) (λ v. f (false ∷ map v vs)) (within 0 0 (omega arith)) xh xl h l room)
 
 -- ## Bits of a step
 
@@ -94,8 +85,7 @@ IsBit b latches f d literal =
 
 by_bit : (g : ℕ → Bool) (code power n : ℕ) (b : Bool) →
     cond b (g (code + power + n)) (g (code + n)) ≡ g (code + (n + cond b power 0))
-by_bit g code power n true = ap g (let e : code + power + n ≡ code + (n + power) = omega arith in e)
-by_bit g code power n false = ap g (let e : code + n ≡ code + (n + 0) = omega arith in e)
+by_bit g code power n b = grind arith
 
 code-made : (b : Behaviour) (f : StepBit) (latches code : ℕ) (d : Drafted) → IsSoundDraft d →
     length b.inputs + latches ≤ d.given → HasRoom (code_made b f latches code d).draft →
@@ -118,15 +108,12 @@ code-made b f (suc latch) code d sound given room =
     let xl : Extends high.draft low.draft = code-extends b f latch code high.draft in
     let room_l : HasRoom low.draft =
     room-before low.draft _ (mux-extends low.draft (2 * s) high.literal low.literal) room in
-    let h =
-    code-made b f latch upper d sound (omega (arith, given)) (room-before high.draft low.draft xl room_l) in
-    let l =
-    code-made b f latch code high.draft h.sound (let a = xh.given in omega (arith, given, a)) room_l in
+    let h = code-made b f latch upper d sound (omega (arith, given)) (room-before high.draft low.draft xl room_l) in
+    let l = code-made b f latch code high.draft h.sound (let a = xh.given in omega (arith, given, a)) room_l in
     made-as (choose (2 * s) high low) (λ v. cond (v s) (bit_read b f latch upper v) (bit_read b f latch code v))
-    (bit_read b f (suc latch) code)
-    (λ v zero. by_bit (λ n. f (memory_at b n) (letter_read b v)) code (2 ^ latch) (code_read b latch v) (v s))
-    (choose_made d high low s (bit_read b f latch upper) (bit_read b f latch code) (omega (arith, given)) xh xl h l
-    room)
+    (bit_read b f (suc latch) code) (λ v zero. by_bit (λ n. f (memory_at b n) (letter_read b v)) code (2 ^ latch)
+    (code_read b latch v) (v s)) (choose_made d high low s (bit_read b f latch upper) (bit_read b f latch code)
+    (omega (arith, given)) xh xl h l room)
 
 -- ## One bit after another
 
@@ -157,13 +144,11 @@ wired-made b latches g (n ∷ ns) d sound given room =
     let x : Extends d first.draft = code-extends b (g n) latches 0 d in
     let xr : Extends first.draft rest.draft = wired-extends b latches (map g ns) first.draft in
     let here = code-made b (g n) latches 0 d sound given (room-before first.draft rest.draft xr room) in
-    let more =
-    wired-made b latches g ns first.draft here.sound (let a = x.given in omega (arith, given, a)) room in
+    let more = wired-made b latches g ns first.draft here.sound (let a = x.given in omega (arith, given, a)) room in
     record {
       sound = more.sound;
       many = ap suc more.many;
-      each = all more
-          (made-later _ _ rest.draft xr more.sound here);
+      each = all more (made-later _ _ rest.draft xr more.sound here);
     }
   where
     all : {d : Drafted} {l : ℕ} {ls : List ℕ} → AreBits b latches g ns d ls → IsBit b latches (g n) d l → (k : ℕ) →
@@ -189,8 +174,7 @@ wires-made b latches room =
     let xn : Extends empty next.draft = wired-extends b latches bits empty in
     let xo : Extends next.draft outputs.draft = wired-extends b latches (map (output_bit b) b.outputs) next.draft in
     let room_n : HasRoom next.draft = room-before next.draft outputs.draft xo room in
-    let none : IsSoundDraft empty =
-    record {
+    let none : IsSoundDraft empty = record {
       room = room-before empty next.draft xn room_n;
       sides = λ k s at. absurd (none_at k s at);
       once = λ k l s at other. absurd (none_at k s at);

@@ -37,9 +37,7 @@ rank_before : (aim : Aim) (new : TablesData) (end w : ℕ) → end ≤ length ne
 rank_before aim new end w within stands =
     let before : stands.place < end = stands.before in
     let there : aim.begin + (stands.place - aim.begin) ≡ stands.place = omega arith in
-    let low : place_in (drop aim.begin new.trail) w ≤ stands.place - aim.begin =
-    search (rules, place_in-le, length-drop, get_or-drop) in
-    omega arith
+    grind (arith, place_in-le, length-drop, get_or-drop)
 
 -- a vertex stands at the place that its rank says
 rank_at : (aim : Aim) {new : TablesData} {v : ℕ} → StandsFrom new aim.begin v →
@@ -65,8 +63,7 @@ module _ {game : ParityGame} {aim : Aim} {old new : TablesData} {subgame target 
 
   -- what is in the set stands in the trail
   in_trail : (v : ℕ) → IsTrue (set v) → StandsFrom new aim.begin v
-  in_trail v inside =
-      stands_now v ended.begins ended.reached.grown (ended.taken.placed v inside)
+  in_trail v inside = stands_now v ended.begins ended.reached.grown (ended.taken.placed v inside)
       (was_there v ended.posed (ended.taken.within v inside))
 
   -- what stands in the trail is in the set
@@ -138,15 +135,12 @@ module _ {game : ParityGame} {aim : Aim} {old new : TablesData} {subgame target 
   -- an edge to what stands before the place of a vertex leads down
   leads_down : (v w : ℕ) → aim.begin + rank_of aim new v < length new.trail → HasEdge game v w →
       StandsBefore aim new (aim.begin + rank_of aim new v) w → LeadsDown game subgame set (rank_of aim new) v w
-  leads_down v w within edge stands =
-      let before = stands.before in
-      let in_set = trail_in (ended.is_game.within v w edge)
-      (record { place = stands.place; after = stands.after; within = omega arith; is = stands.is }) in
-      record {
-        leads = record { edge = edge; inside = ended.taken.within w in_set };
-        inside = in_set;
-        falls = omega (arith, rank_before aim new (aim.begin + rank_of aim new v) w (omega arith) stands);
-      }
+  leads_down v w within edge stands = grind (
+    arith,
+    trail_in (ended.is_game.within v w edge)
+        (record { place = stands.place; after = stands.after; within = omega arith; is = stands.is }),
+    rank_before aim new (aim.begin + rank_of aim new v) w (omega arith) stands,
+  )
 
   falls_in : Falls game subgame aim.player target set (moves_of new) (rank_of aim new)
   falls_in = record {

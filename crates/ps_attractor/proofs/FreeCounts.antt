@@ -1,6 +1,5 @@
 -- What one look does to the number of free vertices and to the trail.
-use Rattle.std.proofs.Common.{◌≡◌, ◌≢◌, ℕ, ◌+◌, ◌<◌, ◌≤◌, cond, eqb, List, [], ◌∷◌, ◌++◌, length, rules}
-use Rattle.std.proofs.Common.{get_or, refl, arith}
+use Rattle.std.proofs.Common.{◌≡◌, ◌≢◌, ℕ, ◌+◌, ◌<◌, ◌≤◌, cond, eqb, List, [], ◌∷◌, ◌++◌, length, rules, get_or, arith}
 use Rattle.std.specs.Prelude.{slice_set}
 use Rattle.std.proofs.lemmas.Bool.{eq-eqb, ne_eqb}
 use Rattle.std.proofs.lemmas.List.{length_push, get_or_append_left}
@@ -31,10 +30,8 @@ keeps_placed aim old moves u marks within is_free =
 
 pub keeps_look : {game : ParityGame} {aim : Aim} {old new : TablesData} {u w : ℕ} → aim.mark ≢ aim.free →
     u < length old.level → Look game aim old new u w → Keeps aim old new
-keeps_look marks within (NotFree not_free same) =
-    rw same (record { frees = refl; longer = omega arith; front = λ j within. refl })
-keeps_look marks within (Escapes others has_free same) =
-    rw same (record { frees = refl; longer = omega arith; front = λ j within. refl })
+keeps_look marks within (NotFree not_free same) = rw same (grind arith)
+keeps_look marks within (Escapes others has_free same) = rw same (grind arith)
 keeps_look {aim = aim} {old = old} {u = u} {w = w} marks within (Own is_free owns same) =
     rw same (keeps_placed aim old (slice_set old.moves u w) u marks within is_free)
 keeps_look {aim = aim} {old = old} {u = u} marks within (Others is_free others none same) =

@@ -6,7 +6,7 @@ use Rattle.ps_attractor.specs.Levels.{level_in, IsLevel}
 
 pub level_kept : (limit most level number : ℕ) → most ≡ limit → most < 2 ^ 64 → IsLevel limit level →
     number ≡ min level most → level_in limit number ≡ level
-level_kept limit most level number h1 h2 h3 h4 = search (rules, nat_tests)
+level_kept limit most level number h k m n = search (rules, nat_tests)
 
 pub map-replicate : (f : ℕ → ℕ) (n x : ℕ) → map f (replicate n x) ≡ replicate n (f x)
 map-replicate f zero x = refl

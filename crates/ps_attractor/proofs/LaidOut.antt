@@ -1,7 +1,6 @@
 -- The levels and the trail that the public function begins with, and what is read off at the end.
-use Rattle.std.proofs.Common.{◌≡◌, ◌≢◌, ℕ, ◌+◌, ◌<◌, ◌≤◌, ◌⊎◌, inl, inr, List, [], ◌∷◌, ◌++◌, Bool, true, false}
-use Rattle.std.proofs.Common.{IsTrue, Option, IsSome, length, get_or, drop, refl, rules}
-use Rattle.std.proofs.Common.{sym, ◌∙◌, arith}
+use Rattle.std.proofs.Common.{◌≡◌, ◌≢◌, ℕ, ◌+◌, ◌<◌, ◌≤◌, ◌⊎◌, inl, inr, List, [], ◌∷◌, ◌++◌, Bool, false, IsTrue}
+use Rattle.std.proofs.Common.{Option, IsSome, length, get_or, drop, refl, rules, sym, ◌∙◌, arith}
 use Rattle.std.specs.Prelude.{slice_set}
 use Rattle.std.proofs.lemmas.Bool.{cases_eq, cases_lt, false≢true, eq-eqb}
 use Rattle.std.proofs.lemmas.Bool.Decides.{nat_tests}
@@ -29,25 +28,16 @@ laid_more : {subgame target : List Bool} {n : ℕ} {old new : TablesData} → Ar
 laid_more {subgame = subgame} {target = target} {n = n} {new = new} laid kept placed free outside here stands trail =
     search rules
 
-pub laid_placed : {subgame target : List Bool} {n : ℕ} {old : TablesData} → n < length old.level →
-    IsTrue (has target n) → AreLaidOut subgame target n old →
-    AreLaidOut subgame target (n + 1) (with_placed old n PLACED)
+pub laid_placed : {subgame target : List Bool} {n : ℕ} {old : TablesData} → n < length old.level → IsTrue (has target n)
+    → AreLaidOut subgame target n old → AreLaidOut subgame target (n + 1) (with_placed old n PLACED)
 laid_placed {target = target} {n = n} {old = old} within there laid =
     let size : length (old.trail ++ n ∷ []) ≡ length old.trail + 1 = length_push old.trail n in
-    laid_more laid (λ v differ. get_or-set_other old.level n v PLACED 0 differ)
-    (λ _. get_or-set_same old.level n PLACED 0 within) (λ no _. absurd (false≢true (sym no ∙ there)))
+    laid_more laid (λ v differ. grind (arith, get_or-set_other))
+    (λ _. grind (arith, get_or-set_same)) (λ no _. absurd (false≢true (sym no ∙ there)))
     (λ no _. absurd (false≢true (sym no ∙ there)))
-    (λ _. record {
-      place = length old.trail;
-      after = omega arith;
-      within = omega arith;
-      is = get_or_push old.trail n 0 (length old.trail) refl;
-    })
-    (λ v. stands_longer (omega arith) (λ j less. get_or_append_left old.trail (n ∷ []) 0 j less))
-    (λ j low. elim (cases_lt j (length old.trail)) [
-      | inl less ↦ search (rules, get_or_append_left)
-      | inr more ↦ rw (get_or_push old.trail n 0 j (omega arith)) (there, omega arith)
-    ])
+    (λ _. grind (arith, get_or_push old.trail n 0 (length old.trail) refl))
+    (λ v. search (rules, stands_longer, get_or_append_left))
+    (λ j low. grind (arith, cases_lt, get_or_append_left, get_or_push))
 
 -- the vertex is not of the target, and gets its level or keeps it
 pub laid_kept : {subgame target : List Bool} {n : ℕ} {old : TablesData} (new : TablesData) → has target n ≡ false →

@@ -1,6 +1,5 @@
 -- A set in which ranks fall to the target lies in each closed set.
-use Rattle.std.proofs.Common.{◌≡◌, ℕ, zero, suc, ◌<◌, Bool, true, false, Option, IsSomeAnd, rules}
-use Rattle.std.proofs.Common.{IsTrue, refl, ◌∙◌, arith}
+use Rattle.std.proofs.Common.{◌≡◌, ℕ, zero, suc, ◌<◌, Bool, Option, IsSomeAnd, rules, IsTrue, refl, arith}
 use Rattle.std.proofs.lemmas.Bool.{cases_eq, false≢true}
 use Rattle.ps_game.specs.Games.{ParityGame}
 use Rattle.ps_game.specs.Subgames.{IsWithin}
@@ -8,20 +7,18 @@ use Rattle.ps_game.specs.Attractors.{IsClosed, LeadsDown, Falls, IsLeast}
 
 -- what a move that is there says
 some_move : (P : ℕ → Type 0) (o : Option ℕ) → IsSomeAnd o P → (w : ℕ) × P w
-some_move P o h1 = search rules
+some_move P o h = search rules
 
 below : {game : ParityGame} {subgame : ℕ → Bool} {player : ℕ} {target set : ℕ → Bool} {table : ℕ → Option ℕ}
     {rank : ℕ → ℕ} → IsWithin set subgame → Falls game subgame player target set table rank → {closed : ℕ → Bool} →
     IsClosed game subgame player target closed → (n v : ℕ) → rank v < n → IsTrue (set v) → IsTrue (closed v)
 below within falls is_closed zero v low inside = absurd (omega arith)
 below {game} {subgame} {player} {target} {set} {table} {rank} within falls {closed} is_closed (suc n) v low inside =
-    by_target (λ w leads. below within falls is_closed n w
-    (omega (arith, leads.falls)) leads.inside) (target v) refl
+    by_target (λ w leads. below within falls is_closed n w (omega (arith, leads.falls)) leads.inside) (target v) refl
   where
     by_target : ((w : ℕ) → LeadsDown game subgame set rank v w → IsTrue (closed w)) → (b : Bool) → target v ≡ b →
         IsTrue (closed v)
-    by_target deeper true there = is_closed.holds v there
-    by_target deeper false not_there = search (rules, false≢true, cases_eq, some_move)
+    by_target deeper b there = grind (arith, false≢true, cases_eq, some_move)
 
 pub falls_least : {game : ParityGame} {subgame : ℕ → Bool} {player : ℕ} {target set : ℕ → Bool} {table : ℕ → Option ℕ}
     {rank : ℕ → ℕ} → IsWithin set subgame → Falls game subgame player target set table rank →

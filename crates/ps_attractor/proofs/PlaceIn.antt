@@ -1,6 +1,6 @@
 -- The first place of a number in a list.
-use Rattle.std.proofs.Common.{◌≡◌, ℕ, zero, suc, ◌+◌, ◌<◌, ◌≤◌, List, [], ◌∷◌, Bool, true, false, cond, eqb, length}
-use Rattle.std.proofs.Common.{get_or, refl, sym, ◌∙◌, arith, rules}
+use Rattle.std.proofs.Common.{◌≡◌, ℕ, zero, suc, ◌+◌, ◌<◌, ◌≤◌, List, [], ◌∷◌, Bool, cond, eqb, length}
+use Rattle.std.proofs.Common.{get_or, refl, arith}
 use Rattle.std.proofs.lemmas.Bool.{eqb-true, eq-eqb, false≢true}
 use Rattle.ps_attractor.specs.Tables.{place_in}
 
@@ -8,18 +8,13 @@ use Rattle.ps_attractor.specs.Tables.{place_in}
 pub place_in-le : (xs : List ℕ) (v i : ℕ) → i < length xs → get_or xs i 0 ≡ v → place_in xs v ≤ i
 place_in-le [] v i within is = absurd (omega arith)
 place_in-le (x ∷ xs) v zero within is = rw (eq-eqb x v is) (omega arith)
-place_in-le (x ∷ xs) v (suc i) within is =
-    let behind : place_in xs v ≤ i = place_in-le xs v i (omega arith) is in
-    elim (eqb x v) as (λ b. cond b 0 (place_in xs v + 1) ≤ suc i) [ true ↦ omega arith | false ↦ omega arith ]
+place_in-le (x ∷ xs) v (suc i) within is = grind (arith, place_in-le xs v i (omega arith) is)
 
 -- where it stands at all, it stands there
 pub place_in-at : (xs : List ℕ) (v i : ℕ) → i < length xs → get_or xs i 0 ≡ v → get_or xs (place_in xs v) 0 ≡ v
 place_in-at [] v i within is = absurd (omega arith)
 place_in-at (x ∷ xs) v i within is = by_test (λ i within is. place_in-at xs v i within is) (eqb x v) refl i within is
   where
-    by_test : ((i : ℕ) → i < length xs → get_or xs i 0 ≡ v → get_or xs (place_in xs v) 0 ≡ v) → (b : Bool) →
-        eqb x v ≡ b → (i : ℕ) → i < length (x ∷ xs) → get_or (x ∷ xs) i 0 ≡ v →
-        get_or (x ∷ xs) (cond b 0 (place_in xs v + 1)) 0 ≡ v
-    by_test behind true same i within is = eqb-true x v same
-    by_test behind false other zero within is = absurd (false≢true (sym other ∙ eq-eqb x v is))
-    by_test behind false other (suc i) within is = search rules
+    by_test : ((i : ℕ) → i < length xs → get_or xs i 0 ≡ v → get_or xs (place_in xs v) 0 ≡ v) → (b : Bool) → eqb x v ≡ b
+        → (i : ℕ) → i < length (x ∷ xs) → get_or (x ∷ xs) i 0 ≡ v → get_or (x ∷ xs) (cond b 0 (place_in xs v + 1)) 0 ≡ v
+    by_test behind b same i within is = grind (arith, eqb-true, false≢true, eq-eqb)

@@ -1,5 +1,5 @@
 -- One more vertex is placed: the trail grows by it, and what was placed or led back does so still.
-use Rattle.std.proofs.Common.{◌≡◌, ◌≢◌, ℕ, ◌+◌, ◌<◌, ◌≤◌, inl, inr, [], ◌∷◌, ◌++◌, length, get_or, refl, sym, ap, rules}
+use Rattle.std.proofs.Common.{◌≡◌, ◌≢◌, ℕ, ◌+◌, ◌<◌, ◌≤◌, [], ◌∷◌, ◌++◌, length, get_or, refl, sym, ap, rules}
 use Rattle.std.proofs.Common.{◌∙◌, arith}
 use Rattle.std.proofs.lemmas.Bool.{cases_eq, cases_lt}
 use Rattle.std.proofs.lemmas.List.{get_or_append_left, get_or_push, length_push}
@@ -47,20 +47,7 @@ module _ {aim : Aim} {mid new : TablesData} {u : ℕ} (places : Places aim mid n
 
   pub grown_on : {old : TablesData} → aim.mark ≢ aim.free → IsGrown aim old mid → IsGrown aim old new
   grown_on {old = old} marks grown =
-      let longer : length old.trail ≤ length mid.trail = grown.longer in
-      let size : length new.trail ≡ length mid.trail + 1 = trail_length in
-      record {
-        longer = omega arith;
-        front = λ j within. trail_before j (omega arith) ∙ grown.front j within;
-        each = λ v. elim (cases_eq v u) [
-          | inl same ↦ inr (rw same placed_new)
-          | inr differ ↦ elim (grown.each v) [
-            | inl kept ↦ search rules
-            | inr placed ↦ inr (placed_on placed)
-          ]
-        ];
-        behind = search (rules, cases_lt, trail_before, trail_last);
-      }
+      search (rules, trail_length, trail_before, cases_eq, placed_new, placed_on, cases_lt, trail_last)
     where
       placed_on : {v : ℕ} → IsPlaced aim old mid v → IsPlaced aim old new v
       placed_on {v = v} placed = record {

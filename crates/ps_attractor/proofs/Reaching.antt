@@ -15,9 +15,6 @@ use Rattle.ps_attractor.specs.Steps.{Reaching, From, FromSource, with_placed}
 use Rattle.ps_attractor.proofs.Placing.{Places, trail_before, trail_last, trail_length, not_it, still_free, grown_on}
 use Rattle.ps_attractor.proofs.Placing.{leads_back_on, stands_after, stands_longer}
 
-pub grown_start : (aim : Aim) (tables : TablesData) → IsGrown aim tables tables
-grown_start aim tables = search (rules, le_refl)
-
 -- a vertex can go on where what is pending for P is pending for Q
 can_map : {game : ParityGame} {aim : Aim} {new : TablesData} {P Q : ℕ → ℕ → Type 0} {v : ℕ} →
     ((j : ℕ) → aim.begin ≤ j → j < length new.trail → HasEdge game v (get_or new.trail j 0) → P v j → Q v j) →
@@ -61,10 +58,7 @@ reaching_enter {game = game} {aim = aim} {new = new} {sources = sources} k is_so
 pub reaching_leave : {game : ParityGame} {aim : Aim} {old new : TablesData} (list : List ℕ) (k n : ℕ) →
     length list ≤ n → Reaching game aim old new (FromSource k list n) → Reaching game aim old new (From (k + 1))
 reaching_leave list k n all so_far =
-    reaching_map (FromSource k list n) (From (k + 1)) (λ v j is_free after within edge pending. elim pending [
-      | inl less ↦ omega arith
-      | inr here ↦ absurd (omega arith)
-    ]) so_far
+    reaching_map (FromSource k list n) (From (k + 1)) (λ v j is_free after within edge pending. grind arith) so_far
 
 -- a look along the list of sources, at the one with number n
 module _ {game : ParityGame} {aim : Aim} {old mid : TablesData} (list : List ℕ) (k n : ℕ) {u : ℕ}
@@ -75,10 +69,8 @@ module _ {game : ParityGame} {aim : Aim} {old mid : TablesData} (list : List ℕ
 
   -- a look that changes nothing, at a vertex that is not free
   look_not_free : level_of mid u ≢ aim.free → Reaching game aim old mid (FromSource k list (n + 1))
-  look_not_free not_free =
-      reaching_map (FromSource k list n) (FromSource k list (n + 1))
-      (λ v j is_free after within edge. pending_on v j
-      (λ same. not_free (ap (λ x. level_of mid x) (sym same) ∙ is_free))) so_far
+  look_not_free not_free = reaching_map (FromSource k list n) (FromSource k list (n + 1)) (λ v j is_free after within
+      edge. pending_on v j (λ same. not_free (ap (λ x. level_of mid x) (sym same) ∙ is_free))) so_far
 
   -- a look that changes nothing, at a vertex of the other player with a free successor
   look_escapes : owner_of game u ≢ aim.player → HasFree game aim.free mid u →
@@ -167,9 +159,8 @@ reaching_look {game = game} {aim = aim} {old = old} {mid = mid} new list k n u m
     levels_kept : (v : ℕ) → v ≢ u → get_or (slice_set mid.level u aim.mark) v 0 ≡ level_of mid v
     levels_kept v differ = get_or-set_other mid.level u v aim.mark 0 differ
 
-    placed : (moves : List ℕ) → level_of mid u ≡ aim.free →
-        ((v : ℕ) → v ≢ u → get_or moves v 0 ≡ get_or mid.moves v 0) →
-        Places aim mid (with_placed (record { level = mid.level; moves = moves; trail = mid.trail }) u aim.mark) u
+    placed : (moves : List ℕ) → level_of mid u ≡ aim.free → ((v : ℕ) → v ≢ u → get_or moves v 0 ≡ get_or mid.moves v 0)
+        → Places aim mid (with_placed (record { level = mid.level; moves = moves; trail = mid.trail }) u aim.mark) u
     placed moves is_free kept = search (rules, get_or-set_same)
 
     by_look : Look game aim mid new u (get_or mid.trail k 0) → Reaching game aim old new (FromSource k list (n + 1))

@@ -1,9 +1,9 @@
 -- The deterministic automaton of a file accepts what the file does: along a part that returns, the greatest priority is
 -- even exactly where some run of the file accepts.
-use Rattle.std.proofs.Common.{◌≡◌, ℕ, ◌+◌, ◌-◌, ◌*◌, ◌%◌, ◌^◌, ◌<◌, ◌≤◌, inl, inr, suc, zero, Bool, true, rules}
+use Rattle.std.proofs.Common.{◌≡◌, ℕ, ◌+◌, ◌-◌, ◌*◌, ◌^◌, ◌<◌, ◌≤◌, inl, inr, suc, zero, Bool, true, rules}
 use Rattle.std.proofs.Common.{false, List, length, Some, refl, ap, sym, ◌∙◌, arith, add-one, add-zero}
 use Rattle.std.specs.Prelude.{◌↔◌, IsTrue, All}
-use Rattle.std.proofs.Math.Nat.{eq-or-lt_of_le, mod-lt, mul-le-mul_left}
+use Rattle.std.proofs.Math.Nat.{eq-or-lt_of_le, mod-lt, mul-le-mul_left, add-suc}
 use Rattle.std.proofs.lemmas.Bool.{cases_lt}
 use Rattle.ps_hoa.specs.Files.{FileData}
 use Rattle.ps_hoa.specs.Edges.{Goes}
@@ -15,7 +15,6 @@ use Rattle.ps_automaton.specs.Acceptance.{IsRun, IsAccepted, part}
 use Rattle.ps_automaton.proofs.ChainLaws.{greatest_decides}
 use Rattle.ps_automaton.proofs.Orbits.{any_return_decides, priorities_repeat, word_repeats, word_within, word_behind}
 use Rattle.ps_automaton.proofs.Orbits.{all_below, place_below, laps_are_read, greatest_is_read}
-use Rattle.std.proofs.Math.Nat.{add-suc}
 
 -- levels and sets at the same places
 levels_are : (chain : Chain) (f : ℕ → ℕ) (sets : ℕ → ℕ → Bool) (from count : ℕ) →
@@ -24,7 +23,7 @@ levels_are : (chain : Chain) (f : ℕ → ℕ) (sets : ℕ → ℕ → Bool) (fr
 levels_are chain f sets from zero each = refl
 levels_are chain f sets from (suc count) each = cc (
   each from (omega arith) (omega arith),
-  levels_are chain f sets (from + 1) count (λ t low high. each t (omega arith) (omega arith)),
+  levels_are chain f sets (from + 1) count (λ t low high. grind arith),
 )
 
 part_length : (sets : ℕ → ℕ → Bool) (from count : ℕ) → length (part sets from count) ≡ count
@@ -51,19 +50,15 @@ module _ {file : FileData} {chain : Chain} {a : Auto} (is_chain : chain_of file.
     odd_in_sink is =
         let each : (t : ℕ) → from ≤ t → priority_at a w t ≡ 1 = λ t low.
         priority_in_sink t (ap (state_at a w) (omega arith) ∙ sink_stays_from from is (t - from)) in
-        omega (
-          arith,
-          all_below (priority_at a w) from count 1 (λ t low high. omega (arith, each t low)),
-          each from (omega arith),
-          place_below (priority_at a w) from count from (omega arith) (omega arith),
-        )
+        grind (arith, all_below, place_below)
 
     -- where the greatest priority is even the sink is not reached
     outside_sink : is_even (greatest_from (priority_at a w) from count) ≡ true → (t : ℕ) → t ≤ from + count →
         state_at a w t ≡ file.states → ⊥
-    outside_sink even t before is =
-        let one = odd_in_sink (sym back ∙ ap (state_at a w) (omega arith) ∙ sink_stays_from t is (from + count - t)) in
-        cc
+    outside_sink even t before is = grind (
+      arith,
+      odd_in_sink (sym back ∙ ap (state_at a w) (omega arith) ∙ sink_stays_from t is (from + count - t)),
+    )
 
     module _ (even : is_even (greatest_from (priority_at a w) from count) ≡ true) where
       edge_at : (t : ℕ) → t < from + count → TakesEdge file chain a (state_at a w t) (w t)
@@ -87,10 +82,9 @@ module _ {file : FileData} {chain : Chain} {a : Auto} (is_chain : chain_of file.
           IsTrue (holds (is_met (part sets from count)) file.condition)
       run_of_auto =
           let sets : ℕ → ℕ → Bool = λ t. (edges t).0 in
-          let levels =
-          levels_are chain (priority_at a w) sets from count (λ t low high. ((edges t).1 high).1) in (
+          let levels = levels_are chain (priority_at a w) sets from count (λ t low high. ((edges t).1 high).1) in (
             sets,
-            record { begins = is_auto.start; goes = λ t before. ((edges t).1 before).0 },
+            grind arith,
             sym (search (rules, greatest_decides, part_length)) ∙ ap is_even levels ∙ even,
           )
 
@@ -98,24 +92,18 @@ module _ {file : FileData} {chain : Chain} {a : Auto} (is_chain : chain_of file.
   run_states : {count : ℕ} {states : ℕ → ℕ} {sets : ℕ → ℕ → Bool} → IsRun file w count states sets → (t : ℕ) →
       t ≤ count → states t ≡ state_at a w t
   run_states run zero within = run.begins ∙ sym is_auto.start
-  run_states run (suc t) within = cc (
-    add-one t,
-    run_states run t (omega arith),
-    (is_auto.by_edge _ _ _ _ (run.goes t (omega arith))).0,
-  )
+  run_states run (suc t) within = search (rules, add-one, run_states run t (omega arith))
 
   run_levels : {count : ℕ} {states : ℕ → ℕ} {sets : ℕ → ℕ → Bool} → IsRun file w count states sets → (t : ℕ) →
       t < count → priority_at a w t ≡ level chain (sets t)
-  run_levels run t within =
-      cc (run_states run t (omega arith), (is_auto.by_edge _ _ _ _ (run.goes t within)).1)
+  run_levels run t within = cc (run_states run t (omega arith), (is_auto.by_edge _ _ _ _ (run.goes t within)).1)
 
   pub run_is_even : (from count : ℕ) {states : ℕ → ℕ} {sets : ℕ → ℕ → Bool} → 0 < count →
       IsRun file w (from + count) states sets → IsTrue (holds (is_met (part sets from count)) file.condition) →
       is_even (greatest_from (priority_at a w) from count) ≡ true
-  run_is_even from count {states} {sets} some run met =
-      ap is_even (sym (levels_are chain (priority_at a w) sets from count (λ t low high. run_levels run t high)))
-      ∙ greatest_decides file.condition chain (part sets from count) is_chain
-      (omega (arith, part_length sets from count)) ∙ met
+  run_is_even from count {states} {sets} some run met = ap is_even (sym (levels_are chain (priority_at a w) sets from
+      count (λ t low high. grind (arith, run_levels run t high)))) ∙ greatest_decides file.condition chain
+      (part sets from count) is_chain (omega (arith, part_length sets from count)) ∙ met
 
 -- ## Lassos
 
@@ -168,10 +156,7 @@ module _ (file : FileData) (chain : Chain) (a : Auto) (is_chain : chain_of file.
           let there = run_states is_chain is_auto w letters_are run in
           let returns : state_at a w (from + count) ≡ state_at a w from =
           search (rules, accepted.states, accepted.returns) in
-          ap is_even (any_return_decides
-          (priorities_repeat a (laps * length lap) (word_repeats stem lap before laps) back_here)
-          (priorities_repeat a count (word_repeats stem lap accepted.before accepted.laps) returns)
-          (some_letters laps some_laps) (some_letters accepted.laps accepted.some))
+          ap is_even (search (rules, any_return_decides, priorities_repeat, word_repeats, back_here, some_letters))
           ∙ run_is_even is_chain is_auto w letters_are from count (some_letters accepted.laps accepted.some) run
           accepted.met
 

@@ -1,7 +1,5 @@
 -- The automaton of a draft.
-use Rattle.std.proofs.Common.{◌≡◌, ℕ, ◌+◌, ◌^◌, ◌<◌, ◌≤◌, ◌⊎◌, inl, inr, false, List, length, Option, Some}
-use Rattle.std.proofs.Common.{rules}
-use Rattle.std.proofs.Common.{ap, ◌∙◌, arith}
+use Rattle.std.proofs.Common.{◌≡◌, ℕ, ◌^◌, ◌<◌, ◌≤◌, ◌⊎◌, inl, inr, false, List, length, Option, Some, rules, arith}
 use Rattle.std.specs.List.{IsDistinct}
 use Rattle.std.specs.Option.{IsSomeAnd}
 use Rattle.std.proofs.Math.Nat.{eq-or-lt_of_le}
@@ -22,7 +20,7 @@ use Rattle.ps_automaton.proofs.Steps.{step_eq, step_decides}
 
 named_within : {states : ℕ} {steps : List Step} → AreSteps states steps → (o : Option ℕ) (step : Step) →
     Names steps o step → step.state ≤ states
-named_within h1 o step h2 = search rules
+named_within h o step k = search rules
 
 pub draft_is_deterministic : {file : FileData} {chain : Chain} {steps : List Step} {t : Table} {nodes : List ℕ} →
     IsSoundFile file → IsDraft file chain steps t nodes → IsDeterministic file
@@ -53,10 +51,9 @@ module _ {file : FileData} (sound : IsSoundFile file) {chain : Chain} (a : Autom
 
     state_within : (q : ℕ) → q ≤ file.states → (letter : ℕ) → letter < 2 ^ length file.names →
         (step_of a q letter).state ≤ file.states
-    state_within =
-        at_each (λ q. (letter : ℕ) → letter < 2 ^ length file.names → (step_of a q letter).state ≤ file.states)
-        (λ q less letter small. search (rules, step_within)) (λ letter small.
-        step_within file.states letter _ (sink_named letter))
+    state_within = at_each (λ q. (letter : ℕ) → letter < 2 ^ length file.names →
+        (step_of a q letter).state ≤ file.states) (λ q less letter small. search (rules, step_within))
+        (λ letter small. step_within file.states letter _ (sink_named letter))
 
     takes : (q letter : ℕ) → q < file.states → letter < 2 ^ length file.names →
         TakesEdge file chain (auto_of a) q letter ⊎ TakesNone file (auto_of a) q letter
@@ -71,12 +68,15 @@ module _ {file : FileData} (sound : IsSoundFile file) {chain : Chain} (a : Autom
       by_edge = λ q letter sets next g.
           let row = row_of_state file sound q g.row g.of_state in
           let low : q < file.states = omega arith in
-          let is = named_step q letter (record { state = next; priority = level chain sets })
-          ((draft.states q low).by_edge letter sets next g) in
-          (ap (λ (s : Step). s.state) is, ap (λ (s : Step). s.priority) is);
-      sink_stays = λ letter small.
-          let is = named_step file.states letter (record { state = file.states; priority = 1 }) (sink_named letter) in
-          (ap (λ (s : Step). s.state) is, ap (λ (s : Step). s.priority) is);
+          grind (
+            arith,
+            named_step q letter (record { state = next; priority = level chain sets })
+                ((draft.states q low).by_edge letter sets next g),
+          );
+      sink_stays = λ letter small. grind (
+        arith,
+        named_step file.states letter (record { state = file.states; priority = 1 }) (sink_named letter),
+      );
     }
 
     leaves_within : (q : ℕ) → q ≤ file.states → (letter : ℕ) → IsSomeAnd (leaf_of a.store (node_of a q) letter)
@@ -87,9 +87,8 @@ module _ {file : FileData} (sound : IsSoundFile file) {chain : Chain} (a : Autom
     held_within = at_each (λ q. IsNode a.store (node_of a q)) (λ q less. (draft.states q less).held) draft.sink_held
 
     pub whole_built : IsDistinct step_eq a.steps → IsWhole a
-    whole_built distinct =
-        search (rules, held_within, leaves_within, slice_get-get_or, one_place, step_eq, step_decides)
+    whole_built distinct = grind (arith, held_within, leaves_within, slice_get-get_or, one_place, step_decides)
 
 pub draft_refused : (file : FileData) {chain : Chain} → has_complement file.condition ≡ false →
     chain_of file.condition ≡ Some chain → (f : AutomatonFault) → IsDraftFault file f → IsRefused file f
-draft_refused file h1 h2 f h3 = search rules
+draft_refused file h k f m = search rules

@@ -1,6 +1,6 @@
 -- A chain decides as its condition does, and the greatest number that is met along edges decides as the chain does.
-use Rattle.std.proofs.Common.{◌≡◌, ℕ, ◌<◌, ◌≤◌, Bool, true, false, cond, List, [], ◌∷◌, ◌++◌}
-use Rattle.std.proofs.Common.{length, Some, refl, ap, sym, ◌∙◌, arith}
+use Rattle.std.proofs.Common.{rules, ◌≡◌, ℕ, ◌<◌, ◌≤◌, Bool, true, false, cond, List, [], ◌∷◌, ◌++◌, length, Some, refl}
+use Rattle.std.proofs.Common.{ap, sym, ◌∙◌, arith}
 use Rattle.ps_hoa.specs.Conditions.{Condition, Conditions, constant, infinitely, finitely, all_hold, any_holds}
 use Rattle.ps_hoa.specs.Conditions.{last, more}
 use Rattle.ps_automaton.specs.Chains.{Link, Chain, chain_of, chain_of_all, link_of, links_of}
@@ -53,14 +53,8 @@ key_law : (base : Bool) (links : List Link) (edges : List (ℕ → Bool)) → 0 
     is_even (greatest base links edges) ≡ chain_holds base links (is_met edges)
 key_law base [] [] some = absurd (omega arith)
 key_law base [] (has ∷ edges) some = ap is_even (greatest_of_base base has edges) ∙ base_even base
-key_law base (link ∷ links) edges some = grind (
-  arith,
-  key_law base links edges,
-  first_reached base link links edges,
-  greatest_below_first base (link ∷ links) edges,
-  raised_even link.accepts (first_number base links),
-  first_left_out base link links edges,
-)
+key_law base (link ∷ links) edges some =
+    search (rules, first_reached, greatest_below_first, raised_even, first_left_out, key_law base links edges)
 
 -- ## The chain of a condition
 

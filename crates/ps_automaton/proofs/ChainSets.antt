@@ -1,5 +1,5 @@
 -- The links of a chain are to sets of its condition.
-use Rattle.std.proofs.Common.{◌≡◌, ℕ, ◌<◌, ◌≤◌, Bool, true, false, List, [], ◌∷◌, ◌++◌, Option, Some, None}
+use Rattle.std.proofs.Common.{rules, ◌≡◌, ℕ, ◌<◌, ◌≤◌, Bool, true, false, List, [], ◌∷◌, ◌++◌, Option, Some, None}
 use Rattle.std.proofs.Common.{arith}
 use Rattle.std.specs.List.{AllByRecursion}
 use Rattle.ps_hoa.specs.Conditions.{SetData, Condition, Conditions, constant, infinitely, finitely, all_hold, any_holds}
@@ -32,36 +32,29 @@ module _ (n : ℕ) where
   both_under (x ∷ xs) ys a b = (a.0, both_under xs ys a.1 b)
 
   front_under : (ls : Option (List Link)) (c : Option Chain) → LinksUnder ls → ChainUnder c → ChainUnder (in_front ls c)
-  front_under (Some ls) (Some c) a b = both_under ls c.links a b
-  front_under ls c a b = tt
+  front_under ls c a b = grind (arith, both_under)
 
   link_to_under : (accepts : Bool) (set : SetData) → set.number < n → MaybeUnder (link_to accepts set)
   link_to_under accepts set small = grind arith
 
   one_under : (l : Option Link) → MaybeUnder l → LinksUnder (one_link l)
-  one_under None h = tt
-  one_under (Some l) h = (h, tt)
+  one_under l h = grind arith
 
   link_under : (accepts : Bool) (c : Condition) → IsCondition n c → MaybeUnder (link_of accepts c)
-  link_under true (infinitely set) i = link_to_under true set i
-  link_under false (finitely set) i = link_to_under false set i
-  link_under accepts c i = tt
+  link_under accepts c i = grind (arith, link_to_under)
 
   joined_under : (l : Option Link) (ls : Option (List Link)) → MaybeUnder l → LinksUnder ls →
       LinksUnder (elim l [ None ↦ None | Some link ↦ elim ls [ None ↦ None | Some links ↦ Some (link ∷ links) ] ])
-  joined_under (Some l) (Some ls) a b = (a, b)
-  joined_under l ls a b = tt
+  joined_under l ls a b = grind arith
 
   links_under : (accepts : Bool) (cs : Conditions) → AreConditions n cs → LinksUnder (links_of accepts cs)
   links_under accepts last i = tt
-  links_under accepts (more c cs) i =
-      joined_under (link_of accepts c) (links_of accepts cs) (link_under accepts c i.0) (links_under accepts cs i.1)
+  links_under accepts (more c cs) i = search (rules, joined_under, link_under, links_under accepts cs i.1)
 
   chosen_under : (l : Option Link) (ls : Option (List Link)) (rest whole : Option Chain) → MaybeUnder l →
       LinksUnder ls → ChainUnder rest → ChainUnder whole →
       ChainUnder (elim l [ Some link ↦ in_front (Some (link ∷ [])) rest | None ↦ in_front ls whole ])
-  chosen_under None ls rest whole a b c d = front_under ls whole b d
-  chosen_under (Some l) ls rest whole a b c d = front_under (Some (l ∷ [])) rest (a, tt) c
+  chosen_under l ls rest whole a b c d = grind (arith, front_under)
 
   mutual
     chain_under : (c : Condition) → IsCondition n c → ChainUnder (chain_of c)
@@ -88,5 +81,4 @@ pub chain_sets_below : (sets : ℕ) (c : Condition) {chain : Chain} → sets ≤
     chain_of c ≡ Some chain → AreSetsBelow 64 chain.links
 chain_sets_below sets c {chain} few is e = λ k d within.
     let all = all_at (λ (l : Link). l.colour < sets) chain.links (under_some sets e (chain_under sets c is)) in
-    let low = all k d within in
-    omega (arith, low, few)
+    grind arith

@@ -31,8 +31,7 @@ least_below P tell (suc n) = elim (least_below P tell n) [
 -- where all that have a property are below a bound, some one has it or none
 pub some_or_none : (P : ℕ → Type 0) → ((k : ℕ) → Decided (P k)) → (n : ℕ) → ((k : ℕ) → P k → k < n) →
     Decided ((k : ℕ) × P k)
-some_or_none P tell n within =
-    elim (least_below P tell n) [ inl m ↦ inl (m.0, m.1) | inr none ↦ inr (λ h. none h.0 (within h.0 h.1) h.1) ]
+some_or_none P tell n within = grind (arith, least_below P tell n)
 
 -- and of those that have it the least is found
 least_of : (P : ℕ → Type 0) → ((k : ℕ) → Decided (P k)) → (k : ℕ) → P k → (m : ℕ) × P m × ((k : ℕ) → P k → m ≤ k)
@@ -49,11 +48,10 @@ same_or_not a b = grind arith
 
 -- tests that agree from a bound on
 same_tests : (f g : ℕ → Bool) (n : ℕ) → ((k : ℕ) → n ≤ k → f k ≡ g k) → Decided ((k : ℕ) → f k ≡ g k)
-same_tests f g n far =
-    elim (least_below (λ k. f k ≢ g k) (λ k. decide_not (same_or_not (f k) (g k))) n) [
-      | inl m ↦ inr (λ same. m.1 (same m.0))
-      | inr none ↦ inl (λ k. search (rules, same_or_not, cases_lt))
-    ]
+same_tests f g n far = elim (least_below (λ k. f k ≢ g k) (λ k. decide_not (same_or_not (f k) (g k))) n) [
+  | inl m ↦ inr (λ same. m.1 (same m.0))
+  | inr none ↦ inl (λ k. search (rules, same_or_not, cases_lt))
+]
 
 -- a number above all of a list
 abbrev above : List ℕ → ℕ
@@ -85,19 +83,18 @@ module _ (file : FileData) where
   clashing_or_not row first second =
       let Both : EdgeData → EdgeData → ℕ → Type 0 = λ one other letter.
       (letter < 2 ^ length file.names) × (IsTaken file row one letter × IsTaken file row other letter) in
-      decide_as
-      (λ h. (let d = h.1.2.2 in clash_of h.0 h.1.1 h.1.2.1 d.0.1.0 d.0.1.1.0 d.0.1.1.1 d.1))
-      (λ c. search rules)
-      (decide_both (decide_below (suc first) second) (decide_some (slice_get row.edges first) _ (λ one.
-      decide_some (slice_get row.edges second) _ (λ other. decide_both
-      (some_or_none (Both one other) (λ letter. decide_both (decide_below (suc letter) (2 ^ length file.names))
-      (decide_both (open_or_not file.aliases row.label one.guard letter)
-      (open_or_not file.aliases row.label other.guard letter))) (2 ^ length file.names) (λ letter h. h.0))
-      (decide_not (alike_or_not row one other))))))
+      decide_as (λ h. (let d = h.1.2.2 in clash_of h.0 h.1.1 h.1.2.1 d.0.1.0 d.0.1.1.0 d.0.1.1.1 d.1))
+      (λ c. search rules) (decide_both (decide_below (suc first) second)
+      (decide_some (slice_get row.edges first) _ (λ one. decide_some (slice_get row.edges second) _
+      (λ other. decide_both (some_or_none (Both one other) (λ letter. grind (
+        arith,
+        decide_both,
+        decide_below,
+        open_or_not,
+      )) (2 ^ length file.names) (λ letter h. h.0)) (decide_not (alike_or_not row one other))))))
 
   clash_or_not : (q first second : ℕ) → Decided (Clash file q first second)
-  clash_or_not q first second = decide_as (λ h. record { row = h.0; of_state = h.1; clashing = h.2 })
-      (λ c. (c.row, c.of_state, c.clashing))
+  clash_or_not q first second = decide_as (λ h. grind arith) (λ c. grind arith)
       (decide_some (row_of file q) (λ row. AreClashing file row first second) (λ row. clashing_or_not row first second))
 
   abbrev WithFirst : ℕ → ℕ → Type 0
@@ -115,8 +112,7 @@ module _ (file : FileData) where
   edges_in (Some row) = length row.edges
 
   with_second_or_not : (q : ℕ) → Decided (WithSecond q)
-  with_second_or_not q =
-      some_or_none (WithFirst q) (with_first_or_not q) (edges_in (row_of file q))
+  with_second_or_not q = some_or_none (WithFirst q) (with_first_or_not q) (edges_in (row_of file q))
       (λ second f. search (rules, slice_get_within))
 
   abbrev states_bound : List RowData → ℕ

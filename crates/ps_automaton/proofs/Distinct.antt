@@ -1,13 +1,12 @@
 -- Lists whose elements each stand once, as the keys of a set do, and lists with one element more.
-use Rattle.std.proofs.Common.{◌≡◌, ℕ, zero, suc, ◌<◌, ◌⊎◌, inl, inr, Bool, true, List, [], ◌∷◌, ◌++◌, Some}
-use Rattle.std.proofs.Common.{sym, ap, ◌∙◌, arith}
+use Rattle.std.proofs.Common.{◌≡◌, ℕ, zero, suc, ◌<◌, ◌⊎◌, inl, inr, Bool, true, List, [], ◌∷◌, ◌++◌, Some, sym, ap}
+use Rattle.std.proofs.Common.{◌∙◌, arith, length, refl}
 use Rattle.std.specs.List.{slice_get, IsDistinct}
 use Rattle.std.specs.Bool.{Decides}
 use Rattle.std.proofs.lemmas.Bool.{cases_order}
 use Rattle.std.proofs.lemmas.Option.{slice_get_within, get_or_from_slice_get}
 use Rattle.std.proofs.lemmas.Map.Made.{AllPairs-from_IsDistinct}
 use Rattle.indexmap.specs.IndexSet.{insert_key}
-use Rattle.std.proofs.Common.{length, refl}
 
 pub at_left : {X : Type 0} (xs ys : List X) (i : ℕ) {x : X} → slice_get xs i ≡ Some x → slice_get (xs ++ ys) i ≡ Some x
 at_left [] ys i e = cc
@@ -38,16 +37,11 @@ inserted_is eq xs k i e = grind (arith, at_last xs k i)
 module _ {X : Type 0} (eq : X → X → Bool) (same : (a b : X) → Decides (eq a b) (a ≡ b)) (xs : List X)
     (distinct : IsDistinct eq xs) where
   not_before : (i j : ℕ) {x : X} → i < j → slice_get xs i ≡ Some x → slice_get xs j ≡ Some x → ⊥
-  not_before i j {x} less a b =
-      AllPairs-from_IsDistinct same xs distinct i j x less (slice_get_within xs j x b)
+  not_before i j {x} less a b = AllPairs-from_IsDistinct same xs distinct i j x less (slice_get_within xs j x b)
       (get_or_from_slice_get xs i x x a ∙ sym (get_or_from_slice_get xs j x x b))
 
   pub one_place : (i j : ℕ) {x : X} → slice_get xs i ≡ Some x → slice_get xs j ≡ Some x → i ≡ j
-  one_place i j a b = elim (cases_order i j) [
-    | inl same_place ↦ same_place
-    | inr (inl less) ↦ absurd (not_before i j less a b)
-    | inr (inr more) ↦ absurd (not_before j i more b a)
-  ]
+  one_place i j a b = grind (arith, cases_order, not_before)
 
 -- a stored key that passes the test is the one that was inserted
 pub stored_is : {X : Type 0} (eq : X → X → Bool) (same : (a b : X) → Decides (eq a b) (a ≡ b)) (xs : List X) (i : ℕ)

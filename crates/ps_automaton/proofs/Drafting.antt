@@ -1,9 +1,9 @@
 -- The states one by one.
-use Rattle.std.proofs.Common.{◌≡◌, ℕ, ◌+◌, ◌<◌, ◌≤◌, ◌⊎◌, inl, inr, List, [], ◌∷◌, ◌++◌, length, get_or, Option, Some}
-use Rattle.std.proofs.Common.{None, sym, ap, subst, ◌∙◌, arith}
+use Rattle.std.proofs.Common.{rules, ◌≡◌, ℕ, ◌+◌, ◌<◌, ◌≤◌, ◌⊎◌, inl, inr, List, [], ◌∷◌, ◌++◌, length, get_or, Option}
+use Rattle.std.proofs.Common.{sym, subst, arith}
 use Rattle.std.specs.Option.{IsSomeAnd}
 use Rattle.std.specs.Result.{IsErrAnd, IfErr}
-use Rattle.std.specs.Prelude.{Result, Ok, Err}
+use Rattle.std.specs.Prelude.{Result}
 use Rattle.std.proofs.lemmas.Bool.{cases_lt}
 use Rattle.std.proofs.lemmas.Option.{slice_get_within, slice_get-get_or}
 use Rattle.std.proofs.lemmas.List.{get_or_append_left, get_or_push}
@@ -25,38 +25,28 @@ extended_within old new extends k within =
 
 named_kept : (old new : List Step) → Extends old new → (step : Step) (o : Option ℕ) → Names old o step →
     Names new o step
-named_kept old new extends step None h = h
-named_kept old new extends step (Some k) h = extends k step h
+named_kept old new extends step o h = grind arith
 
 within_kept : (old new : List Step) → Extends old new → (o : Option ℕ) → IsSomeAnd o (λ k. k < length old) →
     IsSomeAnd o (λ k. k < length new)
-within_kept old new extends None h = h
-within_kept old new extends (Some k) h = extended_within old new extends k h
+within_kept old new extends o h = grind (arith, extended_within)
 
 -- a state's steps stay where a store and the steps grow
 pub steps_kept : {file : FileData} {chain : Chain} {q : ℕ} {old new : List Step} {t u : Table} {node : ℕ} →
     Extends old new → Keeps t u → IsStepsOf file chain q old t node → IsStepsOf file chain q new u node
-steps_kept {file} {chain} {q} {old} {new} {t} {u} {node} extends keeps s = record {
-  held = keeps.held node s.held;
-  leaves = λ letter. rw (leaf letter) (within_kept old new extends (leaf_of t node letter) (s.leaves letter));
-  steps_of = λ letter small. by_kind letter (s.steps_of letter small);
-  by_edge = λ letter sets next g. names letter _ (s.by_edge letter sets next g);
-  clear = s.clear;
-}
+steps_kept {file} {chain} {q} {old} {new} {t} {u} {node} extends keeps s =
+    grind (arith, leaf, within_kept, by_kind, names)
   where
     leaf : (letter : ℕ) → leaf_of u node letter ≡ leaf_of t node letter
     leaf letter = kept_leaf keeps letter s.held
 
     names : (letter : ℕ) (step : Step) → Names old (leaf_of t node letter) step → Names new (leaf_of u node letter) step
-    names letter step h =
-        subst (λ o. Names new o step) (sym (leaf letter)) (named_kept old new extends step (leaf_of t node letter) h)
+    names letter step h = subst (λ o. Names new o step) (sym (leaf letter)) (grind (arith, named_kept))
 
     by_kind : (letter : ℕ) → Moves file chain q letter old (leaf_of t node letter) ⊎
         Stops file q letter old (leaf_of t node letter) → Moves file chain q letter new (leaf_of u node letter) ⊎
         Stops file q letter new (leaf_of u node letter)
-    by_kind letter (inl m) =
-        inl (record { next = m.next; sets = m.sets; goes = m.goes; named = names letter _ m.named })
-    by_kind letter (inr m) = inr (record { none = m.none; named = names letter _ m.named })
+    by_kind letter h = grind (arith, names)
 
 module _ (file : FileData) (chain : Chain) (steps : List Step) (t : Table) (nodes : List ℕ) where
   abbrev pub AreStepsOf : ℕ → Type 0
@@ -66,17 +56,8 @@ module _ (file : FileData) (chain : Chain) (steps : List Step) (t : Table) (node
   pub one_more : {count node : ℕ} {more : List ℕ} → length nodes ≡ count → more ≡ nodes ++ node ∷ [] →
       AreStepsOf count → IsStepsOf file chain count steps t node →
       (q : ℕ) → q < count + 1 → IsStepsOf file chain q steps t (get_or more q 0)
-  one_more {count} {node} {more} size is each last q within = elim (cases_lt q count) [
-    | inl low ↦ (
-        let same : get_or more q 0 ≡ get_or nodes q 0 = ap (λ (ns : List ℕ). get_or ns q 0) is
-        ∙ get_or_append_left nodes (node ∷ []) 0 q (omega (arith, low, size)) in
-        rw same (each q low))
-    | inr high ↦ (
-        let here : count ≡ q = omega arith in
-        let same : get_or more q 0 ≡ node = ap (λ (ns : List ℕ). get_or ns q 0) is
-        ∙ get_or_push nodes node 0 q (size ∙ here) in
-        rw here at (subst (IsStepsOf file chain count steps t) (sym same) last))
-  ]
+  one_more {count} {node} {more} size is each last q within =
+      grind (arith, cases_lt q count, get_or_append_left, get_or_push)
 
   -- the first fault of a state is that of the file, where no earlier state has a clash
   pub first_fault : (count : ℕ) → AreStepsOf count → (f : AutomatonFault) → IsStateFault file count f →
@@ -97,9 +78,4 @@ module _ (file : FileData) (chain : Chain) (steps : List Step) (t : Table) (node
 
 pub steps_stay : (file : FileData) (chain : Chain) {old new : List Step} {t u : Table} (nodes : List ℕ) (count : ℕ) →
     Extends old new → Keeps t u → AreStepsOf file chain old t nodes count → AreStepsOf file chain new u nodes count
-steps_stay file chain {old} {new} {t} {u} nodes count extends keeps each =
-    λ q low. steps_kept extends keeps (each q low)
-
-pub err_told : {T E : Type 0} (P : E → Type 0) (r : Result T E) (e : E) → IsErrAnd r (λ y. y ≡ e) → P e → IfErr r P
-err_told P (Ok x) e h p = tt
-err_told P (Err y) e h p = rw h p
+steps_stay file chain {old} {new} {t} {u} nodes count extends keeps each = search (rules, steps_kept)

@@ -17,18 +17,11 @@ use Rattle.ps_automaton.proofs.Deciding.{some_or_none, open_or_not, alike_or_not
 use Rattle.ps_automaton.proofs.TakenEdges.{clash_of, edge_of, goes_of}
 
 taken_or_not : (file : FileData) (row : RowData) (letter : ℕ) → Decided (TakenEdge file row (length row.edges) letter)
-taken_or_not file row letter =
-    decide_as (λ h. record {
-      place = h.0;
-      within = slice_get_within row.edges h.0 h.1.0 h.1.1;
-      edge = h.1.0;
-      at_place = h.1.1;
-      taken = h.1.2;
-    }) (λ e. (e.place, (e.edge, e.at_place, e.taken)))
+taken_or_not file row letter = decide_as (λ h. grind (arith, slice_get_within row.edges h.0 h.1.0 h.1.1))
+    (λ e. (e.place, (e.edge, e.at_place, e.taken)))
     (some_or_none (λ place. (edge : EdgeData) × (slice_get row.edges place ≡ Some edge) × IsTaken file row edge letter)
     (λ place. decide_some (slice_get row.edges place) (λ edge. IsTaken file row edge letter)
-    (λ edge. open_or_not file.aliases row.label edge.guard letter)) (length row.edges)
-    (λ place h. slice_get_within row.edges place h.0 h.1))
+    (λ edge. grind (arith, open_or_not))) (length row.edges) (λ place h. slice_get_within row.edges place h.0 h.1))
 
 module _ (file : FileData) (sound : IsSoundFile file) (chain : Chain) (deterministic : IsDeterministic file) where
   -- edges that are taken at one letter are alike
@@ -53,16 +46,13 @@ module _ (file : FileData) (sound : IsSoundFile file) (chain : Chain) (determini
   goes_alike {q} g h =
       let s = edge_of g.of_state g in
       let t = edge_of g.of_state h in
-      let alike = all_alike q g.of_state g.is_letter s.0 t.0 in
-      (sym s.2 ∙ alike.0 ∙ t.2, λ i. level chain (λ set. (s.1 set ∙ alike.1 set ∙ sym (t.1 set)) i))
+      grind (arith, all_alike q g.of_state g.is_letter s.0 t.0)
 
   goes_or_not : (q letter : ℕ) → Decided ((sets : ℕ → Bool) × (next : ℕ) × Goes file q letter sets next)
-  goes_or_not q letter =
-      decide_as (λ h. (is_marked h.1.0 h.1.2.edge, h.1.2.edge.target, goes_of h.1.1 h.0 h.1.2))
+  goes_or_not q letter = decide_as (λ h. (is_marked h.1.0 h.1.2.edge, h.1.2.edge.target, goes_of h.1.1 h.0 h.1.2))
       (λ g. (g.2.is_letter, (g.2.row, g.2.of_state, (edge_of g.2.of_state g.2).0)))
-      (decide_both (decide_below (suc letter) (2 ^ length file.names))
-      (decide_some (row_of file q) (λ row. TakenEdge file row (length row.edges) letter)
-      (λ row. taken_or_not file row letter)))
+      (decide_both (decide_below (suc letter) (2 ^ length file.names)) (decide_some (row_of file q)
+      (λ row. TakenEdge file row (length row.edges) letter) (λ row. taken_or_not file row letter)))
 
   -- a step by an edge, or to the sink where there is none
   abbrev IsStep : ℕ → ℕ → ℕ → ℕ → Type 0

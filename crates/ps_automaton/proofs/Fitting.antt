@@ -1,18 +1,17 @@
 -- What is known of the edges of a sound row.
-use Rattle.std.proofs.Common.{◌≡◌, ℕ, zero, suc, ◌+◌, ◌^◌, ◌<◌, ◌≤◌, inl, inr, false, List, []}
-use Rattle.std.proofs.Common.{◌∷◌, length, map, get_or, Option, Some, None, refl, sym, ap, subst, ◌∙◌, arith}
+use Rattle.std.proofs.Common.{◌≡◌, ℕ, zero, suc, ◌+◌, ◌^◌, ◌<◌, ◌≤◌, inl, inr, false, List, [], ◌∷◌, length, map}
+use Rattle.std.proofs.Common.{get_or, Option, Some, None, refl, sym, ap, ◌∙◌, arith, add-zero}
 use Rattle.std.specs.List.{All, slice_get}
 use Rattle.std.specs.Int.{bit_at}
-use Rattle.std.specs.Option.{option_map}
 use Rattle.std.proofs.lemmas.Bool.{cases_lt}
 use Rattle.std.proofs.lemmas.Option.{slice_get-map, slice_get_read, slice_get_within}
-use Rattle.std.proofs.lemmas.Nat.Bits.{same_from_bits_below, bit_at-lt}
+use Rattle.std.proofs.lemmas.Nat.Bits.{same_from_bits_below}
 use Rattle.ps_label.specs.Expression.{Expression, constant, proposition, alias, not_of, all_of, any_of, Operands, last}
 use Rattle.ps_label.specs.Expression.{more}
 use Rattle.ps_diagram.specs.Labels.{IsOver, AreOver, AreOverFrom}
 use Rattle.ps_hoa.specs.Edges.{is_marked}
-use Rattle.ps_hoa.specs.Files.{GuardData, EdgeData, RowData, FileData, stated, of_state, at_letter, is_among}
-use Rattle.ps_hoa.specs.Sound.{AreAliases, AreAtLetters, AreBelow, AreLabelled, AreLabels, IsGuard, IsLabel, IsOfState}
+use Rattle.ps_hoa.specs.Files.{EdgeData, RowData, FileData, at_letter, is_among}
+use Rattle.ps_hoa.specs.Sound.{AreAliases, AreAtLetters, AreBelow, AreLabelled, AreLabels, IsLabel, IsOfState}
 use Rattle.ps_hoa.specs.Sound.{IsSoundFile, IsSoundRow, IsStated}
 use Rattle.ps_hoa.specs.Views.{edge_data}
 use Rattle.ps_hoa.specs.declared.file.Edge.{Edge}
@@ -21,8 +20,6 @@ use Rattle.ps_automaton.specs.Answers.{AreAlike}
 use Rattle.ps_automaton.specs.Drafts.{IsByLetters, IsFit}
 use Rattle.ps_automaton.specs.Targets.{IsTargetOf}
 use Rattle.ps_automaton.specs.declared.targets.Target.{Target}
-use Rattle.ps_automaton.proofs.Bits.{same_bit}
-use Rattle.std.proofs.Common.{add-zero}
 
 -- ## Labels are over the propositions
 
@@ -55,10 +52,7 @@ labelled_letter : (count : ℕ) (label : Option Expression) (es : List EdgeData)
     (j : ℕ) {e : EdgeData} → slice_get es j ≡ Some e → (k : ℕ) → e.guard ≡ at_letter k → k < 2 ^ count
 labelled_letter count (Some l) es a j {e} at k is = cc (all_get IsOfState es (all_at IsOfState es a) j e at)
 labelled_letter count None es (inl a) j {e} at k is = cc ((all_get IsStated es (all_at IsStated es a) j e at).1)
-labelled_letter count None es (inr a) j {e} at k is =
-    let same : k ≡ 0 + j = cc (by_letter 0 es a.0 j at) in
-    let within : j < length es = slice_get_within es j e at in
-    omega arith
+labelled_letter count None es (inr a) j {e} at k is = grind (arith, by_letter, slice_get_within)
 
 -- a row with one edge that is taken at a letter alone has one for each letter
 pub by_letters_of : {file : FileData} {row : RowData} → IsSoundRow file row → {e : EdgeData} (k : ℕ) →
@@ -72,12 +66,7 @@ by_letters_of {file} {row} s {e} k at is = by_label row.label s.labelled
 
 module _ {file : FileData} (sound : IsSoundFile file) {row : RowData} (row_sound : IsSoundRow file row) where
   pub fits : (j : ℕ) {e : EdgeData} → slice_get row.edges j ≡ Some e → IsFit file e.guard
-  fits j {e} at = by_guard e.guard refl
-    where
-      by_guard : (g : GuardData) → e.guard ≡ g → IsFit file g
-      by_guard (stated l) is = subst (IsGuard file) is (sound_edge file row row_sound j e at).guard
-      by_guard of_state is = tt
-      by_guard (at_letter k) is = labelled_letter (length file.names) row.label row.edges row_sound.labelled j at k is
+  fits j {e} at = grind (arith, sound_edge, labelled_letter)
 
   few_of : {ns : List ℕ} → AreBelow file.sets ns → All (λ set. set < 64) ns
   few_of b k d l = let h = b.all k d l in let s = sound.sets in omega (arith, h, s)
@@ -99,31 +88,20 @@ module _ {file : FileData} (sound : IsSoundFile file) {row : RowData} (row_sound
   )
 
   unmarked : (set j : ℕ) {e : EdgeData} → slice_get row.edges j ≡ Some e → 64 ≤ set → is_marked row e set ≡ false
-  unmarked set j {e} at high =
-      rw (not_among set row.marks row_marks_few high, not_among set e.marks (edge_marks_few j at) high)
+  unmarked set j {e} at high = grind (arith, not_among, row_marks_few, edge_marks_few)
 
   pub alike_of_target : (j k : ℕ) {one other : EdgeData} {target : Target} → slice_get row.edges j ≡ Some one →
       slice_get row.edges k ≡ Some other →
       IsTargetOf row one target → IsTargetOf row other target → AreAlike row one other
-  alike_of_target j k at_j at_k a b = (
-    sym a.state ∙ b.state,
-    λ set. elim (cases_lt set 64) [
-      | inl small ↦ sym (a.sets set small) ∙ b.sets set small
-      | inr high ↦ unmarked set j at_j high ∙ sym (unmarked set k at_k high)
-    ],
-  )
+  alike_of_target j k at_j at_k a b = grind (arith, cases_lt, unmarked)
 
 pub target_of_alike : {row : RowData} {one other : EdgeData} {s t : Target} → IsTargetOf row one s →
     IsTargetOf row other t → AreAlike row one other → s ≡ t
 target_of_alike {s} {t} a b alike =
     let state = a.state ∙ alike.0 ∙ sym b.state in
-    let bits : (i : ℕ) → i < 64 → bit_at s.sets i ≡ bit_at t.sets i = λ i small.
-    same_bit (bit_at s.sets i) (bit_at t.sets i) (bit_at-lt s.sets i) (bit_at-lt t.sets i)
-    (a.sets i small ∙ alike.1 i ∙ sym (b.sets i small)) in
-    let sets = same_from_bits_below 64 s.sets t.sets a.few b.few bits in
-    λ i. record { state = state i; sets = sets i }
+    let bits : (i : ℕ) → i < 64 → bit_at s.sets i ≡ bit_at t.sets i = grind arith in
+    grind (arith, same_from_bits_below 64 s.sets t.sets a.few b.few bits)
 
 pub edge_at : (items : List Edge) (k : ℕ) {e : Edge} → k < length items → e ≡ get_or items k e →
     slice_get (map edge_data items) k ≡ Some (edge_data e)
-edge_at items k {e} within is = slice_get-map edge_data items k
-    ∙ ap (option_map edge_data) (slice_get_read items (length items) k e refl within is)
+edge_at items k {e} within is = grind (arith, slice_get-map, slice_get_read)

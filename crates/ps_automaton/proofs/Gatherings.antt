@@ -1,7 +1,7 @@
 -- The links of operands, gathered one by one.
-use Rattle.std.proofs.Common.{◌≡◌, ℕ, ◌+◌, ◌<◌, ◌≤◌, Bool, true, false, not, List, [], ◌∷◌, ◌++◌, length, map, drop}
-use Rattle.std.proofs.Common.{get_or, Option, None, Some, refl, ap, sym, subst, ◌∙◌, append_assoc, append-nil, add-one}
-use Rattle.std.proofs.Common.{add-zero, drop-cons, suc}
+use Rattle.std.proofs.Common.{rules, ◌≡◌, ℕ, ◌+◌, ◌<◌, ◌≤◌, Bool, true, false, not, List, [], ◌∷◌, ◌++◌, length, map}
+use Rattle.std.proofs.Common.{drop, get_or, Option, None, Some, ap, append_assoc, append-nil, add-one, add-zero}
+use Rattle.std.proofs.Common.{drop-cons, arith}
 use Rattle.std.specs.Prelude.{is_some, HoldsAt}
 use Rattle.std.proofs.lemmas.List.{map-append, get_or-drop, drop_all}
 use Rattle.ps_hoa.specs.Conditions.{Condition, Conditions, last, more, row_of}
@@ -17,7 +17,6 @@ use Rattle.ps_automaton.specs.declared.chain.Gathered.{Gathered}
 use Rattle.ps_automaton.specs.declared.chain.Gathered.TheVariants as gathered
 use Rattle.std.specs.declared.vec.Vec.{Vec}
 use Rattle.std.specs.declared.alloc.Global.{Global}
-use Rattle.std.proofs.Common.{arith}
 
 -- the operands from place k on
 abbrev pub from_place : List Cond → ℕ → Conditions
@@ -38,13 +37,11 @@ in_front_twice a b chain = grind (arith, append_assoc)
 -- the element at a place and those behind it
 pub from_here : (operands : List Cond) (k : ℕ) {c : Cond} → k < length operands → c ≡ get_or operands k c →
     drop k operands ≡ c ∷ drop (k + 1) operands
-from_here operands k {c} within is = rw add-one (drop-cons operands k c within
-    ∙ ap (λ (x : Cond). x ∷ drop (suc k) operands) (sym is))
+from_here operands k {c} within is = grind (arith, add-one, drop-cons)
 
 place_is : (operands : List Cond) (k : ℕ) {c : Cond} → drop k operands ≡ c ∷ drop (k + 1) operands → (d : Cond) →
     c ≡ get_or operands k d
-place_is operands k here d = ap (λ (xs : List Cond). get_or xs 0 d) (sym here) ∙ get_or-drop k operands 0 d
-    ∙ ap (λ n. get_or operands n d) (add-zero k)
+place_is operands k here d = grind (arith, get_or-drop k operands 0 d, add-zero k)
 
 from_place_is : (operands : List Cond) (k : ℕ) {c : Cond} → drop k operands ≡ c ∷ drop (k + 1) operands →
     from_place operands k ≡ more (condition_of c) (from_place operands (k + 1))
@@ -64,29 +61,13 @@ pub gather_link : (accepts : Bool) (operands : List Cond) (before after : List L
     {c : Cond} (link : Link) → drop k operands ≡ c ∷ drop (k + 1) operands →
     link_of accepts (condition_of c) ≡ Some (link_data link) → IsGathering accepts operands before after k remaining →
     IsGathering accepts operands before (after ++ link ∷ []) (k + 1) remaining
-gather_link accepts operands before after k None {c} link here is gathered = cc (
-  gathered,
-  from_place_is operands k here,
-  is,
-  in_front_twice (map link_data after) (link_data link ∷ []) (chain_of_all accepts (from_place operands (k + 1))),
-  map_push after link,
-)
-gather_link accepts operands before after k (Some at) {c} link here is gathered = (
-  gathered.0,
-  λ d. cc (
-    gathered.1 d,
-    from_place_is operands k here,
-    map_push after link,
-    links_with (map link_data after) accepts
-        (condition_of c) (from_place operands (k + 1)) (chain_of (condition_of (get_or operands at d))) is,
-  ),
-)
+gather_link accepts operands before after k h6 {c} link here is gathered =
+    grind (arith, from_place_is, in_front_twice, map_push, links_with)
 
 pub gather_other : (accepts : Bool) (operands : List Cond) (before after : List Link) (k : ℕ) {c : Cond} →
     k < length operands → drop k operands ≡ c ∷ drop (k + 1) operands → link_of accepts (condition_of c) ≡ None →
     IsGathering accepts operands before after k None → IsGathering accepts operands before after (k + 1) (Some k)
-gather_other accepts operands before after k within here is gathered =
-    (within, λ d. cc (gathered, from_place_is operands k here, is, place_is operands k here d))
+gather_other accepts operands before after k within here is gathered = search (rules, from_place_is, place_is)
 
 pub gather_second : (accepts : Bool) (operands : List Cond) (before after : List Link) (k at : ℕ) {c : Cond} →
     drop k operands ≡ c ∷ drop (k + 1) operands → link_of accepts (condition_of c) ≡ None →
@@ -107,15 +88,7 @@ pub gathered_but : (accepts : Bool) (operands : List Cond) (before after : List 
     IsGathering accepts operands before after k (Some at) →
     (at < length operands) × HoldsAt (λ c. whole accepts operands before ≡ in_front (Some (map link_data after))
     (chain_of (condition_of c))) operands at
-gathered_but accepts operands before after k at done gathered = (
-  gathered.0,
-  λ d. cc (
-    gathered.1 d,
-    nothing_left operands k done,
-    append-nil (map link_data after),
-    in_front_twice (map link_data after) [] (chain_of (condition_of (get_or operands at d))),
-  ),
-)
+gathered_but accepts operands before after k at done gathered = grind (arith, nothing_left, append-nil, in_front_twice)
 
 pub kept : (accepts : Bool) (operands : List Cond) (before : List Link) {after later : List Link} (k : ℕ)
     {remaining now : Option ℕ} → later ≡ after → now ≡ remaining →
@@ -130,16 +103,14 @@ pub gather_first_other : (accepts : Bool) (operands : List Cond) (before after :
     link_of accepts (condition_of c) ≡ None → is_some remaining ≡ false →
     IsGathering accepts operands before after k remaining → IsGathering accepts operands before after (k + 1) (Some k)
 gather_first_other accepts operands before after k remaining {c} within here is none gathered =
-    gather_other accepts operands before after k within here is
-    (rw (none_is remaining none) at gathered)
+    gather_other accepts operands before after k within here is (rw (none_is remaining none) at gathered)
 
 pub gather_further_other : (accepts : Bool) (operands : List Cond) (before after : List Link) (k : ℕ)
     (remaining : Option ℕ) {c : Cond} → drop k operands ≡ c ∷ drop (k + 1) operands →
     link_of accepts (condition_of c) ≡ None → is_some remaining ≡ true →
     IsGathering accepts operands before after k remaining → whole accepts operands before ≡ None
 gather_further_other accepts operands before after k None here is some gathered = cc
-gather_further_other accepts operands before after k (Some at) here is some gathered =
-    gather_second accepts operands before after k at here is gathered
+gather_further_other accepts operands before after k (Some at) here is some gathered = search (rules, gather_second)
 
 -- ## From the operands to the condition
 
@@ -158,6 +129,4 @@ pub but_gathered : (accepts : Bool) {operands items : List Cond} (before after :
     {c : Cond} → is ≡ gathered.AllBut k → operands ≡ items → c ≡ get_or items k c →
     IsGathered accepts operands before after is → in_front (Some (map link_data after)) (chain_of (condition_of c)) ≡
     whole accepts operands before
-but_gathered accepts {operands} before after k {c} e same at g =
-    let but : IsGathered accepts operands before after (gathered.AllBut k) = rw e at g in
-    cc (at, same, but.1 c)
+but_gathered accepts {operands} before after k {c} e same at g = grind arith

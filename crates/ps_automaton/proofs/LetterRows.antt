@@ -1,6 +1,6 @@
 -- Rows whose edges are taken at a letter each.
-use Rattle.std.proofs.Common.{◌≡◌, ℕ, ◌+◌, ◌%◌, ◌^◌, ◌<◌, ◌≤◌, ◌⊎◌, inl, inr, List, [], ◌∷◌, ◌++◌, length, get_or, Some}
-use Rattle.std.proofs.Common.{refl, sym, ap, ◌∙◌, arith}
+use Rattle.std.proofs.Common.{◌≡◌, ℕ, ◌+◌, ◌%◌, ◌^◌, ◌<◌, List, [], ◌∷◌, ◌++◌, length, get_or, Some}
+use Rattle.std.proofs.Common.{refl, ap, ◌∙◌, arith}
 use Rattle.std.specs.List.{slice_get}
 use Rattle.std.proofs.lemmas.Bool.{cases_lt}
 use Rattle.std.proofs.lemmas.Option.{slice_get_within, slice_get-get_or}
@@ -27,15 +27,7 @@ pub targets_more : {row : RowData} (targets : List Target) {more : List Target} 
     {target : Target} → length targets ≡ count → more ≡ targets ++ target ∷ [] → slice_get row.edges count ≡ Some edge →
     IsTargetOf row edge target → HaveTargets row count targets → HaveTargets row (count + 1) more
 targets_more {row} targets {more} {count} {edge} {target} size is at is_target have k e within there =
-    elim (cases_lt k count) [
-      | inl low ↦ (let old = have k e low there in
-          (old.0, rw is (at_left targets (target ∷ []) k old.1), old.2))
-      | inr high ↦ (let here : count ≡ k = omega (arith, within, high) in
-          let same : edge ≡ e = same_some edge e (sym at ∙ ap (slice_get row.edges) here ∙ there) in
-          let last : slice_get more k ≡ Some target = ap (λ (ts : List Target). slice_get ts k) is
-          ∙ ap (slice_get (targets ++ target ∷ [])) (sym here ∙ sym size) ∙ at_end targets target in
-          (target, last, rw same at is_target))
-    ]
+    grind (arith, cases_lt, at_left, same_some, at_end)
 
 -- ## The row
 
@@ -60,27 +52,14 @@ module _ {file : FileData} {row : RowData} (row_sound : IsSoundRow file row) (by
   pub joined_by_letters : {targets : List Target} → AreTargets row targets →
       AreJoined file row (length row.edges) targets (λ letter. Some (letter % 2 ^ length file.names))
   joined_by_letters {targets} a = record {
-    there = λ letter small e.
-        let here : e.place ≡ letter % 2 ^ length file.names =
-        sym (letter_of_place e.place e.at_place e.taken) ∙ sym (mod-eq_of_lt small) in
-        rw here at (a.each e.place e.edge e.at_place);
+    there = grind (arith, letter_of_place, mod-eq_of_lt);
     from = λ letter place small _.
         let size = by.1 in
         let edge = edge_there letter (omega (arith, small, size)) in
-        record {
-          place = letter;
-          within = omega (arith, small, size);
-          edge = edge.0;
-          at_place = edge.1;
-          taken = open_at_place letter edge.1;
-        };
+        grind (arith, open_at_place);
     within = λ place target e.
         let size = a.one_each in
         let low = slice_get_within targets place target e in
         let edge = edge_there place (omega (arith, low, size)) in
-        let at = a.each place edge.0 edge.1 in
-        let same : at.0 ≡ target = same_some at.0 target (sym at.1 ∙ e) in
-        let state : target.state ≡ edge.0.target = ap (λ (t : Target). t.state) (sym same) ∙ at.2.state in
-        let below = (sound_edge file row row_sound place edge.0 edge.1).target in
-        omega (arith, state, below);
+        grind (arith, same_some, sound_edge);
   }

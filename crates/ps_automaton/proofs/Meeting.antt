@@ -1,11 +1,10 @@
 -- Diagrams that have leaves at a common letter.
-use Rattle.std.proofs.Common.{◌≡◌, ℕ, ◌^◌, ◌<◌, inl, inr, Bool, true, false, length, Option, Some, None, IsTrue, refl}
-use Rattle.std.proofs.Common.{sym, ap, ◌∙◌}
+use Rattle.std.proofs.Common.{arith, ◌≡◌, ℕ, ◌^◌, ◌<◌, inl, inr, Bool, length, Option, Some, None, IsTrue, refl, sym}
+use Rattle.std.proofs.Common.{ap, ◌∙◌}
 use Rattle.std.specs.List.{slice_get}
 use Rattle.std.specs.Option.{option_map}
 use Rattle.ps_text.proofs.Simple.{none_is_some}
 use Rattle.ps_label.specs.Expression.{Expression}
-use Rattle.ps_label.specs.Truth.{label_truth}
 use Rattle.ps_diagram.specs.Labels.{one_where}
 use Rattle.ps_diagram.specs.Letters.{assignment}
 use Rattle.ps_diagram.specs.Tree.{Tree, leaf_at}
@@ -14,18 +13,13 @@ use Rattle.ps_hoa.specs.Edges.{IsOpen}
 use Rattle.ps_hoa.specs.Files.{EdgeData, RowData, FileData, of_state}
 use Rattle.ps_automaton.specs.Answers.{AreAlike, AreClashing}
 use Rattle.ps_automaton.specs.Drafts.{IsLabelNode, IsWhere, Meet, ShowsEdge}
-use Rattle.ps_automaton.proofs.TakenEdges.{clash_at, clash_of}
 
 pub kept_leaf : {t u : Table} → Keeps t u → {node : ℕ} (letter : ℕ) → IsNode t node →
     leaf_of u node letter ≡ leaf_of t node letter
 kept_leaf keeps {node} letter held = ap (λ (tree : Tree). leaf_at tree (assignment letter)) (keeps.same node held)
 
 pub keeps_both : {t u v : Table} → Keeps t u → Keeps u v → Keeps t v
-keeps_both a b = record {
-  propositions = b.propositions ∙ a.propositions;
-  held = λ node h. b.held node (a.held node h);
-  same = λ node h. b.same node (a.held node h) ∙ a.same node h;
-}
+keeps_both a b = grind arith
 
 pub mapped_some : (f : ℕ → ℕ) (o : Option ℕ) {x : ℕ} → option_map f o ≡ Some x → (y : ℕ) × (o ≡ Some y)
 mapped_some f None {x} e = absurd (none_is_some x e)
@@ -37,59 +31,23 @@ pub guarded_meet : {t u v : Table} {one other zero_node : ℕ} (one_node : ℕ) 
     ((n : ℕ) → leaf_of u zero_node n ≡ option_map (λ _. 0) (leaf_of t one n)) →
     ((n : ℕ) → leaf_of v one_node n ≡ option_map (λ _. 1) (leaf_of u other n)) → letter < 2 ^ v.propositions →
     leaf_of v zero_node letter ≡ Some x → leaf_of v one_node letter ≡ Some y → Meet t one other
-guarded_meet {t} {u} {v} {one} {other} {zero_node} one_node {x} {y} letter tu uv one_held other_held
-    zero_held zero_is one_is
-    small first second =
-    let a = mapped_some (λ _. 0) (leaf_of t one letter) (sym (zero_is letter)
-    ∙ sym (kept_leaf uv letter zero_held) ∙ first) in
-    let b = mapped_some (λ _. 1) (leaf_of u other letter) (sym (one_is letter) ∙ second) in (
-      letter,
-      rw (uv.propositions ∙ tu.propositions) at small,
-      a.0,
-      b.0,
-      a.1,
-      sym (kept_leaf tu letter other_held) ∙ b.1,
-    )
+guarded_meet {t} {u} {v} {one} {other} {zero_node} one_node {x} {y} letter tu uv one_held other_held zero_held zero_is
+    one_is small first second = grind (arith, mapped_some, kept_leaf)
 
 pub where_one : (b : Bool) {leaf : Option ℕ} → leaf ≡ one_where b → IsWhere leaf 1 (IsTrue b)
-where_one true e = inl (e, refl)
-where_one false e = inr (e, λ h. cc)
+where_one b e = grind arith
 
 pub label_shows : (t : Table) (file : FileData) (label : Option Expression) (node : ℕ) →
     IsLabelNode t file label (Some node) →
     IsNode t node × ((letter : ℕ) → IsWhere (leaf_of t node letter) 1 (IsOpen file.aliases label of_state letter))
-label_shows t file None node h = absurd h
-label_shows t file (Some e) node h = (h.0, λ letter. where_one (label_truth file.aliases letter e) (h.1 letter))
+label_shows t file label node h = grind (arith, where_one)
 
 pub shown_is_taken : {P : Type 0} {leaf : Option ℕ} (value : ℕ) {x : ℕ} → IsWhere leaf value P → leaf ≡ Some x → P
 shown_is_taken value (inl a) e = a.1
 shown_is_taken value {x} (inr a) e = absurd (none_is_some x (sym a.0 ∙ e))
 
 pub taken_is_shown : {P : Type 0} (leaf : Option ℕ) (value : ℕ) → IsWhere leaf value P → P → leaf ≡ Some value
-taken_is_shown leaf value (inl a) p = a.0
-taken_is_shown leaf value (inr a) p = absurd (a.1 p)
-
--- edges of a row that clash: both are taken somewhere, and they are not alike
-module _ {file : FileData} {row : RowData} {first second : ℕ} {one other : EdgeData}
-    (at_first : slice_get row.edges first ≡ Some one) (at_second : slice_get row.edges second ≡ Some other) (t : Table)
-    (a b : ℕ) (letters : t.propositions ≡ length file.names) (shows_one : ShowsEdge file row one t a 1)
-    (shows_other : ShowsEdge file row other t b 1) where
-  pub clash_meets : AreClashing file row first second → Meet t a b
-  clash_meets k =
-      let c = clash_at at_first at_second k in (
-        c.0,
-        rw letters c.1,
-        1,
-        1,
-        taken_is_shown (leaf_of t a c.0) 1 (shows_one c.0 c.1) c.2,
-        taken_is_shown (leaf_of t b c.0) 1 (shows_other c.0 c.1) c.3,
-      )
-
-  pub meets_clash : first < second → (AreAlike row one other → ⊥) → Meet t a b → AreClashing file row first second
-  meets_clash earlier differ m =
-      let small = rw letters at m.1 in
-      clash_of earlier at_first at_second small (shown_is_taken 1 (shows_one m.0 small) m.4)
-      (shown_is_taken 1 (shows_other m.0 small) m.5) differ
+taken_is_shown leaf value h p = grind arith
 
 pub kept_shows : (file : FileData) (row : RowData) (edge : EdgeData) {t u : Table} {node : ℕ} (value : ℕ) → Keeps t u →
     IsNode t node → ShowsEdge file row edge t node value → ShowsEdge file row edge u node value

@@ -1,8 +1,6 @@
 -- The number of an edge is the greatest of those of its sets in the table, or the base's.
 use Rattle.std.proofs.Common.{◌≡◌, ℕ, ◌+◌, ◌-◌, ◌<◌, ◌≤◌, ◌⊎◌, inl, inr, max, suc, zero, Bool, true, false, cond, List}
-use Rattle.std.proofs.Common.{rules}
-use Rattle.std.proofs.Common.{[], ◌∷◌, length, map, drop, set, drop-cons, get_or}
-use Rattle.std.proofs.Common.{refl, ap, sym, ◌∙◌, arith}
+use Rattle.std.proofs.Common.{rules, [], ◌∷◌, length, map, drop, set, drop-cons, get_or, refl, arith}
 use Rattle.std.specs.Prelude.{nat_eq}
 use Rattle.std.proofs.Math.Nat.{le_antisymm}
 use Rattle.std.proofs.lemmas.List.{length-map, drop-map, drop_all}
@@ -41,12 +39,8 @@ alone base links s = level_by base links (λ x. nat_eq x s)
 
 base_below_level : (base : Bool) (links : List Link) (has : ℕ → Bool) → base_number base ≤ level_by base links has
 base_below_level base [] has = omega arith
-base_below_level base (link ∷ links) has = grind (
-  arith,
-  base_below_level base links has,
-  level_below_first base links has,
-  raised_more link.accepts (first_number base links),
-)
+base_below_level base (link ∷ links) has =
+    search (rules, level_below_first, raised_more, base_below_level base links has)
 
 level_grows : (base : Bool) (link : Link) (links : List Link) (has : ℕ → Bool) →
     level_by base links has ≤ level_by base (link ∷ links) has
@@ -85,14 +79,12 @@ attained base (link ∷ links) has small =
 
 pub most_is_level : {chain : Chain} {base : ℕ} {numbers : List ℕ} (has : ℕ → Bool) → AreSetsBelow 64 chain.links →
     IsTable chain base numbers → most base numbers has 64 ≡ level chain has
-most_is_level {chain} {base} {numbers} has small table = le_antisymm
-    (most_below base numbers has 64 (level chain has)
+most_is_level {chain} {base} {numbers} has small table = le_antisymm (most_below base numbers has 64 (level chain has)
     (let is = table.base_is in omega (arith, base_below_level chain.base chain.links has))
     (λ s h is. omega (arith, table.by_set_is s h, alone_below_level chain.base chain.links has s is)))
     (elim (attained chain.base chain.links has small) [
       | inl is ↦ (let e = table.base_is in omega (arith, base_below_most base numbers has 64))
-      | inr a ↦ (let e = table.by_set_is a.set a.small in
-          omega (arith, set_below_most base numbers has 64 a.set a.small a.has_it))
+      | inr a ↦ grind (arith, set_below_most base numbers has 64 a.set a.small a.has_it)
     ])
 
 -- ## The table is filled from the end of the chain
@@ -106,21 +98,12 @@ none_behind links k done = drop_all k (map link_data links) (let len = length-ma
 pub link_before : (links : List code.Link) (k : ℕ) {link : code.Link} → 0 < k → k ≤ length links →
     link ≡ get_or links (k - 1) link → drop (k - 1) (map link_data links) ≡ link_data link ∷ drop k
     (map link_data links)
-link_before links k {link} some within is =
-    let low : k - 1 < length links = omega arith in
-    let next : suc (k - 1) ≡ k = omega arith in
-    drop-map link_data (k - 1) links ∙ ap (map link_data) (drop-cons links (k - 1) link low)
-    ∙ ap (λ (l : code.Link). link_data l ∷ map link_data (drop (suc (k - 1)) links)) (sym is)
-    ∙ ap (λ n. link_data link ∷ map link_data (drop n links)) next
-    ∙ ap (λ (xs : List Link). link_data link ∷ xs) (sym (drop-map link_data k links))
+link_before links k {link} some within is = grind (arith, drop-map, drop-cons)
 
 pub set_of_link : (links : List code.Link) (k : ℕ) {link : code.Link} → AreSetsBelow 64 (map link_data links) →
     k < length links → link ≡ get_or links k link → link.set < 64
 set_of_link links k {link} small within is =
-    let there : get_or (map link_data links) k (link_data link) ≡ link_data link = get_or-map link_data links k link
-    ∙ ap link_data (sym is) in
-    rw there at (small k (link_data link)
-    (let len = length-map links link_data in omega (arith, len)))
+    grind (arith, get_or-map link_data links k link, length-map links link_data)
 
 pub table_step : (base : Bool) (link : Link) (rest : List Link) (numbers : List ℕ) {number : ℕ} (s : ℕ) →
     length numbers ≡ 64 → link.colour < 64 → number ≡ first_number base (link ∷ rest) →

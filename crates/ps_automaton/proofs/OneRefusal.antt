@@ -1,11 +1,9 @@
 -- A file is admitted, or refused for one cause.
-use Rattle.std.proofs.Common.{◌≡◌, ◌≢◌, ℕ, refl}
+use Rattle.std.proofs.Common.{◌≡◌, ◌≢◌, ℕ, refl, arith}
 use Rattle.ps_hoa.specs.Files.{FileData}
 use Rattle.ps_automaton.specs.Answers.{IsAdmitted, IsFirstClash, IsRefused}
 use Rattle.ps_automaton.specs.declared.fault.AutomatonFault.{AutomatonFault}
-use Rattle.ps_automaton.specs.declared.fault.AutomatonFault.TheVariants.{Nondeterministic}
-use Rattle.ps_automaton.specs.declared.fault.AutomatonFault.TheVariants.{OutOfMemory}
-use Rattle.std.proofs.Common.{arith}
+use Rattle.ps_automaton.specs.declared.fault.AutomatonFault.TheVariants.{Nondeterministic, OutOfMemory}
 
 -- the first clash is one
 module _ {file : FileData} {q first second p one two : ℕ} (a : IsFirstClash file q first second)

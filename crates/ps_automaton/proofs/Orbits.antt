@@ -1,16 +1,14 @@
 -- Where a deterministic automaton reads a word that repeats, any two parts that return to their state have the same
 -- greatest priority.
-use Rattle.std.proofs.Common.{◌≡◌, ℕ, ◌+◌, ◌-◌, ◌*◌, ◌/◌, ◌%◌, ◌<◌, ◌≤◌, inl, inr, max, suc, zero, List, [], rules}
-use Rattle.std.proofs.Common.{◌∷◌, length, get_or, refl, ap, sym, ◌∙◌, arith, add-one, add-zero}
-use Rattle.std.proofs.Math.Nat.{eq-or-lt_of_le, le_antisymm, mod-lt, div-add-mod}
-use Rattle.std.proofs.Math.Nat.{add-mul-mod_self_right, mul-le-mul_left}
+use Rattle.std.proofs.Common.{◌≡◌, ℕ, ◌+◌, ◌-◌, ◌*◌, ◌/◌, ◌%◌, ◌<◌, ◌≤◌, inl, inr, max, suc, zero, List, [], rules, ◌∷◌}
+use Rattle.std.proofs.Common.{length, get_or, refl, ap, ◌∙◌, arith, add-one, add-zero, zero-add}
+use Rattle.std.proofs.Math.Nat.{eq-or-lt_of_le, le_antisymm, mod-lt, div-add-mod, add-mul-mod_self_right}
+use Rattle.std.proofs.Math.Nat.{mul-le-mul_left, suc-add, add-suc}
 use Rattle.std.proofs.lemmas.Bool.{le-ltb, lt-ltb}
 use Rattle.std.proofs.lemmas.Nat.{mod-mul-add}
 use Rattle.ps_automaton.specs.Words.{word, Repeats}
 use Rattle.ps_automaton.specs.Autos.{Auto, state_at, priority_at, greatest_from, state_behind, greatest_along}
 use Rattle.ps_automaton.specs.Autos.{state_after, greatest_of_laps}
-use Rattle.std.proofs.Common.{zero-add}
-use Rattle.std.proofs.Math.Nat.{suc-add, add-suc}
 
 -- ## The greatest value of places
 
@@ -24,7 +22,7 @@ all_below f from zero bound each = omega arith
 all_below f from (suc count) bound each = omega (
   arith,
   each from (omega arith) (omega arith),
-  all_below f (from + 1) count bound (λ t low high. each t (omega arith) (omega arith)),
+  all_below f (from + 1) count bound (λ t low high. grind arith),
 )
 
 pub greatest_split : (f : ℕ → ℕ) (from m n : ℕ) → greatest_from f from (m + n) ≡ max (greatest_from f from m)
@@ -39,8 +37,7 @@ greatest_split f from (suc m) n =
 repeats_often : {f : ℕ → ℕ} {from : ℕ} (count : ℕ) → Repeats f from count → (often t : ℕ) → from ≤ t →
     f (t + often * count) ≡ f t
 repeats_often {f} count again zero t low = ap f (omega arith)
-repeats_often {f} count again (suc often) t low =
-    ap f (omega arith) ∙ again (t + often * count) (omega arith) ∙ repeats_often count again often t low
+repeats_often {f} count again (suc often) t low = grind (arith, repeats_often count again often t low)
 
 -- each later value is one of the first
 later_below : {f : ℕ → ℕ} {from count : ℕ} → Repeats f from count → 0 < count → (t : ℕ) → from ≤ t →
@@ -48,11 +45,10 @@ later_below : {f : ℕ → ℕ} {from count : ℕ} → Repeats f from count → 
 later_below {f} {from} {count} again some t low =
     let r = (t - from) % count in
     let k = (t - from) / count in
-    let small : r < count = mod-lt (t - from) some in
-    let place : t ≡ from + r + k * count = omega (arith, div-add-mod (t - from) count) in
-    omega (
+    grind (
       arith,
-      ap f place,
+      mod-lt (t - from) some,
+      div-add-mod (t - from) count,
       repeats_often count again k (from + r) (omega arith),
       place_below f from count (from + r) (omega arith) (omega arith),
     )
@@ -78,16 +74,16 @@ word_behind stem lap t high = rw (le-ltb t (length stem) high)
 
 pub word_repeats : (stem lap : List ℕ) (before laps : ℕ) → Repeats (word stem lap) (length stem + before * length lap)
     (laps * length lap)
-word_repeats stem lap before laps t low =
-    word_behind stem lap (t + laps * length lap) (omega arith)
-    ∙ ap (λ n. get_or lap n 0) (ap (λ n. n % length lap) (omega arith)
-    ∙ add-mul-mod_self_right (t - length stem) laps (length lap)) ∙ sym (word_behind stem lap t (omega arith))
+word_repeats stem lap before laps t low = grind (
+  arith,
+  word_behind stem lap (t + laps * length lap) (omega arith),
+  add-mul-mod_self_right (t - length stem) laps (length lap),
+  word_behind stem lap t (omega arith),
+)
 
 pub word_of_lap : (stem lap : List ℕ) (laps k : ℕ) → k < length lap →
     word stem lap (length stem + laps * length lap + k) ≡ get_or lap k 0
-word_of_lap stem lap laps k within =
-    word_behind stem lap (length stem + laps * length lap + k) (omega arith)
-    ∙ ap (λ n. get_or lap n 0) (ap (λ n. n % length lap) (omega arith) ∙ mod-mul-add laps (length lap) k within)
+word_of_lap stem lap laps k within = grind (arith, word_behind, mod-mul-add)
 
 -- ## States
 
@@ -125,10 +121,11 @@ stem_is_read a stem lap = ap (state_at a (word stem lap)) (omega arith)
 pub laps_are_read : (a : Auto) (stem lap : List ℕ) (laps : ℕ) →
     state_at a (word stem lap) (length stem + laps * length lap) ≡ state_after a (state_behind a a.start stem) lap laps
 laps_are_read a stem lap zero = ap (state_at a (word stem lap)) (omega arith) ∙ stem_is_read a stem lap
-laps_are_read a stem lap (suc laps) =
-    ap (state_at a (word stem lap)) (omega arith)
-    ∙ (list_is_read a (word stem lap) (length stem + laps * length lap) lap (word_of_lap stem lap laps)).state
-    ∙ ap (λ q. state_behind a q lap) (laps_are_read a stem lap laps)
+laps_are_read a stem lap (suc laps) = grind (
+  arith,
+  list_is_read a (word stem lap) (length stem + laps * length lap) lap (word_of_lap stem lap laps),
+  laps_are_read a stem lap laps,
+)
 
 pub laps_together : (a : Auto) (q : ℕ) (lap : List ℕ) (m n : ℕ) →
     state_after a q lap (m + n) ≡ state_after a (state_after a q lap m) lap n
@@ -144,16 +141,11 @@ greatest_is_read a stem lap before (suc laps) =
     let w = word stem lap in
     let from = length stem + before * length lap in
     let q = state_behind a a.start stem in
-    let more : suc laps * length lap ≡ laps * length lap + length lap = omega arith in
-    let place : from + laps * length lap ≡ length stem + (before + laps) * length lap = omega arith in
-    let read =
-    list_is_read a w (length stem + (before + laps) * length lap) lap (word_of_lap stem lap (before + laps)) in
-    let state = laps_are_read a stem lap (before + laps) ∙ laps_together a q lap before laps in
-    rw (
-      more,
+    grind (
+      arith,
+      list_is_read a w (length stem + (before + laps) * length lap) lap (word_of_lap stem lap (before + laps)),
+      laps_are_read a stem lap (before + laps),
+      laps_together a q lap before laps,
       greatest_split (priority_at a w) from (laps * length lap) (length lap),
-      place,
       greatest_is_read a stem lap before laps,
-      read.greatest,
-      state,
     )

@@ -1,19 +1,15 @@
 -- A table of places, where a target is new.
-use Rattle.std.proofs.Common.{◌≡◌, ℕ, ◌⊎◌, inl, inr, true, cond, List, [], ◌∷◌, ◌++◌, length, Option}
-use Rattle.std.proofs.Common.{None, Some}
+use Rattle.std.proofs.Common.{◌≡◌, ℕ, ◌⊎◌, inl, inr, true, cond, List, [], ◌∷◌, ◌++◌, length, Option, None, Some, arith}
 use Rattle.std.specs.List.{slice_get}
 use Rattle.std.specs.Ordering.{is_eq}
 use Rattle.ps_automaton.specs.Places.{AreDistinct, IsPlaced, IsTableOf, pair_cmp}
 use Rattle.ps_automaton.specs.declared.targets.Target.{Target}
 use Rattle.ps_automaton.proofs.Distinct.{at_end, at_last, at_left}
-use Rattle.std.proofs.Common.{arith}
 
 -- ## The order of pairs
 
 same_target : (s t : Target) → is_eq (pair_cmp (s.state, s.sets) (t.state, t.sets)) ≡ true → s ≡ t
-same_target s t e =
-    let both : (s.state ≡ t.state) × (s.sets ≡ t.sets) = grind arith in
-    λ i. record { state = both.0 i; sets = both.1 i }
+same_target s t e = grind arith
 
 target_tied : (t : Target) → is_eq (pair_cmp (t.state, t.sets) (t.state, t.sets)) ≡ true
 target_tied t = grind arith
@@ -26,10 +22,7 @@ module _ {old new : List Target} {t : Target} {place : ℕ} (is : IsPlaced old n
 
   -- a target was there, or is the one that was placed
   pub placed_is : (i : ℕ) (x : Target) → slice_get new i ≡ Some x → (slice_get old i ≡ Some x) ⊎ (x ≡ t)
-  placed_is i x e = elim is.list [
-    | inl same ↦ inl (rw same at e)
-    | inr more ↦ elim (at_last old t i (rw more at e)) [ inl h ↦ inl h | inr h ↦ inr h.0 ]
-  ]
+  placed_is i x e = grind (arith, at_last)
 
 -- ## Tables
 
@@ -47,20 +40,6 @@ module _ {targets : List Target} {old : ℕ → ℕ → Option ℕ} (new : ℕ �
     new state sets ≡ cond (is_eq (pair_cmp (t.state, t.sets) (state, sets))) (Some place) (old state sets)) where
   pub table_push : IsTableOf (targets ++ t ∷ []) new
   table_push = record {
-    sound = λ s p h. grind (
-      arith,
-      puts s.state s.sets,
-      same_target t s,
-      at_end targets t,
-      at_left targets (t ∷ []) p,
-      is.sound s p,
-    );
-    whole = λ s p h. grind (
-      arith,
-      at_last targets t p h,
-      puts s.state s.sets,
-      is.whole s p,
-      same_target t s,
-      target_tied t,
-    );
+    sound = λ s p h. grind (arith, same_target t s, at_end targets t, at_left targets (t ∷ []) p);
+    whole = λ s p h. grind (arith, at_last targets t p h, same_target t s, target_tied t);
   }

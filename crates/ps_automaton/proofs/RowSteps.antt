@@ -8,7 +8,6 @@ use Rattle.std.proofs.lemmas.Bool.{cases_lt}
 use Rattle.std.proofs.lemmas.Option.{slice_get_within, slice_get-get_or}
 use Rattle.std.proofs.lemmas.List.{get_or_past}
 use Rattle.ps_text.proofs.Simple.{same_some}
-use Rattle.ps_label.specs.Truth.{is_in}
 use Rattle.ps_diagram.specs.Table.{Table, IsNode, leaf_of}
 use Rattle.ps_hoa.specs.Edges.{Goes, is_marked, row_of}
 use Rattle.ps_hoa.specs.Files.{RowData, FileData}
@@ -41,9 +40,8 @@ leaf_within {row} {targets} {t} {node} union letter small = by_leaf (leaf_of t n
     by_leaf : (o : Option ℕ) → leaf_of t node letter ≡ o → IfSome o (λ k. k < length targets)
     by_leaf None e = tt
     by_leaf (Some k) e =
-        let there : IsTargetAt row (union.joined.from letter k small e).edge targets k =
-        at_leaf (IsTargetAt row (union.joined.from letter k small e).edge targets) (leaf_of t node letter) e
-        (union.joined.there letter small (union.joined.from letter k small e)) in
+        let there : IsTargetAt row (union.joined.from letter k small e).edge targets k = at_leaf
+        (IsTargetAt row (union.joined.from letter k small e).edge targets) (leaf_of t node letter) e (grind arith) in
         slice_get_within targets k there.0 there.1
 
 -- the leaf of a taken edge, and none where no edge is taken, in a joined row of all edges
@@ -65,8 +63,7 @@ module _ {file : FileData} (sound : IsSoundFile file) {row : RowData} (row_sound
         let at : slice_get places k ≡ Some (get_or places k 0) = slice_get-get_or places k 0 low in
         let size = are_places.one_each in
         let target : slice_get targets k ≡ Some (get_or targets k d) = search (rules, slice_get-get_or) in
-        slice_get_within steps (get_or places k 0) (step_of_target chain (get_or targets k d))
-        (are_places.each k (get_or places k 0) (get_or targets k d) target at))
+        slice_get_within steps (get_or places k 0) (step_of_target chain (get_or targets k d)) (grind arith))
     | inr high ↦ (search (rules, get_or_past, sink_within))
   ]
 
@@ -84,11 +81,7 @@ module _ {file : FileData} (sound : IsSoundFile file) {row : RowData} (row_sound
       let size = are_places.one_each in
       let at : slice_get places k ≡ Some (get_or places k 0) = search (rules, slice_get-get_or) in
       let named = are_places.each k (get_or places k 0) h.0 h.1 at in
-      let levels : level chain (λ set. is_in set h.0.sets) ≡ level chain sets =
-      search (rules, level_by_same, h.0.sets, h.2.sets) in
-      let made : ℕ → ℕ → Step = λ n m. record { state = n; priority = m } in
-      named ∙ ap (λ n. Some (made n (level chain (λ set. is_in set h.0.sets)))) h.2.state
-      ∙ ap (λ m. Some (made e.edge.target m)) levels
+      grind (arith, level_by_same)
 
   module _ (q : ℕ) (of_state : row_of file q ≡ Some row) (after : Table) {made : ℕ} (held : IsNode after made)
       (leaf : (letter : ℕ) → leaf_of after made letter ≡ Some (made_of (place_at letter))) where
@@ -100,8 +93,7 @@ module _ {file : FileData} (sound : IsSoundFile file) {row : RowData} (row_sound
         Names steps (leaf_of after made letter) (record { state = next; priority = level chain sets })
     by_edge_of letter sets next g =
         let e = edge_of of_state g in
-        let step = edge_step e.0 (place_at letter) (joined.there letter g.is_letter e.0) sets e.1 in
-        rw e.2 at (names_at letter step)
+        grind (arith, edge_step e.0 (place_at letter) (joined.there letter g.is_letter e.0) sets e.1)
 
     moves_or_stops : (letter : ℕ) → letter < 2 ^ length file.names →
         Moves file chain q letter steps (leaf_of after made letter) ⊎
@@ -119,12 +111,7 @@ module _ {file : FileData} (sound : IsSoundFile file) {row : RowData} (row_sound
         by_leaf (Some k) e =
             let taken = joined.from letter k small e in
             let goes = goes_of of_state small taken in
-            inl (record {
-              next = taken.edge.target;
-              sets = is_marked row taken.edge;
-              goes = goes;
-              named = by_edge_of letter (is_marked row taken.edge) taken.edge.target goes;
-            })
+            grind (arith, by_edge_of letter (is_marked row taken.edge) taken.edge.target goes)
 
     pub steps_of_row : IsStepsOf file chain q steps after made
     steps_of_row = record {
@@ -135,6 +122,5 @@ module _ {file : FileData} (sound : IsSoundFile file) {row : RowData} (row_sound
       clear = λ first second k.
           let same : k.row ≡ row = same_some k.row row (sym k.of_state ∙ of_state) in
           let clashing = subst (λ r. AreClashing file r first second) same k.clashing in
-          union_clear sound row_sound joined
-          (slice_get_within row.edges second clashing.other clashing.at_second) clashing;
+          search (rules, union_clear, slice_get_within);
     }

@@ -1,5 +1,5 @@
 -- From rows to states.
-use Rattle.std.proofs.Common.{◌≡◌, ℕ, Some, sym, ◌∙◌}
+use Rattle.std.proofs.Common.{arith, ◌≡◌, ℕ, Some, sym, ◌∙◌}
 use Rattle.ps_text.proofs.Simple.{same_some}
 use Rattle.ps_hoa.specs.Edges.{row_of}
 use Rattle.ps_hoa.specs.Files.{RowData, FileData}
@@ -19,7 +19,7 @@ fault_of_state file of_state state ComplementedSet h = h
 fault_of_state file of_state state NonParity h = h
 fault_of_state file {q} {row} of_state state (Nondeterministic p first second) h = (
   h.0 ∙ state,
-  record { row = row; of_state = of_state; clashing = h.1.clashing },
+  grind arith,
   (λ a b k. h.1.least_second a b (clash_in_row of_state k)),
   (λ a k. h.1.least_first a (clash_in_row of_state k)),
 )

@@ -1,6 +1,5 @@
 -- Steps that are put behind others, each once.
-use Rattle.std.proofs.Common.{◌≡◌, ℕ, ◌≤◌, ◌⊎◌, inl, inr, Bool, List, [], ◌∷◌, ◌++◌, length}
-use Rattle.std.proofs.Common.{Some, sym, ap, ◌∙◌, arith, eqb, ◌&&◌}
+use Rattle.std.proofs.Common.{◌≡◌, ℕ, ◌≤◌, inl, inr, Bool, List, [], ◌∷◌, ◌++◌, length, Some, arith, eqb, ◌&&◌}
 use Rattle.std.specs.List.{slice_get}
 use Rattle.std.specs.Bool.{Decides}
 use Rattle.ps_text.proofs.Simple.{same_some}
@@ -27,16 +26,12 @@ extends_same a = λ place step e. e
 -- one step more
 module _ (steps : List Step) {new : List Step} (step : Step) (keys : new ≡ insert_key step_eq steps step) where
   pub step_extends : Extends steps new
-  step_extends =
-      λ place s e. rw keys (inserted_keeps step_eq steps step place e)
+  step_extends = λ place s e. rw keys (inserted_keeps step_eq steps step place e)
 
   pub step_within : {states : ℕ} → step.state ≤ states → AreSteps states steps → AreSteps states new
   step_within {states} low a = record {
     sink = step_extends 0 (record { state = states; priority = 1 }) a.sink;
-    within = λ place s e. elim (inserted_is step_eq steps step place (rw keys at e)) [
-      | inl h ↦ a.within place s h
-      | inr h ↦ omega (arith, ap (λ (z : Step). z.state) h, low)
-    ];
+    within = λ place s e. grind (arith, inserted_is step_eq steps step place (rw keys at e));
   }
 
 abbrev pub AreNamed : Chain → List Target → List Step → List ℕ → Type 0
@@ -47,12 +42,8 @@ pub named_more : (chain : Chain) (targets : List Target) (steps new : List Step)
     {index : ℕ} (p : ℕ) {x : Target} {step : Step} → Extends steps new → slice_get new p ≡ Some step →
     step ≡ step_of_target chain x → slice_get targets index ≡ Some x → length places ≡ index → more ≡ places ++ p ∷ [] →
     AreNamed chain targets steps places → AreNamed chain targets new more
-named_more chain targets steps new places p {x} extends stored is at size pushed each k place target
-    at_k at_place =
+named_more chain targets steps new places p {x} extends stored is at size pushed each k place target at_k at_place =
     elim (at_last places p k (rw pushed at at_place)) [
       | inl e ↦ extends place (step_of_target chain target) (each k place target at_k e)
-      | inr e ↦ (let same : x ≡ target =
-          same_some x target (sym at ∙ ap (slice_get targets) (sym (e.1 ∙ size)) ∙ at_k) in
-          ap (slice_get new) e.0 ∙ stored ∙ ap (λ (s : Step). Some s) is
-          ∙ ap (λ (t : Target). Some (step_of_target chain t)) same)
+      | inr e ↦ grind (arith, same_some)
     ]

@@ -1,7 +1,6 @@
 -- The edges of a row joined, one by one.
-use Rattle.std.proofs.Common.{◌≡◌, ◌≢◌, ℕ, ◌+◌, ◌^◌, ◌<◌, ◌≤◌, ◌⊎◌, inl, inr, List, length, Option, Some, None, sym, ap}
-use Rattle.std.proofs.Common.{rules}
-use Rattle.std.proofs.Common.{subst, ◌∙◌, arith}
+use Rattle.std.proofs.Common.{◌≡◌, ◌≢◌, ℕ, ◌+◌, ◌^◌, ◌<◌, ◌≤◌, ◌⊎◌, inl, inr, List, length, Option, Some, None, sym}
+use Rattle.std.proofs.Common.{rules, subst, ◌∙◌, arith}
 use Rattle.std.specs.List.{slice_get}
 use Rattle.std.specs.Option.{option_map, IsSomeAnd}
 use Rattle.std.proofs.lemmas.Bool.{cases_lt}
@@ -20,26 +19,18 @@ use Rattle.ps_automaton.proofs.Fitting.{alike_of_target, target_of_alike}
 use Rattle.ps_automaton.proofs.TakenEdges.{clash_of}
 use Rattle.ps_automaton.proofs.Meeting.{kept_leaf, shown_is_taken, taken_is_shown}
 
-where_marked : {P : Type 0} (leaf : Option ℕ) (value : ℕ) → IsWhere leaf 1 P →
-    IsWhere (option_map (λ _. value) leaf) value P
-where_marked leaf value (inl a) = inl (ap (option_map (λ _. value)) a.0, a.1)
-where_marked leaf value (inr a) = inr (ap (option_map (λ _. value)) a.0, a.1)
-
 -- a guarded diagram shows its edge by that leaf
 pub marked_shows : (file : FileData) (row : RowData) (edge : EdgeData) (t u : Table) (node marked value : ℕ) →
     ShowsEdge file row edge t node 1 → ((letter : ℕ) → leaf_of u marked letter ≡ option_map (λ _. value)
     (leaf_of t node letter)) → ShowsEdge file row edge u marked value
 marked_shows file row edge t u node marked value shows is letter small = search rules
 
-joined_first : (P Q : ℕ → Type 0) (o m : Option ℕ) → IsSomeAnd o P → ((x : ℕ) → P x → Q x) → IsSomeAnd (joined o m) Q
-joined_first P Q o m h1 h2 = search rules
-
 joined_second : (Q : ℕ → Type 0) (o : Option ℕ) (p : ℕ) → AgreeingLeaves o (Some p) → Q p →
     IsSomeAnd (joined o (Some p)) Q
-joined_second Q o p h1 h2 = search rules
+joined_second Q o p h k = search rules
 
 joined_from : (o m : Option ℕ) {x : ℕ} → joined o m ≡ Some x → (o ≡ Some x) ⊎ (m ≡ Some x)
-joined_from o m h1 = search rules
+joined_from o m h = search rules
 
 pub at_leaf : (P : ℕ → Type 0) (o : Option ℕ) {x : ℕ} → o ≡ Some x → IsSomeAnd o P → P x
 at_leaf P o e h = rw e at h
@@ -54,8 +45,7 @@ module _ {file : FileData} (sound : IsSoundFile file) {row : RowData} (row_sound
       AreJoined file row count targets place_at → {a b : ℕ} → b < count → AreClashing file row a b → ⊥
   union_clear {count} {targets} {place_at} u {a} {b} within k =
       let before : a < count = omega (arith, within) in
-      let one : TakenEdge file row count k.letter =
-      record { place = a; within = before; edge = k.one; at_place = k.at_first; taken = k.one_taken } in
+      let one : TakenEdge file row count k.letter = grind arith in
       let other : TakenEdge file row count k.letter =
       record { place = b; within = within; edge = k.other; at_place = k.at_second; taken = k.other_taken } in
       k.differ (by_leaf (place_at k.letter) (u.there k.letter k.is_letter one) (u.there k.letter k.is_letter other))
@@ -91,27 +81,17 @@ module _ {file : FileData} (sound : IsSoundFile file) {row : RowData} (row_sound
     }
       where
         by_target : (i : ℕ) (x : Target) → (slice_get old i ≡ Some x) ⊎ (x ≡ target) → x.state < file.states
-        by_target i x (inl e) = union.joined.within i x e
-        by_target i x (inr e) = search (rules, sound_edge, x.state)
+        by_target i x h = grind (arith, sound_edge)
 
         by_place : (letter : ℕ) → letter < 2 ^ length file.names → (e : TakenEdge file row (count + 1) letter) →
             (e.place < count) ⊎ (count ≤ e.place) →
             IsSomeAnd (joined (leaf_of t node letter) (leaf_of t marked letter)) (IsTargetAt row e.edge new)
         by_place letter small e (inl low) =
-            let first : TakenEdge file row count letter =
-            record { place = e.place; within = low; edge = e.edge; at_place = e.at_place; taken = e.taken } in
+            let first : TakenEdge file row count letter = grind arith in
             let was = subst (λ o. IsSomeAnd o (IsTargetAt row e.edge old)) (sym (node_leaf letter))
             (union.joined.there letter small first) in
-            joined_first (IsTargetAt row e.edge old) (IsTargetAt row e.edge new) (leaf_of t node letter)
-            (leaf_of t marked letter) was (λ x h. (h.0, grows x h.0 h.1, h.2))
-        by_place letter small e (inr high) =
-            search (rules, same_some, taken_is_shown, joined_second, e.place, e.edge, e.at_place, e.taken)
-
-        by_side : (letter x : ℕ) → letter < 2 ^ length file.names →
-            (leaf_of t node letter ≡ Some x) ⊎ (leaf_of t marked letter ≡ Some x) →
-            TakenEdge file row (count + 1) letter
-        by_side letter x small (inl e) = wider (union.joined.from letter x small (sym (node_leaf letter) ∙ e))
-        by_side letter x small (inr e) = search (rules, shown_is_taken)
+            grind arith
+        by_place letter small e (inr high) = search (rules, same_some, taken_is_shown, joined_second)
 
     -- a clash of the diagrams is one of edges
     pub union_clash : AreDistinct new → (letter : ℕ) {x y : ℕ} → letter < 2 ^ length file.names →
@@ -125,10 +105,8 @@ module _ {file : FileData} (sound : IsSoundFile file) {row : RowData} (row_sound
         let taken = shown_is_taken place (shows letter small) second in
         let mark : place ≡ y = search (rules, same_some, taken_is_shown) in (
           e.place,
-          clash_of e.within e.at_place at small e.taken taken (λ alike.
-              let same : there.0 ≡ target = target_of_alike there.2 is alike in
-              let at_x : slice_get new x ≡ Some target = grows x there.0 there.1 ∙ ap (λ (z : Target). Some z) same in
-              differ (distinct x place target at_x stored ∙ mark)),
+          clash_of e.within e.at_place at small e.taken taken
+              (λ alike. grind (arith, target_of_alike there.2 is alike)),
         )
 
   -- the first clash of the row

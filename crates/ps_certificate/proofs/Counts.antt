@@ -1,13 +1,13 @@
 -- The rule of counts at one edge, and the first edge of a vertex that breaks it.
-use Rattle.std.proofs.Common.{◌≡◌, ◌≢◌, ℕ, ◌%◌, ◌<◌, ◌≤◌, ◌∙◌, List, length, get_or, max, ◌⊎◌, inl, inr, sym, ap, subst}
+use Rattle.std.proofs.Common.{◌≡◌, ◌≢◌, ℕ, ◌%◌, ◌<◌, ◌≤◌, List, length, get_or, max, ◌⊎◌, inl, inr, sym, subst}
 use Rattle.std.proofs.Common.{arith, refl, None, Some, Option, rules}
-use Rattle.std.specs.Prelude.{slice_index, ◌==◌, IfNone}
+use Rattle.std.specs.Prelude.{slice_index, IfNone}
 use Rattle.std.specs.List.{Contains}
 use Rattle.std.specs.List.Sorted.{IsStrictlyIncreasing}
 use Rattle.std.proofs.lemmas.Bool.{cases_order, cases_lt, cases_eq}
 use Rattle.ps_game.specs.Games.{ParityGame, vertex_count, owner_of, priority_of, successors_of}
 use Rattle.ps_certificate.specs.declared.flaw.Flaw.{Flaw}
-use Rattle.ps_certificate.specs.declared.flaw.Flaw.TheVariants.{Move, Escape, Rank}
+use Rattle.ps_certificate.specs.declared.flaw.Flaw.TheVariants.{Rank}
 use Rattle.ps_certificate.specs.Certificates.{CertificateData, Fits, Remains, HasRightMove, IsClosed, IsValid}
 use Rattle.ps_certificate.specs.Certificates.{KeepsCount, BreaksCount, IsFlaw, Precedes, IsFirstFlaw, StandsBefore}
 use Rattle.ps_certificate.specs.Certificates.{winner_of, choice_of, counts_of, opposing, opposing_at}
@@ -28,7 +28,7 @@ pub opposing_complete : {game : ParityGame} {certificate : CertificateData} (pla
     player < 2 → (v : ℕ) → v < vertex_count game → priority_of game v % 2 ≢ player →
     Contains (opposing certificate player) (priority_of game v)
 unfolding opposing
-opposing_complete player h1 h2 v h3 h4 = search rules
+opposing_complete player h k v m n = search rules
 
 -- two counts and a rising list of priorities, of which those from `start` on are at least both ends'
 pub record Compared (game : ParityGame) (certificate : CertificateData) (v w : ℕ) (priorities before after : List ℕ)
@@ -57,28 +57,7 @@ pub KeepsCount-compared : {game : ParityGame}
     game certificate v w priorities before after top start → FallsAtStart game v priorities before after start →
     k < length priorities → (start ≤ k → slice_index after k ≤ slice_index before k) → KeepsCount game certificate v w k
 KeepsCount-compared {game} {certificate} {v} {w} {priorities} {before} {after} {top} {start} k compared strict
-    within at_most =
-    elim (cases_lt k start) [
-      | inl early ↦ KeepsCount-lower k compared early
-      | inr late ↦
-          let is : slice_index priorities k ≡ opposing_at certificate v k =
-          ap (λ l. slice_index l k) compared.priorities_are in
-          let before_is : slice_index before k ≡ slice_index (counts_of certificate v) k =
-          ap (λ l. slice_index l k) compared.before_are in
-          let after_is : slice_index after k ≡ slice_index (counts_of certificate w) k =
-          ap (λ l. slice_index l k) compared.after_are in
-          record {
-            never_rises = search rules;
-            falls = λ own_is other_at. elim (cases_eq k start) [
-              | inl same ↦ search rules
-              | inr differ ↦
-                  let less : slice_index priorities start < slice_index priorities k =
-                  rising_far priorities compared.rising start k (omega arith) within in
-                  let high : top ≤ slice_index priorities start = compared.higher start (omega arith) (omega arith) in
-                  absurd (omega arith)
-            ];
-          }
-    ]
+    within at_most = grind (arith, cases_lt, KeepsCount-lower, cases_eq, rising_far)
 
 -- a count that rises
 pub IsFirstBroken-behind : {game : ParityGame} {certificate : CertificateData} {v w : ℕ}
@@ -88,22 +67,17 @@ pub IsFirstBroken-behind : {game : ParityGame} {certificate : CertificateData} {
     before place < slice_index after place → IsFirstBroken game certificate v w (slice_index priorities place)
 IsFirstBroken-behind {game} {certificate} {v} {w} {priorities} {before} {after} {top} place compared strict late within
     not_before rises =
-    let is : slice_index priorities place ≡ opposing_at certificate v place =
-    ap (λ l. slice_index l place) compared.priorities_are in
-    let before_is : slice_index before place ≡ slice_index (counts_of certificate v) place =
-    ap (λ l. slice_index l place) compared.before_are in
-    let after_is : slice_index after place ≡ slice_index (counts_of certificate w) place =
-    ap (λ l. slice_index l place) compared.after_are in
-    let long : length priorities ≡ length (opposing certificate (winner_of certificate v)) =
-    ap length compared.priorities_are in
+    let is : slice_index priorities place ≡ opposing_at certificate v place = grind arith in
+    let before_is : slice_index before place ≡ slice_index (counts_of certificate v) place = grind arith in
+    let after_is : slice_index after place ≡ slice_index (counts_of certificate w) place = grind arith in
+    let long : length priorities ≡ length (opposing certificate (winner_of certificate v)) = grind arith in
     let high : top ≤ slice_index priorities place = compared.higher place late within in
     record {
       place = place;
       within = omega arith;
       priority = sym is;
       broken = search rules;
-      earlier =
-          λ k early. KeepsCount-compared k compared strict (omega arith) (λ from_start. not_before k from_start early);
+      earlier = λ k early. KeepsCount-compared k compared strict (omega arith) (λ from_start. grind arith);
     }
 
 -- of one edge, the least priority comes first
@@ -124,31 +98,21 @@ pub IsFirstFlawAt-rank : {game : ParityGame} {certificate : CertificateData} {v 
     Fits game certificate → Remains game certificate v w → winner_of certificate w ≡ winner_of certificate v →
     IsFirstBroken game certificate v w p → ((w' : ℕ) → Remains game certificate v w' → (w' ≡ w) ⊎ (KeepsCounts
     game certificate v w' ⊎ StandsBefore (successors_of game v) w w')) → IsFirstFlawAt game certificate 1 v (Rank v w p)
-IsFirstFlawAt-rank {game} {certificate} {v} {w} {p} fits remains same_winner broken edges = record {
-  is_flaw = search rules;
-  at_stage = refl;
-  at_vertex = refl;
-  first = others;
-}
+IsFirstFlawAt-rank {game} {certificate} {v} {w} {p} fits remains same_winner broken edges = grind (arith, others)
   where
     here : (w' p' : ℕ) → BreaksCount game certificate v w' p' →
         (Rank v w p ≡ Rank v w' p') ⊎ Precedes game (Rank v w p) (Rank v w' p')
     here w' p' other = elim (edges w' other.remains) [
       | inl same ↦
           let P : ℕ → Type 0 = λ n. BreaksCount game certificate v n p' in
-          let Q : ℕ → Type 0 = λ n. (Rank v w p ≡ Rank v n p') ⊎ Precedes game (Rank v w p) (Rank v n p') in
-          subst Q (sym same) (same_edge fits broken (subst P same other))
+          grind (arith, same_edge fits broken (subst P same other))
       | inr (inl keeps) ↦ absurd (other.broken (keeps other.place other.within))
       | inr (inr behind) ↦ inr (inl (inr (refl, behind)))
     ]
 
     others : (other : Flaw) → IsFlaw game certificate other → stage_of other ≡ 1 → vertex_of other ≡ v →
         (Rank v w p ≡ other) ⊎ Precedes game (Rank v w p) other
-    others (Move _ _) is_flaw early _ = absurd (omega arith)
-    others (Escape _ _) is_flaw early _ = absurd (omega arith)
-    others (Rank u w' p') is_flaw _ same = let P : ℕ → Type 0 = λ n. BreaksCount game certificate n w' p' in
-        let Q : ℕ → Type 0 = λ n. (Rank v w p ≡ Rank n w' p') ⊎ Precedes game (Rank v w p) (Rank n w' p') in
-        subst Q (sym same) (here w' p' (subst P same is_flaw))
+    others other is_flaw early same = grind (arith, here)
 
 -- the winner's move is an edge
 pub own_edge : {game : ParityGame} {certificate : CertificateData} {v w : ℕ} → HasRightMove game certificate v →
@@ -167,24 +131,19 @@ pub other_edges : (game : ParityGame) (certificate : CertificateData) (v w numbe
     game certificate v w' → (w' ≡ w) ⊎ (KeepsCounts game certificate v w' ⊎ StandsBefore (successors_of game v) w w')
 other_edges game certificate v w number within is before w' remains =
     let (j, j_within, j_is) = place_of (successors_of game v) remains.edge.1 in
-    elim (cases_order j number) [
-      | inl same ↦ inl (sym j_is ∙ ap (λ n. slice_index (successors_of game v) n) same ∙ sym is)
-      | inr (inl below) ↦ search rules
-      | inr (inr above) ↦ inr (inr (number, j, above, j_within, sym is, j_is))
-    ]
+    grind (arith, cases_order j number)
 
 pub KeepsCountsAt-from_all : (game : ParityGame) (certificate : CertificateData) (v : ℕ) →
     ((k : ℕ) → k < length (successors_of game v) → KeepsCounts game certificate v (get_or (successors_of game v) k 0)) →
     KeepsCountsAt game certificate v
 KeepsCountsAt-from_all game certificate v each w remains =
     let (j, j_within, j_is) = place_of (successors_of game v) remains.edge.1 in
-    let P : ℕ → Type 0 = KeepsCounts game certificate v in
-    subst P j_is (each j j_within)
+    grind arith
 
 -- a vertex that keeps the rule has no flaw in its counts
 kept_has_no_flaw : (game : ParityGame) (certificate : CertificateData) (flaw : Flaw) →
     KeepsCountsAt game certificate (vertex_of flaw) → IsFlaw game certificate flaw → stage_of flaw ≡ 1 → ⊥
-kept_has_no_flaw game certificate flaw h1 h2 h3 = search rules
+kept_has_no_flaw game certificate flaw h k m = search rules
 
 -- the first flaw in the counts of a closed certificate is the first of all
 pub first_unranked : {game : ParityGame} {certificate : CertificateData} {v : ℕ} {flaw : Flaw} →
@@ -193,14 +152,10 @@ pub first_unranked : {game : ParityGame} {certificate : CertificateData} {v : �
 first_unranked {game} {certificate} {v} {flaw} closed kept at =
     search (rules, stage_cases, closed_has_no_flaw, first_of_stage, kept_has_no_flaw)
 
-pub IsValid-from_kept : {game : ParityGame} {certificate : CertificateData} → IsClosed game certificate →
-    ((v : ℕ) → v < vertex_count game → KeepsCountsAt game certificate v) → IsValid game certificate
-IsValid-from_kept closed kept = search rules
-
 -- a valid certificate has no flaw
 pub valid_has_no_flaw : {game : ParityGame} {certificate : CertificateData} (flaw : Flaw) → IsValid game certificate →
     IsFlaw game certificate flaw → ⊥
-valid_has_no_flaw flaw h1 h2 = search (rules, closed_has_no_flaw)
+valid_has_no_flaw flaw h k = search (rules, closed_has_no_flaw)
 
 -- a certificate whose vertices are all sound, with no flaw found in counts
 pub valid_in_the_end : {game : ParityGame} {certificate : CertificateData} (n : ℕ) {found : Option Flaw} →
@@ -208,5 +163,4 @@ pub valid_in_the_end : {game : ParityGame} {certificate : CertificateData} (n : 
     IfNone found (KeepCountsBefore game certificate n) → found ≡ None → IsValid game certificate
 valid_in_the_end {game} {certificate} n all sound kept none =
     let closed : IsClosed game certificate = IsClosed-from_sound (λ v below. sound v (omega (arith, below, all))) in
-    let keeps : KeepCountsBefore game certificate n = rw none at kept in
-    IsValid-from_kept closed (λ v below. keeps v (omega (arith, below, all)))
+    grind arith

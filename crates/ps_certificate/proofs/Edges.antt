@@ -1,7 +1,6 @@
 -- Edges by their places in the lists of successors.
-use Rattle.std.proofs.Common.{◌≡◌, ◌≢◌, ℕ, ◌<◌, ◌∙◌, List, length, get_or, inl, inr, sym, ap, arith, Option, Some, None}
-use Rattle.std.proofs.Common.{subst, refl, rules}
-use Rattle.std.specs.Prelude.{slice_index, IsSomeAnd, IsSome}
+use Rattle.std.proofs.Common.{◌≡◌, ◌≢◌, ℕ, ◌<◌, ◌∙◌, List, length, get_or, sym, ap, arith, Option, Some, subst, rules}
+use Rattle.std.specs.Prelude.{slice_index, IsSomeAnd}
 use Rattle.std.specs.List.{Contains}
 use Rattle.std.proofs.lemmas.List.{get_or_default}
 use Rattle.std.proofs.lemmas.Bool.{cases_order, cases_eq}
@@ -43,7 +42,7 @@ IsSomeAnd-at {A} P is holds = let F : Option A → Type 0 = λ p. IsSomeAnd p P 
 
 -- what stands at a place of the option
 pub some_of : {A : Type 0} (o : Option A) (P : A → Type 0) → IsSomeAnd o P → (x : A) × (o ≡ Some x) × P x
-some_of o P h1 = search rules
+some_of o P h = search rules
 
 -- the winner's move, where the winner owns the vertex
 pub own_move : (game : ParityGame) (certificate : CertificateData) (v : ℕ) → HasRightMove game certificate v →
@@ -53,19 +52,13 @@ own_move game certificate v right own = some_of (choice_of certificate v) (HasEd
 -- a move that is not right is wrong
 pub HasWrongMove-from_not_right : (game : ParityGame) (certificate : CertificateData) (v : ℕ) →
     ¬ HasRightMove game certificate v → HasWrongMove game certificate v
-HasWrongMove-from_not_right game certificate v not_right = elim (cases_eq (owner_of game v) (winner_of certificate v)) [
-  | inl own ↦ inl (own, λ holds. not_right (record { own = λ _. holds; other = λ other. absurd (other own) }))
-  | inr other ↦ search rules
-]
-  where
-    is_some_unless : (o : Option ℕ) → (o ≡ None → ⊥) → IsSome o
-    is_some_unless None not_none = absurd (not_none refl)
-    is_some_unless (Some x) _ = refl
+HasWrongMove-from_not_right game certificate v not_right =
+    grind (arith, cases_eq (owner_of game v) (winner_of certificate v))
 
 -- and a right one is not
 pub not_wrong_when_right : {game : ParityGame} {certificate : CertificateData} {v : ℕ} →
     HasRightMove game certificate v → HasWrongMove game certificate v → ⊥
-not_wrong_when_right h1 h2 = search rules
+not_wrong_when_right h k = search rules
 
 -- the first successor with the other winner is the first escape
 pub IsFirstEscape-at : {game : ParityGame} {certificate : CertificateData} {v : ℕ} (k : ℕ) {w : ℕ} → v <
@@ -76,11 +69,7 @@ IsFirstEscape-at {game} {certificate} {v} k {w} in_range other_owner within is b
   leaves = search (rules, Remains-other, HasEdge-at);
   first = λ other other_leaves.
       let (j, j_within, j_is) = place_of (successors_of game v) other_leaves.remains.edge.1 in
-      elim (cases_order j k) [
-        | inl same ↦ inl (is ∙ ap (λ n. slice_index (successors_of game v) n) (sym same) ∙ j_is)
-        | inr (inl below) ↦ search rules
-        | inr (inr above) ↦ inr (k, j, above, j_within, sym is, j_is)
-      ];
+      grind (arith, cases_order);
 }
 
 -- where no successor has the other winner, what remains stays inside

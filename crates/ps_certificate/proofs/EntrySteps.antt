@@ -4,14 +4,14 @@
 --     at_first_word, .., at_even, head_read      what stands before these lines
 --     text_fails, text_reads, text_trails      the text
 use Rattle.std.proofs.Common.{◌≡◌, ◌≢◌, ℕ, ◌+◌, Bool, true, false, not, cond, eqb, ltb, List, [], ◌∷◌, length, Option}
-use Rattle.std.proofs.Common.{Some, None, Result, Ok, Err, IsErrAnd, refl, sym, ap, subst, ◌∙◌, arith, rules}
+use Rattle.std.proofs.Common.{Some, None, Result, Ok, Err, IsErrAnd, refl, sym, ap, subst, arith, rules}
 use Rattle.std.specs.Prelude.{codes, position}
 use Rattle.std.specs.List.{Contains, prefix_len}
 use Rattle.std.proofs.lemmas.Bool.{eqb-true}
 use Rattle.std.proofs.lemmas.Bool.Decides.{nat_tests}
 use Rattle.std.proofs.lemmas.Result.{err_from_is_err_and}
-use Rattle.ps_text.specs.Answers.{Stream, Found, signs, next_of}
-use Rattle.ps_text.specs.Parts.{IsRead, PartAnswers, then_by}
+use Rattle.ps_text.specs.Answers.{Stream, Found, next_of}
+use Rattle.ps_text.specs.Parts.{PartAnswers, then_by}
 use Rattle.ps_text.specs.Readers.{Reads, Stops, Carries}
 use Rattle.ps_text.specs.Faults.{found_of}
 use Rattle.ps_text.specs.declared.faults.Fault.TheVariants.{Text, OutOfMemory}
@@ -20,7 +20,7 @@ use Rattle.ps_text.proofs.Simple.{same_some, none_is_some}
 use Rattle.ps_text.proofs.Covered.{Avoids}
 use Rattle.ps_text.proofs.Exits.{reads_mapped, reads_then, stops_mapped, stops_first, stops_behind, carries_start}
 use Rattle.ps_text.proofs.Exits.{carries_then}
-use Rattle.ps_text.proofs.Branches.{Stands, left_otherwise, right_otherwise, reads_as, stops_as_well}
+use Rattle.ps_text.proofs.Branches.{Stands, right_otherwise, reads_as, stops_as_well}
 use Rattle.ps_text.proofs.Whole.{answers_ok, answers_fault, answers_trailing}
 use Rattle.ps_certificate.specs.declared.fault.CertCause.{CertCause}
 use Rattle.ps_certificate.specs.declared.fault.CertCause.TheVariants.{Syntax}
@@ -33,7 +33,7 @@ use Rattle.ps_certificate.specs.Texts.{Seen, Field, pieces_at, stream_at, causes
 use Rattle.ps_certificate.specs.Texts.{winner, vertex_of, choice, counts_in, lost_by, entry, entries, version}
 use Rattle.ps_certificate.specs.Texts.{certificate}
 use Rattle.ps_certificate.proofs.NumberPart.{AtDigit, laws_number}
-use Rattle.ps_certificate.proofs.TextLaws.{tight_joint, loose_joint, laws_byte, laws_word_from, laws_priorities, dash}
+use Rattle.ps_certificate.proofs.TextLaws.{tight_joint, loose_joint, laws_byte, laws_word_from, laws_priorities}
 use Rattle.ps_certificate.proofs.TextLaws.{chosen, laws_dash, laws_chosen, laws_choice, laws_space, laws_winner}
 use Rattle.ps_certificate.proofs.TextLaws.{entry_counts, laws_entry_counts, laws_entry_choice, laws_entry_winner}
 use Rattle.ps_certificate.proofs.TextLaws.{laws_entry_rest, laws_all_entries, laws_even, laws_even_word, laws_odd}
@@ -52,9 +52,7 @@ module _ (ids : List ℕ) (old : Place) where
 
   pub choice_dash : comes 45 old.rest ≡ true → {new : Place} → new ≡ step_of old
       → Reads (choice ids) (at_place old) None (at_place new)
-  choice_dash h {new} next = reads_as {P = dash} {Q = choice ids} {old = at_place old} {new = at_place new} {v = None}
-      (left_otherwise laws_dash (laws_chosen ids) (next_of (at_place old)) (avoids_digit old h) (λ z. z))
-      (reads_mapped (λ _. None) (byte_reads 45 old h next))
+  choice_dash h {new} next = grind (arith, laws_chosen ids, avoids_digit old h, byte_reads 45 old h next)
 
   no_dash : comes 45 old.rest ≡ false → Stands (next_of (at_place old)) (chosen ids) (choice ids)
   no_dash h = right_otherwise laws_dash (laws_chosen ids) (next_of (at_place old)) (avoids 45 old h) (λ z. z)
@@ -66,9 +64,8 @@ module _ (ids : List ℕ) (old : Place) where
   pub choice_reads : comes 45 old.rest ≡ false → {id : ℕ} (new : Place) {v : Option ℕ}
       → Reads (number (λ id. ¬ Contains ids id)) (at_place old) id (at_place new) → v ≡ vertex_of ids id
       → Reads (choice ids) (at_place old) v (at_place new)
-  choice_reads h new {v} m e =
-      reads_as {P = chosen ids} {Q = choice ids} {old = at_place old} {new = at_place new} {v = v} (no_dash h)
-      (subst (λ o. Reads (chosen ids) (at_place old) o (at_place new)) (sym e) (reads_mapped (vertex_of ids) m))
+  choice_reads h new {v} m e = reads_as {P = chosen ids} {Q = choice ids} {old = at_place old} {new = at_place new}
+      {v = v} (no_dash h) (grind (arith, reads_mapped, m))
 
 -- the place of an id is its vertex
 first_same : (id : ℕ) (ids : List ℕ) → prefix_len (λ other. not (eqb id other)) ids ≡ prefix_len
@@ -153,16 +150,12 @@ module _ (compact : Bool) (odd even ids : List ℕ) where
               module _ (ps : List ℕ) (lost : ps ≡ lost_by odd even w) where
                 pub at_counts : (o : Option (Found CertCause)) → Stops causes (counts_in compact ps) s5 o
                     → Stops causes (entry compact odd even ids id) old o
-                at_counts o m =
-                    to4 o (stops_behind causes (joint_choice w) m5 o (stops_mapped causes (made w c) (counts_in compact
-                    (lost_by odd even w)) s5 o (subst (λ xs. Stops causes (counts_in compact xs) s5 o) lost m)))
+                at_counts o m = to4 o (stops_behind causes (joint_choice w) m5 o (grind (arith, stops_mapped, m)))
 
                 pub entry_reads : {cs : List ℕ} {new : Stream Seen} → Reads (counts_in compact ps) s5 cs new
                     → Reads (entry compact odd even ids id) old (made w c cs) new
-                entry_reads {cs} {new} m =
-                    reads_then (joint_id id) m1 (reads_then joint_space m2 (reads_then joint_winner m3
-                    (reads_then (joint_second w) m4
-                    (reads_then (joint_choice w) m5
+                entry_reads {cs} {new} m = reads_then (joint_id id) m1 (reads_then joint_space m2
+                    (reads_then joint_winner m3 (reads_then (joint_second w) m4 (reads_then (joint_choice w) m5
                     (reads_mapped (made w c) (subst (λ xs. Reads (counts_in compact xs) s5 cs new) lost m))))))
 
 -- ## What stands before the lines of the vertices
@@ -248,8 +241,7 @@ module _ (odd even ids : List ℕ) where
 
               pub at_odd : {ps : List ℕ} → ps ≡ odd → (o : Option (Found CertCause)) → Stops causes (priorities ps) s5 o
                   → Stops causes whole old o
-              at_odd same o m = k5 (Err o) s5
-                  (stops_first causes (joint_odd compact) s5 o (subst (λ xs. Stops causes (priorities xs) s5 o) same m))
+              at_odd same o m = k5 (Err o) s5 (stops_first causes (joint_odd compact) s5 o (grind arith))
 
               module _ (ps : List ℕ) (same : ps ≡ odd) (s6 : Stream Seen) (m6 : Reads (priorities ps) s5 tt s6) where
                 k6 : Carries causes whole old (behind_odd compact) s6
@@ -266,13 +258,11 @@ module _ (odd even ids : List ℕ) where
 
                   pub at_even : (o : Option (Found CertCause)) → Stops causes (priorities qs) s7 o
                       → Stops causes whole old o
-                  at_even o m = k7 (Err o) s7 (stops_first causes (joint_even compact) s7 o
-                      (subst (λ xs. Stops causes (priorities xs) s7 o) also m))
+                  at_even o m = k7 (Err o) s7 (stops_first causes (joint_even compact) s7 o (grind arith))
 
                   pub head_read : {s8 : Stream Seen} → Reads (priorities qs) s7 tt s8
                       → Carries causes whole old (all_entries compact odd even ids) s8
-                  head_read {s8} m8 = carries_then causes (joint_even compact) k7
-                      (subst (λ xs. Reads (priorities xs) s7 tt s8) also m8)
+                  head_read {s8} m8 = carries_then causes (joint_even compact) k7 (grind arith)
 
   -- ## The text
 
@@ -288,13 +278,11 @@ module _ (odd even ids : List ℕ) where
 
     pub lines_fail : (o : Option (Found CertCause)) → Stops causes (entries compact odd even all ids) now o
         → Stops causes whole start o
-    lines_fail o m = k (Err o) now (stops_mapped causes with_lists (entries compact odd even ids ids) now o
-        (subst (λ xs. Stops causes (entries compact odd even xs ids) now o) same m))
+    lines_fail o m = k (Err o) now (grind (arith, stops_mapped, m))
 
     pub lines_read : {es : List EntryData} {new : Stream Seen} → Reads (entries compact odd even all ids) now es new
         → Reads whole start (with_lists es) new
-    lines_read {es} {new} m = k (Ok (with_lists es)) new
-        (reads_mapped with_lists (subst (λ xs. Reads (entries compact odd even xs ids) now es new) same m))
+    lines_read {es} {new} m = k (Ok (with_lists es)) new (grind arith)
 
   module _ (text : List ℕ) (start : Place) (first : start ≡ record { at = 0; rest = text }) where
     text_stops : (e : CertFault) → Stops causes whole (at_place start) (found_of e)
@@ -303,8 +291,7 @@ module _ (odd even ids : List ℕ) where
       where
         go : (e : CertFault) → Stops causes whole (stream_at 0 text) (found_of e)
             → TellsEntries odd even ids text (Err e)
-        go (Text cause offset) s = answers_fault (laws_certificate odd even ids) (stream_at 0 text)
-            (record { cause = cause; offset = offset }) s
+        go (Text cause offset) s = answers_fault (laws_certificate odd even ids) (stream_at 0 text) _ s
         go OutOfMemory s = tt
 
     pub text_fails : (e : CertFault) (r : Result (List EntryData) CertFault)
@@ -319,8 +306,7 @@ module _ (odd even ids : List ℕ) where
       text_reads e = go end.rest refl
         where
           go : (rest : List ℕ) → end.rest ≡ rest → PartAnswers causes whole (stream_at 0 text) (Ok c)
-          go [] h = answers_ok (laws_certificate odd even ids) (stream_at 0 text) c
-              (subst (λ bytes. IsRead whole (signs (pieces_at 0 text)) c (signs (pieces_at end.at bytes))) h m.1)
+          go [] h = answers_ok (laws_certificate odd even ids) (stream_at 0 text) c (grind arith)
           go (b ∷ rest) h = absurd (omega (arith, e, ap length h))
 
       pub text_trails : {e : CertFault} → (length end.rest ≡ 0 → ⊥) → e ≡ Text Syntax end.at

@@ -1,5 +1,5 @@
 -- From the first flaw at a vertex, with none at earlier vertices, to the first flaw of all.
-use Rattle.std.proofs.Common.{◌≡◌, ℕ, ◌<◌, ◌∙◌, ◌⊎◌, inl, inr, arith, Option, refl, rules}
+use Rattle.std.proofs.Common.{◌≡◌, ℕ, ◌<◌, ◌⊎◌, inl, inr, arith, Option, refl, rules}
 use Rattle.std.proofs.lemmas.Bool.{cases_order}
 use Rattle.ps_game.specs.Games.{ParityGame, vertex_count}
 use Rattle.ps_certificate.specs.declared.flaw.Flaw.{Flaw}
@@ -12,11 +12,11 @@ use Rattle.ps_certificate.proofs.Edges.{HasWrongMove-from_not_right, not_wrong_w
 -- a flaw of the same stage at a later vertex comes behind
 later_vertex : (game : ParityGame) (flaw other : Flaw) → stage_of flaw ≡ stage_of other →
     vertex_of flaw < vertex_of other → Precedes game flaw other
-later_vertex game flaw other h1 h2 = search rules
+later_vertex game flaw other h k = search rules
 
 -- moves and escapes come before ranks
 earlier_stage : (game : ParityGame) (flaw other : Flaw) → stage_of flaw < stage_of other → Precedes game flaw other
-earlier_stage game flaw other h1 = search rules
+earlier_stage game flaw other h = search rules
 
 -- the first flaw of its stage
 pub first_of_stage : {game : ParityGame} {certificate : CertificateData} {stage v : ℕ} {flaw : Flaw} →
@@ -31,7 +31,7 @@ stage_cases flaw = search rules
 -- a sound vertex has no flaw in its move or in what remains
 pub sound_has_no_flaw : {game : ParityGame} {certificate : CertificateData} {v : ℕ} → IsSoundAt game certificate v →
     (flaw : Flaw) → IsFlaw game certificate flaw → stage_of flaw ≡ 0 → vertex_of flaw ≡ v → ⊥
-sound_has_no_flaw h1 flaw h2 h3 h4 = search (rules, not_wrong_when_right)
+sound_has_no_flaw h flaw k m n = search (rules, not_wrong_when_right)
 
 -- the first flaw at a vertex behind sound ones is the first of all
 pub first_unsound : {game : ParityGame} {certificate : CertificateData} {v : ℕ} {flaw : Flaw} → ((u : ℕ) →

@@ -21,11 +21,11 @@ winner_below : (text : List Seen) (w : ℕ) → winner.IsText text w → w < 2
 winner_below text w h = search rules
 
 vertex_below : (ids : List ℕ) (id : ℕ) (o : Option ℕ) → o ≡ vertex_of ids id → IfSome o (λ v. v < length ids)
-vertex_below ids id o h1 = search (rules, position-Some)
+vertex_below ids id o h = search (rules, position-Some)
 
 choice_below : (ids : List ℕ) (text : List Seen) (c : Option ℕ) → (choice ids).IsText text c
     → IfSome c (λ v. v < length ids)
-choice_below ids text c h1 = search (rules, vertex_below)
+choice_below ids text c h = search (rules, vertex_below)
 
 counts_long : (n : ℕ) (text : List Seen) (cs : List ℕ) → (counts n).IsText text cs → length cs ≡ n
 counts_long zero text cs h = ap length h.2

@@ -2,7 +2,7 @@
 -- priority never rises, and where the loop meets that priority it falls; but both ends are one vertex.
 use Rattle.std.proofs.Common.{◌≡◌, ◌≢◌, ℕ, ◌+◌, ◌-◌, ◌%◌, ◌<◌, ◌≤◌, ◌∙◌, List, length, inl, inr, sym, ap, arith, zero}
 use Rattle.std.proofs.Common.{suc, rules}
-use Rattle.std.specs.Prelude.{slice_index, IsTrue}
+use Rattle.std.specs.Prelude.{slice_index}
 use Rattle.std.proofs.lemmas.Bool.{cases_eq, eqb-true, eq-eqb}
 use Rattle.ps_game.specs.Games.{ParityGame, IsGame, vertex_count, priority_of}
 use Rattle.ps_game.specs.Plays.{IsPath, IsLoop, Follows, WinsLoop, loop_priority, other_player}
@@ -11,31 +11,26 @@ use Rattle.ps_game.proofs.Beaten.{histories_beaten}
 use Rattle.ps_game.proofs.Memory.{WinsByNoMemory-AllHistoriesBeaten}
 use Rattle.ps_certificate.specs.Certificates.{CertificateData, Fits, IsValid, KeepsCount, winner_of, choice_of}
 use Rattle.ps_certificate.specs.Certificates.{counts_of, opposing, opposing_at}
-use Rattle.ps_certificate.specs.Regions.{region_of, BothHold, NoneWinsOutside}
+use Rattle.ps_certificate.specs.Regions.{BothHold, NoneWinsOutside}
 use Rattle.ps_certificate.proofs.Edges.{place_of}
 use Rattle.ps_certificate.proofs.Counts.{opposing_complete}
-use Rattle.ps_certificate.proofs.Keeping.{path_remains, path_stays, BothKeep-from_closed}
+use Rattle.ps_certificate.proofs.Keeping.{path_stays, BothKeep-from_closed}
 
 -- numbers that do not rise from each place to the next
 never_rises_along : (f : ℕ → ℕ) (i d : ℕ) → ((k : ℕ) → i ≤ k → k < i + d → f (k + 1) ≤ f k) → f (i + d) ≤ f i
 never_rises_along f i zero step = (let e : f (i + 0) ≡ f i = ap f (omega arith) in omega arith)
 never_rises_along f i (suc d) step =
     let before : f (i + d) ≤ f i = never_rises_along f i d (λ k after below. step k after (omega arith)) in
-    let last : f (i + d + 1) ≤ f (i + d) = step (i + d) (omega arith) (omega arith) in
-    let e : f (i + suc d) ≡ f (i + d + 1) = ap f (omega arith) in
-    omega arith
+    grind arith
 
 -- and fall once, end lower
 falls_in_the_end : (f : ℕ → ℕ) (i j m : ℕ) → i ≤ m → m < j → ((k : ℕ) → i ≤ k → k < j → f (k + 1) ≤ f k) →
     f (m + 1) < f m → f j < f i
 falls_in_the_end f i j m after below step falls =
-    let to_fall : f (i + (m - i)) ≤ f i =
-    never_rises_along f i (m - i) (λ k k_after k_below. step k k_after (omega arith)) in
+    let to_fall : f (i + (m - i)) ≤ f i = never_rises_along f i (m - i) (λ k k_after k_below. grind arith) in
     let from_fall : f (m + 1 + (j - (m + 1))) ≤ f (m + 1) =
     never_rises_along f (m + 1) (j - (m + 1)) (λ k k_after k_below. step k (omega arith) (omega arith)) in
-    let at_fall : f (i + (m - i)) ≡ f m = ap f (omega arith) in
-    let at_end : f (m + 1 + (j - (m + 1))) ≡ f j = ap f (omega arith) in
-    omega arith
+    grind arith
 
 -- a loop that the player loses, and the place of its priority among those by which the player loses
 record LostLoop (game : ParityGame) (certificate : CertificateData) (player : ℕ) (path : List ℕ)
@@ -67,32 +62,25 @@ winner_along {game} {certificate} {player} {path} lost k before = search (rules,
 at_place : {game : ParityGame} {certificate : CertificateData} {player : ℕ} {path : List ℕ} {i j place : ℕ} →
     LostLoop game certificate player path i j place → (k : ℕ) → k ≤ j →
     opposing_at certificate (slice_index path k) place ≡ loop_priority game path i j
-at_place {certificate} {place} lost k before =
-    ap (λ q. slice_index (opposing certificate q) place) (winner_along lost k before) ∙ lost.is
+at_place {certificate} {place} lost k before = grind (arith, winner_along lost k before)
 
 -- each step of the loop keeps the rule for its priority
 step_keeps : {game : ParityGame} {certificate : CertificateData} {player : ℕ} {path : List ℕ} {i j place : ℕ} →
     LostLoop game certificate player path i j place → (k : ℕ) → i ≤ k → k < j →
     KeepsCount game certificate (slice_index path k) (slice_index path (k + 1)) place
 step_keeps {game} {certificate} {player} {path} {place} lost k after below =
-    let here : winner_of certificate (slice_index path k) ≡ player = winner_along lost k (omega arith) in
-    let next : winner_of certificate (slice_index path (k + 1)) ≡ player = winner_along lost (k + 1) (omega arith) in
-    let long : length (opposing certificate (winner_of certificate (slice_index path k))) ≡ length
-    (opposing certificate player) = ap (λ q. length (opposing certificate q)) here in
-    lost.valid.counts (slice_index path k) (slice_index path (k + 1)) place (path_remains certificate
-    k lost.is_path lost.follows (omega (arith, lost.loop.within)) here) (next ∙ sym here) (omega (arith, lost.within))
+    grind (arith, winner_along lost k (omega arith), winner_along lost (k + 1) (omega arith))
 
 step_at_most : {game : ParityGame} {certificate : CertificateData} {player : ℕ} {path : List ℕ} {i j place : ℕ} →
     LostLoop game certificate player path i j place → (k : ℕ) → i ≤ k → k < j → slice_index (counts_of certificate
     (slice_index path (k + 1))) place ≤ slice_index (counts_of certificate (slice_index path k)) place
-step_at_most {game} {certificate} {player} {path} {i} {j} {place} lost k after below =
-    let is : opposing_at certificate (slice_index path k) place ≡ loop_priority game path i j =
-    at_place lost k (omega arith) in
-    let here : priority_of game (slice_index path k) ≤ loop_priority game path i j =
-    bounded game certificate player path i j place lost k after (omega arith) in
-    let next : priority_of game (slice_index path (k + 1)) ≤ loop_priority game path i j =
-    bounded game certificate player path i j place lost (k + 1) (omega arith) (omega arith) in
-    (step_keeps lost k after below).never_rises (omega arith) (omega arith)
+step_at_most {game} {certificate} {player} {path} {i} {j} {place} lost k after below = grind (
+  arith,
+  at_place lost k (omega arith),
+  bounded game certificate player path i j place lost k after (omega arith),
+  bounded game certificate player path i j place lost (k + 1) (omega arith) (omega arith),
+  step_keeps lost k after below,
+)
 
 -- so there is no such loop
 no_lost_loop : {game : ParityGame} {certificate : CertificateData} {player : ℕ} {path : List ℕ} {i j place : ℕ} →
@@ -106,11 +94,7 @@ no_lost_loop {game} {certificate} {player} {path} {i} {j} {place} lost =
     bounded game certificate player path i j place lost (m + 1) (omega arith) (omega arith) in
     let falls : slice_index (counts_of certificate (slice_index path (m + 1))) place < slice_index (counts_of
     certificate (slice_index path m)) place = (step_keeps lost m after below).falls (has ∙ sym is) (omega arith) in
-    let lower : slice_index (counts_of certificate (slice_index path j)) place < slice_index (counts_of certificate
-    (slice_index path i)) place = falls_in_the_end count i j m after below (step_at_most lost) falls in
-    let same : slice_index (counts_of certificate (slice_index path i)) place ≡ slice_index (counts_of certificate
-    (slice_index path j)) place = ap (λ v. slice_index (counts_of certificate v) place) lost.loop.same in
-    omega arith
+    grind (arith, falls_in_the_end count i j m after below (step_at_most lost) falls)
 
 wins_each_loop : {game : ParityGame} {certificate : CertificateData} {player : ℕ} → player < 2 → Fits game certificate →
     IsValid game certificate → {path : List ℕ} {i j : ℕ} → IsPath game path → winner_of certificate (slice_index path 0)
@@ -147,8 +131,4 @@ NoneWinsOutside-from_valid game certificate is_game fits valid player is_player 
     let winner_below : winner_of certificate v < 2 = fits.winners v below in
     let is_other : winner_of certificate v ≡ other_player player = omega (arith, other) in
     let holds = BothHold-from_valid game certificate fits valid (other_player player) (omega arith) in
-    let inside : IsTrue (region_of certificate (other_player player) v) =
-    eq-eqb (winner_of certificate v) (other_player player) is_other in
-    let beaten = histories_beaten game player
-    (region_of certificate (other_player player)) (choice_of certificate) is_game is_player holds v below inside in
-    record { by_memory = WinsByNoMemory-AllHistoriesBeaten game player v is_player beaten; by_histories = beaten }
+    search (rules, eq-eqb, histories_beaten, WinsByNoMemory-AllHistoriesBeaten)

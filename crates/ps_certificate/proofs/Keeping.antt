@@ -1,5 +1,5 @@
 -- A closed certificate's regions keep the paths that follow its moves.
-use Rattle.std.proofs.Common.{◌≡◌, ℕ, ◌+◌, ◌<◌, ◌∙◌, List, length, sym, arith, zero, suc, add-one, rules}
+use Rattle.std.proofs.Common.{◌≡◌, ℕ, ◌+◌, ◌<◌, List, length, arith, zero, suc, rules}
 use Rattle.std.specs.Prelude.{slice_index}
 use Rattle.std.proofs.lemmas.Bool.{eqb-true, eq-eqb}
 use Rattle.ps_game.specs.Games.{ParityGame}
@@ -7,27 +7,17 @@ use Rattle.ps_game.specs.Plays.{IsPath, Follows}
 use Rattle.ps_certificate.specs.Certificates.{CertificateData, Remains, IsClosed, winner_of, choice_of}
 use Rattle.ps_certificate.specs.Regions.{BothKeep}
 
--- a step of a path from a player's region, by the player's moves, goes along an edge that remains
-pub path_remains : {game : ParityGame} (certificate : CertificateData) {player : ℕ} {path : List ℕ} (k : ℕ) →
-    IsPath game path → Follows game player (choice_of certificate) path → k + 1 < length path → winner_of certificate
-    (slice_index path k) ≡ player → Remains game certificate (slice_index path k) (slice_index path (k + 1))
-path_remains certificate k is_path follows within is = search rules
-
 -- each vertex of such a path has the same winner
 pub path_stays : (game : ParityGame) (certificate : CertificateData) (player : ℕ) (path : List ℕ) → IsClosed
     game certificate → IsPath game path → Follows game player (choice_of certificate) path → winner_of certificate
     (slice_index path 0) ≡ player → (k : ℕ) → k < length path → winner_of certificate (slice_index path k) ≡ player
 path_stays game certificate player path closed is_path follows begins zero within = begins
 path_stays game certificate player path closed is_path follows begins (suc k) within =
-    let before : winner_of certificate (slice_index path k) ≡ player =
-    path_stays game certificate player path closed is_path follows begins k (omega arith) in
-    let remains = path_remains certificate k is_path follows (omega arith) before in
-    rw (← add-one k) (closed.stays (slice_index path k) (slice_index path (k + 1)) remains ∙ before)
+    grind (arith, path_stays game certificate player path closed is_path follows begins k (omega arith))
 
 pub BothKeep-from_closed : (game : ParityGame) (certificate : CertificateData) → IsClosed game certificate →
     BothKeep game certificate
 BothKeep-from_closed game certificate closed player player_below = record {
-  moves = λ v below in_region own. (closed.moves v below).own
-      (own ∙ sym (eqb-true (winner_of certificate v) player in_region));
+  moves = λ v below in_region own. (closed.moves v below).own (grind (arith, eqb-true));
   stays = search (rules, eq-eqb, path_stays, eqb-true);
 }

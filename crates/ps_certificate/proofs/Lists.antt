@@ -1,5 +1,5 @@
 -- Rising lists, searches in them, and parts of lists.
-use Rattle.std.proofs.Common.{◌≡◌, ℕ, ◌<◌, ◌≤◌, ◌∙◌, List, length, get_or, inl, inr, arith, zero, suc, Result, true}
+use Rattle.std.proofs.Common.{◌≡◌, ℕ, ◌<◌, ◌≤◌, List, length, get_or, arith, zero, suc, Result, true}
 use Rattle.std.proofs.Common.{false, replicate, rules}
 use Rattle.std.specs.Prelude.{slice_index}
 use Rattle.std.specs.List.{Contains}
@@ -29,12 +29,7 @@ search_result xs x r rising answer = searched xs x r answer (rising_near xs risi
 -- where a search ends between smaller and greater numbers, the number is not in the list
 pub not_between : (xs : List ℕ) (x i : ℕ) → ((k : ℕ) → k < i → get_or xs k 0 < x) →
     ((k : ℕ) → i ≤ k → k < length xs → x < get_or xs k 0) → Contains xs x → ⊥
-not_between xs x i below above (k, within, is) =
-    let at : get_or xs k 0 ≡ x = get_or_default xs k 0 x within ∙ is in
-    elim (cases_lt k i) [
-      | inl less ↦ (let h = below k less in omega arith)
-      | inr more ↦ (let h = above k more within in omega arith)
-    ]
+not_between xs x i below above (k, within, is) = grind (arith, get_or_default xs k 0 x within, cases_lt k i)
 
 -- nothing is marked in a fresh table
 pub nothing_marked : (n k : ℕ) → get_or (replicate n false) k false ≡ true → ⊥

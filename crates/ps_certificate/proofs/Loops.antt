@@ -1,10 +1,10 @@
 -- What a loop of the reader has read, and what it still reads.
 --     fails      the exit of a `?`, where the part's first fault was found
 --     word_next, word_fails, word_ends      a word, byte by byte
---     priorities_next, priorities_fail, priorities_end      the numbers of a line of priorities
+--     priorities_fail, priorities_end      the numbers of a line of priorities
 --     Listing      what is left is read, behind a front of a list
 use Rattle.std.proofs.Common.{◌≡◌, ℕ, suc, ◌+◌, ◌-◌, ◌<◌, ◌≤◌, Bool, true, false, not, eqb, List, [], ◌∷◌, ◌++◌, length}
-use Rattle.std.proofs.Common.{get_or, drop, Option, Some, Result, Ok, Err, IsErrAnd, refl, sym, ap, subst, ◌∙◌}
+use Rattle.std.proofs.Common.{get_or, drop, Option, Some, Result, Ok, Err, IsErrAnd, refl, sym, ap, subst}
 use Rattle.std.proofs.Common.{append_assoc, arith, rules}
 use Rattle.std.specs.Prelude.{slice_get}
 use Rattle.std.specs.Option.{option_eq}
@@ -44,8 +44,7 @@ pieces_long at (b ∷ bytes) = ap suc (pieces_long (at + 1) bytes)
 -- a part that is never empty leaves fewer bytes
 pub fewer : {V : Type 0} (P : Field V) (old new : Place) (v : V) → ((w : V) → P.IsText [] w → ⊥)
     → Reads P (at_place old) v (at_place new) → length new.rest < length old.rest
-fewer P old new v null m = let less = reads_shrinks null m in
-    omega (arith, less, pieces_long new.at new.rest, pieces_long old.at old.rest)
+fewer P old new v null m = grind (arith, reads_shrinks null m, pieces_long new.at new.rest, pieces_long old.at old.rest)
 
 -- ## Words
 
@@ -74,8 +73,7 @@ module _ (text : List ℕ) (i : ℕ) (start now : Stream Seen)
 
 module _ (ps : List ℕ) where
   pub joint_listed : Joint (byte 32) (λ _. mapped (λ _. drop 1 ps) (number (NotNext ps)))
-  joint_listed = tight_joint (laws_byte 32)
-      (λ _. laws_mapped (λ _. drop 1 ps) (number (NotNext ps)) (laws_number (NotNext ps)))
+  joint_listed = grind (arith, laws_byte 32, laws_number (NotNext ps))
 
   pub listed_reads : {old mid new : Stream Seen} → Reads (byte 32) old tt mid → {n : ℕ}
       → Reads (number (NotNext ps)) mid n new → {left : List ℕ} → left ≡ drop 1 ps → Reads (priority ps) old left new
@@ -94,10 +92,9 @@ module _ (ps left : List ℕ) (start : Stream Seen) (now : Place)
     (k : Carries causes (many priority ps) start (many priority left) (at_place now)) where
   pub priorities_fail : comes 32 now.rest ≡ true → (o : Option (Found CertCause))
       → Stops causes (priority left) (at_place now) o → Stops causes (priorities ps) start o
-  priorities_fail h o m = stops_first causes (joint_priorities ps) start o
-      (carries_stops causes (many priority ps) (many priority left) start (at_place now) o k
-      (many_fails priority laws_priority digit_no_space causes left (at_place now) o (enters_then (byte 32)
-      (λ _. mapped (λ _. drop 1 left) (number (NotNext left))) (joint_listed left) _ (enters_byte 32 now h)) m))
+  priorities_fail h o m = stops_first causes (joint_priorities ps) start o (carries_stops causes (many priority ps)
+      (many priority left) start (at_place now) o k (many_fails priority laws_priority digit_no_space causes left
+      (at_place now) o (grind (arith, enters_then, left, joint_listed, enters_byte)) m))
 
   pub priorities_end : comes 32 now.rest ≡ false → Reads (many priority ps) start left (at_place now)
   priorities_end h = k (Ok left) (at_place now)
@@ -125,8 +122,7 @@ module _ {A : Type 0} (whole : Field (List A)) (start : Stream Seen) where
         → ((others : List A) (new : Stream Seen) → Reads other next others new → Reads rest now (a ∷ others) new)
         → ((o : Option (Found CertCause)) → Stops causes other next o → Stops causes rest now o) → {longer : List A}
         → longer ≡ front ++ a ∷ [] → Listing whole start other next longer
-    listing_next {other} {next} a reads stops e = subst (Listing whole start other next) (sym e)
-        (record { carries = more })
+    listing_next {other} {next} a reads stops e = subst (Listing whole start other next) (sym e) (grind (arith, more))
       where
         more : (r : Result (List A) (Option (Found CertCause))) (new : Stream Seen) → Goes causes other next r new
             → Goes causes whole start (behind (front ++ a ∷ []) r) new
@@ -147,8 +143,7 @@ joint_counts n = tight_joint (laws_byte 32)
     (λ _. loose_then (laws_number Never) (λ count. laws_mapped (λ others. count ∷ others) (counts n) (laws_counts n)))
 
 pub joint_count : (n : ℕ) → Joint (number Never) (counts_behind n)
-joint_count n = loose_joint (laws_number Never)
-    (λ count. laws_mapped (λ others. count ∷ others) (counts n) (laws_counts n))
+joint_count n = loose_joint (laws_number Never) (λ count. search (rules, laws_mapped, laws_counts))
 
 module _ (n i : ℕ) (start now : Stream Seen) (front : List ℕ)
     (l : Listing (counts n) start (counts (n - i)) now front) where
@@ -169,12 +164,10 @@ module _ (n i : ℕ) (start now : Stream Seen) (front : List ℕ)
   pub count_next : i < n → {mid next : Stream Seen} {count : ℕ} → Reads (byte 32) now tt mid
       → Reads (number Never) mid count next → {longer : List ℕ} → longer ≡ front ++ count ∷ []
       → Listing (counts n) start (counts (n - (i + 1))) next longer
-  count_next lt {next} {count} m k e =
-      listing_next (counts n) start (counts (suc (n - (i + 1)))) now front (some_left lt) count
-      (λ others new x. reads_then (joint_counts (n - (i + 1))) m
-      (reads_then (joint_count (n - (i + 1))) k (reads_mapped (λ others. count ∷ others) x)))
-      (λ o x. stops_behind causes (joint_counts (n - (i + 1))) m o (stops_behind causes (joint_count (n - (i + 1))) k o
-      (stops_mapped causes (λ others. count ∷ others) (counts (n - (i + 1))) next o x))) e
+  count_next lt {next} {count} m k e = listing_next (counts n) start (counts (suc (n - (i + 1)))) now front
+      (some_left lt) count (λ others new x. reads_then (joint_counts (n - (i + 1))) m
+      (reads_then (joint_count (n - (i + 1))) k (reads_mapped (λ others. count ∷ others) x))) (λ o x. stops_behind
+      causes (joint_counts (n - (i + 1))) m o (search (rules, stops_behind, joint_count, stops_mapped))) e
 
   none_left : n ≤ i → Listing (counts n) start (counts 0) now front
   none_left le = let e : n - i ≡ 0 = omega arith in subst (λ k. Listing (counts n) start (counts k) now front) e l
@@ -220,5 +213,4 @@ module _ (compact : Bool) (odd even all ids : List ℕ) (i : ℕ) (start now : S
 
   pub entries_end : length ids ≤ i → Reads (entries compact odd even all ids) start front now
   entries_end le = listing_ends (entries compact odd even all ids) start (entries compact odd even all []) now front
-      (subst (λ z. Listing (entries compact odd even all ids) start (entries compact odd even all z) now front)
-      (drop_all i ids le) l) (reads_give now [])
+      (grind (arith, drop_all)) (reads_give now [])

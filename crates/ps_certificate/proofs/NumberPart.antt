@@ -34,12 +34,7 @@ pub pieces_split : (n at : ℕ) (bytes : List ℕ) → n ≤ length bytes
     → pieces_at at bytes ≡ take n (pieces_at at bytes) ++ pieces_at (at + n) (drop n bytes)
 pieces_split zero at bytes l = let e : at ≡ at + 0 = omega arith in ap (λ a. pieces_at a bytes) e
 pieces_split (suc n) at [] l = absurd (omega arith)
-pieces_split (suc n) at (b ∷ bytes) l =
-    let e : (at + 1) + n ≡ at + suc n = omega arith in
-    let rest : pieces_at (at + 1) bytes ≡ take n (pieces_at (at + 1) bytes) ++ pieces_at (at + suc n) (drop n bytes) =
-    pieces_split n
-    (at + 1) bytes (omega arith) ∙ ap (λ a. take n (pieces_at (at + 1) bytes) ++ pieces_at a (drop n bytes)) e in
-    ap (λ ps. record { sign = record { byte = b; behind = bytes }; start = at } ∷ ps) rest
+pieces_split (suc n) at (b ∷ bytes) l = grind (arith, pieces_split n (at + 1) bytes (omega arith))
 
 pub bytes_append : (a b : List Seen) → bytes_of (a ++ b) ≡ bytes_of a ++ bytes_of b
 bytes_append [] b = refl
@@ -89,9 +84,7 @@ pub run_long : {bytes : List ℕ} (digits more : List ℕ) → bytes ≡ digits 
     0 < run_length bytes
 run_long {bytes} digits more e h =
     let long = numeral_longest digits more h in
-    let l : run_length bytes ≡ length digits + length long.0 =
-    ap run_length e ∙ ap length long.1 ∙ length-append digits long.0 in
-    omega (arith, l, h.0.0)
+    grind (arith, length-append)
 
 pub run_is_wrong : {Wrong : Verdict} → Settled Wrong → {bytes : List ℕ} {t : Seen} {f : CertCause}
     → bytes ≡ t.byte ∷ t.behind → IsBadNumber Wrong t f → (0 < run_length bytes) × IsWrongRun Wrong bytes f
@@ -101,47 +94,27 @@ run_is_wrong {Wrong} settled {bytes} {f} e b = (run_long b.digits b.more whole b
     whole = e ∙ b.split
 
     run_is : EndsField b.more ⊎ (decimal_value b.digits ≡ 0) → numeral bytes ≡ b.digits
-    run_is (inl ended) = ap numeral whole ∙ numeral_ended b.more b.number ended
-    run_is (inr null) = ap numeral whole ∙ numeral_zero b.more b.number null
+    run_is h = grind (arith, whole, numeral_ended, numeral_zero)
 
     go : ((f ≡ Syntax) × (2 ^ 64 ≤ decimal_value b.digits)) ⊎ Wrong b.more (decimal_value b.digits) f
         → IsWrongRun Wrong bytes f
     go (inl x) =
         let long = numeral_longest b.digits b.more b.number in
-        let same : decimal_value (numeral bytes) ≡ decimal_value (b.digits ++ long.0) =
-        ap (λ r. decimal_value (numeral r)) whole ∙ ap decimal_value long.1 in
-        inl (x.0, omega (arith, x.1, same, value_grows b.digits long.0))
-    go (inr x) = let run : numeral bytes ≡ b.digits = run_is (settled b.more (decimal_value b.digits) f x) in
-        let rest : b.more ≡ drop (run_length bytes) bytes = search (rules, drop-append_seam) in
-        inr (subst (λ more. Wrong more
-        (decimal_value (numeral bytes)) f) rest (subst (λ r. Wrong b.more (decimal_value r) f) (sym run) x))
+        grind (arith, value_grows b.digits long.0)
+    go (inr x) = grind (arith, run_is, drop-append_seam)
 
 pub wrong_run_is : {Wrong : Verdict} {bytes : List ℕ} {t : Seen} {f : CertCause} → bytes ≡ t.byte ∷ t.behind
     → 0 < run_length bytes → IsWrongRun Wrong bytes f → IsBadNumber Wrong t f
-wrong_run_is {bytes} e l w = record {
-  digits = numeral bytes;
-  more = drop (run_length bytes) bytes;
-  split = sym e ∙ numeral_split bytes;
-  number = numeral_plain bytes l;
-  bad = w;
-}
+wrong_run_is {bytes} e l w = grind (arith, numeral_split bytes, numeral_plain bytes l)
 
 -- ## Reading a number
 
 run_within : (bytes : List ℕ) → run_length bytes ≤ length bytes
-run_within bytes = omega (
-  arith,
-  ap length (numeral_split bytes),
-  length-append (numeral bytes) (drop (run_length bytes) bytes),
-)
+run_within bytes = grind (arith, numeral_split bytes, length-append (numeral bytes) (drop (run_length bytes) bytes))
 
 pub suffix_behind : (n at : ℕ) (bytes : List ℕ) → n ≤ length bytes
     → IsSuffix (stream_at at bytes) (stream_at (at + n) (drop n bytes))
-suffix_behind n at bytes l = record {
-  taken = take n (pieces_at at bytes);
-  split = pieces_split n at bytes l;
-  end = omega (arith, l, length-drop n bytes);
-}
+suffix_behind n at bytes l = grind (arith, pieces_split n at bytes l, length-drop n bytes)
 
 one_byte : (b : ℕ) (more : List ℕ) → IsPlainNumber (b ∷ more) → IsPlainNumber (b ∷ [])
 one_byte b more h = plain_front (b ∷ []) more (omega arith) h
@@ -164,7 +137,7 @@ module _ (Wrong : Verdict) (settled : Settled Wrong) (t : Seen) (after : List Se
 
   one_plain : (digits more : List ℕ) → t.byte ∷ t.behind ≡ digits ++ more → 0 < length digits → IsPlainNumber digits →
       IsPlainNumber (t.byte ∷ [])
-  one_plain digits more h1 h2 h3 = search (rules, same_head, plain_front)
+  one_plain digits more h k m = search (rules, same_head, plain_front)
 
   begins : 0 < run_length bytes
   begins = search (rules, run_long, one_plain, numeral_split, numeral_plain)
@@ -180,26 +153,15 @@ module _ (Wrong : Verdict) (settled : Settled Wrong) (t : Seen) (after : List Se
   stops [] e = tt
   stops (c ∷ r) e = λ b.
       let whole : bytes_of ((text ++ c ∷ []) ++ b.more) ≡ (numeral bytes ++ c.byte ∷ []) ++ bytes_of b.more =
-      bytes_append (text ++ c ∷ []) b.more ∙ ap (λ x. x ++ bytes_of b.more)
-      (bytes_append text (c ∷ []) ∙ ap (λ x. x ++ c.byte ∷ []) same) in
-      let plain : IsPlainNumber (numeral bytes ++ c.byte ∷ []) = plain_front (numeral bytes ++ c.byte ∷ [])
-      (bytes_of b.more) (omega (arith, length-append (numeral bytes) (c.byte ∷ [])))
-      (subst IsPlainNumber whole b.is_text.0) in
-      let parts : bytes ≡ (numeral bytes ++ c.byte ∷ []) ++ bytes_of r =
-      ap bytes_of (split ∙ ap (λ z. text ++ z) e) ∙ bytes_append text (c ∷ r)
-      ∙ ap (λ x. x ++ c.byte ∷ bytes_of r) same ∙ sym (append_assoc (numeral bytes) (c.byte ∷ []) (bytes_of r)) in
+      grind (arith, bytes_append, same) in
+      let plain : IsPlainNumber (numeral bytes ++ c.byte ∷ []) = grind (arith, plain_front, length-append) in
+      let parts : bytes ≡ (numeral bytes ++ c.byte ∷ []) ++ bytes_of r = ap bytes_of (split ∙ ap (λ z. text ++ z) e)
+      ∙ bytes_append text (c ∷ r) ∙ ap (λ x. x ++ c.byte ∷ bytes_of r) same ∙ sym (grind (arith, append_assoc)) in
       let longest = numeral_longest (numeral bytes ++ c.byte ∷ []) (bytes_of r) plain in
-      omega (
-        arith,
-        ap run_length parts,
-        ap length longest.1,
-        length-append (numeral bytes ++ c.byte ∷ []) longest.0,
-        length-append (numeral bytes) (c.byte ∷ []),
-      )
+      grind (arith, length-append)
 
   clean : CleanUpTo (judged Wrong) all (length text + 1)
-  clean front more u f e l c = right f (subst (λ s. IsWrongRun Wrong (s.byte ∷ s.behind) f)
-      (sym (same_head t u after more (e ∙ ap (λ x. x ++ u ∷ more) c.0))) (run_is_wrong settled refl c.1).1)
+  clean front more u f e l c = right f (grind (arith, run_is_wrong settled refl c.1))
 
   pub number_read : IsRead (judged Wrong) all (decimal_value (numeral bytes)) rest
   number_read = record {
@@ -216,15 +178,15 @@ pub read_run : {Wrong : Verdict} → Settled Wrong → (bytes : List ℕ) {n : �
 read_run settled [] long value small behind right = absurd (omega arith)
 read_run {Wrong} settled (b ∷ more) {n} {rest} long value small behind right =
     let bytes = b ∷ more in
-    subst (IsRead (judged Wrong) (seen bytes) n) (seen_dropped (run_length bytes) bytes ∙ ap seen behind)
-    (subst (λ v. IsRead (judged Wrong) (seen bytes) v (drop (run_length bytes) (seen bytes))) value
-    (subst (λ xs. IsRead (judged Wrong) (seen bytes) (decimal_value (numeral xs)) (drop (run_length xs) (seen bytes)))
-    (bytes_seen bytes)
-    (number_read Wrong settled (record { byte = b; behind = more }) (seen more) long none)))
+    grind (
+      arith,
+      seen_dropped (run_length bytes) bytes,
+      bytes_seen bytes,
+      number_read Wrong settled (record { byte = b; behind = more }) (seen more) long none,
+    )
   where
     none : (f : CertCause) → IsWrongRun Wrong (b ∷ more) f → ⊥
-    none f (inl x) = omega (arith, x.1, value, small)
-    none f (inr x) = right f (rw (value, behind) at x)
+    none f h = grind arith
 
 pub judged_reads : (Wrong : Verdict) → Settled Wrong → (old new : Place) (n : ℕ) → IsNumberRead old new n →
     ((f : CertCause) → Wrong new.rest n f → ⊥) → Reads (judged Wrong) (at_place old) n (at_place new)
@@ -245,8 +207,7 @@ at_front h = record { front = []; split = refl; clean = λ front more t g e l c.
 pub stops_here : {V : Type 0} {P : Field V} (at : ℕ) (bytes : List ℕ) {f : CertCause} →
     IsFault causes P (signs (pieces_at at bytes)) f (signs (pieces_at at bytes)) →
     StopsWith causes P (stream_at at bytes) (record { cause = f; offset = at })
-stops_here at bytes h =
-    record { front = []; rest = pieces_at at bytes; split = refl; fault = h; offset = offset bytes }
+stops_here at bytes h = record { front = []; rest = pieces_at at bytes; split = refl; fault = h; offset = offset bytes }
   where
     offset : (bytes : List ℕ) → at ≡ offset_of (pieces_at at bytes) (at + length bytes)
     offset [] = omega arith
@@ -255,17 +216,11 @@ stops_here at bytes h =
 -- no number begins there
 pub nothing_there : (Wrong : Verdict) (at : ℕ) (bytes : List ℕ) → numeral bytes ≡ []
     → IsFaultAt causes (judged Wrong) [] (first_of (signs (pieces_at at bytes))) Syntax
-nothing_there Wrong at [] e = is_refusal (record {
-  before = judged_begins Wrong;
-  no_text = λ v h. absurd (omega (arith, h.0.0.0));
-  stops = tt;
-  no_cause = tt;
-}) refl
+nothing_there Wrong at [] e = grind (arith, judged_begins Wrong, stops)
 nothing_there Wrong at (b ∷ bytes) e = is_refusal (record {
   before = judged_begins Wrong;
   no_text = λ v h. absurd (omega (arith, h.0.0.0));
-  stops = λ x. let l = run_long (b ∷ []) bytes refl (one_byte b (bytes_of x.more) x.is_text.0) in
-      omega (arith, l, ap length e);
+  stops = λ x. grind (arith, run_long (b ∷ []) bytes refl (one_byte b (bytes_of x.more) x.is_text.0));
   no_cause = λ f c. let l = run_long c.1.digits c.1.more c.1.split c.1.number in omega (arith, l, ap length e);
 }) refl
 
@@ -289,13 +244,11 @@ wrong_number {Wrong} settled at (b ∷ bytes) {f = f} l value small behind wrong
     (refl, wrong_run_is refl l (inr (rw (value, behind) wrong))) (λ g c. least g (run_is_wrong settled refl c.1).1)
   where
     least : (g : CertCause) → IsWrongRun Wrong (b ∷ bytes) g → cause_number f ≤ cause_number g
-    least g (inl x) = absurd (omega (arith, x.1, value, small))
-    least g (inr x) = first g (rw (value, behind) at x)
+    least g h = grind arith
 
 pub judged_fails : (Wrong : Verdict) (old new : Place) (e : CertFault) → TellsNumber old (Err e) new
     → Stops causes (judged Wrong) (at_place old) (found_of e)
-judged_fails Wrong old new e h = subst (λ x. Stops causes (judged Wrong) (at_place old) (found_of x)) (sym h.0)
-    (stops_here old.at old.rest (at_front (go h.1)))
+judged_fails Wrong old new e h = grind (arith, stops_here, at_front, go)
   where
     go : HasNoNumber old.rest → IsFaultAt causes (judged Wrong) [] (first_of (signs (pieces_at old.at old.rest))) Syntax
     go (inl none) = nothing_there Wrong old.at old.rest none
@@ -304,9 +257,11 @@ judged_fails Wrong old new e h = subst (λ x. Stops causes (judged Wrong) (at_pl
 pub judged_wrong : {Wrong : Verdict} → Settled Wrong → {old new : Place} {n : ℕ} (f : CertCause) {e : CertFault} →
     IsNumberRead old new n → Wrong new.rest n f → ((g : CertCause) → Wrong new.rest n g →
     cause_number f ≤ cause_number g) → e ≡ Text f old.at → Stops causes (judged Wrong) (at_place old) (found_of e)
-judged_wrong {Wrong} settled {old} f r wrong first is =
-    subst (λ x. Stops causes (judged Wrong) (at_place old) (found_of x)) (sym is) (stops_here old.at old.rest
-    (at_front (wrong_number settled old.at old.rest r.long (sym r.value) r.small (sym r.rest) wrong first)))
+judged_wrong {Wrong} settled {old} f r wrong first is = grind (
+  arith,
+  stops_here old.at old.rest
+      (at_front (wrong_number settled old.at old.rest r.long (sym r.value) r.small (sym r.rest) wrong first)),
+)
 
 -- a number that is not the game's, where it is ended
 module _ (Wrong : ℕ → Type 0) (old new : Place) (n : ℕ) (r : IsNumberRead old new n) where
@@ -327,7 +282,7 @@ abbrev pub AtDigit : Seen → Type 0
 AtDigit s = IsDigit s.byte
 
 first_digit : (b : ℕ) (bytes digits more : List ℕ) → b ∷ bytes ≡ digits ++ more → IsPlainNumber digits → IsDigit b
-first_digit b bytes digits more h1 h2 = search (rules, same_head, All-head)
+first_digit b bytes digits more h k = search (rules, same_head, All-head)
 
 pub laws_judged : (Wrong : Verdict) → Laws Odd (judged Wrong) AtDigit AtDigit ⊥
 laws_judged Wrong = record {
@@ -345,9 +300,8 @@ laws_judged Wrong = record {
   where
     later : (text more : List Seen) (t : Seen) → IsPlainNumber (bytes_of (text ++ t ∷ more)) → IsDigit t.byte
     later text more t h = let all : All IsDigit (bytes_of text ++ t.byte ∷ bytes_of more) =
-        subst (All IsDigit) (bytes_append text (t ∷ more)) h.0.1 in All-head IsDigit t.byte
-        (bytes_of more) (subst (All IsDigit) (drop-append_seam (bytes_of text) (t.byte ∷ bytes_of more))
-        (All-drop IsDigit (length (bytes_of text)) (bytes_of text ++ t.byte ∷ bytes_of more) all))
+        subst (All IsDigit) (bytes_append text (t ∷ more)) h.0.1 in All-head IsDigit t.byte (bytes_of more)
+        (subst (All IsDigit) (drop-append_seam (bytes_of text) (t.byte ∷ bytes_of more)) (search (rules, All-drop)))
 
 pub laws_number : (Wrong : ℕ → Type 0) → Laws Odd (number Wrong) AtDigit AtDigit ⊥
 laws_number Wrong = laws_judged (OfOtherGame Wrong)

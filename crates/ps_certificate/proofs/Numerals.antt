@@ -1,7 +1,6 @@
 -- The digits that a text begins with: the longest run without a leading zero, and the number that it writes.
-use Rattle.std.proofs.Common.{rules}
-use Rattle.std.proofs.Common.{◌≡◌, ℕ, ◌+◌, ◌<◌, true, false, eqb, List, [], ◌∷◌, ◌++◌, length, drop}
-use Rattle.std.proofs.Common.{refl, sym, ap, ap₂, subst, inl, inr, ◌∙◌, append_assoc, append-nil, arith, length-append}
+use Rattle.std.proofs.Common.{rules, ◌≡◌, ℕ, ◌<◌, true, false, eqb, List, [], ◌∷◌, ◌++◌, length, drop, refl, sym, ap}
+use Rattle.std.proofs.Common.{ap₂, subst, inl, inr, ◌∙◌, append_assoc, append-nil, arith, length-append}
 use Rattle.std.specs.Prelude.{take_while}
 use Rattle.std.specs.Char.{is_ascii_digit}
 use Rattle.std.specs.List.{All}
@@ -20,10 +19,8 @@ use Rattle.ps_certificate.specs.Texts.{EndsField}
 
 taken_digits : (bytes : List ℕ) → All IsDigit (take_while is_ascii_digit bytes)
 taken_digits [] = All-nil IsDigit
-taken_digits (b ∷ bytes) = rw take_while-cons (elim (cases_Bool (is_ascii_digit b)) [
-  | inl so ↦ rw so (All-cons IsDigit b (take_while is_ascii_digit bytes) (digit_is b so) (taken_digits bytes))
-  | inr other ↦ rw other (All-nil IsDigit)
-])
+taken_digits (b ∷ bytes) =
+    rw take_while-cons (search (rules, cases_Bool, All-cons, digit_is, All-nil, taken_digits bytes))
 
 taken_split : {bytes : List ℕ} → bytes ≡ take_while is_ascii_digit bytes ++ drop
     (length (take_while is_ascii_digit bytes)) bytes
@@ -37,14 +34,14 @@ taken_over (d ∷ digits) more h = rw (take_while-cons, digit_passes d (All-head
 
 -- what begins with a zero: the run is that zero
 comes_is : (b : ℕ) (bytes : List ℕ) → comes b bytes ≡ true → (more : List ℕ) × (bytes ≡ b ∷ more)
-comes_is b bytes h1 = search (rules, eqb-true)
+comes_is b bytes h = search (rules, eqb-true)
 
 -- the run is a front of the bytes
 pub numeral_split : (bytes : List ℕ) → bytes ≡ numeral bytes ++ drop (length (numeral bytes)) bytes
 numeral_split bytes = search (rules, cases_Bool, comes_is, taken_split)
 
 no_zero : (bytes : List ℕ) → comes 48 bytes ≡ false → BeginsWithZero (take_while is_ascii_digit bytes) → ⊥
-no_zero bytes h1 h2 = search (rules, take_while-cons, cases_Bool, eqb-false)
+no_zero bytes h k = search (rules, take_while-cons, cases_Bool, eqb-false)
 
 -- and a number without leading zeros, unless it is empty
 pub numeral_plain : (bytes : List ℕ) → 0 < length (numeral bytes) → IsPlainNumber (numeral bytes)
@@ -67,10 +64,8 @@ numeral_longest (d ∷ digits) more h = elim (cases_eq d 48) [
 -- a front of a number without leading zeros is one, unless it is empty
 pub plain_front : (a b : List ℕ) → 0 < length a → IsPlainNumber (a ++ b) → IsPlainNumber a
 plain_front [] b l h = absurd (omega arith)
-plain_front (d ∷ a) b l h = ((l, digits), λ lt z. h.1 (omega (arith, lt, length-append a b)) z)
-  where
-    digits : All IsDigit (d ∷ a)
-    digits = subst (All IsDigit) (take-append_seam (d ∷ a) b) (All-take IsDigit (length (d ∷ a)) ((d ∷ a) ++ b) h.0.1)
+plain_front (d ∷ a) b l h =
+    grind (arith, length-append a b, take-append_seam (d ∷ a) b, All-take IsDigit (length (d ∷ a)) ((d ∷ a) ++ b) h.0.1)
 
 -- where a space, a newline or a colon ends such a number, it is the whole run
 pub numeral_ended : {digits : List ℕ} (more : List ℕ) → IsPlainNumber digits → EndsField more →

@@ -1,5 +1,5 @@
 -- Of two different flaws at most one comes before the other, so there is one first flaw.
-use Rattle.std.proofs.Common.{◌≡◌, ◌≢◌, ℕ, ◌<◌, ◌∙◌, List, length, rules}
+use Rattle.std.proofs.Common.{◌≡◌, ◌≢◌, ℕ, ◌<◌, List, length, rules}
 use Rattle.std.specs.Prelude.{slice_index}
 use Rattle.std.specs.List.{AllPairs}
 use Rattle.std.proofs.lemmas.Bool.{cases_order}
@@ -22,15 +22,15 @@ not_both_before xs different (i, j, below, within, at_i, at_j) (k, l, below', wi
 
 edges_not_both : {game : ParityGame} → IsGame game → (v w v' w' : ℕ) → v < vertex_count game →
     EdgePrecedes game v w v' w' → EdgePrecedes game v' w' v w → ⊥
-edges_not_both h1 v w v' w' h2 h3 h4 = search (rules, not_both_before)
+edges_not_both h v w v' w' k m n = search (rules, not_both_before)
 
 edge_not_itself : {game : ParityGame} → IsGame game → {v w v' w' : ℕ} → v < vertex_count game →
     EdgePrecedes game v w v' w' → v' ≡ v → w' ≡ w → ⊥
-edge_not_itself h1 h2 h3 h4 h5 = search (rules, not_before_itself)
+edge_not_itself h k m n p = search (rules, not_before_itself)
 
 not_both_precede : {game : ParityGame} (certificate : CertificateData) → IsGame game → (flaw other : Flaw) → IsFlaw
     game certificate flaw → IsFlaw game certificate other → Precedes game flaw other → Precedes game other flaw → ⊥
-not_both_precede certificate h1 flaw other h2 h3 h4 h5 = search (rules, edges_not_both, edge_not_itself)
+not_both_precede certificate h flaw other k m n p = search (rules, edges_not_both, edge_not_itself)
 
 pub one_first_flaw : (game : ParityGame) (certificate : CertificateData) (flaw other : Flaw) → IsGame game →
     IsFirstFlaw game certificate flaw → IsFirstFlaw game certificate other → flaw ≡ other

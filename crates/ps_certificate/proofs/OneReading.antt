@@ -1,12 +1,11 @@
 -- A text has one answer for a game.
-use Rattle.std.proofs.Common.{◌≡◌, ℕ, suc, ◌%◌, ◌<◌, ◌≤◌, List, [], ◌∷◌, Result, refl, ap, ap₂}
-use Rattle.std.proofs.Common.{subst, ◌∙◌, arith, rules}
+use Rattle.std.proofs.Common.{◌≡◌, ℕ, suc, ◌<◌, ◌≤◌, List, [], ◌∷◌, Result, refl, ap₂, arith, rules}
 use Rattle.std.specs.List.{All, AllPairs, Contains}
 use Rattle.std.proofs.lemmas.List.Elements.{All-contains}
 use Rattle.std.proofs.lemmas.List.Kept.{AllPairs-from_increasing}
 use Rattle.std.proofs.lemmas.Map.Made.{Contains-tail}
 use Rattle.ps_text.specs.Answers.{Found, AreNumbered}
-use Rattle.ps_text.specs.Parts.{PartAnswers, IsWrong}
+use Rattle.ps_text.specs.Parts.{IsWrong}
 use Rattle.ps_text.proofs.OneAnswer.{has_one_answer}
 use Rattle.ps_game.specs.Games.{ParityGame, NamedGameData}
 use Rattle.ps_certificate.specs.declared.fault.CertCause.{CertCause}
@@ -61,10 +60,7 @@ same_list (x ∷ xs) (y ∷ ys) r s a b = ap₂ (λ z zs. z ∷ zs) same (same_l
 
 within : (game : ParityGame) (parity : ℕ) (xs ys : List ℕ) → ListsPriorities game parity xs →
     ListsPriorities game parity ys → Within xs ys
-within game parity xs ys l m p c =
-    let right : p % 2 ≡ parity = All-contains (λ q. q % 2 ≡ parity) xs p l.right_parity c in
-    let there : HasPriority game p = All-contains (HasPriority game) xs p l.present c in
-    subst (Contains ys) there.2 (m.complete there.0 there.1 (ap (λ q. q % 2) there.2 ∙ right))
+within game parity xs ys l m p c = grind (arith, All-contains (HasPriority game) xs p l.present c)
 
 one_list : {game : ParityGame} {parity : ℕ} {xs ys : List ℕ} → ListsPriorities game parity xs →
     ListsPriorities game parity ys → xs ≡ ys
@@ -75,8 +71,7 @@ numbered = search rules
 
 pub one_reading : (game : NamedGameData) (text : List ℕ) (answer other : Result CertificateData (Found CertCause)) →
     ReadsCertificate game text answer → ReadsCertificate game text other → answer ≡ other
-one_reading game text answer other a b = has_one_answer (certificate a.odd a.even game.ids).IsText (IsWrong causes
-    (certificate a.odd a.even game.ids)) cause_number (laws_certificate a.odd a.even game.ids).one_value numbered
-    (stream_at 0 text) answer other a.answers (subst (λ odd. PartAnswers causes (certificate odd a.even game.ids)
-    (stream_at 0 text) other) (one_list b.odd_listed a.odd_listed) (subst (λ even. PartAnswers causes
-    (certificate b.odd even game.ids) (stream_at 0 text) other) (one_list b.even_listed a.even_listed) b.answers))
+one_reading game text answer other a b =
+    has_one_answer (certificate a.odd a.even game.ids).IsText (IsWrong causes (certificate a.odd a.even game.ids))
+    cause_number (laws_certificate a.odd a.even game.ids).one_value numbered (stream_at 0 text) answer other a.answers
+    (grind (arith, one_list b.odd_listed a.odd_listed, one_list b.even_listed a.even_listed))

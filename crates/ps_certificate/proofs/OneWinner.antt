@@ -11,7 +11,7 @@ use Rattle.ps_certificate.specs.Certificates.{CertificateData, Fits, IsValid, wi
 use Rattle.ps_certificate.proofs.Holding.{BothHold-from_valid}
 
 some_and : (P Q : ℕ → Type 0) (o : Option ℕ) → IsSomeAnd o P → IfSome o Q → (w : ℕ) × (o ≡ Some w) × P w × Q w
-some_and P Q o h1 h2 = search rules
+some_and P Q o h k = search rules
 
 -- where the winner moves, the winner's move
 given : (game : ParityGame) (certificate : CertificateData) → Fits game certificate → IsValid game certificate →

@@ -1,6 +1,6 @@
 -- What the loop over the pairs of a line has read, and what it still reads.
-use Rattle.std.proofs.Common.{◌≡◌, ℕ, zero, suc, ◌<◌, Bool, true, false, cond, eqb, List, [], ◌∷◌, length, get_or}
-use Rattle.std.proofs.Common.{Option, Some, None, Ok, refl, sym, ap, ap₂, subst, ◌∙◌, arith, rules}
+use Rattle.std.proofs.Common.{◌≡◌, ℕ, zero, suc, ◌<◌, true, false, cond, eqb, List, [], ◌∷◌, length, get_or}
+use Rattle.std.proofs.Common.{Option, Some, None, Ok, refl, sym, ap₂, subst, arith, rules}
 use Rattle.std.specs.Prelude.{map, set, slice_index, replicate}
 use Rattle.std.specs.List.{All}
 use Rattle.std.specs.List.Sorted.{IsStrictlyIncreasing}
@@ -21,7 +21,7 @@ use Rattle.ps_certificate.specs.Places.{Place}
 use Rattle.ps_certificate.specs.Reading.{at_place, comes}
 use Rattle.ps_certificate.specs.Texts.{Seen, causes, byte, pair, counts_in}
 use Rattle.ps_certificate.proofs.OneReading.{Rises, rises}
-use Rattle.ps_certificate.proofs.TextLaws.{tight_joint, digit_no_space, laws_byte, behind_space, laws_behind_space}
+use Rattle.ps_certificate.proofs.TextLaws.{digit_no_space, laws_byte, behind_space, laws_behind_space}
 use Rattle.ps_certificate.proofs.TextLaws.{laws_pair, joint_pairs}
 use Rattle.ps_certificate.proofs.Steps.{avoids, enters_byte}
 use Rattle.ps_certificate.proofs.Loops.{fewer}
@@ -44,9 +44,7 @@ set_is_put : (f : ℕ → ℕ) (m : ℕ) (ps : List ℕ) (k : ℕ) → Rises ps 
     → set (map f ps) k m ≡ map (put f (get_or ps k 0) m) ps
 set_is_put f m [] k r lt = absurd (omega (arith, lt))
 set_is_put f m (q ∷ ps) zero r lt = search (rules, eq-eqb, put_above)
-set_is_put f m (q ∷ ps) (suc k) r lt = let p = get_or ps k 0 in ap₂ (λ (x : ℕ) (xs : List ℕ). x ∷ xs)
-    (sym (ap (λ (b : Bool). cond b m (f q)) (ne_eqb q p (λ e. omega (arith, r.0 k 0 (omega (arith, lt)), e)))))
-    (set_is_put f m ps k r.1 (omega (arith, lt)))
+set_is_put f m (q ∷ ps) (suc k) r lt = grind (arith, set_is_put f m ps k r.1 (omega (arith, lt)))
 
 -- ## The loop
 
@@ -86,17 +84,15 @@ module _ (ps : List ℕ) (start : Stream Seen) (now : Place) (last : Option ℕ)
     pairs = with_pair so_far.pairs (slice_index ps k) m;
     last_is = refl;
     counts_are = search (rules, set_is_put, rises, AllPairs-from_increasing);
-    carries = carries_many (pair ps) (laws_pair ps) digit_no_space causes so_far.carries
-        (read so_far.pairs so_far.last_is);
+    carries = carries_many (pair ps) (laws_pair ps) digit_no_space causes so_far.carries (search rules);
   }
 
   pub pair_fails : comes 32 now.rest ≡ true → (o : Option (Found CertCause)) → ((pairs : Pairs) →
       pairs.last ≡ last → Stops causes (pair ps pairs) (at_place now) o) → Stops causes (counts_in true ps) start o
-  pair_fails h o m = stops_first causes
-      (joint_pairs ps) start o (carries_stops causes (many (pair ps) no_pairs) (many (pair ps) so_far.pairs) start
-      (at_place now) o so_far.carries (many_fails (pair ps) (laws_pair ps) digit_no_space causes so_far.pairs
-      (at_place now) o (enters_then (byte 32) (λ _. behind_space ps so_far.pairs) (tight_joint (laws_byte 32)
-      (λ _. laws_behind_space ps so_far.pairs)) _ (enters_byte 32 now h)) (m so_far.pairs so_far.last_is)))
+  pair_fails h o m = stops_first causes (joint_pairs ps) start o (carries_stops causes (many (pair ps) no_pairs)
+      (many (pair ps) so_far.pairs) start (at_place now) o so_far.carries (many_fails (pair ps) (laws_pair ps)
+      digit_no_space causes so_far.pairs (at_place now) o (enters_then (byte 32) (λ _. behind_space ps so_far.pairs)
+      (grind (arith, laws_byte 32, laws_behind_space ps so_far.pairs)) _ (enters_byte 32 now h)) (grind arith)))
 
   pairs_read : comes 32 now.rest ≡ false → Reads (many (pair ps) no_pairs) start so_far.pairs (at_place now)
   pairs_read h = so_far.carries (Ok so_far.pairs) (at_place now)

@@ -2,8 +2,8 @@
 --     zero_fails, positive_reads      a count, which is not 0
 --     priority_fails, priority_open, priority_low, priority_unknown, priority_reads      its priority
 --     pair_space, pair_priority, pair_colon, pair_count, pair_reads      the pair
-use Rattle.std.proofs.Common.{◌≡◌, ℕ, ◌+◌, ◌≤◌, ◌⊎◌, ◌++◌, true, false, List, [], ◌∷◌, length, drop, Option}
-use Rattle.std.proofs.Common.{Result, Ok, Err, IsErrAnd, refl, sym, ap, subst, inl, inr, ◌∙◌, arith, rules}
+use Rattle.std.proofs.Common.{◌≡◌, ℕ, ◌+◌, ◌≤◌, ◌⊎◌, true, false, List, [], ◌∷◌, drop, Option}
+use Rattle.std.proofs.Common.{Result, Ok, Err, IsErrAnd, refl, sym, subst, inl, inr, arith, rules}
 use Rattle.std.specs.Prelude.{slice_index}
 use Rattle.std.specs.List.{Contains}
 use Rattle.std.proofs.lemmas.Bool.{ltb-true, ltb-false}
@@ -47,15 +47,10 @@ zero_fails old h is = judged_wrong settled_zero Syntax read (refl, refl) (λ g w
 
 pub positive_reads : {old new : Place} {n : ℕ} → comes 48 old.rest ≡ false → IsNumberRead old new n
     → Reads (judged IsZero) (at_place old) n (at_place new)
-positive_reads {old} {new} {n} h r = judged_reads IsZero settled_zero old new n r
-    (λ f w. let k : comes 48 old.rest ≡ true = begins w.1 in cc)
+positive_reads {old} {new} {n} h r = judged_reads IsZero settled_zero old new n r (λ f w. grind (arith, begins))
   where
     begins : n ≡ 0 → comes 48 old.rest ≡ true
-    begins null =
-        let z : numeral old.rest ≡ 48 ∷ [] =
-        zero_is (numeral old.rest) (numeral_plain old.rest r.long) (sym r.value ∙ null) in
-        let more = drop (length (numeral old.rest)) old.rest in
-        ap (comes 48) (numeral_split old.rest) ∙ ap (λ run. comes 48 (run ++ more)) z
+    begins null = grind (arith, zero_is, numeral_plain, numeral_split)
 
 pub number_positive : (old new : Place) (r : Result ℕ CertFault) → comes 48 old.rest ≡ false → TellsNumber old r new
     → Tells (λ n. n) (judged IsZero) old r new
@@ -85,14 +80,13 @@ module _ (ps : List ℕ) (last : Option ℕ) (pairs : Pairs) (same : pairs.last 
   module _ (mid : Place) (n : ℕ) (r : IsNumberRead old mid n) where
     pub priority_open : (new : Place) {e : CertFault} → ends mid.rest ≡ false → e ≡ Text Syntax mid.at
         → TellsPriority ps pairs old (Err e) new
-    priority_open new {e} h is =
-        inr (
-          n,
-          mid,
-          judged_reads (WrongPriority ps pairs) (settled_priority ps pairs) old mid n r
-              (λ f w. ends_false mid.rest h w.0),
-          byte_fails 58 mid (no_colon mid.rest h) is,
-        )
+    priority_open new {e} h is = inr (
+      n,
+      mid,
+      judged_reads (WrongPriority ps pairs) (settled_priority ps pairs) old mid n r
+          (λ f w. ends_false mid.rest h w.0),
+      byte_fails 58 mid (no_colon mid.rest h) is,
+    )
 
     pub priority_low : (new : Place) {e : CertFault} → ends mid.rest ≡ true → rises last n ≡ false
         → e ≡ Text Syntax old.at → TellsPriority ps pairs old (Err e) new
@@ -101,24 +95,20 @@ module _ (ps : List ℕ) (last : Option ℕ) (pairs : Pairs) (same : pairs.last 
 
     pub priority_unknown : (new : Place) {e : CertFault} → ends mid.rest ≡ true → rises last n ≡ true
         → (Contains ps n → ⊥) → e ≡ Text OtherGame old.at → TellsPriority ps pairs old (Err e) new
-    priority_unknown new h up none is =
-        inl (judged_wrong (settled_priority ps pairs) OtherGame r (ends_true mid.rest h, inr (refl, none))
-        (λ g w. least g w.1) is)
+    priority_unknown new h up none is = inl (judged_wrong (grind (arith, settled_priority)) OtherGame r
+        (grind (arith, ends_true), inr (refl, none)) (λ g w. least g w.1) is)
       where
         least : (g : CertCause) → ((g ≡ Syntax) × DoesNotRise pairs n) ⊎ ((g ≡ OtherGame) × ¬ Contains ps n)
             → cause_number OtherGame ≤ cause_number g
-        least g (inl x) = absurd (rises_not pairs n same up x.1)
-        least g (inr x) = rw x.0 (omega arith)
+        least g h = grind (arith, rises_not)
 
     pub priority_reads : {place : ℕ} → rises last n ≡ true → IsAt ps n place
         → Reads (judged (WrongPriority ps pairs)) (at_place old) (slice_index ps place) (at_place mid)
-    priority_reads {place} up at =
-        subst (λ v. Reads (judged (WrongPriority ps pairs)) (at_place old) v (at_place mid)) (sym at.is)
-        (judged_reads (WrongPriority ps pairs) (settled_priority ps pairs) old mid n r (λ f w. right f w.1))
+    priority_reads {place} up at = subst (λ v. Reads (judged (WrongPriority ps pairs)) (at_place old) v (at_place mid))
+        (sym at.is) (judged_reads (WrongPriority ps pairs) (settled_priority ps pairs) old mid n r (λ f w. right f w.1))
       where
         right : (f : CertCause) → ((f ≡ Syntax) × DoesNotRise pairs n) ⊎ ((f ≡ OtherGame) × ¬ Contains ps n) → ⊥
-        right f (inl x) = rises_not pairs n same up x.1
-        right f (inr x) = x.1 (subst (Contains ps) at.is (Contains-get_or ps place 0 at.within))
+        right f h = search (rules, rises_not, Contains-get_or)
 
 pub priority_exits : (ps : List ℕ) (pairs : Pairs) (old new : Place) (e : CertFault) (r : Result ℕ CertFault)
     → TellsPriority ps pairs old (Err e) new → IsErrAnd r (λ y. y ≡ e) → TellsPriority ps pairs old r new
@@ -136,15 +126,13 @@ module _ (ps : List ℕ) (pairs : Pairs) (old : Place) where
         → Stops causes (pair ps pairs) (at_place old) (found_of e)
     pair_priority e new (inl s) = stops_behind causes (joint_pair ps pairs) m (found_of e)
         (stops_first causes (joint_priority ps pairs) (at_place mid) (found_of e) s)
-    pair_priority e new (inr s) =
-        stops_behind causes (joint_pair ps pairs) m (found_of e) (stops_behind causes (joint_priority ps pairs) s.2
-        (found_of e) (stops_first causes (joint_colon pairs s.0) (at_place s.1) (found_of e) s.3))
+    pair_priority e new (inr s) = stops_behind causes (joint_pair ps pairs) m (found_of e)
+        (stops_behind causes (joint_priority ps pairs) s.2 (found_of e) (grind (arith, stops_first, joint_colon)))
 
     module _ (p : ℕ) (next : Place) (k : Reads (judged (WrongPriority ps pairs)) (at_place mid) p (at_place next)) where
       behind_priority : (o : Option (Found CertCause)) → Stops causes (then_by (byte 58) (λ _. mapped
           (λ m. with_pair pairs p m) (judged IsZero))) (at_place next) o → Stops causes (pair ps pairs) (at_place old) o
-      behind_priority o s =
-          stops_behind causes (joint_pair ps pairs) m o (stops_behind causes (joint_priority ps pairs) k o s)
+      behind_priority o s = stops_behind causes (joint_pair ps pairs) m o (search (rules, stops_behind, joint_priority))
 
       pub pair_colon : (o : Option (Found CertCause)) → Stops causes (byte 58) (at_place next) o
           → Stops causes (pair ps pairs) (at_place old) o
@@ -153,11 +141,9 @@ module _ (ps : List ℕ) (pairs : Pairs) (old : Place) where
       module _ (last : Place) (c : Reads (byte 58) (at_place next) tt (at_place last)) where
         pub pair_count : (o : Option (Found CertCause)) → Stops causes (judged IsZero) (at_place last) o
             → Stops causes (pair ps pairs) (at_place old) o
-        pair_count o s = behind_priority o (stops_behind causes (joint_colon pairs p) c o
-            (stops_mapped causes (λ m. with_pair pairs p m) (judged IsZero) (at_place last) o s))
+        pair_count o s = behind_priority o (stops_behind causes (joint_colon pairs p) c o (grind (arith, stops_mapped)))
 
         pub pair_reads : {count : ℕ} (new : Place) → Reads (judged IsZero) (at_place last) count (at_place new)
             → Reads (pair ps pairs) (at_place old) (with_pair pairs p count) (at_place new)
-        pair_reads new s = reads_then (joint_pair ps pairs) m
-            (reads_then (joint_priority ps pairs) k
+        pair_reads new s = reads_then (joint_pair ps pairs) m (reads_then (joint_priority ps pairs) k
             (reads_then (joint_colon pairs p) c (reads_mapped (λ m. with_pair pairs p m) s)))

@@ -24,21 +24,20 @@ use Rattle.ps_certificate.specs.Pairs.{Pairs, no_pairs, with_pair, DoesNotRise}
 use Rattle.ps_certificate.specs.Reading.{numeral}
 use Rattle.ps_certificate.specs.Texts.{Seen, causes, Field, take_byte, byte, word, take_two, two, EndsField, Verdict}
 use Rattle.ps_certificate.specs.Texts.{judged, OfOtherGame, number, Never, NotNext, priority, IsMissing, priorities}
-use Rattle.ps_certificate.specs.Texts.{vertex_of, choice, counts, WrongPriority, IsZero, pair, counts_in, lost_by}
+use Rattle.ps_certificate.specs.Texts.{choice, counts, WrongPriority, IsZero, pair, counts_in}
 use Rattle.ps_certificate.specs.Texts.{entry, entries, certificate, stream_at, ReadsCertificate}
-use Rattle.ps_certificate.specs.Words.{first_word, vertices_word, odd_word, even_word}
+use Rattle.ps_certificate.specs.Words.{first_word, vertices_word, odd_word}
 use Rattle.ps_certificate.proofs.NumberPart.{Odd, Settled, IsWrongRun, run_length, settled_other, nothing_there}
 use Rattle.ps_certificate.proofs.NumberPart.{too_large, wrong_number, at_front, number_read, settled_zero}
 use Rattle.ps_certificate.proofs.NumberPart.{settled_priority}
 use Rattle.ps_certificate.proofs.TextLaws.{Any, tight_joint, byte_taken, first_taken, laws_byte, laws_word}
 use Rattle.ps_certificate.proofs.TextLaws.{laws_priority, digit_no_space, joint_priorities, laws_dash, laws_chosen}
-use Rattle.ps_certificate.proofs.TextLaws.{dash_no_digit}
+use Rattle.ps_certificate.proofs.TextLaws.{dash_no_digit, joint_pair, joint_colon, joint_priority, laws_pair}
+use Rattle.ps_certificate.proofs.TextLaws.{joint_pairs, laws_entry, laws_entries, laws_certificate}
 use Rattle.ps_certificate.proofs.Loops.{joint_listed, joint_counts, joint_count}
 use Rattle.ps_certificate.proofs.EntrySteps.{joint_id, joint_space, joint_winner, joint_second, joint_choice}
 use Rattle.ps_certificate.proofs.EntrySteps.{joint_first, joint_version, joint_vertices, joint_number, joint_odd_word}
 use Rattle.ps_certificate.proofs.EntrySteps.{joint_odd, joint_even_word, joint_even}
-use Rattle.ps_certificate.proofs.TextLaws.{joint_pair, joint_colon, joint_priority, laws_pair, joint_pairs, laws_entry}
-use Rattle.ps_certificate.proofs.TextLaws.{laws_entries, laws_certificate}
 
 abbrev pub Has : {V : Type 0} → Field V → Type 0
 Has part = HasOutcomes causes part
@@ -65,7 +64,7 @@ module _ (Wrong : Verdict) (settled : Settled Wrong) where
 
       none_wrong : value < 2 ^ 64 → ((f : CertCause) → Wrong (drop (run_length seen) seen) value f → ⊥) →
           (f : CertCause) → IsWrongRun Wrong seen f → ⊥
-      none_wrong h1 h2 f h3 = search rules
+      none_wrong h k f m = search rules
 
       small_number : 0 < run_length seen → value < 2 ^ 64 →
           Judged cause_number (Wrong (drop (run_length seen) seen) value) → Outcome causes (judged Wrong) (t ∷ after)
@@ -109,19 +108,16 @@ decide_rise pairs n = search (rules, Decided, decide_below)
 
 judge_priority : (ps : List ℕ) (pairs : Pairs) (more : List ℕ) (n : ℕ) →
     Judged cause_number (WrongPriority ps pairs more n)
-judge_priority ps pairs more n = judge_as cause_number to from (judge_one cause_number
-    (judge_cause cause_number Syntax (decide_both (decide_end more) (decide_rise pairs n)))
-    (judge_cause cause_number OtherGame (decide_both (decide_end more) (decide_not (decide_in ps n)))))
+judge_priority ps pairs more n = judge_as cause_number to from
+    (search (rules, judge_one, judge_cause, decide_both, decide_end, decide_rise, decide_not, decide_in))
   where
     to : (f : CertCause) → ((EndsField more × DoesNotRise pairs n) × (f ≡ Syntax)) ⊎
         ((EndsField more × ¬ Contains ps n) × (f ≡ OtherGame)) → WrongPriority ps pairs more n f
-    to f (inl h) = (h.0.0, inl (h.1, h.0.1))
-    to f (inr h) = (h.0.0, inr (h.1, h.0.1))
+    to f h = grind arith
 
     from : (f : CertCause) → WrongPriority ps pairs more n f →
         ((EndsField more × DoesNotRise pairs n) × (f ≡ Syntax)) ⊎ ((EndsField more × ¬ Contains ps n) × (f ≡ OtherGame))
-    from f (ended, inl h) = inl ((ended, h.1), h.0)
-    from f (ended, inr h) = inr ((ended, h.1), h.0)
+    from f h = grind arith
 
 judge_zero : (more : List ℕ) (n : ℕ) → Judged cause_number (IsZero more n)
 judge_zero more n = judge_as cause_number (λ f h. (h.1, h.0)) (λ f h. (h.1, h.0))
@@ -141,8 +137,7 @@ has_byte b = has_one causes (take_byte b) NoBad (sign_of b) tt (byte_taken (sign
 
 has_word : (bytes : List ℕ) → Has (word bytes)
 has_word [] = has_give causes tt
-has_word (b ∷ bytes) = has_then causes (tight_joint (laws_byte b) (λ _. laws_word bytes)) (has_byte b)
-    (λ _. has_word bytes)
+has_word (b ∷ bytes) = has_then causes (grind (arith, laws_byte b, laws_word bytes)) (has_byte b) (λ _. has_word bytes)
 
 has_two : {V : Type 0} (a b : ℕ) (v w : V) → Has (two a b v w)
 has_two a b v w = has_one causes (take_two a b v w) NoBad (sign_of a) v (first_taken b w (sign_of a) refl)
@@ -160,9 +155,8 @@ has_priorities ps = has_then causes (joint_priorities ps)
     (take_byte 10) (IsMissing left) (sign_of 10) tt (byte_taken (sign_of 10) refl) (judge_missing left))
 
 has_choice : (ids : List ℕ) → Has (choice ids)
-has_choice ids = has_either causes laws_dash (laws_chosen ids) dash_no_digit
-    (has_mapped causes (λ _. None) (byte 45) (has_byte 45)) (has_mapped causes (vertex_of ids)
-    (number (λ id. ¬ Contains ids id)) (has_number (λ id. ¬ Contains ids id) (λ id. decide_not (decide_in ids id))))
+has_choice ids = has_either causes laws_dash (laws_chosen ids) dash_no_digit (has_mapped causes (λ _. None) (byte 45)
+    (has_byte 45)) (search (rules, has_mapped, has_number, decide_not, decide_in))
 
 has_counts : (n : ℕ) → Has (counts n)
 has_counts zero = has_mapped causes (λ _. []) (byte 10) (has_byte 10)
@@ -174,18 +168,17 @@ module _ (ps : List ℕ) where
   has_colon pairs p = search (rules, has_then, joint_colon, has_byte, has_mapped, has_judged, settled_zero, judge_zero)
 
   has_pair : (pairs : Pairs) → Has (pair ps pairs)
-  has_pair pairs =
-      search (
-        rules,
-        has_then,
-        joint_pair,
-        has_byte,
-        joint_priority,
-        has_judged,
-        settled_priority,
-        judge_priority,
-        has_colon,
-      )
+  has_pair pairs = search (
+    rules,
+    has_then,
+    joint_pair,
+    has_byte,
+    joint_priority,
+    has_judged,
+    settled_priority,
+    judge_priority,
+    has_colon,
+  )
 
   has_counts_in : (compact : Bool) → Has (counts_in compact ps)
   has_counts_in false = has_counts (length ps)
@@ -194,14 +187,10 @@ module _ (ps : List ℕ) where
 
 module _ (compact : Bool) (odd even ids : List ℕ) where
   has_entry : (id : ℕ) → Has (entry compact odd even ids id)
-  has_entry id = has_then causes
-      (joint_id compact odd even ids id) (has_number (λ n. n ≡ id → ⊥) (λ n. decide_not (cases_eq n id)))
-      (λ _. has_then causes (joint_space compact odd even ids) (has_byte 32)
+  has_entry id = has_then causes (joint_id compact odd even ids id) (has_number (λ n. n ≡ id → ⊥)
+      (λ n. decide_not (cases_eq n id))) (λ _. has_then causes (joint_space compact odd even ids) (has_byte 32)
       (λ _. has_then causes (joint_winner compact odd even ids) (has_two 48 49 0 1)
-      (λ w. has_then causes (joint_second compact odd even ids w) (has_byte 32)
-      (λ _. has_then causes (joint_choice compact odd even ids w)
-      (has_choice ids) (λ c. has_mapped causes (λ cs. record { winner = w; choice = c; counts = cs })
-      (counts_in compact (lost_by odd even w)) (has_counts_in (lost_by odd even w) compact))))))
+      (λ w. search (rules, has_then, joint_second, has_byte, joint_choice, has_choice, has_mapped, has_counts_in))))
 
   has_entries : (rest : List ℕ) → Has (entries compact odd even ids rest)
   has_entries [] = has_give causes []
@@ -214,21 +203,27 @@ module _ (compact : Bool) (odd even ids : List ℕ) where
 
 has_certificate : (odd even ids : List ℕ) → Has (certificate odd even ids)
 has_certificate odd even ids = has_then causes (joint_first odd even ids) (has_word first_word)
-    (λ _. has_then causes (joint_version odd even ids) (has_two 49 50 false true)
-    (λ compact. has_then causes (joint_vertices odd even ids compact) (has_word vertices_word)
-    (λ _. has_then causes (joint_number odd even ids compact)
-    (has_number (λ n. n ≡ length ids → ⊥) (λ n. decide_not (cases_eq n (length ids))))
-    (λ _. has_then causes (joint_odd_word odd even ids compact) (has_word odd_word)
-    (λ _. has_then causes (joint_odd odd even ids compact) (has_priorities odd)
-    (λ _. has_then causes (joint_even_word odd even ids compact) (has_word even_word)
-    (λ _. has_then causes (joint_even odd even ids compact) (has_priorities even)
-    (λ _. has_mapped causes _ (entries compact odd even ids ids) (has_entries compact odd even ids ids)))))))))
+    (λ _. has_then causes (joint_version odd even ids) (has_two 49 50 false true) (λ compact. has_then causes
+    (joint_vertices odd even ids compact) (has_word vertices_word) (λ _. has_then causes (joint_number odd even ids
+    compact) (has_number (λ n. n ≡ length ids → ⊥) (λ n. decide_not (cases_eq n (length ids))))
+    (λ _. has_then causes (joint_odd_word odd even ids compact) (has_word odd_word) (λ _. search (
+      rules,
+      has_then,
+      joint_odd,
+      has_priorities,
+      joint_even_word,
+      has_word,
+      joint_even,
+      has_mapped,
+      has_entries,
+    ))))))
 
 pub some_reading : (game : NamedGameData) (text : List ℕ) → (answer : Result CertificateData (Found CertCause)) ×
     ReadsCertificate game text answer
 some_reading game text =
     let odd = priorities_there game.game 1 in
     let even = priorities_there game.game 0 in
-    let read =
-    some_answer (laws_certificate odd.0 even.0 game.ids) (has_certificate odd.0 even.0 game.ids) (stream_at 0 text) in
-    (read.0, record { odd = odd.0; even = even.0; odd_listed = odd.1; even_listed = even.1; answers = read.1 })
+    grind (
+      arith,
+      some_answer (laws_certificate odd.0 even.0 game.ids) (has_certificate odd.0 even.0 game.ids) (stream_at 0 text),
+    )

@@ -4,11 +4,11 @@
 --     byte_reads, byte_fails, two_first, two_second, two_fails      one byte
 --     end_reads, end_missing, end_fails      the end of a line of priorities, where some of these are left
 --     ends_true, ends_false      what the test of a field's end says
-use Rattle.std.proofs.Common.{◌≡◌, ℕ, ◌<◌, ◌≤◌, true, false, ◌||◌, List, [], ◌∷◌, length, Option, Some}
-use Rattle.std.proofs.Common.{None, refl, sym, subst, inl, inr, ◌∙◌, arith, rules}
+use Rattle.std.proofs.Common.{◌≡◌, ℕ, ◌<◌, ◌≤◌, true, false, List, [], ◌∷◌, length, Option, Some}
+use Rattle.std.proofs.Common.{refl, sym, subst, inl, inr, arith, rules}
 use Rattle.std.proofs.lemmas.Bool.{eq-eqb, ne_eqb, eqb-true, eqb-false}
 use Rattle.ps_text.specs.Answers.{signs, first_of, next_of}
-use Rattle.ps_text.specs.Parts.{NoBad, IsFault, one, refusal_of}
+use Rattle.ps_text.specs.Parts.{NoBad, one, refusal_of}
 use Rattle.ps_text.specs.Readers.{StopsWith, Reads, Stops}
 use Rattle.ps_text.specs.Faults.{found_of}
 use Rattle.ps_text.specs.declared.faults.Fault.TheVariants.{Text}
@@ -37,14 +37,10 @@ stops_at {P} old f s is = subst (λ x. Stops causes P (at_place old) (found_of x
 pub refused_here : {V : Type 0} {P : Field V} {First More : Seen → Type 0} → Laws Odd P First More ⊥ → (place : Place)
     → ((b : ℕ) (bytes : List ℕ) → place.rest ≡ b ∷ bytes → First (sees b bytes) → ⊥)
     → StopsWith causes P (at_place place) (record { cause = Syntax; offset = place.at })
-refused_here {P = P} {First = First} l place none =
-    let all = signs (pieces_at place.at place.rest) in
-    stops_here place.at place.rest (subst (λ f. IsFault causes P all f all) (syntax (first_of all))
-    (refused l causes all (avoided place.rest refl)))
+refused_here {P = P} {First = First} l place none = grind (arith, stops_here, syntax, refused, avoided)
   where
     syntax : (there : Option Seen) → refusal_of causes there ≡ Syntax
-    syntax None = refl
-    syntax (Some s) = refl
+    syntax there = grind arith
 
     avoided : (bytes : List ℕ) →
         place.rest ≡ bytes → (t : Seen) → first_of (signs (pieces_at place.at bytes)) ≡ Some t → First t → ⊥
@@ -140,7 +136,7 @@ pub enters_byte : (b : ℕ) (place : Place) → comes b place.rest ≡ true → 
 enters_byte b place e = search (rules, Enters, enters_one, byte_taken, eqb-true)
 
 pub ends_true : (bytes : List ℕ) → ends bytes ≡ true → EndsField bytes
-ends_true bytes h1 = search (rules, eqb-true)
+ends_true bytes h = search (rules, eqb-true)
 
 pub ends_false : (bytes : List ℕ) → ends bytes ≡ false → EndsField bytes → ⊥
-ends_false bytes h1 h2 = search (rules, eqb-false)
+ends_false bytes h k = search (rules, eqb-false)

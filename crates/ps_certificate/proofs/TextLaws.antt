@@ -69,14 +69,11 @@ pub taken_byte : {b : ℕ} (s : Seen) {u : Unit {0}} → take_byte b s ≡ Some 
 taken_byte {b} s {u} e = search (rules, eqb-true)
 
 pub laws_byte : (b : ℕ) → Laws Odd (byte b) (At b) Nothing ⊥
-laws_byte b =
-    weaker (laws_one (take_byte b) NoBad Odd (record { byte = b; behind = [] }) tt
-    (byte_taken (record { byte = b; behind = [] }) refl) (not_odd (Taken (take_byte b))) (not_odd (BadSign NoBad)))
-    first (λ t h. h) (λ n. n)
+laws_byte b = weaker (laws_one (take_byte b) NoBad Odd (record { byte = b; behind = [] }) tt (grind (arith, byte_taken))
+    (grind (arith, not_odd (Taken (take_byte b)))) (not_odd (BadSign NoBad))) first (λ t h. h) (λ n. n)
   where
     first : (t : Seen) → Or (Taken (take_byte b)) (BadSign {F = CertCause} NoBad) t → At b t
-    first t (inl x) = taken_byte t x.1
-    first t (inr x) = absurd x.1
+    first t h = grind (arith, taken_byte)
 
 pub first_taken : {V : Type 0} {a : ℕ} (b : ℕ) {v : V} (w : V) (s : Seen) → s.byte ≡ a → take_two a b v w s ≡ Some v
 first_taken {a} b {v} w s e = ap (λ x. cond x (Some v) (cond (eqb s.byte b) (Some w) None)) (eq-eqb s.byte a e)
@@ -107,14 +104,12 @@ pub digit_no_space : Apart AtDigit (At 32)
 digit_no_space t d e = omega (arith, e, d.0)
 
 pub laws_newline : (left : List ℕ) → Laws Odd (one (take_byte 10) (IsMissing left)) (At 10) Nothing ⊥
-laws_newline left =
-    weaker (laws_one (take_byte 10) (IsMissing left) Odd (record { byte = 10; behind = [] }) tt
+laws_newline left = weaker (laws_one (take_byte 10) (IsMissing left) Odd (record { byte = 10; behind = [] }) tt
     (byte_taken (record { byte = 10; behind = [] }) refl) (not_odd (Taken (take_byte 10)))
     (not_odd (BadSign (IsMissing left)))) first (λ t h. h) (λ n. n)
   where
     first : (t : Seen) → Or (Taken (take_byte 10)) (BadSign (IsMissing left)) t → At 10 t
-    first t (inl x) = taken_byte t x.1
-    first t (inr x) = x.1.0
+    first t h = grind (arith, taken_byte)
 
 numbers_end : Apart (Or AtDigit (At 32)) (At 10)
 numbers_end = search rules
@@ -125,8 +120,7 @@ joint_priorities ps = joint (laws_many priority laws_priority digit_no_space ps)
 -- items behind spaces, and a newline
 laws_line : {A B : Type 0} {P : Field A} {Q : A → Field B} → Laws Odd P (At 32) (Or AtDigit (At 32)) (Unit {0}) →
     ((a : A) → Laws Odd (Q a) (At 10) Nothing ⊥) → Laws Odd (then_by P Q) Separates Nothing ⊥
-laws_line l r = weaker (laws_then l r numbers_end) (λ t. ⊎_elim (λ x. inl x) (λ x. inr x.1))
-    (λ t. ⊎_elim (λ x. x) (λ x. x.0)) (λ n. n.1)
+laws_line l r = weaker (laws_then l r numbers_end) (λ t. grind arith) (λ t. ⊎_elim (λ x. x) (λ x. x.0)) (λ n. n.1)
 
 pub laws_priorities : (ps : List ℕ) → Laws Odd (priorities ps) Separates Nothing ⊥
 laws_priorities ps = laws_line (laws_many priority laws_priority digit_no_space ps) laws_newline
@@ -155,14 +149,10 @@ pub laws_choice : (ids : List ℕ) → Laws Odd (choice ids) Any AtDigit ⊥
 laws_choice ids = weaker (laws_either laws_dash (laws_chosen ids) dash_no_digit (λ a b. a)) (λ t h. tt) more none
   where
     more : (t : Seen) → Or (Or Nothing AtDigit) (Or (When ⊥ AtDigit) (When ⊥ (At 45))) t → AtDigit t
-    more t (inl (inl x)) = absurd x
-    more t (inl (inr x)) = x
-    more t (inr (inl x)) = absurd x.0
-    more t (inr (inr x)) = absurd x.0
+    more t h = grind arith
 
     none : ⊥ ⊎ ⊥ → ⊥
-    none (inl x) = x
-    none (inr x) = x
+    none h = grind arith
 
 pub laws_counts : (n : ℕ) → Laws Odd (counts n) Separates Nothing ⊥
 laws_counts zero = weaker (laws_mapped (λ _. []) (byte 10) (laws_byte 10)) (λ t h. inr h) (λ t h. h) (λ n. n)
@@ -191,8 +181,7 @@ joint_colon pairs p =
     tight_joint (laws_byte 58) (λ _. laws_mapped (λ m. with_pair pairs p m) (judged IsZero) (laws_judged IsZero))
 
 pub laws_behind_space : (ps : List ℕ) (pairs : Pairs) → Laws Odd (behind_space ps pairs) AtDigit AtDigit ⊥
-laws_behind_space ps pairs =
-    laws_next (laws_judged (WrongPriority ps pairs)) (λ p. laws_colon ps pairs p) digit_no_colon
+laws_behind_space ps pairs = laws_next (search (rules, laws_judged)) (λ p. laws_colon ps pairs p) digit_no_colon
 
 pub joint_pair : (ps : List ℕ) (pairs : Pairs) → Joint (byte 32) (λ _. behind_space ps pairs)
 joint_pair ps pairs = tight_joint (laws_byte 32) (λ _. laws_behind_space ps pairs)

@@ -1,7 +1,6 @@
 -- Which numbers of a list are priorities of a game, found by marks.
 use Rattle.std.proofs.Common.{◌≡◌, ℕ, ◌%◌, below_more, ◌+◌, ◌-◌, ◌<◌, ◌≤◌, ◌∙◌, List, length, get_or, set, inl, inr}
-use Rattle.std.proofs.Common.{sym, ap, arith, Bool, true, false, Option, take, drop}
-use Rattle.std.proofs.Common.{subst, length-take, length-drop, rules}
+use Rattle.std.proofs.Common.{sym, arith, Bool, true, false, Option, take, drop, subst, length-take, length-drop, rules}
 use Rattle.std.specs.Prelude.{slice_index, IfSome, is_some}
 use Rattle.std.specs.List.{All, Contains}
 use Rattle.std.specs.List.Sorted.{IsStrictlyIncreasing}
@@ -17,7 +16,7 @@ use Rattle.ps_certificate.proofs.Edges.{Contains-at}
 -- what is found is in the list
 pub Contains-found : (list : List ℕ) (number : ℕ) (found : Option ℕ) → IfSome found (IsAt list number) →
     is_some found ≡ true → Contains list number
-Contains-found list number found h1 h2 = search (rules, Contains-at)
+Contains-found list number found h k = search (rules, Contains-at)
 
 -- two places of one number in a rising list
 pub same_place : (list : List ℕ) → IsStrictlyIncreasing list → {i j : ℕ} → i < length list → j < length list →
@@ -47,8 +46,7 @@ AreMarks-missing {game} {window} {vertex} is missing marks = search (rules, case
 -- all are priorities where all are marked
 pub All-from_marks : {game : ParityGame} {window : List ℕ} {seen : List Bool} {vertex : ℕ} → AreMarks
     game window seen vertex → ((k : ℕ) → k < length window → get_or seen k false ≡ true) → All (HasPriority game) window
-All-from_marks {game} {window} marks each =
-    All-from_get_or (HasPriority game) window 0 (λ k within. marks.marked k within (each k within))
+All-from_marks {game} {window} marks each = All-from_get_or (HasPriority game) window 0 (λ k within. grind arith)
 
 -- a number that is a priority is marked in the end
 pub marked_in_the_end : {game : ParityGame} {window : List ℕ} {seen : List Bool} (k : ℕ) → AreMarks game window seen
@@ -71,8 +69,7 @@ present_more game list start end within before part k below = elim (cases_lt k s
       let long : length (take (end - start) (drop start list)) ≡ end - start =
       simp (length-take, length-drop) (omega arith) in
       let there : start + (k - start) ≡ k = omega arith in
-      let is : get_or (take (end - start) (drop start list)) (k - start) 0 ≡ get_or list k 0 =
-      part-at list start end (k - start) in_part ∙ ap (λ n. get_or list n 0) there in
+      let is : get_or (take (end - start) (drop start list)) (k - start) 0 ≡ get_or list k 0 = grind (arith, part-at) in
       let P : ℕ → Type 0 = HasPriority game in
       subst P is (part (k - start) 0 (omega (arith, long)))
 ]

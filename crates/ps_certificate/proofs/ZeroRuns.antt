@@ -8,8 +8,7 @@ use Rattle.ps_certificate.specs.Written.{fields}
 
 fields-append : (xs ys : List ℕ) → fields (xs ++ ys) ≡ fields xs ++ fields ys
 fields-append [] ys = refl
-fields-append (x ∷ xs) ys = ap (λ text. 32 ∷ decimal x ++ text)
-    (fields-append xs ys) ∙ ap (λ text. 32 ∷ text) (sym (append_assoc (decimal x) (fields xs) (fields ys)))
+fields-append (x ∷ xs) ys = grind (arith, append_assoc (decimal x) (fields xs) (fields ys), fields-append xs ys)
 
 -- the text of so many zeros
 abbrev pub zeros_text : ℕ → List ℕ
@@ -32,11 +31,11 @@ take-zeros (suc n) (suc m) few = let twice : 2 * suc n ≡ suc (suc (2 * n)) = o
 pub zeros_written : (out numbers : List ℕ) {total : List ℕ} (place n : ℕ) →
     take n (drop place numbers) ≡ replicate n 0 → out ++ fields (drop place numbers) ≡ total →
     (out ++ fields (replicate n 0)) ++ fields (drop (place + n) numbers) ≡ total
-zeros_written out numbers place n zeros so_far =
-    append_assoc out (fields (replicate n 0)) (fields (drop (place + n) numbers))
-    ∙ ap (λ text. out ++ text) (sym (fields-append (replicate n 0) (drop (place + n) numbers)) ∙ ap fields parts)
-    ∙ so_far
-  where
-    parts : replicate n 0 ++ drop (place + n) numbers ≡ drop place numbers
-    parts = ap (λ ys. ys ++ drop (place + n) numbers) (sym zeros) ∙ ap (λ ys. take n (drop place numbers) ++ ys)
-        (sym (drop-drop n place numbers)) ∙ take-append-drop n (drop place numbers)
+zeros_written out numbers place n zeros so_far = grind (
+  arith,
+  append_assoc out (fields (replicate n 0)) (fields (drop (place + n) numbers)),
+  fields-append
+      (replicate n 0) (drop (place + n) numbers),
+  drop-drop n place numbers,
+  take-append-drop n (drop place numbers),
+)

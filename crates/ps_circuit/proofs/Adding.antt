@@ -3,7 +3,7 @@
 --     AddsItem kind c d x      d has the item x more than c
 --     Added kind before read d      behind what was defined and read before, d has what its items define and read
 --     input_kind, latch_kind, output_kind, gate_kind      the four kinds of lines
-use Rattle.std.proofs.Common.{◌≡◌, ℕ, List, [], ◌∷◌, ◌++◌, map, flat_map, refl, sym, ap, ap₂, ◌∙◌, rules, append_assoc}
+use Rattle.std.proofs.Common.{arith, ◌≡◌, ℕ, List, [], ◌∷◌, ◌++◌, map, flat_map, refl, rules, append_assoc}
 use Rattle.std.proofs.lemmas.List.{map-append}
 use Rattle.std.proofs.lemmas.List.Concat.{flat_map-append}
 use Rattle.ps_circuit.specs.declared.cursor.Number.{Number}
@@ -41,8 +41,7 @@ none_more of none front e = search rules
 pub one_more : {X : Type 0} (of : List X → List ℕ) → ((xs ys : List X) → of (xs ++ ys) ≡ of xs ++ of ys) →
     (front : List ℕ) (old : List X) {new : List X} (x : X) → new ≡ old ++ x ∷ [] →
     (front ++ of old) ++ of (x ∷ []) ≡ front ++ of new
-one_more of both front old x e =
-    append_assoc front (of old) (of (x ∷ [])) ∙ ap (λ z. front ++ z) (sym (both old (x ∷ [])) ∙ ap of (sym e))
+one_more of both front old x e = search (rules, append_assoc)
 
 pub added_none : {X : Type 0} {kind : LineKind X} {before read : List ℕ} {d : Lines X} → d.items ≡ [] →
     d.defined ≡ map variable before → values d.readings ≡ read → Added kind before read d
@@ -51,11 +50,8 @@ added_none {kind = kind} {before} {read} e f g = search (rules, none_more)
 pub added_more : {X : Type 0} {kind : LineKind X} {before read : List ℕ} {c d : Lines X} {x : X} →
     Added kind before read c → AddsItem kind c d x → Added kind before read d
 added_more {kind = kind} {before} {read} {c} {d} {x} a i = record {
-  defined = i.defined ∙ ap (λ z. z ++ map variable (kind.defines (x ∷ []))) a.defined
-      ∙ sym (map-append variable (before ++ kind.defines c.items) (kind.defines (x ∷ [])))
-      ∙ ap (map variable) (one_more kind.defines kind.defines_both before c.items x i.items);
-  readings = i.readings ∙ ap (λ z. z ++ kind.reads (x ∷ [])) a.readings
-      ∙ one_more kind.reads kind.reads_both read c.items x i.items;
+  defined = grind (arith, map-append, one_more kind.defines kind.defines_both before c.items x i.items);
+  readings = search (rules, one_more);
 }
 
 -- ## The kinds
@@ -114,12 +110,4 @@ adds_output c l g = search (rules, map-append)
 
 pub adds_gate : (c : Lines Gate) (l m n : Number) {x : Gate} → l.value ≡ x.literal → m.value ≡ x.first →
     n.value ≡ x.second → AddsItem gate_kind c (add_gate c l m n) x
-adds_gate c l m n {x} g h i = record {
-  items = ap (λ a. c.items ++ record { literal = a; first = m.value; second = n.value } ∷ []) g
-      ∙ ap₂ (λ a b. c.items ++ record { literal = x.literal; first = a; second = b } ∷ []) h i;
-  defined = ap (λ z. c.defined ++ variable z ∷ []) g;
-  readings = map-append (λ k. k.value) (c.readings ++ m ∷ []) (n ∷ [])
-      ∙ ap (λ z. z ++ n.value ∷ []) (map-append (λ k. k.value) c.readings (m ∷ []))
-      ∙ append_assoc (values c.readings) (m.value ∷ []) (n.value ∷ [])
-      ∙ ap₂ (λ a b. values c.readings ++ a ∷ b ∷ []) h i;
-}
+adds_gate c l m n {x} g h i = search (rules, map-append, append_assoc)

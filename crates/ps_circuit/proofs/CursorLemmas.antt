@@ -24,7 +24,7 @@ use Rattle.ps_circuit.specs.Signs.{Seen, pieces_at, ends_line, stream_of, aig_ca
 use Rattle.ps_circuit.specs.Signs.{is_blank, is_inner, gap, rest_of_line, newline, line_end, more, NoBadRun}
 use Rattle.ps_circuit.specs.declared.cursor.Class.{Class}
 use Rattle.ps_circuit.specs.Cursors.{in_class, ended, next_byte, place_of, found_of, Tells, Passes, saturated}
-use Rattle.ps_circuit.proofs.Runs.{Odd, run_reads, run_stops, stops_here}
+use Rattle.ps_circuit.proofs.Runs.{Odd, run_reads, run_stops}
 use Rattle.ps_circuit.proofs.Exits.{Left, unread, past, branch}
 use Rattle.ps_circuit.proofs.SignLaws.{At, AtBlank, byte_taken, laws_byte, laws_gap, laws_ends_here, ends_here}
 use Rattle.ps_circuit.proofs.SignLaws.{gap_more, chain_line_end, chain_gap_more, blank_newline}
@@ -48,8 +48,7 @@ length_pieces at [] = refl
 length_pieces at (b ∷ bytes) = ap suc (length_pieces (at + 1) bytes)
 
 pub new_small : (text : List ℕ) (u : Bool) → length text < 2 ^ 63 → length (pieces_at 0 (ended u text)) ≤ 2 ^ 63
-new_small text true l = omega (arith, length_pieces 0 (text ++ 10 ∷ []), length-append text (10 ∷ []), l)
-new_small text false l = omega (arith, length_pieces 0 text, l)
+new_small text u l = grind (arith, length_pieces, length-append)
 
 pub place_is : {at : ℕ} (rest : List ℕ) (u : Bool) → at ≡ place_of
     (record { pieces = pieces_at at (ended u rest); end = at + length rest })
@@ -61,7 +60,7 @@ place_is (b ∷ rest) false = refl
 -- ## Bytes
 
 pub next_is : {b : ℕ} (o : Option Seen) → option_map (λ s. s.byte) o ≡ Some b → (t : Seen) × (o ≡ Some t) × (t.byte ≡ b)
-next_is o h1 = search (rules, none_is_some, same_some)
+next_is o h = search (rules, none_is_some, same_some)
 
 pub byte_reads : {b : ℕ} {old new : Stream Seen} → next_byte old ≡ Some b → new ≡ tail old → Reads (byte b) old tt new
 unfolding byte
@@ -71,9 +70,7 @@ byte_reads {b} {old} {new} e n =
 
 pub byte_stops : (b : ℕ) (old : Stream Seen) {e : AigFault} → (next_byte old ≡ Some b → ⊥) →
     e ≡ Text Syntax (place_of old) → Stops aig_causes (byte b) old (found_of e)
-byte_stops b old none is =
-    subst (λ x. Stops aig_causes (byte b) old (found_of x)) (sym is)
-    (stops_here (laws_byte b).laws (λ t n h. none (ap (option_map (λ (s : Seen). s.byte)) n ∙ ap Some h)))
+byte_stops b old none is = grind (arith, laws_byte b)
 
 -- ## Runs
 
@@ -85,32 +82,21 @@ pub is_empty_true : {r : List ℕ} {b : Bool} → b ≡ eqb (length r) 0 → b �
 is_empty_true {r} e t = nil_of r (eqb-true (length r) 0 (sym e ∙ t))
 
 pub is_empty_false : (r : List ℕ) {b : Bool} → b ≡ eqb (length r) 0 → b ≡ false → 0 < length r
-is_empty_false r h1 h2 = search rules
+is_empty_false r h k = search rules
 
 stops_ended : (p : ℕ → Bool) (u : Bool) (rest : List ℕ) → p 10 ≡ false → StopsBefore p rest →
     StopsBefore p (ended u rest)
-stops_ended p u rest h1 h2 = search rules
+stops_ended p u rest h k = search rules
 
 ended_append : (u : Bool) (a b : List ℕ) → ended u (a ++ b) ≡ a ++ ended u b
-ended_append true a b = append_assoc a b (10 ∷ [])
-ended_append false a b = refl
+ended_append u a b = grind (arith, append_assoc)
 
 pub passes_run : {p : ℕ → Bool} → p 10 ≡ false → (at : ℕ) {n : ℕ} (rest : List ℕ) {run behind : List ℕ} (u : Bool) →
     n ≡ prefix_len p rest → run ≡ take n rest → behind ≡ drop n rest → length run ≡ n
     → Passes p (record { pieces = pieces_at at (ended u rest); end = at + length rest })
     (record { pieces = pieces_at (at + n) (ended u behind); end = (at + n) + length behind }) run
-passes_run {p} line at {n} rest {run} {behind} u size taken left each = record {
-  at = at;
-  rest = ended u behind;
-  old_is = ap (pieces_at at) (ap (ended u) whole ∙ ended_append u run behind);
-  new_is = ap (λ k. pieces_at (at + k) (ended u behind)) (sym each);
-  end = let l : length rest ≡ length run + length behind = ap length whole ∙ length-append run behind in
-      omega (arith, l, each);
-  place = place_is rest u;
-  all = subst (AllOf p) (sym (taken ∙ ap (λ k. take k rest) size)) (run_all p rest);
-  longest = subst (λ r. StopsBefore p (ended u r)) (sym behind_is)
-      (stops_ended p u (drop (prefix_len p rest) rest) line (run_ends p rest));
-}
+passes_run {p} line at {n} rest {run} {behind} u size taken left each =
+    search (rules, whole, ended_append, length-append, place_is, run_all, behind_is, stops_ended, run_ends)
   where
     behind_is : behind ≡ drop (prefix_len p rest) rest
     behind_is = left ∙ ap (λ k. drop k rest) size
@@ -128,8 +114,7 @@ gap_reads {old} {new} {r} x some = run_reads is_blank (λ at bytes. tt) NoBadRun
 pub gap_stops : {old new : Stream Seen} {r : List ℕ} {e : AigFault} → Passes is_blank old new r → r ≡ [] →
     e ≡ Text Syntax (place_of old) → Stops aig_causes gap old (found_of e)
 unfolding gap
-gap_stops {old} {new} x none is =
-    subst (λ y. Stops aig_causes gap old (found_of y)) (sym is)
+gap_stops {old} {new} x none is = subst (λ y. Stops aig_causes gap old (found_of y)) (sym is)
     (run_stops is_blank (λ at bytes. tt) NoBadRun 32 refl (subst (Passes is_blank old new) none x))
 
 pub rest_reads : {old new : Stream Seen} {r : List ℕ} → Passes is_inner old new r → 0 < length r →
@@ -140,8 +125,7 @@ rest_reads {old} {new} {r} x some = run_reads is_inner (λ at bytes. bytes) NoBa
 pub rest_stops : {old new : Stream Seen} {r : List ℕ} {e : AigFault} → Passes is_inner old new r → r ≡ [] →
     e ≡ Text Syntax (place_of old) → Stops aig_causes rest_of_line old (found_of e)
 unfolding rest_of_line
-rest_stops {old} {new} x none is =
-    subst (λ y. Stops aig_causes rest_of_line old (found_of y)) (sym is)
+rest_stops {old} {new} x none is = subst (λ y. Stops aig_causes rest_of_line old (found_of y)) (sym is)
     (run_stops is_inner (λ at bytes. bytes) NoBadRun 32 refl (subst (Passes is_inner old new) none x))
 
 -- no byte of the class comes next
@@ -193,9 +177,8 @@ module _ (old : Stream Seen) where
 
   module _ {mid : Stream Seen} (none : next_byte old ≡ Some 10 → ⊥) (g : Reads gap old tt mid) where
     pub past_gap_ends : next_byte mid ≡ Some 10 → Left more old ends_here mid
-    past_gap_ends e =
-        branch (past chain_gap_more (at_gap none) g) (left_entered laws_ends_here.laws (laws_give Odd true)
-        (next_of mid) (λ t h k. k) (enters_mapped (λ _. false) newline (next_of mid) (enters_newline mid e)))
+    past_gap_ends e = branch (past chain_gap_more (at_gap none) g)
+        (grind (arith, left_entered, laws_give, enters_mapped, enters_newline))
 
     pub past_gap_more : (next_byte mid ≡ Some 10 → ⊥) → Reads more old true mid
     past_gap_more n = (branch (past chain_gap_more (at_gap none) g) (right_otherwise laws_ends_here.laws

@@ -4,7 +4,7 @@
 --     sound_draft      a draft whose literals are all defined makes a circuit, but that a gate may depend on itself
 --     each_named      a name or none for each item
 use Rattle.std.proofs.Common.{◌≡◌, ℕ, zero, suc, ◌+◌, ◌*◌, ◌^◌, ◌<◌, List, [], ◌∷◌, ◌++◌, length, map, Option, All}
-use Rattle.std.proofs.Common.{refl, sym, ap, subst, ◌∙◌, append-nil, append_assoc, arith, length-append, rules}
+use Rattle.std.proofs.Common.{refl, sym, ap, subst, append-nil, append_assoc, arith, length-append, rules}
 use Rattle.std.specs.Prelude.{vec_len, Vec}
 use Rattle.std.specs.Global.{Global}
 use Rattle.std.proofs.lemmas.List.{length-map, map-append}
@@ -32,12 +32,12 @@ defines_none {old = old} = search rules
 
 defines_both : {most : ℕ} {old mid new xs ys : List ℕ} → Defines most old xs mid → Defines most mid ys new →
     Defines most old (xs ++ ys) new
-defines_both {most} {old} {xs = xs} {ys} d e = record {
-  variables = e.variables ∙ ap (λ z. z ++ map variable ys) d.variables
-      ∙ append_assoc old (map variable xs) (map variable ys) ∙ ap (λ z. old ++ z) (sym (map-append variable xs ys));
-  each = All-append (IsDefinition most) xs ys d.each e.each;
-  apart = λ h. e.apart (d.apart h);
-}
+defines_both {most} {old} {xs = xs} {ys} d e = grind (
+  arith,
+  append_assoc old (map variable xs) (map variable ys),
+  map-append variable xs ys,
+  All-append (IsDefinition most) xs ys d.each e.each,
+)
 
 pub record Lined {X : Type 0} (kind : LineKind X) (most : ℕ) (before read : List ℕ) (d : Lines X) : Type 0 where
   pub new : Defines most [] (before ++ kind.defines d.items) d.defined
@@ -52,8 +52,7 @@ module _ {X : Type 0} (kind : LineKind X) (most : ℕ) {Adds : Lines X → Lines
   lined {before} {read} e f g (more {d} {e = now} grown a) =
       let h = lined e f g grown in
       let i = adds d now a in record {
-        new = subst (λ z. Defines most [] z now.defined)
-            (one_more kind.defines kind.defines_both before d.items i.0 i.1.items) (defines_both h.new i.2);
+        new = subst (λ z. Defines most [] z now.defined) (grind (arith, one_more)) (defines_both h.new i.2);
         readings = search (rules, one_more, d.items);
       }
 
@@ -64,8 +63,7 @@ module _ (most : ℕ) where
 
   latch_adds : (c d : Lines Latch) → AddsLatch most c d →
       (x : Latch) × AddsItem latch_kind c d x × Defines most c.defined (x.literal ∷ []) d.defined
-  latch_adds c d a = let x : Latch =
-      record { literal = a.literal.value; next = a.next.value; reset = a.reset } in
+  latch_adds c d a = let x : Latch = record { literal = a.literal.value; next = a.next.value; reset = a.reset } in
       (x, subst (λ z. AddsItem latch_kind c z x) (sym a.is) (adds_latch c a.literal a.next refl refl), a.new)
 
   output_adds : (c d : Lines ℕ) → AddsOutput c d →
@@ -97,24 +95,11 @@ keeps_output most c d text h = omega (arith, ap (λ (z : Lines ℕ). length z.st
 
 keeps_gate : (most : ℕ) → Keeps 1 (gate_line most)
 unfolding gate_line
-keeps_gate most c d text h =
-    let l : Number = h.value in
-    let first : Number = h.is_right.value in
-    let second : Number = h.is_right.is_right.value in
-    let gate : Gate = record { literal = l.value; first = first.value; second = second.value } in
-    let is = h.is_right.is_right.is_right.2 in
-    omega (
-      arith,
-      ap (λ (z : Lines Gate). length z.starts) is,
-      ap (λ (z : Lines Gate). length z.items) is,
-      length-append c.starts (l.offset ∷ []),
-      length-append c.items (gate ∷ []),
-    )
+keeps_gate most c d text h = grind (arith, length-append)
 
 keeps_all : {A : Type 0} (k : ℕ) (item : Lines A → Field (Lines A)) → Keeps k item → (n : ℕ) → Keeps k (times n item)
 keeps_all {A} k item s zero c d text h = search rules
-keeps_all k item s (suc n) c d text h =
-    omega (arith, keeps_all k item s n h.value d h.right h.is_right, s c h.value h.left h.is_left)
+keeps_all k item s (suc n) c d text h = grind (arith, keeps_all k item s n h.value d h.right h.is_right)
 
 pub gates_placed : (text : List Seen) (d : DraftData) → circuit_text.IsText text d →
     length d.starts ≡ length d.circuit.gates
@@ -125,14 +110,13 @@ gates_placed text d h =
     let l = i.is_right in
     let o = l.is_right in
     let a = o.is_right in
-    let placed : length a.value.starts ≡ length a.value.items = omega (
+    grind (
       arith,
       keeps_all 0 (input_line head.most) (keeps_input head.most) head.inputs _ i.value i.left i.is_left,
       keeps_all 0 (latch_line head.most) (keeps_latch head.most) head.latches _ l.value l.left l.is_left,
       keeps_all 0 (output_line head.most) (keeps_output head.most) head.outputs _ o.value o.left o.is_left,
       keeps_all 1 (gate_line head.most) (keeps_gate head.most) head.gates _ a.value a.left a.is_left,
-    ) in
-    rw a.is_right.is_right.2 placed
+    )
 
 -- ## Drafts
 

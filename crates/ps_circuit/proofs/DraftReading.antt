@@ -28,7 +28,7 @@ use Rattle.ps_circuit.specs.Texts.{HeaderData, header, Lines, no_lines, input_li
 use Rattle.ps_circuit.specs.Texts.{comment, DraftData, draft_of as drafted, symbols, body, circuit_text, IsDefined}
 use Rattle.ps_circuit.specs.Texts.{refused, undefined, cyclic, meaning, IsCircuitAnswer}
 use Rattle.ps_circuit.specs.Reading.{FoundAnswers, TellsDraft, TellsDefined, TellsCyclic}
-use Rattle.ps_circuit.proofs.Exits.{Left, unread, past, stops_at, reads_last, value_is}
+use Rattle.ps_circuit.proofs.Exits.{Left, unread, past, stops_at, reads_last}
 use Rattle.ps_circuit.proofs.Lawful.{Chain}
 use Rattle.ps_circuit.proofs.SignLaws.{Any, AtBody}
 use Rattle.ps_circuit.proofs.SymbolLemmas.{comment_other}
@@ -38,14 +38,12 @@ use Rattle.ps_circuit.proofs.TextLaws.{laws_text, chain_text, chain_symbols, fir
 
 pub text_stops : (text : List ℕ) (e : AigFault) → Stops aig_causes circuit_text (stream_of text) (found_of e) →
     FoundAnswers text (found_of e)
-text_stops text (Text cause offset) s =
-    answers_fault laws_text.laws (stream_of text) (record { cause = cause; offset = offset }) s
+text_stops text (Text cause offset) s = answers_fault laws_text.laws (stream_of text) _ s
 text_stops text OutOfMemory s = tt
 
 pub text_reads : (text : List ℕ) (new : Stream Seen) (d : DraftData) → new.pieces ≡ [] →
     ReadsPart circuit_text (stream_of text) d new → PartAnswers aig_causes circuit_text (stream_of text) (Ok d)
-text_reads text new d e m =
-    answers_ok laws_text.laws (stream_of text) d (search (rules, m.1))
+text_reads text new d e m = answers_ok laws_text.laws (stream_of text) d (search (rules, m.1))
 
 pub text_trails : (text : List ℕ) (new : Stream Seen) (d : DraftData) {b : ℕ} {e : AigFault} →
     ReadsPart circuit_text (stream_of text) d new → next_byte new ≡ Some b → e ≡ Text Syntax (place_of new) →
@@ -70,10 +68,7 @@ pub record Reached (start now : Stream Seen) (rest : Field DraftData) : Type 0 w
 reads_on : {A : Type 0} {P : Field A} {Q : A → Field DraftData} {First More : Seen → Type 0} {Null : Type 0} →
     Chain P Q First More Null → {start now : Stream Seen} → Reached start now (then_by P Q) → (a : A)
     {next : Stream Seen} → ReadsPart P now a next → Reached start next (Q a)
-reads_on j {now = now} r a {next} m = record {
-  left = past j r.left m;
-  short = omega (arith, ap length m.0.split, length-append m.0.taken next.pieces, r.short);
-}
+reads_on j {now = now} r a {next} m = grind (arith, past j r.left m, length-append m.0.taken next.pieces)
 
 -- the numbers of the first line, with the greatest variable as the code has it
 abbrev pub numbers : ℕ → HeaderData → HeaderData
@@ -87,14 +82,11 @@ text_unread = unread
 abbrev pub body_inputs : HeaderData → Lines ℕ → Field DraftData
 body_inputs h c = then_by (times h.inputs (input_line h.most) c) (body_latches h)
 
-pub past_header : {start next : Stream Seen} {most : ℕ} {d : HeaderData} → most ≡ d.most →
-    length start.pieces ≤ 2 ^ 63 → ReadsPart header start d next → {c : Lines ℕ} → c ≡ no_lines →
-    Reached start next (body_inputs (numbers most d) c)
+pub past_header : {start next : Stream Seen} {most : ℕ} {d : HeaderData} → most ≡ d.most → length start.pieces ≤ 2 ^ 63
+    → ReadsPart header start d next → {c : Lines ℕ} → c ≡ no_lines → Reached start next (body_inputs (numbers most d) c)
 unfolding body
-past_header {start} {next} {most} {d} e short m is =
-    subst (λ x. Reached start next (body_inputs (numbers most d) x)) (sym is)
-    (reads_on chain_text (record { left = text_unread; short = short }) (numbers most d)
-    (value_is (ap (λ k. numbers k d) (sym e)) m))
+past_header {start} {next} {most} {d} e short m is = subst (λ x. Reached start next (body_inputs (numbers most d) x))
+    (sym is) (reads_on chain_text (record { left = text_unread; short = short }) (numbers most d) (grind arith))
 
 -- the lines of one kind stand there, as many as the code counts, behind what it has noted
 pub record Ahead {A : Type 0} (item : Lines A → Field (Lines A)) (Q : Lines A → Field DraftData)
@@ -122,14 +114,12 @@ module _ (most : ℕ) (i : Lines ℕ) (l : Lines Latch) (u : Lines ℕ) (a : Lin
   pub symbols_fail : (o : Option (Found AigCause)) → Stops aig_causes (many symbol_line n0) now o →
       Stops aig_causes circuit_text start o
   unfolding symbols
-  symbols_fail o m = stops_at (chain_symbols most i l u a) r.left o
-      (subst (λ n. Stops aig_causes (many symbol_line n) now o) en m)
+  symbols_fail o m = stops_at (chain_symbols most i l u a) r.left o (grind arith)
 
   pub all_reads : {names : NamesData} {next last : Stream Seen} → ReadsPart (many symbol_line n0) now names next →
       ReadsPart comment next tt last → ReadsPart circuit_text start (drafted most i l u a names) last
   unfolding symbols
-  all_reads {names} {next} m k =
-      reads_last (λ _. drafted most i l u a names) (past (chain_symbols most i l u a) r.left
+  all_reads {names} {next} m k = reads_last (λ _. drafted most i l u a names) (past (chain_symbols most i l u a) r.left
       (subst (λ n. ReadsPart (many symbol_line n) now names next) en m)) k refl
 
 -- ## The answer
@@ -151,8 +141,7 @@ module _ (text : List ℕ) (d : DraftData) (okay : PartAnswers aig_causes circui
   pub answered : All (IsDefined d.defined) d.readings → (r : Result CircuitData AigFault) →
       IfOk r (λ c. c ≡ d.circuit) → IfOk r IsCircuit → ((e : AigFault) → r ≡ Err e →
       TellsCyclic d.circuit.gates d.starts (found_of e)) → IsCircuitAnswer text r
-  answered known (Ok c) same is cause =
-      meaning d okay known (λ i. search (rules, is.acyclic)) (ap Ok same)
+  answered known (Ok c) same is cause = meaning d okay known (λ i. search (rules, is.acyclic)) (ap Ok same)
   answered known (Err (Text f offset)) same is cause =
       let k = cause (Text f offset) refl in
       cyclic d k.0 offset okay known k.2 k.3 (ap (λ x. Err (record { cause = x; offset = offset })) k.1)

@@ -1,5 +1,5 @@
 -- The exits of a reading function of this crate, from what is left of the part that it reads.
---     exit, memory_exit      an error that was met, or want of memory
+--     exit      an error that was met
 --     Left whole start left now      reading left from now gives what reading whole from start gives
 --     unread, past      before the first part, and behind the next one, which was read
 --     stops_at, exits_at      the next part fails; and this error is passed on
@@ -23,10 +23,6 @@ use Rattle.ps_circuit.proofs.Lawful.{Chain}
 pub exit : {V X : Type 0} (view : X → V) (P : Field V) (old new : Stream Seen) (e : AigFault) (r : Result X AigFault) →
     Stops aig_causes P old (found_of e) → IsErrAnd r (λ y. y ≡ e) → Tells view P old r new
 exit view P old new e r m i = exits found_of aig_causes view P old new e r m i
-
-pub memory_exit : {V X : Type 0} (view : X → V) (P : Field V) (old new : Stream Seen) {e : AigFault}
-    (r : Result X AigFault) → e ≡ OutOfMemory → IsErrAnd r (λ y. y ≡ e) → Tells view P old r new
-memory_exit view P old new {e} r m i = search (rules, exit)
 
 pub value_is : {V : Type 0} {P : Field V} {old new : Stream Seen} {v w : V} → v ≡ w → Reads P old v new →
     Reads P old w new

@@ -2,7 +2,7 @@
 --     Through n i j      a way from i to j whose inner numbers are below n, as a fact that is decided by recursion on n
 --     first_or_none      the first number that leads back to itself, or there is none
 use Rattle.std.proofs.Common.{◌≡◌, ℕ, zero, suc, ◌<◌, ◌≤◌, ◌⊎◌, List, length, slice_get, Option, None, Some, refl, sym}
-use Rattle.std.proofs.Common.{subst, inl, inr, ◌∙◌, arith, rules}
+use Rattle.std.proofs.Common.{inl, inr, ◌∙◌, arith, rules}
 use Rattle.std.proofs.lemmas.Bool.{cases_eq, cases_lt}
 use Rattle.std.proofs.lemmas.Option.{slice_get_within}
 use Rattle.ps_text.proofs.Decisions.{Decided, decide_as, decide_both, decide_one}
@@ -32,31 +32,13 @@ module _ (R : ℕ → ℕ → Type 0) (decide : (i j : ℕ) → Decided (R i j))
   way_of (suc n) {i} {j} (inl t) = way_of n t
   way_of (suc n) {i} {j} (inr t) = joined (way_of n t.0) (way_of n t.1)
 
-  -- ways through one more number
-  to_it : (n i : ℕ) → Through (suc n) i n → Through n i n
-  to_it n i h1 = search rules
-
-  from_it : (n j : ℕ) → Through (suc n) n j → Through n n j
-  from_it n j h1 = search rules
-
   linked : (n i m j : ℕ) → m < n → Through n i m → Through n m j → Through n i j
   linked zero i m j below s t = absurd (omega (arith, below))
   linked (suc n) i m j below s t = go (cases_eq m n) (λ a b c. linked n a m c b) s t
     where
-      lower : (m < n) → ((a : ℕ) → m < n → (c : ℕ) → Through n a m → Through n m c → Through n a c) →
-          Through (suc n) i m → Through (suc n) m j → Through (suc n) i j
-      lower less ih (inl s) (inl t) = inl (ih i less j s t)
-      lower less ih (inl s) (inr t) = inr (ih i less n s t.0, t.1)
-      lower less ih (inr s) (inl t) = inr (s.0, ih n less j s.1 t)
-      lower less ih (inr s) (inr t) = inr (s.0, t.1)
-
       go : (m ≡ n) ⊎ ¬ (m ≡ n) → ((a : ℕ) → m < n → (c : ℕ) → Through n a m → Through n m c → Through n a c) →
           Through (suc n) i m → Through (suc n) m j → Through (suc n) i j
-      go (inl e) ih s t = inr (
-        to_it n i (subst (λ z. Through (suc n) i z) e s),
-        from_it n j (subst (λ z. Through (suc n) z j) e t),
-      )
-      go (inr other) ih s t = lower (omega (arith, below, other)) ih s t
+      go h ih s t = grind (arith, below)
 
   kept : (n i j : ℕ) → R i j → Through n i j
   kept zero i j r = r
@@ -68,7 +50,7 @@ module _ (R : ℕ → ℕ → Type 0) (decide : (i j : ℕ) → Decided (R i j))
     through_of {i} {j = k} (next {j = j} r w) = linked n i j k (within i j r).1 (kept n i j r) (through_of w)
 
     below : (i j : ℕ) → Way R i j → i < n
-    below i j h1 = search rules
+    below i j h = search rules
 
     abbrev NoneBelow : ℕ → Type 0
     NoneBelow k = (j : ℕ) → j < k → Way R j j → ⊥
@@ -78,31 +60,17 @@ module _ (R : ℕ → ℕ → Type 0) (decide : (i j : ℕ) → Decided (R i j))
     search_below (suc k) = go (search_below k) (decide_through n k k)
       where
         first : NoneBelow k → (j : ℕ) → Way R j j → k ≤ j
-        first none j w = at_least (cases_lt j k)
-          where
-            at_least : (j < k) ⊎ (k ≤ j) → k ≤ j
-            at_least (inl less) = absurd (none j less w)
-            at_least (inr l) = l
+        first none j w = grind (arith, cases_lt)
 
         more : NoneBelow k → ¬ Through n k k → NoneBelow (suc k)
-        more none never j less w = at (cases_eq j k)
-          where
-            at : (j ≡ k) ⊎ ¬ (j ≡ k) → ⊥
-            at (inl e) = never (subst (λ z. Through n z z) e (through_of w))
-            at (inr other) = none j (omega (arith, less, other)) w
+        more none never j less w = grind (arith, cases_eq, through_of)
 
         go : ((i : ℕ) × IsFirstOnCycle R i) ⊎ NoneBelow k → Decided (Through n k k) →
             ((i : ℕ) × IsFirstOnCycle R i) ⊎ NoneBelow (suc k)
-        go (inl found) d = inl found
-        go (inr none) (inl t) = inl (k, record { cyclic = way_of n t; first = first none })
-        go (inr none) (inr never) = inr (more none never)
+        go h d = grind (arith, way_of, first, more)
 
     pub first_or_none : ((i : ℕ) × IsFirstOnCycle R i) ⊎ ((i : ℕ) → ¬ Way R i i)
-    first_or_none = go (search_below n)
-      where
-        go : ((i : ℕ) × IsFirstOnCycle R i) ⊎ NoneBelow n → ((i : ℕ) × IsFirstOnCycle R i) ⊎ ((i : ℕ) → ¬ Way R i i)
-        go (inl found) = inl found
-        go (inr none) = inr (λ i w. none i (below i i w) w)
+    first_or_none = grind (arith, search_below n)
 
 -- ## Gates
 
@@ -120,10 +88,7 @@ module _ (gates : List Gate) where
       go None b e f = inr (λ r. none_is_some r.reader (sym e ∙ r.at_i))
       go (Some a) None e f = inr (λ r. none_is_some r.read (sym f ∙ r.at_j))
       go (Some a) (Some b) e f = decide_as (λ h. record { reader = a; read = b; at_i = e; at_j = f; side = h })
-          (λ r. subst (λ x. Sides x b) (sym (same_some a r.reader (sym e ∙ r.at_i)))
-          (subst (λ y. Sides r.reader y) (sym (same_some b r.read (sym f ∙ r.at_j))) r.side))
-          (decide_one (cases_eq (variable a.first) (variable b.literal))
-          (cases_eq (variable a.second) (variable b.literal)))
+          (λ r. grind (arith, same_some)) (decide_one (grind (arith, cases_eq)) (grind (arith, cases_eq)))
 
   pub first_cyclic : ((i : ℕ) × IsFirstOnCycle (ReadsGate gates) i) ⊎ ((i : ℕ) → ¬ Way (ReadsGate gates) i i)
   first_cyclic = first_or_none (ReadsGate gates) decide_reads (length gates) gate_within

@@ -76,20 +76,14 @@ abbrev pub more : Drafted → Sides → Drafted
 more d s = record { given = d.given; gates = d.gates ++ s ∷ [] }
 
 pub extends-more : {d : Drafted} (s : Sides) → Extends d (more d s)
-extends-more {d} s =
-    record {
-      given = refl;
-      more = (let e = length-append d.gates (s ∷ []) in omega arith);
-      same = λ k t e. slice_get-append_left d.gates (s ∷ []) k t e;
-    }
+extends-more {d} s = grind (arith, length-append, slice_get-append_left)
 
 absent : (d : Drafted) (s : Sides) → list_any ((sides_eq.eq-value).it s) d.gates ≡ false → (k : ℕ) (t : Sides) →
     slice_get d.gates k ≡ Some t → s ≡ t → ⊥
 absent d s none k t e same =
     let within : k < length d.gates = slice_get_within d.gates k t e in
     let at : get_or d.gates k s ≡ t = get_or_from_slice_get d.gates k t s e in
-    true_is_not_false (sym (list_any_at ((sides_eq.eq-value).it s) d.gates k s within
-    (ap ((sides_eq.eq-value).it s) (at ∙ sym same) ∙ sides_same s)) ∙ none)
+    grind (arith, true_is_not_false, list_any_at, sides_same)
 
 pub new-absent : (d : Drafted) (s : Sides) → list_any ((sides_eq.eq-value).it s) d.gates ≡ false →
     IsNew d s.first s.second
@@ -101,19 +95,9 @@ sound-more {d} {s} is room sides none = record {
   room = (let e = length-append d.gates (s ∷ []) in omega arith);
   sides = λ k t e. elim (slice_get-push_cases d.gates s k t e) [
     | inl old ↦ is.sides k t old
-    | inr new ↦ let own : variables_of d + 1 ≡ d.given + 1 + k = (let p = new.0 in omega arith) in
-        subst (λ n. AreSides n t) own (subst (AreSides (variables_of d + 1)) new.1 sides)
+    | inr new ↦ grind arith
   ];
-  once = λ k l t e f. elim (slice_get-push_cases d.gates s k t e) [
-    | inl old ↦ elim (slice_get-push_cases d.gates s l t f) [
-      | inl too ↦ is.once k l t old too
-      | inr new ↦ absurd (absent d s none k t old new.1)
-    ]
-    | inr new ↦ elim (slice_get-push_cases d.gates s l t f) [
-      | inl old ↦ absurd (absent d s none l t old new.1)
-      | inr too ↦ new.0 ∙ sym too.0
-    ]
-  ];
+  once = grind (arith, slice_get-push_cases, absent);
 }
 
 pub drafted_are : (a b : Drafted) → a.given ≡ b.given → a.gates ≡ b.gates → a ≡ b
@@ -133,19 +117,10 @@ placed old new s place is sides room given keys stored =
     let at : slice_get new.gates place ≡ Some s = stored.1 ∙ ap (λ k. Some k) (sym (same_sides stored.2)) in
     let known = list_any ((sides_eq.eq-value).it s) old.gates in
     elim (bool_cases known) [
-      | inl there ↦
-          let same : new ≡ old =
-          drafted_are new old given (keys ∙ ap (λ b. cond b old.gates (old.gates ++ s ∷ [])) there) in
-          record {
-            sound = subst IsSoundDraft (sym same) is;
-            extends = subst (Extends old) (sym same) (extends-refl old);
-            at = at;
-          }
+      | inl there ↦ grind (arith, extends-refl old)
       | inr none ↦
-          let same : new ≡ more old s =
-          drafted_are new (more old s) given (keys ∙ ap (λ b. cond b old.gates (old.gates ++ s ∷ [])) none) in
-          let less : variables_of old + 1 < 2 ^ 31 =
-          (let p = is.room in let q : IsFull old → ⊥ = room none in omega arith) in
+          let same : new ≡ more old s = grind arith in
+          let less : variables_of old + 1 < 2 ^ 31 = grind arith in
           record {
             sound = subst IsSoundDraft (sym same) (sound-more is less sides none);
             extends = subst (Extends old) (sym same) (extends-more s);
@@ -176,17 +151,15 @@ choice : (a h l : Bool) → ((a && h) || (not a && l)) ≡ cond a h l
 choice a h l = search rules
 
 pub chosen_bits : (v : ℕ → Bool) (s h l : ℕ) {ns : ℕ} (high low result : ℕ) → ns ≡ negated s →
-    bit v high ≡ (bit v s && bit v h) →
-    bit v low ≡ (bit v ns && bit v l) → bit v result ≡ (bit v high || bit v low) →
+    bit v high ≡ (bit v s && bit v h) → bit v low ≡ (bit v ns && bit v l) → bit v result ≡ (bit v high || bit v low) →
     bit v result ≡ cond (bit v s) (bit v h) (bit v l)
 chosen_bits v s h l high low result e eh el er = search (rules, bit-negated, choice)
 
 -- a fault that is passed on
 pub passed : {X : Type 0} (result : Result X EncodeFault) (fault other : EncodeFault) →
     IsErrAnd result (λ given. given ≡ fault) → result ≡ Err other → fault ≡ other
-passed result fault other h1 h2 = search rules
+passed result fault other h k = search rules
 
-pub passed_on : {X Y : Type 0} {call : Result Y EncodeFault} {result : Result X EncodeFault}
-    {fault other : EncodeFault} → call ≡ Err fault → IsErrAnd result (λ given. given ≡ fault) → result ≡ Err other →
-    call ≡ Err other
+pub passed_on : {X Y : Type 0} {call : Result Y EncodeFault} {result : Result X EncodeFault} {fault other : EncodeFault}
+    → call ≡ Err fault → IsErrAnd result (λ given. given ≡ fault) → result ≡ Err other → call ≡ Err other
 passed_on {result = result} {fault = fault} was is e = was ∙ ap (λ f. Err f) (passed result fault _ is e)

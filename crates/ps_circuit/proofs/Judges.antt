@@ -69,14 +69,6 @@ module _ (names : NamesData) where
       by None e d = good (λ f b. none_is_some b.kind (sym e ∙ b.letter))
       by (Some kind) e d =
           let longest = stops_bytes is_digit d.rest d.longest in
-          judge_as cause_number (λ f h. record {
-            kind = kind;
-            letter = e;
-            digits = d.text;
-            number = record { rest = d.rest; split = d.split; some = h.0.0; all = d.all; longest = longest };
-            not_free = h.0.1;
-            cause = h.1;
-          }) (λ f b.
+          judge_as cause_number (λ f h. search rules) (λ f b.
           (bad_symbol e (record { rest = d.rest; split = d.split; all = d.all; longest = longest }) b, b.cause))
-          (judge_cause cause_number Syntax (decide_both (decide_below 1 (length d.text))
-          (decide_free (slice_get (names_of names kind) (decimal_value d.text)))))
+          (judge_cause cause_number Syntax (search (rules, decide_both, decide_below, decide_free)))

@@ -5,7 +5,7 @@
 --     chained, next, tight      a chain: of any two; neither is empty; the first goes on with no sign
 --     given, mapped_by, either_of, or_nothing, many_of, one_sign, run_by      for the other combinators
 --     Judges Wrong      which numbers are wrong is decided
-use Rattle.std.proofs.Common.{◌≡◌, ◌⊎◌, ℕ, Bool, true, List, Option, Some, inl, inr, rules}
+use Rattle.std.proofs.Common.{◌≡◌, ◌⊎◌, ℕ, Bool, true, List, Option, Some, rules}
 use Rattle.ps_text.specs.Parts.{give, one, then_by, either, many, mapped}
 use Rattle.ps_text.proofs.Laws.{Laws, Joint, Nothing, Or, When, Within, Apart, weaker}
 use Rattle.ps_text.proofs.Joined.{joint}
@@ -32,7 +32,7 @@ abbrev pub Judges : (ℕ → AigCause → Type 0) → Type 0
 Judges Wrong = (n : ℕ) → Judged cause_number (Wrong n)
 
 or_in : {A B C : Seen → Type 0} → Within A C → Within B C → Within (Or A B) C
-or_in h1 h2 = search rules
+or_in h k = search rules
 
 pub larger : {V : Type 0} {P : Field V} {F M First More : Seen → Type 0} {N Null : Type 0} → Lawful P F M N →
     Within F First → Within M More → (N → Null) → Lawful P First More Null
@@ -75,14 +75,12 @@ pub either_of : {V : Type 0} {P Q : Field V} {F M G L First More : Seen → Type
     Lawful Q G L N → Apart F G → Within F First → Within G First → Within M More → Within L More →
     Within (When N F) More → Lawful (either P Q) First More N
 either_of {N} p q apart f g m l n = record {
-  laws = weaker (laws_either p.laws q.laws apart (λ x y. x)) (or_in f g)
-      (or_in (or_in m l) (or_in (λ t h. absurd h.0) n)) null;
+  laws = weaker (laws_either p.laws q.laws apart (λ x y. x)) (or_in f g) (search (rules, or_in)) null;
   has = has_either aig_causes p.laws q.laws apart p.has q.has;
 }
   where
     null : ⊥ ⊎ N → N
-    null (inl x) = absurd x
-    null (inr x) = x
+    null h = search rules
 
 pub or_nothing : {V : Type 0} {P : Field V} {F M More : Seen → Type 0} (v : V) → Lawful P F M ⊥ → Within F More →
     Within M More → Lawful (either P (give v)) F More (Unit {0})
@@ -92,8 +90,7 @@ or_nothing v p f m =
 pub many_of : {C : Type 0} (item : C → Field C) {F : Seen → Type 0} → ((c : C) → Lawful (item c) F Nothing ⊥) →
     (c : C) → Lawful (many item c) F F (Unit {0})
 many_of item l c = record {
-  laws = weaker (laws_many item (λ c. (l c).laws) (λ t x y. x) c) (λ t h. h) (or_in (λ t h. absurd h) (λ t h. h))
-      (λ n. n);
+  laws = weaker (laws_many item (λ c. (l c).laws) (λ t x y. x) c) (λ t h. h) (search (rules, or_in)) (λ n. n);
   has = has_many aig_causes item (λ c. (l c).laws) (λ t x y. x) (λ c. (l c).has) c;
 }
 

@@ -1,8 +1,8 @@
 -- The number lines of a text: how they are read, and how they fail.
 --     past_..      what is left of a line behind what was read of it
 --     Lining      the invariant of a loop over the lines of one kind
-use Rattle.std.proofs.Common.{◌≡◌, ℕ, zero, suc, ◌+◌, ◌-◌, ◌*◌, ◌^◌, ◌<◌, ◌≤◌, Bool, true, false, List, [], ◌∷◌, ◌++◌}
-use Rattle.std.proofs.Common.{length, Option, Result, Ok, Err, Contains, refl, sym, subst, inl, inr, arith, rules}
+use Rattle.std.proofs.Common.{◌≡◌, ℕ, ◌+◌, ◌-◌, ◌*◌, ◌^◌, ◌<◌, ◌≤◌, Bool, true, false, List, [], ◌∷◌, ◌++◌}
+use Rattle.std.proofs.Common.{length, Option, Result, Ok, Err, Contains, refl, subst, inl, inr, arith, rules}
 use Rattle.ps_text.specs.Answers.{Stream, Found}
 use Rattle.ps_text.specs.Parts.{give, then_by, times, mapped}
 use Rattle.ps_text.specs.Readers.{Reads, Stops, Goes, Carries}
@@ -40,8 +40,7 @@ definition_reads most {defined} {old} {new} {n} limit x fits adds =
     number_small (WrongDefinition most defined) x (omega (arith, fits.2)) good
   where
     good : (f : AigCause) → WrongDefinition most defined n.value f → ⊥
-    good f (inl w) = w.0 fits
-    good f (inr w) = adds.fresh w.0.0 (variable n.value) w.0.1 w.0.2
+    good f h = grind arith
 
 pub definition_wrong : (most : ℕ) (defined : List ℕ) {old new : Stream Seen} {n : Number} {e : AigFault} →
     most < 2 ^ 31 → NumberIs old new n → (IsDefinition most n.value → ⊥) → e ≡ Text Literal n.offset
@@ -53,23 +52,20 @@ definition_wrong most defined {old} {new} {n} {e} limit x wrong is =
     not_one v h d = let same : v ≡ n.value = omega (arith, h, d.2) in wrong (subst (IsDefinition most) same d)
 
     least : (v : ℕ) (g : AigCause) → WrongDefinition most defined v g → cause_number Literal ≤ cause_number g
-    least v g (inl w) = rw w.1 (omega arith)
-    least v g (inr w) = rw w.1 (omega arith)
+    least v g h = grind arith
 
 pub definition_twice : (most : ℕ) (defined : List ℕ) {old new : Stream Seen} {n : Number} {e : AigFault} →
     most < 2 ^ 31 → NumberIs old new n → IsDefinition most n.value → Contains defined (variable n.value) →
     e ≡ Text DefinedTwice n.offset → Stops aig_causes (number (WrongDefinition most defined)) old (found_of e)
-definition_twice most defined {old} {new} {n} {e} limit x fits there is =
-    number_wrong (WrongDefinition most defined) DefinedTwice x
-    (λ v h. inr (subst (λ k. Contains defined (variable k)) (same v h) there, refl)) (λ v h g w. least v h g w) is
+definition_twice most defined {old} {new} {n} {e} limit x fits there is = number_wrong (WrongDefinition most defined)
+    DefinedTwice x (λ v h. grind (arith, same)) (λ v h g w. least v h g w) is
   where
     same : (v : ℕ) → n.value ≡ saturated v → n.value ≡ v
     same v h = omega (arith, h, fits.2)
 
     least : (v : ℕ) → n.value ≡ saturated v → (g : AigCause) → WrongDefinition most defined v g →
         cause_number DefinedTwice ≤ cause_number g
-    least v h g (inl w) = absurd (w.0 (subst (IsDefinition most) (same v h) fits))
-    least v h g (inr w) = rw w.1 (omega arith)
+    least v h g k = grind (arith, same)
 
 pub literal_reads : (most : ℕ) {old new : Stream Seen} {n : Number} → most < 2 ^ 31 → NumberIs old new n →
     n.value ≤ 2 * most + 1 → Reads (number (WrongLiteral most)) old n new
@@ -102,9 +98,8 @@ module _ (latch : ℕ) {old : Stream Seen} where
   reset_unread = unread
 
   pub reset_none : {new : Stream Seen} {b : Bool} → b ≡ false → Reads more old b new → Reads (reset latch) old false new
-  reset_none {new} e m =
-      (none_comes (reset_value latch) (give false) (past (chain_reset latch) reset_unread m) e).carries (Ok false) new
-      (reads_give new false)
+  reset_none {new} e m = (none_comes (reset_value latch) (give false)
+      (grind (arith, past (chain_reset latch) reset_unread m)) e).carries (Ok false) new (reads_give new false)
 
   pub past_more : {mid : Stream Seen} {b : Bool} → b ≡ true → Reads more old b mid →
       Left (reset latch) old (reset_value latch) mid
@@ -112,27 +107,24 @@ module _ (latch : ℕ) {old : Stream Seen} where
 
 reset_least_unset : {latch v : ℕ} (g : AigCause) → v ≡ latch → WrongReset latch v g →
     cause_number UnsetLatch ≤ cause_number g
-reset_least_unset g h1 h2 = search rules
+reset_least_unset g h k = search rules
 
-pub reset_unset : {latch : ℕ} {old new : Stream Seen} {n : Number} {e : AigFault} → latch < 2 ^ 32 →
-    NumberIs old new n → n.value ≡ latch → e ≡ Text UnsetLatch n.offset →
-    Stops aig_causes (number (WrongReset latch)) old (found_of e)
-reset_unset {latch} {old} {new} {n} {e} limit x own is =
-    number_wrong (WrongReset latch) UnsetLatch x (λ v h. inl (same v h, refl))
-    (λ v h g w. reset_least_unset g (same v h) w) is
+pub reset_unset : {latch : ℕ} {old new : Stream Seen} {n : Number} {e : AigFault} → latch < 2 ^ 32 → NumberIs old new n
+    → n.value ≡ latch → e ≡ Text UnsetLatch n.offset → Stops aig_causes (number (WrongReset latch)) old (found_of e)
+reset_unset {latch} {old} {new} {n} {e} limit x own is = number_wrong (WrongReset latch) UnsetLatch x
+    (λ v h. inl (same v h, refl)) (λ v h g w. reset_least_unset g (same v h) w) is
   where
     same : (v : ℕ) → n.value ≡ saturated v → v ≡ latch
     same v h = omega (arith, h, own)
 
 reset_least_literal : (latch v : ℕ) (g : AigCause) → WrongReset latch v g → cause_number Literal ≤ cause_number g
-reset_least_literal latch v g h1 = search rules
+reset_least_literal latch v g h = search rules
 
 pub reset_wrong : (latch : ℕ) {old new : Stream Seen} {n : Number} {e : AigFault} → latch < 2 ^ 32 →
     NumberIs old new n → (n.value ≡ latch → ⊥) → 1 < n.value → e ≡ Text Literal n.offset →
     Stops aig_causes (number (WrongReset latch)) old (found_of e)
 reset_wrong latch {old} {new} {n} {e} limit x other large is =
-    number_wrong (WrongReset latch) Literal x (λ v h. inr (omega (arith, h), (λ z. other (omega (arith, h, z))), refl))
-    (λ v h g w. reset_least_literal latch v g w) is
+    number_wrong (WrongReset latch) Literal x (λ v h. grind arith) (λ v h g w. reset_least_literal latch v g w) is
 
 pub reset_good : (latch : ℕ) {old new : Stream Seen} {n : Number} → NumberIs old new n → (n.value ≡ latch → ⊥) →
     n.value ≤ 1 → Reads (number (WrongReset latch)) old n new
@@ -218,12 +210,11 @@ pub record Lining {C : Type 0} (item : C → Field C) (Adds : C → C → Type 0
   pub grown : Grown Adds c d
 
 pub is_row : {C : Type 0} {item : C → Field C} → ((c : C) → Lawful (item c) AtDigit Separates ⊥) → IsRow item
-is_row {C} {item} l =
-    record {
-      takes = λ c d old new m. reads_shrinks (λ w h. (l c).laws.null w h) m;
-      goes_on = go;
-      fails = times_fails item (λ c. (l c).laws) separates_digit aig_causes;
-    }
+is_row {C} {item} l = record {
+  takes = λ c d old new m. reads_shrinks (λ w h. (l c).laws.null w h) m;
+  goes_on = go;
+  fails = times_fails item (λ c. (l c).laws) separates_digit aig_causes;
+}
   where
     go : (n : ℕ) (c d : C) (old mid new : Stream Seen) (r : Result C (Option (Found AigCause))) → 0 < n →
         Reads (item c) old d mid → Goes aig_causes (times (n - 1) item d) mid r new →
@@ -234,15 +225,11 @@ is_row {C} {item} l =
 module _ {C : Type 0} (item : C → Field C) (Adds : C → C → Type 0) (row : IsRow item) (count : ℕ)
     (start : Stream Seen) (c : C) where
   lining_start : Lining item Adds count 0 start start c c
-  lining_start =
-      record {
-        carries = λ n e r new m. subst (λ k. Goes aig_causes (times k item c) start r new) (same n) m;
-        fewer = omega arith;
-        grown = none;
-      }
-    where
-      same : (n : ℕ) → n - 0 ≡ n
-      same n = omega arith
+  lining_start = record {
+    carries = grind arith;
+    fewer = omega arith;
+    grown = none;
+  }
 
   pub lining_from : {d : C} → c ≡ d → Lining item Adds count 0 start start c d
   lining_from e = subst (Lining item Adds count 0 start start c) e lining_start
@@ -252,8 +239,7 @@ module _ {C : Type 0} (item : C → Field C) (Adds : C → C → Type 0) (row : 
   lining_next {i} {now} {next} {d} {e} less inv m adds = record {
     carries = λ n k r new g.
         let one : (n - i) - 1 ≡ n - (i + 1) = omega arith in
-        inv.carries n k r new (row.goes_on (n - i) d e now next new r (omega (arith, k)) m
-        (subst (λ x. Goes aig_causes (times x item e) next r new) (sym one) g));
+        inv.carries n k r new (row.goes_on (n - i) d e now next new r (omega (arith, k)) m (grind arith));
     fewer = omega (arith, row.takes d e now next m, inv.fewer);
     grown = grow inv.grown adds;
   }
@@ -261,14 +247,11 @@ module _ {C : Type 0} (item : C → Field C) (Adds : C → C → Type 0) (row : 
   pub lining_fails : {i : ℕ} {now : Stream Seen} {d : C} (o : Option (Found AigCause)) → i < count →
       Lining item Adds count i start now c d → Stops aig_causes (item d) now o → (n : ℕ) → count ≡ saturated n →
       Stops aig_causes (times n item c) start o
-  lining_fails {i} {now} {d} o less inv m n k =
-      inv.carries n k (Err o) now (row.fails (n - i) d now o (omega (arith, k)) m)
+  lining_fails {i} {now} {d} o less inv m n k = inv.carries n k (Err o) now (grind arith)
 
   pub lining_ends : {i : ℕ} {now : Stream Seen} {d : C} → count ≤ i → Lining item Adds count i start now c d → (n : ℕ) →
       count ≡ saturated n → length start.pieces ≤ 2 ^ 63 → Reads (times n item c) start d now
-  lining_ends {i} {now} {d} done inv n k short =
-      inv.carries n k (Ok d) now (none_left (n - i) (omega (arith, k, inv.fewer)))
+  lining_ends {i} {now} {d} done inv n k short = inv.carries n k (Ok d) now (grind (arith, none_left))
     where
       none_left : (m : ℕ) → m ≡ 0 → Reads (times m item d) now d now
-      none_left zero z = reads_give now d
-      none_left (suc m) z = absurd (omega (arith, z))
+      none_left m z = grind (arith, reads_give)

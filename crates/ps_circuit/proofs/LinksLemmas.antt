@@ -46,24 +46,19 @@ module _ (gates : List Gate) (once : AllPairs (λ g h. variable g.literal ≢ va
 
   pub variable_fresh : (k : ℕ) (g : Gate) → k < length gates →
       Contains (take k (gate_variables gates)) (variable (get_or gates k g).literal) → ⊥
-  variable_fresh k g l =
-      subst (λ v. Contains (take k (gate_variables gates)) v → ⊥) (variable_at k 0 g l)
+  variable_fresh k g l = subst (λ v. Contains (take k (gate_variables gates)) v → ⊥) (variable_at k 0 g l)
       (absent_before (gate_variables gates) k apart (omega (arith, many)))
 
   pub variables_more : (k : ℕ) (g : Gate) → k < length gates →
       take (k + 1) (gate_variables gates) ≡ take k (gate_variables gates) ++ variable (get_or gates k g).literal ∷ []
-  variables_more k g l = take_more (gate_variables gates) k 0 (omega (arith, many))
-      ∙ ap (λ v. take k (gate_variables gates) ++ v ∷ []) (variable_at k 0 g l)
+  variables_more k g l = grind (arith, take_more (gate_variables gates) k 0 (omega (arith, many)), variable_at k 0 g l)
 
   are_places : ArePlaces gates (place_in (gate_variables gates))
   are_places = record {
     back = λ v k e.
         let at = position-Some (λ other. nat_eq v other) (gate_variables gates) k 0 e in
-        let within : k < length gates = omega (arith, many, at.0) in (
-          get_or gates k no_gate,
-          slice_get-get_or gates k no_gate within,
-          sym (variable_at k 0 no_gate within) ∙ sym (eqb-true v _ at.1),
-        );
+        let within : k < length gates = omega (arith, many, at.0) in
+        grind (arith, slice_get-get_or gates k no_gate within, variable_at k 0 no_gate within, eqb-true v _ at.1);
     forth = λ k g at.
         let within : k < length gates = slice_get_within gates k g at in
         position_here (gate_variables gates) (variable g.literal) k apart (omega (arith, many))
@@ -100,8 +95,7 @@ links_by-more variables gates k g l before e at_first at_second =
 pub links-by_variables : {gates : List Gate} {variables : List ℕ} {links : List Links} →
     AllPairs (λ g h. variable g.literal ≢ variable h.literal) gates →
     variables ≡ gate_variables gates → links ≡ links_by (place_in variables) gates → AreLinksOf gates links
-links-by_variables {gates} once are e =
-    links-by_places (are_places gates once) (e ∙ ap (λ vs. links_by (place_in vs) gates) are)
+links-by_variables {gates} once are e = links-by_places (are_places gates once) (grind arith)
 
 module _ (gates : List Gate) (links : List Links) (a : AreLinksOf gates links) where
   pub links_within : IsWithin (graph_of links)
@@ -125,12 +119,7 @@ module _ (gates : List Gate) (links : List Links) (a : AreLinksOf gates links) w
 -- no two gates of a circuit have one variable
 pub gates_once : (c : CircuitData) → AllPairs (λ l m. variable l ≢ variable m) (definitions c) →
     AllPairs (λ g h. variable g.literal ≢ variable h.literal) c.gates
-gates_once c once i j d lt within e =
-    let front = c.inputs ++ map (λ l. l.literal) c.latches in
-    let all = length-append front (map (λ g. g.literal) c.gates) in
-    let many : length (map (λ g. g.literal) c.gates) ≡ length c.gates = length-map c.gates (λ g. g.literal) in
-    once (length front + i) (length front + j) 0 (omega arith) (omega (arith, all, many))
-    (ap variable (at_gate i d (omega arith)) ∙ e ∙ sym (ap variable (at_gate j d within)))
+gates_once c once i j d lt within e = grind (arith, length-append, many, length-map, at_gate)
   where
     at_gate : (i : ℕ) (d : Gate) → i < length c.gates → get_or (definitions c)
         (length (c.inputs ++ map (λ l. l.literal) c.latches) + i) 0 ≡ (get_or c.gates i d).literal
@@ -143,10 +132,9 @@ side_within links item place {sides} within at lt = which (side_of sides place) 
   where
     which : (o : Option ℕ) → side_of sides place ≡ o → IfSome o (λ to. to < length links)
     which None e = tt
-    which (Some to) e =
-        within item to (record {
-          from = slice_get_within links item sides at;
-          place = place;
-          at = lt;
-          target = ap (λ o. target_of o place) at ∙ e;
-        })
+    which (Some to) e = within item to (record {
+      from = slice_get_within links item sides at;
+      place = place;
+      at = lt;
+      target = ap (λ o. target_of o place) at ∙ e;
+    })

@@ -1,7 +1,7 @@
 -- Gates that are made stay, and what was made once is there when it is asked for again.
 use Rattle.std.proofs.Common.{◌≡◌, ◌∙◌, ℕ, ◌+◌, ◌*◌, ◌<◌, ◌≤◌, ◌==◌, ◌&&◌, Bool, true, false, cond, rules}
 use Rattle.std.proofs.Common.{if◌then◌else◌, [], ◌∷◌, ◌++◌, length, length-append, get_or, slice_get, Some, refl, sym}
-use Rattle.std.proofs.Common.{ap, ap₂, subst, arith, inl, inr}
+use Rattle.std.proofs.Common.{ap, ap₂, arith, inl, inr}
 use Rattle.std.specs.List.{list_any, position_or_len}
 use Rattle.std.proofs.lemmas.Bool.{cases_lt, eq-eqb}
 use Rattle.std.proofs.lemmas.List.Folds.{list_any_at, list_any_none}
@@ -13,7 +13,7 @@ use Rattle.ps_circuit.specs.contracts.builder.SidesPartialEq.TheImpl as sides_eq
 use Rattle.ps_circuit.specs.declared.builder.Sides.{Sides}
 use Rattle.ps_circuit.specs.Building.{Drafted, Extends, variables_of}
 use Rattle.ps_circuit.specs.Literals.{negated}
-use Rattle.ps_circuit.specs.Gates.{Made, has_sides, gate_of, and_of, inverted, or_of, chosen_of, mux_of}
+use Rattle.ps_circuit.specs.Gates.{Made, has_sides, gate_of, and_of, or_of, chosen_of, mux_of}
 use Rattle.ps_circuit.proofs.GateLemmas.{bool_cases, true_is_not_false, extends-refl, extends-trans, extends-more}
 use Rattle.ps_circuit.proofs.GateLemmas.{same_sides, sides_same, drafted_are, Placed}
 
@@ -33,13 +33,8 @@ abbrev pub place_of : Drafted → Sides → ℕ
 place_of d s = position_or_len (has_sides s) d.gates
 
 absent_place : (d : Drafted) (s : Sides) → list_any (has_sides s) d.gates ≡ false → place_of d s ≡ length d.gates
-absent_place d s none =
-    position_or_len_is (has_sides s) d.gates (length d.gates) s (omega arith)
-    (λ k lt. elim (bool_cases (has_sides s (get_or d.gates k s))) [
-      | inl is ↦ absurd (true_is_not_false (sym (list_any_at (has_sides s) d.gates k s lt is) ∙ none))
-      | inr isnt ↦ isnt
-    ])
-    (λ lt. absurd (omega arith))
+absent_place d s none = position_or_len_is (has_sides s) d.gates (length d.gates) s (omega arith)
+    (λ k lt. grind (arith, bool_cases, true_is_not_false, list_any_at)) (λ lt. absurd (omega arith))
 
 present_place : (d : Drafted) (s : Sides) → list_any (has_sides s) d.gates ≡ true → place_of d s < length d.gates
 present_place d s some = search (rules, cases_lt, true_is_not_false, list_any_none, fails_before_first)
@@ -56,11 +51,9 @@ unfolding gate_of
 gate_at d {s} = elim (bool_cases (list_any (has_sides s) d.gates)) [
   | inl there ↦
       let lt = present_place d s there in
-      ap (λ b. slice_get (cond b d.gates (d.gates ++ s ∷ [])) (place_of d s)) there
-      ∙ slice_get-get_or d.gates (place_of d s) s lt ∙ ap (λ t. Some t) (sym (same_sides
-      (passes_at_first (has_sides s) d.gates s lt)))
-  | inr none ↦ ap (λ b. slice_get (cond b d.gates (d.gates ++ s ∷ [])) (place_of d s)) none
-      ∙ ap (slice_get (d.gates ++ s ∷ [])) (absent_place d s none) ∙ slice_get-push d.gates s
+      ap (λ b. slice_get (cond b d.gates (d.gates ++ s ∷ [])) (place_of d s)) there ∙ slice_get-get_or d.gates
+      (place_of d s) s lt ∙ ap (λ t. Some t) (sym (same_sides (passes_at_first (has_sides s) d.gates s lt)))
+  | inr none ↦ grind (arith, absent_place, slice_get-push)
 ]
 
 -- no gate before its place has its sides
@@ -68,8 +61,7 @@ gate_first : {d e : Drafted} (s : Sides) → Extends d e → (k : ℕ) → k < p
     has_sides s (get_or e.gates k s) ≡ false
 gate_first {d} {e} s x k lt within =
     let less : k < length d.gates = omega arith in
-    ap (has_sides s) (get_or_from_slice_get e.gates k (get_or d.gates k s) s
-    (x.same k (get_or d.gates k s) (slice_get-get_or d.gates k s less)))
+    ap (has_sides s) (grind (arith, get_or_from_slice_get, slice_get-get_or))
     ∙ fails_before_first (has_sides s) d.gates k s lt
 
 place_within : (d : Drafted) (s : Sides) → place_of d s ≤ length d.gates
@@ -82,16 +74,8 @@ pub gate-found : (e : Drafted) {s : Sides} (place : ℕ) → slice_get e.gates p
 unfolding gate_of
 gate-found e {s} place at first =
     let lt = slice_get_within e.gates place s at in
-    let passes : has_sides s (get_or e.gates place s) ≡ true =
-    ap (has_sides s) (get_or_from_slice_get e.gates place s s at) ∙ sides_same s in
-    let is : place_of e s ≡ place =
-    position_or_len_is (has_sides s) e.gates place s (omega arith) first (λ h. passes) in
-    let there = list_any_at (has_sides s) e.gates place s lt passes in
-    let made : Bool → ℕ → Made = λ b n. record {
-      draft = record { given = e.given; gates = cond b e.gates (e.gates ++ s ∷ []) };
-      literal = 2 * (e.given + 1 + n);
-    } in
-    ap (λ b. made b (place_of e s)) there ∙ ap (made true) is
+    let passes : has_sides s (get_or e.gates place s) ≡ true = grind (arith, get_or_from_slice_get, sides_same) in
+    grind (arith, position_or_len_is, list_any_at)
 
 gate_literal : (d : Drafted) {e : Drafted} (s : Sides) → Extends (gate_of d s).draft e →
     2 * (e.given + 1 + place_of d s) ≡ (gate_of d s).literal
@@ -102,8 +86,7 @@ pub gate-again : (d : Drafted) {e : Drafted} (s : Sides) → Extends (gate_of d 
     IsThere (gate_of d s) (λ t. gate_of t s) e
 gate-again d {e} s x =
     let first = gate_first s (extends-trans d (gate_of d s).draft e (gate-extends s) x) in
-    let found =
-    gate-found e (place_of d s) (x.same (place_of d s) s (gate_at d)) (λ k lt. first k lt (place_within d s)) in
+    let found = gate-found e (place_of d s) (grind (arith, gate_at d)) (λ k lt. first k lt (place_within d s)) in
     found ∙ ap (made_with e) (gate_literal d s x)
 
 -- ## What stays
@@ -120,7 +103,7 @@ gate_lasts : (s : Sides) → Lasts (λ d. gate_of d s)
 gate_lasts s = record { extends = λ d. gate-extends s; again = λ d e x. gate-again d s x }
 
 by_test : (b : Bool) (f g : Drafted → Made) → Lasts f → Lasts g → Lasts (λ d. if b then f d else g d)
-by_test b f g h1 h2 = search rules
+by_test b f g h k = search rules
 
 and_lasts : (x y : ℕ) → Lasts (λ d. and_of d x y)
 unfolding and_of
@@ -128,8 +111,7 @@ and_lasts x y = search (rules, by_test, taken_as_is, gate_lasts)
 
 or_lasts : (x y : ℕ) → Lasts (λ d. or_of d x y)
 unfolding or_of
-or_lasts x y = let both = and_lasts (negated x) (negated y) in
-    record { extends = both.extends; again = λ d e h. ap inverted (both.again d e h) }
+or_lasts x y = grind (arith, and_lasts (negated x) (negated y))
 
 pub and-extends : {d : Drafted} (x y : ℕ) → Extends d (and_of d x y).draft
 and-extends {d} x y = (and_lasts x y).extends d
@@ -140,29 +122,20 @@ or-extends {d} x y = (or_lasts x y).extends d
 chosen_lasts : (s high low : ℕ) → Lasts (λ d. chosen_of d s high low)
 unfolding chosen_of
 chosen_lasts s high low = record {
-  extends = λ d.
-      let a = and_of d s high in
-      let b = and_of a.draft (negated s) low in
-      extends-trans d a.draft _ (and-extends s high) (extends-trans a.draft b.draft _
-      (and-extends (negated s) low) (or-extends a.literal b.literal));
+  extends = grind (arith, extends-trans, and-extends, or-extends);
   again = λ d e h.
       let a = and_of d s high in
       let b = and_of a.draft (negated s) low in
       let hb : Extends b.draft e = extends-trans b.draft _ e (or-extends a.literal b.literal) h in
       let ha : Extends a.draft e = extends-trans a.draft b.draft e (and-extends (negated s) low) hb in
-      let again : Made → Made → Made = λ p q. or_of q.draft p.literal q.literal in
-      ap (λ p. again p (and_of p.draft (negated s) low)) ((and_lasts s high).again d e ha)
-      ∙ ap (λ q. again (made_with e a.literal) q) ((and_lasts (negated s) low).again a.draft e hb)
-      ∙ (or_lasts a.literal b.literal).again b.draft e h;
+      grind (arith, and_lasts s high, and_lasts (negated s) low, or_lasts a.literal b.literal);
 }
 
 mux_lasts : (s high low : ℕ) → Lasts (λ d. mux_of d s high low)
 unfolding mux_of
-mux_lasts s high low =
-    by_test (high == low) _ _ (taken_as_is high) (by_test (high == 1 && low == 0) _ _ (taken_as_is s)
-    (by_test (high == 0 && low == 1) _ _ (taken_as_is (negated s)) (by_test (high == 1) _ _ (or_lasts s low)
-    (by_test (high == 0) _ _ (and_lasts (negated s) low) (by_test (low == 0) _ _ (and_lasts s high)
-    (by_test (low == 1) _ _ (or_lasts (negated s) high) (chosen_lasts s high low)))))))
+mux_lasts s high low = by_test (high == low) _ _ (taken_as_is high)
+    (by_test (high == 1 && low == 0) _ _ (taken_as_is s) (by_test (high == 0 && low == 1) _ _ (taken_as_is (negated s))
+    (search (rules, by_test, or_lasts, and_lasts, chosen_lasts))))
 
 pub mux-extends : (d : Drafted) (s high low : ℕ) → Extends d (mux_of d s high low).draft
 mux-extends d s high low = (mux_lasts s high low).extends d
@@ -194,9 +167,7 @@ above-second d t s high low where_true made is above = search (rules, above-exte
 pub above-new : (d : Drafted) (s : Sides) → variables_of d ≡ 2147483647 → list_any (has_sides s) d.gates ≡ false →
     2147483647 < variables_of (gate_of d s).draft
 unfolding gate_of
-above-new d s full none =
-    let longer = length-append d.gates (s ∷ []) in
-    rw none (omega arith)
+above-new d s full none = grind (arith, length-append)
 
 gate_draft : (old : Drafted) {new : Drafted} (s : Sides) → new.given ≡ old.given →
     new.gates ≡ insert_key (sides_eq.eq-value).it old.gates s → (gate_of old s).draft ≡ new
@@ -209,16 +180,6 @@ pub made-placed : {old new : Drafted} {s : Sides} {place : ℕ} → Placed old n
     gate_of old s ≡ record { draft = new; literal = 2 * (new.given + 1 + place) }
 made-placed {old} {new} {s} {place} p given keys =
     let is : (gate_of old s).draft ≡ new = gate_draft old s given keys in
-    let found = gate-found new place p.at (λ k lt. elim (bool_cases (has_sides s (get_or new.gates k s))) [
-      | inl same ↦
-          let within : place < length new.gates = slice_get_within new.gates place s p.at in
-          let at : slice_get new.gates k ≡ Some s = slice_get-get_or new.gates k s (omega arith)
-          ∙ ap (λ t. Some t) (sym (same_sides same)) in
-          let one : k ≡ place = p.sound.once k place s at p.at in
-          absurd (omega arith)
-      | inr isnt ↦ isnt
-    ]) in
-    let again = gate-again old s (subst (λ t. Extends t new) (sym is) (extends-refl new)) in
-    let literal : (gate_of old s).literal ≡ 2 * (new.given + 1 + place) =
-    ap (λ (m : Made). m.literal) (sym again ∙ found) in
-    made_are is literal
+    let found = gate-found new place p.at
+    (λ k lt. search (rules, bool_cases, slice_get_within, slice_get-get_or, same_sides)) in
+    grind (arith, gate-again, extends-refl, made_are)

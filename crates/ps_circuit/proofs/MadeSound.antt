@@ -1,7 +1,7 @@
 -- Gates made of literals that are held: where there is a literal for each variable they are sound, and what is made has
 -- the bit that is asked for.
-use Rattle.std.proofs.Common.{if◌then◌else◌, ◌≡◌, ◌∙◌, ℕ, ◌+◌, ◌*◌, ◌/◌, ◌^◌, ◌<◌, ◌==◌, ◌&&◌, ◌||◌, rules}
-use Rattle.std.proofs.Common.{Bool, true, false, not, cond, nat_lt, refl, sym, ap, arith}
+use Rattle.std.proofs.Common.{if◌then◌else◌, ◌≡◌, ◌∙◌, ℕ, ◌+◌, ◌^◌, ◌<◌, ◌==◌, ◌&&◌, ◌||◌, rules}
+use Rattle.std.proofs.Common.{Bool, true, false, not, cond, nat_lt, refl, ap, arith}
 use Rattle.std.specs.List.{list_any}
 use Rattle.std.proofs.lemmas.Bool.{and_parts, cases_eq, eq-eqb, eqb-false, eqb-true, ltb-false, ltb-true, or_cases}
 use Rattle.std.proofs.lemmas.Bool.{or_parts}
@@ -53,7 +53,7 @@ there literal sound held is = search rules
 
 by_test : {wanted : (ℕ → Bool) → Bool} (b : Bool) (m n : Made) → (b ≡ true → Makes m wanted) →
     (b ≡ false → Makes n wanted) → Makes (if b then m else n) wanted
-by_test b m n h1 h2 = search rules
+by_test b m n h k = search rules
 
 seen_as : {m : Made} {p : (ℕ → Bool) → Bool} (q : (ℕ → Bool) → Bool) → Makes m p →
     ((v : ℕ → Bool) → v 0 ≡ false → p v ≡ q v) → Makes m q
@@ -61,9 +61,8 @@ seen_as {m} {p} q makes same = record { made = λ room. made-as m p q same (make
 
 -- ## One gate
 
-gate_makes : {d : Drafted} (x y : ℕ) → IsSoundDraft d →
-    AreSides (variables_of d + 1) (record { first = x; second = y }) →
-    Makes (gate_of d (record { first = x; second = y })) (λ v. bit v x && bit v y)
+gate_makes : {d : Drafted} (x y : ℕ) → IsSoundDraft d → AreSides (variables_of d + 1) (record { first = x; second = y })
+    → Makes (gate_of d (record { first = x; second = y })) (λ v. bit v x && bit v y)
 unfolding gate_of
 gate_makes {d} x y sound sides = record {
   made = λ room.
@@ -84,10 +83,6 @@ gate_makes {d} x y sound sides = record {
 -- literals of one variable are equal, or each is the other's negation
 one_variable : {x y : ℕ} → (x ≡ negated y → ⊥) → variable x ≡ variable y → x ≡ y
 one_variable {x} {y} other same = search (rules, cases_eq, eq-eqb)
-
-never_is : (x y : ℕ) → (x == 0 || y == 0 || x == negated y) ≡ true → (v : ℕ → Bool) → v 0 ≡ false →
-    (bit v x && bit v y) ≡ false
-never_is x y e v zero = search (rules, or_cases, eqb-true, and-false, bit-negated, not-and_self)
 
 second_is : (x y : ℕ) → (x == 1 || x == y) ≡ true → (v : ℕ → Bool) → v 0 ≡ false → bit v y ≡ (bit v x && bit v y)
 second_is x y e v zero = search (rules, or_cases, eqb-true, and_self)
@@ -110,14 +105,11 @@ differ x y a b c = search (rules, or_parts, eqb-false, one_variable)
 and_makes : {d : Drafted} (x y : ℕ) → IsSoundDraft d → IsHeld d x → IsHeld d y →
     Makes (and_of d x y) (λ v. bit v x && bit v y)
 unfolding and_of
-and_makes x y sound hx hy =
-    by_test (x == 0 || y == 0 || x == negated y) _ _
-    (λ e. there 0 sound (omega arith) (λ v zero. zero ∙ sym (never_is x y e v zero))) (λ a.
-    by_test (x == 1 || x == y) _ _ (λ e. there y sound hy (second_is x y e)) (λ b.
-    by_test (y == 1) _ _ (λ e. there x sound hx (first_is x y e)) (λ c. let apart = differ x y a b c in
-    by_test (nat_lt y x) _ _ (λ e. search (rules, gate_makes, ltb-true))
-    (λ e. seen_as (λ v. bit v x && bit v y) (search (rules, gate_makes, ltb-false))
-    (λ v zero. and_comm (bit v y) (bit v x))))))
+and_makes x y sound hx hy = by_test (x == 0 || y == 0 || x == negated y) _ _ (λ e. grind arith)
+    (λ a. by_test (x == 1 || x == y) _ _ (λ e. there y sound hy (grind (arith, second_is)))
+    (λ b. by_test (y == 1) _ _ (λ e. there x sound hx (grind (arith, first_is))) (λ c. let apart = differ x y a b c in
+    by_test (nat_lt y x) _ _ (λ e. search (rules, gate_makes, ltb-true)) (λ e. seen_as (λ v. bit v x && bit v y)
+    (search (rules, gate_makes, ltb-false)) (λ v zero. and_comm (bit v y) (bit v x))))))
 
 or_makes : {d : Drafted} (x y : ℕ) → IsSoundDraft d → IsHeld d x → IsHeld d y →
     Makes (or_of d x y) (λ v. bit v x || bit v y)
@@ -150,13 +142,11 @@ chosen_makes {d} s high low sound hs hh hl = record {
       let first = (and_makes s high sound hs hh).made (room-before a.draft b.draft xb room_b) in
       let second = (and_makes (negated s) low first.sound (held-negated a.draft s (held-extends d a.draft xa s hs))
       (held-extends d a.draft xa low hl)).made room_b in
-      let either = (or_makes a.literal b.literal second.sound (held-extends a.draft b.draft xb a.literal first.held)
-      second.held).made room in
+      let either = (or_makes a.literal b.literal second.sound (grind (arith, held-extends)) second.held).made room in
       record {
         sound = either.sound;
         held = either.held;
-        is = λ v meets.
-            (let behind = meets-extends b.draft o.draft xo v meets in
+        is = λ v meets. (let behind = meets-extends b.draft o.draft xo v meets in
             chosen_bits v s high low a.literal b.literal o.literal refl
             (first.is v (meets-extends a.draft b.draft xb v behind)) (second.is v behind) (either.is v meets));
       };
@@ -195,10 +185,19 @@ pub mux-made : (d : Drafted) (s high low : ℕ) → IsSoundDraft d → IsHeld d 
 unfolding mux_of
 mux-made d s high low sound hs hh hl room =
     let wanted : (ℕ → Bool) → Bool = λ v. cond (bit v s) (bit v high) (bit v low) in
-    let m : Makes (mux_of d s high low) wanted =
-    by_test (high == low) _ _ (λ e. search (rules, there, by_same, eqb-true)) (λ _.
-    by_test (high == 1 && low == 0) _ _ (λ e. search (rules, and_parts, there, by_itself, one_is, zero_is)) (λ _.
-    by_test (high == 0 && low == 1) _ _ (λ e. search (
+    let m : Makes (mux_of d s high low) wanted = by_test (high == low) _ _ (λ e. search (
+      rules,
+      there,
+      by_same,
+      eqb-true,
+    )) (λ _. by_test (high == 1 && low == 0) _ _ (λ e. search (
+      rules,
+      and_parts,
+      there,
+      by_itself,
+      one_is,
+      zero_is,
+    )) (λ _. by_test (high == 0 && low == 1) _ _ (λ e. search (
       rules,
       and_parts,
       there,
@@ -207,13 +206,13 @@ mux-made d s high low sound hs hh hl room =
       by_other,
       zero_is,
       one_is,
-    )) (λ _.
-    by_test (high == 1) _ _ (λ e. seen_as wanted (or_makes s low sound hs hl)
-    (λ v zero. search (rules, then_true, one_is))) (λ _.
-    by_test (high == 0) _ _ (λ e. seen_as wanted (and_makes (negated s) low sound (held-negated d s hs) hl)
-    (λ v zero. search (rules, bit-negated, then_false, zero_is))) (λ _.
-    by_test (low == 0) _ _ (λ e. seen_as wanted (and_makes s high sound hs hh)
-    (λ v zero. search (rules, else_false, zero_is))) (λ _.
-    by_test (low == 1) _ _ (λ e. seen_as wanted (or_makes (negated s) high sound (held-negated d s hs) hh)
-    (λ v zero. search (rules, bit-negated, else_true, one_is))) (λ _. search (rules, chosen_makes)))))))) in
+    )) (λ _. by_test (high == 1) _ _ (λ e. seen_as wanted (or_makes s low sound hs
+    hl) (λ v zero. search (rules, then_true, one_is))) (λ _. by_test (high == 0) _ _ (λ e. seen_as wanted (and_makes
+    (negated s) low sound (held-negated d s hs) hl) (λ v zero. search (rules, bit-negated, then_false, zero_is))) (λ _.
+    by_test (low == 0) _ _ (λ e. seen_as wanted (and_makes s high sound hs hh) (λ v zero. search (
+      rules,
+      else_false,
+      zero_is,
+    ))) (λ _. by_test (low == 1) _ _ (λ e. seen_as wanted (or_makes (negated s) high sound (held-negated d s hs)
+    hh) (λ v zero. search (rules, bit-negated, else_true, one_is))) (λ _. search (rules, chosen_makes)))))))) in
     m.made room

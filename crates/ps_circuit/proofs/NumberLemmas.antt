@@ -41,8 +41,7 @@ pub number_small : (Wrong : ℕ → AigCause → Type 0) {old new : Stream Seen}
 unfolding number
 number_small Wrong {old} {new} {n} x small good =
     let v : n.value ≡ decimal_value x.run = omega (arith, x.value) in
-    run_reads is_digit number_at (BadDigits Wrong) x.passes x.some
-    (λ f b. good f (subst (λ k. Wrong k f) (sym v) b)) (number_is x v)
+    run_reads is_digit number_at (BadDigits Wrong) x.passes x.some (λ f b. grind arith) (number_is x v)
 
 -- a number of any size
 pub number_any : {old new : Stream Seen} {n : Number} → NumberIs old new n →
@@ -51,7 +50,7 @@ unfolding number
 number_any {old} {new} x = (
   number_at (place_of old) x.run,
   x.value,
-  run_reads is_digit number_at (BadDigits AnyNumber) x.passes x.some (λ f b. b) refl,
+  search (rules, run_reads),
 )
 
 pub number_wrong : (Wrong : ℕ → AigCause → Type 0) {old new : Stream Seen} {n : Number} (f : AigCause) {e : AigFault} →
@@ -59,18 +58,13 @@ pub number_wrong : (Wrong : ℕ → AigCause → Type 0) {old new : Stream Seen}
     → ((v : ℕ) → n.value ≡ saturated v → (g : AigCause) → Wrong v g → cause_number f ≤ cause_number g) →
     e ≡ Text f n.offset → Stops aig_causes (number Wrong) old (found_of e)
 unfolding number
-number_wrong Wrong {old} {new} f x wrong least is =
-    subst (λ y. Stops aig_causes (number Wrong) old (found_of y)) (sym (is ∙ ap (Text f) x.offset))
-    (run_bad is_digit number_at (BadDigits Wrong) f x.passes x.some (wrong (decimal_value x.run) x.value)
-    (least (decimal_value x.run) x.value))
+number_wrong Wrong {old} {new} f x wrong least is = subst (λ y. Stops aig_causes (number Wrong) old (found_of y))
+    (sym (is ∙ ap (Text f) x.offset)) (search (rules, run_bad))
 
 pub number_none : (Wrong : ℕ → AigCause → Type 0) {old : Stream Seen} (new : Stream Seen) (e : AigFault) →
-    TellsNumber old (Err e) new →
-    Stops aig_causes (number Wrong) old (found_of e)
+    TellsNumber old (Err e) new → Stops aig_causes (number Wrong) old (found_of e)
 unfolding number
-number_none Wrong {old} new e m =
-    subst (λ y. Stops aig_causes (number Wrong) old (found_of y)) (sym m.1)
-    (run_stops is_digit number_at (BadDigits Wrong) 48 refl m.0)
+number_none Wrong {old} new e m = grind (arith, run_stops is_digit number_at (BadDigits Wrong) 48 refl m.0)
 
 -- ## Numbers behind a gap
 
@@ -79,9 +73,8 @@ pub field_reads : {Wrong : ℕ → AigCause → Type 0} → Judges Wrong → {ol
 unfolding field
 field_reads judge g m = reads_then (chain_field judge).joint g m
 
-pub field_fails : {Wrong : ℕ → AigCause → Type 0} → Judges Wrong → {old mid : Stream Seen}
-    (o : Option (Found AigCause)) → Reads gap old tt mid → Stops aig_causes (number Wrong) mid o →
-    Stops aig_causes (field Wrong) old o
+pub field_fails : {Wrong : ℕ → AigCause → Type 0} → Judges Wrong → {old mid : Stream Seen} (o : Option (Found AigCause))
+    → Reads gap old tt mid → Stops aig_causes (number Wrong) mid o → Stops aig_causes (field Wrong) old o
 unfolding field
 field_fails judge o g m = stops_behind aig_causes (chain_field judge).joint g o m
 
@@ -105,15 +98,14 @@ count_reads old new n m = let v = number_any m.2 in (v.0, v.1, field_reads judge
 
 pub count_fails : (old mid new : Stream Seen) (e : AigFault) (r : Result ℕ AigFault) → TellsField old (Err e) mid →
     IsErrAnd r (λ y. y ≡ e) → TellsCount old r new
-count_fails old mid new e r m i = let y = err_from_is_err_and r i in
-    subst (λ z. TellsCount old z new) (sym (y.1 ∙ ap Err y.2)) (field_none judge_any mid e m)
+count_fails old mid new e r m i = grind (arith, err_from_is_err_and r i, field_none judge_any mid e m)
 
 -- ## Sections
 
 pub sections_end : (old new : Stream Seen) (left : ℕ) (r : Result (Unit {0}) AigFault) → left ≡ 0 →
     Tells (λ u. u) line_end old r new → Tells (λ u. u) (sections left) old r new
 unfolding sections
-sections_end old new left r h1 h2 = search rules
+sections_end old new left r h k = search rules
 
 abbrev pub section : ℕ → Field (Unit {0})
 section left = then_by (number WrongCount) (λ _. sections (left - 1))
@@ -135,9 +127,8 @@ section_unread left l e m =
 
 pub sections_ended : {old new : Stream Seen} (left : ℕ) {b : Bool} → 0 < left → b ≡ false → Reads more old b new →
     Reads (sections left) old tt new
-sections_ended {new = new} left l e m =
-    (none_comes (section left) (give tt) (past (chain_sections (left - 1)) (sections_unread left l) m) e).carries
-    (Ok tt) new (reads_give new tt)
+sections_ended {new = new} left l e m = (none_comes (section left) (give tt)
+    (past (chain_sections (left - 1)) (search (rules, sections_unread)) m) e).carries (Ok tt) new (reads_give new tt)
 
 pub sections_next : {old mid next : Stream Seen} (new : Stream Seen) (left : ℕ) {k : Number}
     (r : Result (Unit {0}) AigFault) → Left (sections left) old (section left) mid →
@@ -154,8 +145,7 @@ count_zero x e = number_small WrongCount x (omega (arith, e)) (λ f w. w.0 e)
 
 pub count_wrong : {old new : Stream Seen} {n : Number} {e : AigFault} → NumberIs old new n → (n.value ≡ 0 → ⊥) →
     e ≡ Text Sections n.offset → Stops aig_causes (number WrongCount) old (found_of e)
-count_wrong x some is = number_wrong WrongCount Sections x (λ v h. (λ z. some (omega (arith, h, z)), refl))
-    (λ v h g w. rw w.1 (omega arith)) is
+count_wrong x some is = number_wrong WrongCount Sections x (λ v h. grind arith) (λ v h g w. rw w.1 (omega arith)) is
 
 -- ## The first line
 

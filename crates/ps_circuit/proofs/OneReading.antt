@@ -1,7 +1,7 @@
 -- A text has one answer.
 use Rattle.std.proofs.Common.{◌≡◌, ℕ, eqb, if◌then◌else◌, List, ◌∷◌, ◌++◌, slice_get, Some, Result, Ok, Err, All, rules}
 use Rattle.std.proofs.Common.{refl, sym, ap, subst, ◌∙◌, arith}
-use Rattle.std.proofs.lemmas.List.Elements.{All-contains, Contains-append_right}
+use Rattle.std.proofs.lemmas.List.Elements.{Contains-append_right}
 use Rattle.std.specs.List.{Contains}
 use Rattle.ps_text.specs.Answers.{Found, AreNumbered}
 use Rattle.ps_text.specs.Parts.{PartAnswers, IsWrong}
@@ -20,10 +20,9 @@ use Rattle.ps_circuit.specs.Texts.{undefined, cyclic, meaning}
 use Rattle.ps_circuit.proofs.TextLaws.{laws_text}
 
 abbrev of_number : ℕ → AigCause
-of_number n =
-    if eqb n 61 then causes.Syntax else (if eqb n 62 then causes.Literal else (if eqb n 63 then causes.DefinedTwice
-    else (if eqb n 64 then causes.Undefined else (if eqb n 65 then causes.Cyclic else
-    (if eqb n 66 then causes.UnsetLatch else causes.Sections)))))
+of_number n = if eqb n 61 then causes.Syntax else
+    (if eqb n 62 then causes.Literal else (if eqb n 63 then causes.DefinedTwice else (if eqb n 64 then causes.Undefined
+    else (if eqb n 65 then causes.Cyclic else (if eqb n 66 then causes.UnsetLatch else causes.Sections)))))
 
 back : (f : AigCause) → of_number (cause_number f) ≡ f
 back f = search rules
@@ -39,9 +38,8 @@ CircuitAnswer = Result CircuitData (Found AigCause)
 
 same_draft : (text : List ℕ) (a b : Draft) → PartAnswers aig_causes circuit_text (stream_of text) a →
     PartAnswers aig_causes circuit_text (stream_of text) b → a ≡ b
-same_draft text a b h k =
-    has_one_answer circuit_text.IsText (IsWrong aig_causes circuit_text) cause_number laws_text.laws.one_value numbered
-    (stream_of text) a b h k
+same_draft text a b h k = has_one_answer circuit_text.IsText (IsWrong aig_causes circuit_text) cause_number
+    laws_text.laws.one_value numbered (stream_of text) a b h k
 
 -- what is said of a text that has a draft
 data Settled (d : DraftData) (answer : CircuitAnswer) : Type 0 where
@@ -72,9 +70,7 @@ in_split before after l = Contains-append_right before (l ∷ after) l (0, omega
 
 not_all : {defined : List ℕ} {readings : List Number} {l : Number} → IsFirstUndefined defined readings l →
     All (IsDefined defined) readings → ⊥
-not_all {defined} {readings} {l} u h =
-    u.not_defined (All-contains (IsDefined defined) readings l h
-    (subst (λ z. Contains z l) (sym u.split) (in_split u.before u.after l)))
+not_all {defined} {readings} {l} u h = grind (arith, in_split u.before u.after l)
 
 same_first : {defined : List ℕ} {readings : List Number} {l m : Number} → IsFirstUndefined defined readings l →
     IsFirstUndefined defined readings m → l ≡ m
@@ -82,14 +78,8 @@ same_first {defined} {l} {m} u v = go (compared u.before (l ∷ u.after) v.befor
   where
     go : Compared u.before (l ∷ u.after) v.before (m ∷ v.after) → l ≡ m
     go (same e f) = same_head l m u.after v.after f
-    go (shorter t w e f) =
-        absurd (u.not_defined (subst (IsDefined defined) (sym (same_head l t u.after (w ++ m ∷ v.after) f))
-        (All-contains (IsDefined defined) v.before t v.before_defined
-        (subst (λ z. Contains z t) (sym e) (in_split u.before w t)))))
-    go (longer t w e f) =
-        absurd (v.not_defined (subst (IsDefined defined) (sym (same_head m t v.after (w ++ l ∷ u.after) f))
-        (All-contains (IsDefined defined) u.before t u.before_defined
-        (subst (λ z. Contains z t) (sym e) (in_split v.before w t)))))
+    go (shorter t w e f) = grind (arith, same_head l t u.after (w ++ m ∷ v.after) f, in_split u.before w t)
+    go (longer t w e f) = grind (arith, same_head m t v.after (w ++ l ∷ u.after) f, in_split v.before w t)
 
 settled : (d : DraftData) (a b : CircuitAnswer) → Settled d a → Settled d b → a ≡ b
 settled d a b (undefined_at l u e) (undefined_at m v f) = let same : l ≡ m = same_first u v in cc

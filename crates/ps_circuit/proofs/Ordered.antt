@@ -22,8 +22,7 @@ module _ (R : ℕ → ℕ → Type 0) (n : ℕ) (falls : (i j : ℕ) → R i j �
   }
     where
       here : (k i : ℕ) → slice_get places k ≡ Some i → k ≡ i
-      here k i h =
-          (let lt = slice_get_within places k i h in sym (each k (omega arith)) ∙ get_or_from_slice_get places k i 0 h)
+      here k i h = grind (arith, slice_get_within, get_or_from_slice_get)
 
       there : (i : ℕ) → i < n → slice_get places i ≡ Some i
       there i lt = (let h = slice_get-get_or places i 0 (omega arith) in let e = each i lt in cc)

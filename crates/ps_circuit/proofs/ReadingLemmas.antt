@@ -1,7 +1,6 @@
 -- Lemmas of the reader.
-use Rattle.std.proofs.Common.{◌≡◌, ◌≢◌, ℕ, ◌+◌, ◌^◌, ◌<◌, ◌≤◌, List, [], ◌∷◌, ◌++◌, Bool, true, map, length, take, drop}
-use Rattle.std.proofs.Common.{get_or, set, suc, sym, ap, subst, ◌∙◌, arith, Some, Option, All, rules, AllPairs}
-use Rattle.std.proofs.Common.{Contains, Vec}
+use Rattle.std.proofs.Common.{◌≡◌, ◌≢◌, ℕ, ◌+◌, ◌^◌, ◌<◌, ◌≤◌, List, [], ◌∷◌, ◌++◌, Bool, true, map, length, take}
+use Rattle.std.proofs.Common.{get_or, set, sym, subst, arith, Some, Option, All, rules, AllPairs, Contains, Vec}
 use Rattle.std.proofs.lemmas.List.{length-map, get_or-map, map-set, take_more, take_all, take-append-drop}
 use Rattle.std.proofs.lemmas.Option.{slice_get_within, slice_get-get_or}
 use Rattle.std.proofs.Math.Seq.{drop-cons}
@@ -31,23 +30,18 @@ pub defines_one : {most : ℕ} (literal : ℕ) {old new : List ℕ} → IsDefini
     AddsVariable old (variable literal) new → Defines most old (literal ∷ []) new
 defines_one {most} literal {old} fits adds = record {
   variables = adds.behind;
-  each =
-      λ k d lt. (let e : k ≡ 0 = omega arith in subst (λ i. IsDefinition most (get_or (literal ∷ []) i d)) (sym e)
-      fits);
-  apart =
-      λ h. subst (λ ks. AllPairs (λ v w. v ≢ w) ks) (sym adds.behind)
+  each = grind arith;
+  apart = λ h. subst (λ ks. AllPairs (λ v w. v ≢ w) ks) (sym adds.behind)
       (all_pairs_push (λ v w. v ≢ w) old (variable literal) h adds.fresh);
 }
 
 pub way_within : (gates : List Gate) {i j : ℕ} → Way (ReadsGate gates) i j → i < length gates
-way_within gates h1 = search (rules, slice_get_within)
+way_within gates h = search (rules, slice_get_within)
 
 apart_of : (literals : List ℕ) → AllPairs (λ v w. v ≢ w) (map variable literals) →
     AllPairs (λ l m. variable l ≢ variable m) literals
 apart_of literals h i j d lt within e =
-    h i j (variable d) lt (omega (arith, length-map literals variable))
-    (get_or-map variable literals i d (variable d) (omega arith) ∙ e
-    ∙ sym (get_or-map variable literals j d (variable d) within))
+    h i j (variable d) lt (omega (arith, length-map literals variable)) (grind (arith, get_or-map))
 
 -- the parts that were read make a draft
 pub draft_of : {c : CircuitData} {defined : List ℕ} → c.most < 2 ^ 31 → Defines c.most [] (definitions c) defined →
@@ -57,7 +51,7 @@ pub draft_of : {c : CircuitData} {defined : List ℕ} → c.most < 2 ^ 31 → De
 draft_of {c} limit d known n1 n2 n3 a1 a2 a3 = search (rules, apart_of)
 
 pub at_true : (b : Bool) (P : Type 0) → b ≡ true → OnTrue b P → P
-at_true b P h1 h2 = search rules
+at_true b P h k = search rules
 
 pub known_more : (variables : List ℕ) (fields : List Number) (i : ℕ) (d : Number) → i < length fields →
     All (λ f. IsKnownIn variables f.value) (take i fields) → IsKnownIn variables (get_or fields i d).value →
@@ -74,14 +68,7 @@ known_all variables fields i le h = subst (λ fs. All (λ f. IsKnownIn variables
 pub first_undefined : {variables : List ℕ} {readings : List Number} (i : ℕ) (d : Number) → i < length readings →
     All (IsDefined variables) (take i readings) → (IsDefined variables (get_or readings i d) → ⊥) →
     IsFirstUndefined variables readings (get_or readings i d)
-first_undefined {readings} i d l h n =
-    record {
-      before = take i readings;
-      after = drop (suc i) readings;
-      split = sym (take-append-drop i readings) ∙ ap (λ xs. take i readings ++ xs) (drop-cons readings i d l);
-      before_defined = h;
-      not_defined = n;
-    }
+first_undefined {readings} i d l h n = grind (arith, take-append-drop i readings, drop-cons readings i d l)
 
 pub cyclic_tells : (gates : List Gate) (starts : List ℕ) {i : ℕ} {f e : AigFault} → IsFirstOnCycle (ReadsGate gates) i →
     i < length starts → f ≡ Text Cyclic (get_or starts i 0) → f ≡ e → TellsCyclic gates starts (found_of e)

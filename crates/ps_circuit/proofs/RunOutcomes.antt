@@ -1,8 +1,7 @@
 -- A run of bytes has an outcome from each list of signs: what its first sign sees judges it.
 --     has_run      the outcome, where the run's bytes are judged
 --     run_of      the longest run that a list begins with
-use Rattle.std.proofs.Common.{◌≡◌, ℕ, Bool, true, false, List, [], ◌∷◌, ◌++◌, Some, refl, rules, sym, ap, subst, ◌∙◌}
-use Rattle.std.proofs.Common.{arith}
+use Rattle.std.proofs.Common.{◌≡◌, ℕ, Bool, true, false, List, [], ◌∷◌, ◌++◌, Some, refl, rules, sym, ap, subst, arith}
 use Rattle.std.specs.List.{AllByRecursion}
 use Rattle.ps_text.specs.Answers.{first_of}
 use Rattle.ps_text.specs.Parts.{IsRead, is_cause}
@@ -39,8 +38,7 @@ run_of {X} {q} (x ∷ xs) = go (q x) refl (run_of xs)
       all = (e, s.all);
       longest = s.longest;
     }
-    go false e s = record
-        { text = []; rest = x ∷ xs; split = refl; all = tt; longest = λ y i. ap q (sym (same_some x y i)) ∙ e }
+    go false e s = grind arith
 
 all_bytes : (p : ℕ → Bool) (text : List Seen) → AllByRecursion (λ (s : Seen). p s.byte ≡ true) text →
     AllOf p (bytes_of text)
@@ -49,7 +47,7 @@ all_bytes p (s ∷ text) h = (h.0, all_bytes p text h.1)
 
 pub stops_bytes : (p : ℕ → Bool) (bytes : List ℕ) → ((b : ℕ) → first_of bytes ≡ Some b → p b ≡ false) →
     StopsBefore p bytes
-stops_bytes p bytes h1 = search rules
+stops_bytes p bytes h = search rules
 
 module _ {V : Type 0} (p : ℕ → Bool) (see : ℕ → List ℕ → V) (Bad : List ℕ → AigCause → Type 0) where
   -- a byte that passes comes first
@@ -67,19 +65,17 @@ module _ {V : Type 0} (p : ℕ → Bool) (see : ℕ → List ℕ → V) (Bad : L
     taken = run_of after
 
     run_there : ((f : AigCause) → Bad whole f → ⊥) → Outcome aig_causes (run p see Bad) (t ∷ after)
-    run_there right = was_read _ taken.rest (subst (λ z. IsRead (run p see Bad) (t ∷ z)
-        (see t.at (t.byte ∷ bytes_of taken.text)) taken.rest) (sym taken.split)
-        (run_read p see Bad (t ∷ taken.text) taken.rest (omega arith) (passes, all_bytes p taken.text taken.all)
-        taken.longest (λ u more f e b. right f (bad_is p see Bad begins (subst (λ z. IsBadRun p Bad z f)
-        (sym (same_head t u (taken.text ++ taken.rest) more e)) b)))))
+    run_there right = was_read _ taken.rest (subst (λ z. IsRead (run p see Bad) (t ∷ z) (see t.at
+        (t.byte ∷ bytes_of taken.text)) taken.rest) (sym taken.split) (run_read p see Bad (t ∷ taken.text) taken.rest
+        (omega arith) (passes, all_bytes p taken.text taken.all) taken.longest (λ u more f e b. right f (bad_is p see
+        Bad begins (subst (λ z. IsBadRun p Bad z f) (sym (same_head t u (taken.text ++ taken.rest) more e)) b)))))
 
     judged : Judged cause_number (Bad whole) → Outcome aig_causes (run p see Bad) (t ∷ after)
     judged (bad f b least) = has_fault f (t ∷ after) (record {
       front = [];
       split = refl;
       clean = λ front rest u g e n c. absurd (omega (arith, n));
-      fault = is_cause t refl (refl, record { run = whole; begins = begins; bad = b })
-          (λ g c. least g (bad_is p see Bad begins c.1));
+      fault = is_cause t refl (refl, grind (arith, begins, bad)) (λ g c. least g (bad_is p see Bad begins c.1));
     })
     judged (good right) = run_there right
 
@@ -91,10 +87,7 @@ module _ {V : Type 0} (p : ℕ → Bool) (see : ℕ → List ℕ → V) (Bad : L
           Outcome aig_causes (run p see Bad) (t ∷ after)
       at_sign t after true x = judged t after x (judge (whole t after x))
       at_sign t after false x = has_refusal aig_causes (laws_run p see Bad b e) (t ∷ after)
-          (λ u i h. true_false (sym (ap (λ (s : Seen). p s.byte) (same_some t u i) ∙ h) ∙ x))
-        where
-          true_false : true ≡ false → ⊥
-          true_false y = let z : true ≡ false = y in cc
+          (λ u i h. grind (arith, same_some t u i))
 
       go : (all : List Seen) → Outcome aig_causes (run p see Bad) all
       go [] = has_refusal aig_causes (laws_run p see Bad b e) [] (λ u i h. none_is_some u i)

@@ -4,16 +4,16 @@
 --     run_read      a list of signs that is one run is read
 --     run_reads, run_bad      a run was passed: it is read, unless it is wrong
 --     stops_here      no sign comes with which the part begins
-use Rattle.std.proofs.Common.{◌≡◌, ℕ, suc, ◌+◌, ◌<◌, ◌≤◌, Bool, true, false, List, [], ◌∷◌, ◌++◌, length, Option, None}
+use Rattle.std.proofs.Common.{◌≡◌, ℕ, ◌+◌, ◌<◌, ◌≤◌, Bool, true, false, List, [], ◌∷◌, ◌++◌, length, Option, None}
 use Rattle.std.proofs.Common.{Some, refl, sym, ap, ap₂, subst, ◌∙◌, arith, rules}
 use Rattle.ps_text.specs.Answers.{Begins, Piece, Stream, signs, first_of, next_of}
 use Rattle.ps_text.specs.Parts.{IsRead, is_cause, StopsAt}
 use Rattle.ps_text.specs.Readers.{StopsWith, Reads}
 use Rattle.ps_text.proofs.Splits.{same_head}
-use Rattle.ps_text.specs.Runs.{AllOf, StopsBefore}
+use Rattle.ps_text.specs.Runs.{AllOf}
 use Rattle.ps_text.proofs.ByteRuns.{all_left, all_right, same_run}
 use Rattle.ps_text.proofs.Laws.{Laws}
-use Rattle.ps_text.proofs.Simple.{none_is_some, same_some, nil_is_cons}
+use Rattle.ps_text.proofs.Simple.{none_is_some, nil_is_cons}
 use Rattle.ps_text.proofs.Whole.{Own}
 use Rattle.ps_text.proofs.OneAnswer.{signs_split}
 use Rattle.ps_circuit.specs.declared.fault.AigCause.{AigCause}
@@ -40,10 +40,7 @@ pieces_with at (b ∷ bytes) rest =
 pub pieces_split : (at : ℕ) (bytes rest : List ℕ) → pieces_at at (bytes ++ rest) ≡ pieces_with at bytes rest ++
     pieces_at (at + length bytes) rest
 pieces_split at [] rest = let e : at ≡ at + 0 = omega arith in ap (λ a. pieces_at a rest) e
-pieces_split at (b ∷ bytes) rest =
-    let e : (at + 1) + length bytes ≡ at + suc (length bytes) = omega arith in
-    ap (λ ps. record { sign = record { byte = b; at = at; behind = bytes ++ rest }; start = at } ∷ ps)
-    (pieces_split (at + 1) bytes rest ∙ ap (λ a. pieces_with (at + 1) bytes rest ++ pieces_at a rest) e)
+pieces_split at (b ∷ bytes) rest = grind (arith, pieces_split (at + 1) bytes rest)
 
 pub bytes_with : (at : ℕ) (bytes rest : List ℕ) → bytes_of (signs (pieces_with at bytes rest)) ≡ bytes
 bytes_with at [] rest = refl
@@ -77,12 +74,11 @@ stops_here {V} {P = P} {First = First} l {old} none = search rules
 
 module _ {V : Type 0} (p : ℕ → Bool) (see : ℕ → List ℕ → V) (Bad : List ℕ → AigCause → Type 0) where
   pub run_begins : (b : ℕ) → p b ≡ true → Begins (run p see Bad).IsText []
-  run_begins b e =
-      record {
-        more = record { byte = b; at = 0; behind = [] } ∷ [];
-        value = see 0 (b ∷ []);
-        is_text = record { some = omega arith; all = (e, tt); value = refl };
-      }
+  run_begins b e = record {
+    more = record { byte = b; at = 0; behind = [] } ∷ [];
+    value = see 0 (b ∷ []);
+    is_text = record { some = omega arith; all = (e, tt); value = refl };
+  }
 
   head_passes : (t : Seen) (r bytes : List ℕ) → 0 < length r → AllOf p r → t.byte ∷ t.behind ≡ r ++ bytes →
       p t.byte ≡ true
@@ -116,13 +112,9 @@ module _ {V : Type 0} (p : ℕ → Bool) (see : ℕ → List ℕ → V) (Bad : L
           StopsAt (run p see Bad) text there
       stops None h = tt
       stops (Some c) h = λ b.
-          let one : AllOf p (bytes_of (text ++ c ∷ []) ++ bytes_of b.more) =
-          subst (AllOf p) (bytes_append (text ++ c ∷ []) b.more) b.is_text.all in
-          let two : AllOf p (bytes_of text ++ c.byte ∷ []) = subst (AllOf p) (bytes_append text (c ∷ []))
-          (all_left p (bytes_of (text ++ c ∷ [])) (bytes_of b.more) one) in
-          let three : p c.byte ≡ true = (all_right p (bytes_of text) (c.byte ∷ []) two).0 in
-          let four : p c.byte ≡ false = h c refl in
-          absurd cc
+          let one : AllOf p (bytes_of (text ++ c ∷ []) ++ bytes_of b.more) = grind (arith, bytes_append) in
+          let two : AllOf p (bytes_of text ++ c.byte ∷ []) = grind (arith, bytes_append, all_left) in
+          grind (arith, all_right p (bytes_of text) (c.byte ∷ []) two)
 
   begins_there : {old new : Stream Seen} {r : List ℕ} → Passes p old new r → 0 < length r → (t : Seen)
       (rest : List Seen) → signs old.pieces ≡ t ∷ rest → BeginsRun p r (t.byte ∷ t.behind)
@@ -135,8 +127,8 @@ module _ {V : Type 0} (p : ℕ → Bool) (see : ℕ → List ℕ → V) (Bad : L
     subst (λ z. IsRead (run p see Bad) (signs old.pieces) z (signs new.pieces))
         (sym (value ∙ ap₂ see (sym x.place ∙ sym (first_with r x.rest some)) (sym bytes)))
         (subst (λ z. IsRead (run p see Bad) z (see (first_at text) (bytes_of text)) (signs new.pieces)) (sym parts)
-        (run_read text (signs new.pieces) (length_with x.at r x.rest some) (subst (AllOf p) (sym bytes) x.all)
-        (search (rules, x.new_is, x.at, x.rest, x.longest))
+        (run_read text (signs new.pieces) (grind (arith, length_with x.at r x.rest some))
+        (subst (AllOf p) (sym bytes) x.all) (search (rules, x.new_is, x.at, x.rest, x.longest))
         (λ t more f e b. good f (bad_is (begins_there x some t more (parts ∙ e)) b)))),
   )
     where
@@ -151,11 +143,6 @@ module _ {V : Type 0} (p : ℕ → Bool) (see : ℕ → List ℕ → V) (Bad : L
 
       parts : signs old.pieces ≡ text ++ signs new.pieces
       parts = signs_split old.pieces (pieces_with x.at r x.rest) new.pieces split
-
-      next_stops : (at : ℕ) (rest : List ℕ) → StopsBefore p rest → (c : Seen) →
-          first_of (signs (pieces_at at rest)) ≡ Some c → p c.byte ≡ false
-      next_stops at [] s c e = absurd (none_is_some c e)
-      next_stops at (b ∷ rest) s c e = ap (λ (z : Seen). p z.byte) (sym (same_some _ c e)) ∙ s
 
   pub run_bad : {old new : Stream Seen} {r : List ℕ} (f : AigCause) → Passes p old new r → 0 < length r → Bad r f →
       ((g : AigCause) → Bad r g → cause_number f ≤ cause_number g)
@@ -176,36 +163,14 @@ module _ {V : Type 0} (p : ℕ → Bool) (see : ℕ → List ℕ → V) (Bad : L
               front = [];
               split = ap signs x.old_is;
               clean = λ front more t g e n c. absurd (omega (arith, n));
-              fault =
-                  is_cause sign refl (
-                    refl,
-                    record {
-                      run = b ∷ r;
-                      begins = begins_there x (omega arith) sign (signs (pieces_at (x.at + 1) (r ++ x.rest)))
-                          (ap signs x.old_is);
-                      bad = bad;
-                    },
-                  )
-                  (λ g c. least g (bad_is (begins_there x (omega arith) sign
-                  (signs (pieces_at (x.at + 1) (r ++ x.rest))) (ap signs x.old_is)) c.1));
+              fault = is_cause sign refl (
+                refl,
+                grind (arith, begins_there),
+              ) (λ g c. least g (bad_is (grind (arith, begins_there)) c.1));
             };
             offset = sym x.place;
           }
 
   pub run_stops : (b : ℕ) → p b ≡ true → {old new : Stream Seen} → Passes p old new [] →
       StopsWith aig_causes (run p see Bad) old (record { cause = Syntax; offset = place_of old })
-  run_stops b e x =
-      stops_here (laws_run b e) (λ t n h. go x.rest x.longest t (sym (ap (λ z. first_of (signs z)) x.old_is) ∙ n) h)
-    where
-      go : (rest : List ℕ) → StopsBefore p rest → (t : Seen) → first_of (signs (pieces_at x.at rest)) ≡ Some t →
-          p t.byte ≡ true → ⊥
-      go [] s t n h = none_is_some t n
-      go (c ∷ rest) s t n h =
-          let byte : c ≡ t.byte = byte_of x.at rest n in
-          let k : p c ≡ true = ap p byte ∙ h in
-          cc
-        where
-          byte_of : {c : ℕ} (at : ℕ) (rest : List ℕ) {t : Seen} → first_of (signs (pieces_at at (c ∷ rest))) ≡ Some t →
-              c ≡ t.byte
-          byte_of {c} at rest {t} n = let e : Some (record { byte = c; at = at; behind = rest }) ≡ Some t = n in
-              ap (λ (o : Option Seen). elim o as (λ _. ℕ) [ None ↦ c | Some s ↦ s.byte ]) e
+  run_stops b e x = stops_here (laws_run b e) (λ t n h. grind arith)

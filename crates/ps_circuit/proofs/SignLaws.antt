@@ -73,10 +73,10 @@ pub digit_space : Apart AtDigit (At 32)
 digit_space t d e = test_at is_digit t e d refl
 
 tail_blank : (t : Seen) → AtTail t → AtBlank t → ⊥
-tail_blank t h1 h2 = search (rules, test_at)
+tail_blank t h k = search (rules, test_at)
 
 tail_newline : (t : Seen) → AtTail t → At 10 t → ⊥
-tail_newline t h1 h2 = search rules
+tail_newline t h k = search rules
 
 pub separates_body : Apart Separates AtBody
 separates_body = search (rules, separates_digit, tail_blank, tail_newline)
@@ -152,9 +152,8 @@ abbrev pub gap_more : Field Bool
 gap_more = then_by gap (λ _. behind_gap)
 
 pub chain_gap_more : Chain gap (λ _. behind_gap) AtBlank Separates ⊥
-chain_gap_more = chained laws_gap
-    (λ _. or_nothing {More = At 10} true laws_ends_here (λ t h. h) (λ t h. absurd h)) blank_newline (λ t h. h)
-    (λ t h. absurd h.0) (λ t h. inr h) (λ t h. inl h.1) (λ n. n.0)
+chain_gap_more = chained laws_gap (λ _. or_nothing {More = At 10} true laws_ends_here (λ t h. h) (λ t h. absurd h))
+    blank_newline (λ t h. h) (λ t h. absurd h.0) (λ t h. inr h) (λ t h. inl h.1) (λ n. n.0)
 
 pub laws_more : Lawful more Separates Separates ⊥
 unfolding more

@@ -1,10 +1,10 @@
 -- Each text of a circuit has an answer: the text's first cause, or the first literal that is not defined, or the first
 -- gate that depends on itself, or else its circuit.
-use Rattle.std.proofs.Common.{ℕ, zero, suc, ◌<◌, ◌⊎◌, List, [], ◌∷◌, length, get_or, All, Result, Ok, Err, refl, ap}
+use Rattle.std.proofs.Common.{ℕ, ◌<◌, ◌⊎◌, List, [], ◌∷◌, length, get_or, All, Result, Ok, Err, refl, ap}
 use Rattle.std.proofs.Common.{inl, inr, arith}
 use Rattle.std.proofs.lemmas.Bool.{cases_eq}
 use Rattle.std.proofs.lemmas.Option.{slice_get-get_or}
-use Rattle.ps_text.specs.Answers.{Found, signs}
+use Rattle.ps_text.specs.Answers.{Found}
 use Rattle.ps_text.specs.Parts.{PartAnswers}
 use Rattle.ps_text.proofs.Outcomes.{some_answer}
 use Rattle.ps_text.proofs.Decisions.{Decided, decide_one, decide_in}
@@ -36,8 +36,7 @@ module _ (defined : List ℕ) where
     where
       each : IsDefined defined l → (rest : List Number) → All (IsDefined defined) rest →
           All (IsDefined defined) (l ∷ rest)
-      each h rest all zero d less = h
-      each h rest all (suc k) d less = all k d (omega (arith, less))
+      each h rest all h4 d less = grind arith
 
       go : Decided (IsDefined defined l) →
           All (IsDefined defined) readings ⊎ ((m : Number) × IsFirstUndefined defined readings m) →
@@ -70,15 +69,13 @@ abbrev SomeCircuit : List ℕ → Type 0
 SomeCircuit text = (answer : Result CircuitData (Found AigCause)) × ReadsCircuit text answer
 
 module _ (text : List ℕ) (d : DraftData) (okay : PartAnswers aig_causes circuit_text (stream_of text) (Ok d)) where
-  with_gates : All (IsDefined d.defined) d.readings →
-      ((i : ℕ) × IsFirstOnCycle (ReadsGate d.circuit.gates) i) ⊎ ((i : ℕ) → ¬ Way (ReadsGate d.circuit.gates) i i) →
-      SomeCircuit text
+  with_gates : All (IsDefined d.defined) d.readings → ((i : ℕ) × IsFirstOnCycle (ReadsGate d.circuit.gates) i) ⊎
+      ((i : ℕ) → ¬ Way (ReadsGate d.circuit.gates) i i) → SomeCircuit text
   with_gates known (inl found) =
       let within : found.0 < length d.circuit.gates = way_within d.circuit.gates found.1.cyclic in
       let start : ℕ = get_or d.starts found.0 0 in (
         Err (record { cause = Cyclic; offset = start }),
-        cyclic d found.0 start okay known found.1 (slice_get-get_or d.starts found.0 0
-            (omega (arith, within, gates_placed (signs (stream_of text).pieces) d okay.0))) refl,
+        cyclic d found.0 start okay known found.1 (grind (arith, slice_get-get_or, gates_placed)) refl,
       )
   with_gates known (inr none) = (Ok d.circuit, meaning d okay known none refl)
 

@@ -1,9 +1,8 @@
 -- The lines of names, and the comment: how they are read, and how they fail.
 --     AtLetter      a letter of a symbol comes, and one step goes behind it
 --     past_letter, past_number, past_space, past_name      what is left of the line behind them
-use Rattle.std.proofs.Common.{◌≡◌, ◌≢◌, ℕ, zero, suc, ◌+◌, ◌^◌, ◌<◌, true, false, List, [], ◌∷◌, ◌++◌}
-use Rattle.std.proofs.Common.{length, map, set, Option, None, Some, Vec, refl, sym, ap, subst, inl, inr, ◌∙◌}
-use Rattle.std.proofs.Common.{arith, rules}
+use Rattle.std.proofs.Common.{◌≡◌, ◌≢◌, ℕ, zero, suc, ◌+◌, ◌^◌, ◌<◌, true, false, List, [], ◌∷◌, ◌++◌, length, map, set}
+use Rattle.std.proofs.Common.{Option, None, Some, Vec, refl, sym, ap, subst, inl, inr, ◌∙◌, arith, rules}
 use Rattle.std.specs.Prelude.{slice_get, All}
 use Rattle.std.specs.Global.{Global}
 use Rattle.std.specs.Option.{option_map}
@@ -12,10 +11,10 @@ use Rattle.std.proofs.lemmas.List.{append-nil, length-map, map-set}
 use Rattle.std.proofs.lemmas.Option.{slice_get_within}
 use Rattle.ps_text.specs.Answers.{Piece, Stream, Found, signs, first_of, next_of}
 use Rattle.ps_text.specs.Parts.{StopsAt, times, many}
-use Rattle.ps_text.specs.Readers.{tail, tail_of, Reads, Stops, Carries}
+use Rattle.ps_text.specs.Readers.{tail, Reads, Stops, Carries}
 use Rattle.ps_text.specs.Digits.{decimal_value}
 use Rattle.ps_text.specs.Runs.{AllOf}
-use Rattle.ps_text.proofs.Simple.{same_some, none_is_some, laws_give}
+use Rattle.ps_text.proofs.Simple.{none_is_some, laws_give}
 use Rattle.ps_text.proofs.Laws.{Laws, Nothing}
 use Rattle.ps_text.proofs.Covered.{Avoids, Enters, enters_one, enters_then}
 use Rattle.ps_text.proofs.Exits.{reads_next, stops_bad, reads_give, reads_then}
@@ -53,14 +52,7 @@ behind_is {old} {t} at {bytes} x n e k = go x.1 x.2
   where
     go : (all : List ℕ) → old.pieces ≡ pieces_at x.0 all → t.behind ≡ bytes
     go [] y = absurd (none_is_some t (sym (ap (λ ps. first_of (signs ps)) y) ∙ n))
-    go (b ∷ rest) y =
-        let first : Some (record { byte = b; at = x.0; behind = rest }) ≡ Some t =
-        sym (ap (λ ps. first_of (signs ps)) y) ∙ n in
-        let seen : rest ≡ t.behind =
-        ap (λ (s : Seen). s.behind) (same_some (record { byte = b; at = x.0; behind = rest }) t first) in
-        let left : pieces_at (x.0 + 1) rest ≡ pieces_at at bytes = sym (ap tail_of y)
-        ∙ sym (ap (λ (s : Stream Seen). s.pieces) e) ∙ k in
-        sym seen ∙ sym (bytes_at (x.0 + 1) rest) ∙ ap (λ ps. bytes_of (signs ps)) left ∙ bytes_at at bytes
+    go (b ∷ rest) y = grind (arith, bytes_at (x.0 + 1) rest, bytes_at at bytes)
 
 -- ## A line
 
@@ -81,17 +73,11 @@ module _ {all : NamesData} {kind : Kind} {names : List (Option (Vec ℕ Global))
     (a : AtLetter all kind names t old s1) where
   -- the digits that were passed are those that the letter sees
   seen_digits : {s2 : Stream Seen} {run : List ℕ} → Passes is_digit s1 s2 run → Digits t run
-  seen_digits x = record {
-    rest = x.rest;
-    split = behind_is x.at a.ahead a.next a.moved x.old_is;
-    all = x.all;
-    longest = x.longest;
-  }
+  seen_digits x = grind (arith, behind_is x.at a.ahead a.next a.moved x.old_is)
 
   past_letter : ((f : AigCause) → IsBadSymbol all t f → ⊥) → Left (symbol_line all) old (symbol_number all kind) s1
   unfolding symbol_line
-  past_letter good = past (chain_letter all) unread
-      (reads_next take_kind (IsBadSymbol all) old s1 t kind a.next a.moved a.is good)
+  past_letter good = past (chain_letter all) unread (search (rules, reads_next))
 
   pub past_no_number : (s2 : Stream Seen) → Passes is_digit s1 s2 [] →
       Left (symbol_line all) old (symbol_number all kind) s1
@@ -104,14 +90,7 @@ module _ {all : NamesData} {kind : Kind} {names : List (Option (Vec ℕ Global))
   letter_stops {e = e} x small taken is =
       let d = seen_digits x.passes in
       stops_at (chain_letter all) unread (found_of e) (stops_bad aig_causes take_kind (IsBadSymbol all) old t Syntax
-      (found_of e) a.next (record {
-        kind = kind;
-        letter = a.is;
-        digits = x.run;
-        number = record { rest = d.rest; split = d.split; some = x.some; all = d.all; longest = d.longest };
-        not_free = search (rules, length-map, slice_get_within, x.run, x.value);
-        cause = refl;
-      }) (λ g b. syntax_least g) (ap found_of is))
+      (found_of e) a.next (grind (arith, length-map, slice_get_within)) (λ g b. syntax_least g) (ap found_of is))
 
   module _ {s2 : Stream Seen} {n : Number} (x : NumberIs s1 s2 n) (small : length names < 2 ^ 64)
       (free : slice_get (map name_bytes names) n.value ≡ Some None) where
@@ -141,13 +120,12 @@ module _ {all : NamesData} {kind : Kind} {names : List (Option (Vec ℕ Global))
             Reads (symbol_line all) old (put_names all kind (map name_bytes after)) s5
         symbol_reads v l e f =
             let value : n.value ≡ k.value = omega (arith, (number_any x).1, within) in
-            reads_last (λ _. add_name all kind k.value name) past_name l
-            (search (rules, map-set))
+            reads_last (λ _. add_name all kind k.value name) past_name l (search (rules, map-set))
 
 -- ## Which line comes
 
 letter_at : (t : Seen) → AtKind t → (is_kind (Some t.byte) ≡ true) × (kind : Kind) × (take_kind t ≡ Some kind)
-letter_at t h1 = search rules
+letter_at t h = search rules
 
 kind_byte : (t : Seen) → is_kind (Some t.byte) ≡ true → AtKind t
 kind_byte t e = search (rules, or_cases, AtKind, eqb-true)
@@ -191,16 +169,7 @@ symbol_shrinks names m = reads_shrinks (λ w h. (symbol_laws names).null w h) m
 pub symbol_refused : (names : NamesData) (s : Stream Seen) {e : AigFault} → (next_byte s ≡ Some 105 → ⊥) →
     (next_byte s ≡ Some 108 → ⊥) → (next_byte s ≡ Some 111 → ⊥) → e ≡ Text Syntax (place_of s)
     → Stops aig_causes (symbol_line names) s (found_of e)
-symbol_refused names s i l o is =
-    subst (λ x. Stops aig_causes (symbol_line names) s (found_of x)) (sym is) (stops_here (symbol_laws names) none)
-  where
-    byte_is : {b : ℕ} {t : Seen} → next_of s ≡ Some t → t.byte ≡ b → next_byte s ≡ Some b
-    byte_is n h = ap (option_map (λ (x : Seen). x.byte)) n ∙ ap Some h
-
-    none : (t : Seen) → next_of s ≡ Some t → AtKind t → ⊥
-    none t n (inl h) = i (byte_is n h)
-    none t n (inr (inl h)) = l (byte_is n h)
-    none t n (inr (inr h)) = o (byte_is n h)
+symbol_refused names s i l o is = grind (arith, stops_here, symbol_laws)
 
 -- the letter comes
 pub letter_is : (s : Stream Seen) {b : ℕ} {kind : Kind} → next_byte s ≡ Some b →

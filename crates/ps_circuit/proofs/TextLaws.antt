@@ -4,7 +4,7 @@
 use Rattle.std.proofs.Common.{◌≡◌, ℕ, zero, suc, Bool, false, eqb, List, Some, refl, inl, inr, rules}
 use Rattle.std.specs.Prelude.{codes}
 use Rattle.std.proofs.lemmas.Bool.{eqb-true}
-use Rattle.ps_text.specs.Parts.{NoBad, one, then_by, times, many, mapped}
+use Rattle.ps_text.specs.Parts.{NoBad, one, then_by, times, many, mapped, give}
 use Rattle.ps_text.proofs.Decisions.{judge_none}
 use Rattle.ps_text.proofs.Laws.{Nothing}
 use Rattle.ps_circuit.specs.declared.cursor.Number.{Number}
@@ -18,7 +18,6 @@ use Rattle.ps_circuit.specs.Texts.{WrongReset, sections, field, header, Lines, n
 use Rattle.ps_circuit.specs.Texts.{add_latch, add_output, add_gate, input_line, reset, latch_line, output_line}
 use Rattle.ps_circuit.specs.Texts.{gate_line, Kind, OfInput, NamesData, no_names, add_name, take_kind, IsBadSymbol}
 use Rattle.ps_circuit.specs.Texts.{symbol_line, anything, comment, DraftData, draft_of, symbols, body, circuit_text}
-use Rattle.ps_text.specs.Parts.{give}
 use Rattle.ps_circuit.proofs.Judges.{judge_any, judge_most, judge_count, judge_literal, judge_definition, judge_reset}
 use Rattle.ps_circuit.proofs.Judges.{judge_symbol}
 use Rattle.ps_circuit.proofs.Lawful.{Lawful, Chain, Judges, larger, chained, next, tight, given, mapped_by, or_nothing}
@@ -43,8 +42,7 @@ pub chain_sections : (n : ℕ) → Chain more (by_more (then_by (number WrongCou
     Separates ⊥
 chain_sections n = optional (chain_counted n (laws_sections n)).whole tt
 
-pub chain_field : {Wrong : ℕ → AigCause → Type 0} → Judges Wrong →
-    Chain gap (λ _. number Wrong) Separates AtDigit ⊥
+pub chain_field : {Wrong : ℕ → AigCause → Type 0} → Judges Wrong → Chain gap (λ _. number Wrong) Separates AtDigit ⊥
 chain_field judge = chained laws_gap (λ _. laws_number judge) blank_digit (λ t h. inl h) (λ t h. absurd h.0) (λ t h. h)
     (λ t h. absurd h.0) (λ n. n.0)
 
@@ -208,8 +206,7 @@ symbol_number names kind = then_by (number AnyNumber) (symbol_space names kind)
 
 module _ (names : NamesData) where
   pub chain_name : (kind : Kind) (k : Number) → Chain rest_of_line (symbol_end names kind k) AtInner Nothing ⊥
-  chain_name kind k = next laws_rest (λ name. mapped_by (λ _. add_name names kind k.value name) laws_newline)
-      inner_newline
+  chain_name kind k = next laws_rest (λ name. search (rules, mapped_by, laws_newline)) inner_newline
 
   pub chain_space : (kind : Kind) (k : Number) → Chain (byte 32) (λ _. symbol_name names kind k) (At 32) Nothing ⊥
   chain_space kind k = tight (laws_byte 32) (λ _. (chain_name kind k).whole)
@@ -280,8 +277,7 @@ module _ (h : HeaderData) where
 
   pub chain_outputs : (i : Lines ℕ) (l : Lines Latch) →
       Chain (times h.outputs (output_line h.most) (next_lines l)) (body_gates i l) AtBody Any (Unit {0})
-  chain_outputs i l =
-      with_lines (laws_output_line h.most) h.outputs (next_lines l) (λ o. (chain_gates i l o).whole)
+  chain_outputs i l = with_lines (laws_output_line h.most) h.outputs (next_lines l) (λ o. (chain_gates i l o).whole)
 
   pub chain_latches : (i : Lines ℕ) →
       Chain (times h.latches (latch_line h.most) (next_lines i)) (body_outputs i) AtBody Any (Unit {0})

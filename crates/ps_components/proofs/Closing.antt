@@ -30,8 +30,7 @@ close_all_cases marks (w ∷ vs) k v = elim (close_all_cases (set marks w (Close
 ]
   where
     apart : v ≢ w → ((j : ℕ) → slice_get vs j ≢ Some v) → (j : ℕ) → slice_get (w ∷ vs) j ≢ Some v
-    apart ne out zero h = ne cc
-    apart ne out (suc j) h = out j h
+    apart ne out h3 h = grind arith
 
 -- a closed item has no turns left
 turns-close_one : (g : Digraph) (first : ℕ) (marks : List Mark) (v k : ℕ) →
@@ -43,8 +42,7 @@ turns-close_one g first (m ∷ ms) (suc v) k = omega (arith, turns-close_one g (
 turns-close_all : (g : Digraph) (marks : List Mark) (vs : List ℕ) (k : ℕ) →
     turns_from g 0 (close_all marks vs k) ≤ turns_from g 0 marks
 turns-close_all g marks [] k = omega arith
-turns-close_all g marks (v ∷ vs) k =
-    omega (arith, turns-close_one g 0 marks v k, turns-close_all g (set marks v (Closed k)) vs k)
+turns-close_all g marks (v ∷ vs) k = search (rules, turns-close_one, turns-close_all g (set marks v (Closed k)) vs k)
 
 module _ {g : Digraph} {marks : List Mark} {active bounds : List ℕ} {pending : List Pending} {order : List ℕ}
     {bound : ℕ} (s : IsSoundSearch g marks active bounds pending order)
@@ -141,8 +139,7 @@ module _ {g : Digraph} {marks : List Mark} {active bounds : List ℕ} {pending :
   still : (p w : ℕ) → IsSettled marks bounds p w → IsSettled marks' front p w
   still p w (closed k c) = closed k (closed_stays w k c)
   still p w (settled_active q a later) = elim (cases_lt q bound) [
-    | inl lt ↦ settled_active q (stays w (Active q) (λ x e. (let same : q ≡ x = cc in omega (arith, same, lt))) a)
-        (λ k b h. later k b (in_front k b h).0)
+    | inl lt ↦ settled_active q (grind (arith, stays)) (λ k b h. later k b (in_front k b h).0)
     | inr le ↦ closed number (now_closed q w le (s.marked_active q w a))
   ]
 
@@ -150,8 +147,7 @@ module _ {g : Digraph} {marks : List Mark} {active bounds : List ℕ} {pending :
   led_to : (p w : ℕ) → bound ≤ p → IsSettled marks bounds p w →
       (m : ℕ) × (slice_get marks' w ≡ Some (Closed m)) × (m ≤ number)
   led_to p w le (closed k c) = (k, closed_stays w k c, omega (arith, s.numbered w k c))
-  led_to p w le (settled_active q a later) =
-      (number, now_closed q w (later _ bound is_last le) (s.marked_active q w a), omega arith)
+  led_to p w le (settled_active q a later) = (number, now_closed q w (grind arith) (s.marked_active q w a), omega arith)
 
   closed-closed_links : (v k w : ℕ) → slice_get marks' v ≡ Some (Closed k) → Link g v w →
       (m : ℕ) × (slice_get marks' w ≡ Some (Closed m)) × (m ≤ k)
@@ -178,8 +174,7 @@ module _ {g : Digraph} {marks : List Mark} {active bounds : List ℕ} {pending :
   ]
 
   closed-starts : (i v k : ℕ) → slice_get order' i ≡ Some v → slice_get marks' v ≡ Some (Closed k) → k ≤ i
-  closed-starts i v k h hv =
-      grind (arith, closed_cases v k hv, place_cases i v h, s.starts i v k, s.ordered i v, apart)
+  closed-starts i v k h hv = grind (arith, closed_cases v k hv, place_cases i v h, s.starts i v k, s.ordered i v, apart)
 
   closed-listed : (v k : ℕ) → slice_get marks' v ≡ Some (Closed k) → (i : ℕ) × (slice_get order' i ≡ Some v)
   closed-listed v k h = elim (closed_cases v k h) [
@@ -198,8 +193,7 @@ module _ {g : Digraph} {marks : List Mark} {active bounds : List ℕ} {pending :
   closed-rises i j v w k m lt hi hj hv hw = search (rules, closed_cases, place_cases, apart, slice_get_within)
 
   closed-once : (i j v : ℕ) → slice_get order' i ≡ Some v → slice_get order' j ≡ Some v → i ≡ j
-  closed-once i j v hi hj =
-      grind (arith, place_cases i v hi, place_cases j v hj, s.once i j v, s.ordered, apart, one_place)
+  closed-once i j v hi hj = grind (arith, place_cases, apart, one_place)
 
   pub sound-closed : IsSoundSearch g marks' (take bound active) front pending order'
   sound-closed = record {
@@ -213,8 +207,7 @@ module _ {g : Digraph} {marks : List Mark} {active bounds : List ℕ} {pending :
     pending_links = search (rules, slice_get-take);
     pending_rise = s.pending_rise;
     together = closed-together;
-    looked_at = λ p v w h l.
-        elim (s.looked_at p v w (on_path p v h).0 l) [ inl y ↦ inl y | inr y ↦ inr (still p w y) ];
+    looked_at = λ p v w h l. elim (s.looked_at p v w (on_path p v h).0 l) [ inl y ↦ inl y | inr y ↦ inr (still p w y) ];
     closed_links = closed-closed_links;
     same = closed-same;
     numbered = λ v k h. (let i = closed-begins v k h in slice_get_within order' k i.0 i.1);
@@ -230,8 +223,7 @@ module _ {g : Digraph} {marks : List Mark} {active bounds : List ℕ} {pending :
   in_range j v h = slice_get_within marks v _ (s.active_marked (bound + j) v (from_segment j v h))
 
   pub fewer-closed : turns g marks' front pending < turns g marks bounds pending
-  fewer-closed =
-      omega (arith, turns-close_all g marks (drop bound active) number, length-but_last bounds is_last)
+  fewer-closed = omega (arith, turns-close_all g marks (drop bound active) number, length-but_last bounds is_last)
 
   pub kept-closed : (v : ℕ) → slice_get marks' v ≡ Some Unseen → slice_get marks v ≡ Some Unseen
   kept-closed v h = grind (arith, mark_cases v)

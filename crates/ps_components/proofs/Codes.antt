@@ -33,4 +33,4 @@ pub resized : {A E : Type 0} (r : Result A E) (mark_at : ℕ → Mark) → mark_
     {new : List ℕ} {now : List Mark} (count : ℕ) {len : ℕ} → len ≡ length old →
     new ≡ (if is_ok r then take count old ++ replicate (count - len) 0 else old) → map mark_at old ≡ now →
     OnOk r (map mark_at new ≡ take count now ++ replicate (count - length now) Unseen)
-resized r mark_at h1 old count h2 h3 h4 = search (rules, map-append, take-map, map-replicate, length-map)
+resized r mark_at h old count k m n = search (rules, map-append, take-map, map-replicate, length-map)

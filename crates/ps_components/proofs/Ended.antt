@@ -1,6 +1,6 @@
 -- What the search has found when its path is empty.
-use Rattle.std.proofs.Common.{◌≡◌, ◌∙◌, ℕ, ◌<◌, ◌⊎◌, inl, inr, List, length, map, refl, sym, ap, arith, Option, Some}
-use Rattle.std.proofs.Common.{None, get_or, slice_get}
+use Rattle.std.proofs.Common.{◌≡◌, ◌∙◌, ℕ, ◌<◌, ◌⊎◌, inl, inr, List, length, map, refl, ap, arith, Some}
+use Rattle.std.proofs.Common.{get_or, slice_get}
 use Rattle.std.specs.Option.{option_map}
 use Rattle.std.proofs.lemmas.Option.{slice_get_within, slice_get-get_or, slice_get-map}
 use Rattle.std.proofs.lemmas.List.{length-map}
@@ -21,14 +21,7 @@ module _ {g : Digraph} {marks : List Mark} {active bounds : List ℕ} {pending :
   closed-in v k h = slice_get-map number_of marks v ∙ ap (option_map number_of) h
 
   in-closed : (v k : ℕ) → IsIn found v k → slice_get marks v ≡ Some (Closed k)
-  in-closed v k h = which (slice_get marks v) refl (sym (slice_get-map number_of marks v) ∙ h)
-    where
-      which : (o : Option Mark) → slice_get marks v ≡ o → option_map number_of o ≡ Some (Some k) →
-          slice_get marks v ≡ Some (Closed k)
-      which None is e = cc
-      which (Some Unseen) is e = cc
-      which (Some (Active p)) is e = cc
-      which (Some (Closed m)) is e = cc
+  in-closed v k h = grind (arith, slice_get-map)
 
   pub components-sound : AreComponents g found
   components-sound = record {
@@ -52,10 +45,7 @@ module _ {g : Digraph} {marks : List Mark} {active bounds : List ℕ} {pending :
 
   -- and what was seen stands in order
   pub all_listed : length bounds ≡ 0 → AreListed marks order
-  all_listed none = record {
-    within = λ i v at. (let found = s.ordered i v at in slice_get_within marks v (Closed found.0) found.1);
-    listed = which;
-  }
+  all_listed none = grind (arith, slice_get_within, which)
     where
       which : (v : ℕ) (m : Mark) → slice_get marks v ≡ Some m → (m ≡ Unseen) ⊎ ((i : ℕ) × (slice_get order i ≡ Some v))
       which v Unseen at = inl refl
@@ -67,9 +57,7 @@ module _ {g : Digraph} {marks : List Mark} {active bounds : List ℕ} {pending :
   met none v lt seen = which (get_or marks v Unseen) (slice_get-get_or marks v Unseen (omega (arith, s.marked)))
     where
       which : (m : Mark) → slice_get marks v ≡ Some m → (k : ℕ) × IsIn found v k
-      which Unseen h = absurd (seen h)
-      which (Active p) h = absurd (none_active none p v h)
-      which (Closed k) h = (k, closed-in v k h)
+      which m h = grind (arith, none_active, closed-in)
 
   pub all_met : length bounds ≡ 0 → ((v : ℕ) → v < g.count → slice_get marks v ≡ Some Unseen → ⊥) → AreAllMet g found
   all_met none seen v lt = met none v lt (seen v lt)
@@ -77,6 +65,5 @@ module _ {g : Digraph} {marks : List Mark} {active bounds : List ℕ} {pending :
   pub roots_met : length bounds ≡ 0 → (roots : List ℕ) → ((i v : ℕ) → slice_get roots i ≡ Some v → v < g.count) →
       ((i v : ℕ) → slice_get roots i ≡ Some v → slice_get marks v ≡ Some Unseen → ⊥) →
       ((v k : ℕ) → slice_get marks v ≡ Some (Closed k) → IsReached g roots v) → AreMet g roots found
-  roots_met none roots within seen only =
-      met_is_reached roots components-sound (λ i v h. met none v (within i v h) (seen i v h))
-      (λ v k h. only v k (in-closed v k h))
+  roots_met none roots within seen only = met_is_reached roots components-sound
+      (λ i v h. met none v (within i v h) (seen i v h)) (λ v k h. only v k (in-closed v k h))

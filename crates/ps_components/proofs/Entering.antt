@@ -1,6 +1,6 @@
 -- An item put at the end of the path keeps the lists sound.
 use Rattle.std.proofs.Common.{◌≡◌, ◌≢◌, ℕ, ◌+◌, ◌<◌, ◌≤◌, ◌⊎◌, inl, inr, List, [], ◌∷◌, ◌++◌, length, refl, sym, ap}
-use Rattle.std.proofs.Common.{◌∙◌, arith, Some, Option, slice_get, set, suc, zero, add-zero, zero-add, rules}
+use Rattle.std.proofs.Common.{◌∙◌, arith, Some, Option, slice_get, set, suc, zero, add-zero, rules}
 use Rattle.std.proofs.Common.{length-append, length-set}
 use Rattle.std.proofs.lemmas.Option.{slice_get_within}
 use Rattle.std.proofs.lemmas.Bool.{cases_eq, cases_lt}
@@ -19,7 +19,7 @@ wait_of-length n side = search rules
 
 wait_of-only : (n : ℕ) (side : Option ℕ) (i : ℕ) (e : Pending) → slice_get (wait_of n side) i ≡ Some e →
     (e.from ≡ n) × (side ≡ Some e.to)
-wait_of-only n side i e h1 = search rules
+wait_of-only n side i e h = search rules
 
 wait_of-there : (n to : ℕ) (side : Option ℕ) → side ≡ Some to →
     slice_get (wait_of n side) 0 ≡ Some (record { from = n; to = to })
@@ -27,9 +27,7 @@ wait_of-there n to side h = rw h
 
 waits-length : (g : Digraph) (p item n : ℕ) → length (waits g p item n) ≤ n
 waits-length g p item zero = omega arith
-waits-length g p item (suc n) =
-    let one = wait_of-length p (g.target item n) in
-    omega (arith, waits-length g p item n, one, length-append (waits g p item n) (wait_of p (g.target item n)))
+waits-length g p item (suc n) = search (rules, wait_of-length, length-append, waits-length g p item n)
 
 -- what waits comes from a link
 waits-link : (g : Digraph) (p item n : ℕ) → item < g.count → n ≤ g.degree item → (i : ℕ) (e : Pending) →
@@ -45,15 +43,13 @@ waits-link g p item (suc n) lt le i e h =
 waits-there : (g : Digraph) (p item n place w : ℕ) → place < n → g.target item place ≡ Some w →
     (i : ℕ) × (slice_get (waits g p item n) i ≡ Some (record { from = p; to = w }))
 waits-there g p item zero place w lt h = absurd (omega arith)
-waits-there g p item (suc n) place w lt h =
-    elim (cases_lt place n) [
-      | inl less ↦ (let t = waits-there g p item n place w less h in
-          (t.0, slice_get-append_left (waits g p item n) _ t.0 _ t.1))
-      | inr le ↦ (let e : place ≡ n = omega arith in (
-        length (waits g p item n) + 0,
-        slice_get-append_right (waits g p item n) _ 0 _ (wait_of-there p w (g.target item n) (rw e at h)),
-      ))
-    ]
+waits-there g p item (suc n) place w lt h = elim (cases_lt place n) [
+  | inl less ↦ search (rules, slice_get-append_left, waits-there g p item n place w less h)
+  | inr le ↦ (let e : place ≡ n = omega arith in (
+    length (waits g p item n) + 0,
+    slice_get-append_right (waits g p item n) _ 0 _ (grind (arith, wait_of-there)),
+  ))
+]
 
 -- the turns of the marks, with one changed
 turns_from-set : (g : Digraph) (first : ℕ) (marks : List Mark) (i : ℕ) (old new : Mark) →
@@ -61,9 +57,7 @@ turns_from-set : (g : Digraph) (first : ℕ) (marks : List Mark) (i : ℕ) (old 
     first marks + turns_of g (first + i) new
 turns_from-set g first [] i old new h = cc
 turns_from-set g first (m ∷ ms) zero old new h = let same : m ≡ old = cc in rw (same, add-zero) (omega arith)
-turns_from-set g first (m ∷ ms) (suc i) old new h =
-    let e : first + suc i ≡ suc first + i = omega arith in
-    rw e (omega (arith, turns_from-set g (suc first) ms i old new h))
+turns_from-set g first (m ∷ ms) (suc i) old new h = grind (arith, turns_from-set g (suc first) ms i old new h)
 
 module _ {g : Digraph} {marks : List Mark} {active bounds : List ℕ} {pending : List Pending} {order : List ℕ}
     {item : ℕ} (but : IsSoundBut g item marks active bounds pending order) (within : item < g.count)
@@ -123,26 +117,16 @@ module _ {g : Digraph} {marks : List Mark} {active bounds : List ℕ} {pending :
 
   entered-marked_active : (p v : ℕ) → slice_get marks' v ≡ Some (Active p) → slice_get active' p ≡ Some v
   entered-marked_active p v h =
-      grind (
-        arith,
-        mark_cases v,
-        slice_get-push active item,
-        slice_get-append_left active (item ∷ []) p v,
-        s.marked_active p v,
-      )
+      grind (arith, mark_cases v, slice_get-push active item, slice_get-append_left active (item ∷ []) p v)
 
   entered-bounds_rise : (i j b c : ℕ) → slice_get bounds' i ≡ Some b → slice_get bounds' j ≡ Some c → i < j → b < c
-  entered-bounds_rise i j b c hi hj lt =
-      grind (arith, bound_cases i b hi, bound_cases j c hj, s.bounds_rise i j b c)
+  entered-bounds_rise i j b c hi hj lt = grind (arith, bound_cases i b hi, bound_cases j c hj, s.bounds_rise i j b c)
 
   entered-bounds_within : (i b : ℕ) → slice_get bounds' i ≡ Some b → b < length active'
   entered-bounds_within i b h = omega (arith, bound_cases i b h, length-append active (item ∷ []))
 
   entered-bounds_start : slice_get bounds' 0 ≡ Some 0
-  entered-bounds_start = elim (cases_eq place 0) [
-    | inl e ↦ by bounds s.bounds_within e
-    | inr ne ↦ slice_get-append_left bounds _ 0 0 (s.bounds_start (omega arith))
-  ]
+  entered-bounds_start = grind (arith, cases_eq, by, slice_get-append_left)
     where
       by : (bs : List ℕ) → ((i b : ℕ) → slice_get bs i ≡ Some b → b < place) → place ≡ 0 →
           slice_get (bs ++ place ∷ []) 0 ≡ Some 0
@@ -156,10 +140,7 @@ module _ {g : Digraph} {marks : List Mark} {active bounds : List ℕ} {pending :
       | inl kq ↦ s.together p q v w kp.0 kq.0 (λ k b h. later k b (slice_get-append_left bounds _ k b h))
       | inr kq ↦ inr (rw kq.1 at (reached p v kp.0))
     ]
-    | inr kp ↦ elim (path_cases q w hq) [
-      | inl kq ↦ absurd (omega (arith, later _ place (slice_get-push bounds place) (omega (arith, kp.0)), kq.1))
-      | inr kq ↦ inl (sym kp.1 ∙ kq.1)
-    ]
+    | inr kp ↦ grind (arith, path_cases q w hq, slice_get-push bounds place)
   ]
 
   -- ---- what waits
@@ -175,10 +156,8 @@ module _ {g : Digraph} {marks : List Mark} {active bounds : List ℕ} {pending :
 
   entered-pending_links : (i : ℕ) (e : Pending) → slice_get pending' i ≡ Some e →
       (v : ℕ) × (slice_get active' e.from ≡ Some v) × Link g v e.to
-  entered-pending_links i e h = elim (entry_cases i e h) [
-    | inl k ↦ search (rules, there_too, slice_get-append_left)
-    | inr k ↦ (item, rw k.1 (slice_get-push active item), k.2)
-  ]
+  entered-pending_links i e h =
+      grind (arith, entry_cases i e h, there_too, slice_get-append_left, slice_get-push active item)
 
   entered-pending_rise : (i j : ℕ) (e f : Pending) → slice_get pending' i ≡ Some e → slice_get pending' j ≡ Some f →
       i < j → e.from ≤ f.from
@@ -193,13 +172,7 @@ module _ {g : Digraph} {marks : List Mark} {active bounds : List ℕ} {pending :
   waiting : (w : ℕ) → Link g item w → IsPending pending' place w
   waiting w l =
       let t = waits-there g place item (g.degree item) l.place w l.at l.target in
-      record {
-        at = length pending + t.0;
-        step = record { from = place; to = w };
-        is = slice_get-append_right pending more t.0 _ t.1;
-        from_is = refl;
-        to_is = refl;
-      }
+      grind (arith, slice_get-append_right pending more t.0 _ t.1)
 
   entered : (p w : ℕ) → p < place → w ≡ item → IsSettled marks' bounds' p w
   entered p w lt same = settled_active place (grind (arith, mark_cases w)) (λ k b h le. omega arith)
@@ -214,13 +187,7 @@ module _ {g : Digraph} {marks : List Mark} {active bounds : List ℕ} {pending :
   entered-looked_at p v w h l = elim (path_cases p v h) [
     | inl k ↦ elim (s.looked_at p v w k.0 l) [
       | inl y ↦ elim (slice_get-append_cases pending but.skipped y.at y.step y.is) [
-        | inl old ↦ inl (record {
-          at = y.at;
-          step = y.step;
-          is = slice_get-append_left pending more y.at y.step old;
-          from_is = y.from_is;
-          to_is = y.to_is;
-        })
+        | inl old ↦ inl (grind (arith, slice_get-append_left))
         | inr gone ↦ inr (entered p w k.1 (sym y.to_is ∙ but.lead gone.0 y.step gone.2))
       ]
       | inr y ↦ inr (still p w k.1 y)
@@ -253,14 +220,10 @@ module _ {g : Digraph} {marks : List Mark} {active bounds : List ℕ} {pending :
   }
 
   pub fewer-entered : turns g marks' bounds' pending' < turns g marks bounds pending
-  fewer-entered =
-      let sums = turns_from-set g 0 marks item Unseen (Active place) unseen in
-      let was : turns_of g (0 + item) Unseen ≡ g.degree item + 2 = rw zero-add in
-      omega (
-        arith,
-        sums,
-        was,
-        length-append bounds (place ∷ []),
-        length-append pending more,
-        waits-length g place item (g.degree item),
-      )
+  fewer-entered = grind (
+    arith,
+    turns_from-set g 0 marks item Unseen (Active place) unseen,
+    length-append bounds (place ∷ []),
+    length-append pending more,
+    waits-length g place item (g.degree item),
+  )

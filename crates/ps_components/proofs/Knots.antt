@@ -12,8 +12,7 @@ pub way_falls : {g : Digraph} {c : ComponentsData} → AreComponents g c → {i 
 way_falls a {i} {j} {k} (last r) h = a.falls i k j h r
 way_falls a {i} {j} {k} (next {j = x} r w) h =
     let m = a.falls i k x h r in
-    let n = way_falls a w m.1 in
-    (n.0, n.1, omega (arith, n.2, m.2))
+    grind (arith, way_falls a w m.1)
 
 module _ {g : Digraph} {c : ComponentsData} (a : AreComponents g c) (met : AreAllMet g c) where
   knot_at : {i j k m : ℕ} → Link g i j → IsIn c i k → IsIn c j m → m ≡ k → IsKnot g c i
@@ -27,9 +26,7 @@ module _ {g : Digraph} {c : ComponentsData} (a : AreComponents g c) (met : AreAl
       first i j (next {j = x} r v) e =
           let k = met i r.from in
           let m = a.falls i k.0 x k.1 r in
-          let n = way_falls a v m.1 in
-          let same : n.0 ≡ k.0 = cc (n.1, k.1) in
-          knot_at r k.1 m.1 (omega (arith, m.2, n.2, same))
+          grind (arith, way_falls a v m.1)
 
   pub cycle_of_knot : (i : ℕ) → IsKnot g c i → Way (Link g) i i
   cycle_of_knot i k = elim (a.same k.to i k.number k.there k.here) [

@@ -26,9 +26,8 @@ module _ {g : Digraph} {marks : List Mark} {active bounds : List ℕ} {pending :
     pending_links = s.pending_links;
     pending_rise = s.pending_rise;
     together = λ p q a b hp hq later. elim (cases_lt place p) [
-      | inl lt ↦ inr (across (s.together p from a v hp hv (λ k c h _. last k c h)) l
-          (s.together place q w b (s.marked_active place w hw) hq
-          (λ k c h le. later k c (cut.kept k c h le) (omega arith))))
+      | inl lt ↦ inr (across (s.together p from a v hp hv (λ k c h _. last k c h)) l (s.together place q w b
+          (s.marked_active place w hw) hq (λ k c h le. later k c (cut.kept k c h le) (omega arith))))
       | inr le ↦ s.together p q a b hp hq (λ k c h lc. later k c (cut.kept k c h (omega arith)) lc)
     ];
     looked_at = λ p a b h m. elim (s.looked_at p a b h m) [ inl y ↦ inl y | inr y ↦ inr (still p b y) ];

@@ -72,23 +72,20 @@ last_split xs {x} h = last_split_at xs x (length xs - 1) (omega (arith, slice_ge
 
 pub length-but_last : {X : Type 0} (xs : List X) {x : X} → slice_get xs (length xs - 1) ≡ Some x →
     length (take (length xs - 1) xs) + 1 ≡ length xs
-length-but_last xs h =
-    omega (arith, slice_get_within xs _ _ h, length-take-le (length xs - 1) xs (omega arith))
+length-but_last xs h = omega (arith, slice_get_within xs _ _ h, length-take-le (length xs - 1) xs (omega arith))
 
 -- what stands in a list stands in it without its last item, or is that item
 pub slice_get-but_last : {X : Type 0} (xs : List X) {x : X} → slice_get xs (length xs - 1) ≡ Some x → (i : ℕ) (y : X) →
     slice_get xs i ≡ Some y → (slice_get (take (length xs - 1) xs) i ≡ Some y) ⊎ (x ≡ y)
 slice_get-but_last xs {x} last i y h =
-    elim (slice_get-push_cases (take (length xs - 1) xs) x i y (rw (last_split xs last) at h))
-    [ inl k ↦ inl k | inr k ↦ inr k.1 ]
+    grind (arith, slice_get-push_cases (take (length xs - 1) xs) x i y (rw (last_split xs last) at h))
 
 -- what stands in two lists joined stands in the first, or in the second
 pub slice_get-append_cases : {X : Type 0} (xs ys : List X) (i : ℕ) (x : X) → slice_get (xs ++ ys) i ≡ Some x →
     (slice_get xs i ≡ Some x) ⊎ ((j : ℕ) × (i ≡ length xs + j) × (slice_get ys j ≡ Some x))
 slice_get-append_cases [] ys i x h = inr (i, omega arith, h)
 slice_get-append_cases (y ∷ xs) ys zero x h = inl h
-slice_get-append_cases (y ∷ xs) ys (suc i) x h =
-    elim (slice_get-append_cases xs ys i x h) [ inl k ↦ inl k | inr k ↦ inr (k.0, omega (arith, k.1), k.2) ]
+slice_get-append_cases (y ∷ xs) ys (suc i) x h = grind (arith, slice_get-append_cases xs ys i x h)
 
 pub slice_get-append_right : {X : Type 0} (xs ys : List X) (j : ℕ) (x : X) → slice_get ys j ≡ Some x →
     slice_get (xs ++ ys) (length xs + j) ≡ Some x

@@ -1,11 +1,11 @@
 -- What the search meets is what it began at, or what that leads to.
-use Rattle.std.proofs.Common.{◌≡◌, ◌∙◌, ℕ, ◌+◌, ◌⊎◌, drop, inl, inr, List, [], ◌∷◌, ◌++◌, length, refl, sym}
-use Rattle.std.proofs.Common.{arith, Some, slice_get, set, suc, zero}
+use Rattle.std.proofs.Common.{◌≡◌, ◌∙◌, ℕ, ◌⊎◌, drop, inl, inr, List, [], ◌∷◌, ◌++◌, length, refl, sym}
+use Rattle.std.proofs.Common.{arith, Some, slice_get, set}
 use Rattle.std.proofs.lemmas.Option.{slice_get_within}
 use Rattle.std.proofs.lemmas.List.{nil_from_length}
 use Rattle.ps_components.specs.declared.marks.Mark.{Mark}
 use Rattle.ps_components.specs.declared.search.Pending.{Pending}
-use Rattle.ps_components.specs.Graphs.{Digraph, SameOrWay, IsReached}
+use Rattle.ps_components.specs.Graphs.{Digraph, IsReached}
 use Rattle.ps_components.specs.ComponentLists.{ComponentsData, IsIn, AreComponents, AreMet}
 use Rattle.ps_components.specs.Searching.{IsSoundSearch, ChangesReached, close_all}
 use Rattle.ps_components.proofs.Ways.{SameOrWay-join}
@@ -16,27 +16,17 @@ use Rattle.ps_components.proofs.Closing.{close_all_cases}
 -- what is closed stood on the path
 pub reached-closed : (g : Digraph) (marks : List Mark) (active : List ℕ) (bound k : ℕ) →
     ChangesReached g active marks (close_all marks (drop bound active) k)
-reached-closed g marks active bound k v = elim (close_all_cases marks (drop bound active) k v) [
-  | inl y ↦ inr (bound + y.0, v, sym (slice_get-drop bound active y.0) ∙ y.1, inl refl)
-  | inr n ↦ inl n.1
-]
+reached-closed g marks active bound k v = grind (arith, close_all_cases, slice_get-drop)
 
 -- one item's mark changed, to which an item of the path has a link
 pub reached-entered : {g : Digraph} (marks : List Mark) (active : List ℕ) {item : ℕ} (m : Mark) →
     IsReached g active item → ChangesReached g active marks (set marks item m)
-reached-entered marks active {item} m r v = elim (slice_get-set_cases marks item v m) [
-  | inl e ↦ inr (rw e.0 r)
-  | inr n ↦ inl n.1
-]
+reached-entered marks active {item} m r v = grind (arith, slice_get-set_cases)
 
 -- what a root leads to
 pub reached-root : {g : Digraph} (roots : List ℕ) (k : ℕ) {root v : ℕ} → slice_get roots k ≡ Some root →
     IsReached g (root ∷ []) v → IsReached g roots v
-reached-root {g} roots k {root} {v} at r = from r.0 r.1 r.2 r.3
-  where
-    from : (i u : ℕ) → slice_get (root ∷ []) i ≡ Some u → SameOrWay g u v → IsReached g roots v
-    from zero u h y = (k, u, cc, y)
-    from (suc i) u h y = cc
+reached-root {g} roots k {root} {v} at r = grind arith
 
 module _ {g : Digraph} {marks : List Mark} {active bounds : List ℕ} {pending : List Pending} {order : List ℕ}
     (s : IsSoundSearch g marks active bounds pending order) where
@@ -45,14 +35,10 @@ module _ {g : Digraph} {marks : List Mark} {active bounds : List ℕ} {pending :
       {order' : List ℕ} (marks'' : List Mark) → IsSoundSearch g marks' active' bounds' pending' order' →
       ChangesReached g active marks marks' → ChangesReached g active' marks' marks'' →
       ChangesReached g active marks marks''
-  reached-more {active' = active'} marks'' s' before now v = elim (now v) [
-    | inl e ↦ elim (before v) [ inl f ↦ inl (e ∙ f) | inr r ↦ inr r ]
-    | inr r ↦ (let from = on_path r.0 r.1 r.2 in inr (from.0, from.1, from.2, SameOrWay-join from.3 r.3))
-  ]
+  reached-more {active' = active'} marks'' s' before now v = grind (arith, on_path, SameOrWay-join)
     where
       on_path : (p a : ℕ) → slice_get active' p ≡ Some a → IsReached g active a
-      on_path p a h =
-          elim (before a) [ inl f ↦ (p, a, s.marked_active p a (sym f ∙ s'.active_marked p a h), inl refl) | inr r ↦ r ]
+      on_path p a h = elim (before a) [ inl f ↦ (p, a, grind arith, inl refl) | inr r ↦ r ]
 
   no_path : length bounds ≡ 0 → active ≡ []
   no_path none = nil_from_length active (grind (arith, s.bounds_start, slice_get_within bounds 0 0))
@@ -60,8 +46,7 @@ module _ {g : Digraph} {marks : List Mark} {active bounds : List ℕ} {pending :
   -- a search that begins at one item
   pub reached-begun : length bounds ≡ 0 → (item : ℕ) (m : Mark) (marks' : List Mark) →
       ChangesReached g (active ++ item ∷ []) (set marks item m) marks' → ChangesReached g (item ∷ []) marks marks'
-  reached-begun none item m marks' now v =
-      here (rw (no_path none) at (now v))
+  reached-begun none item m marks' now v = here (rw (no_path none) at (now v))
     where
       here : (slice_get marks' v ≡ slice_get (set marks item m) v) ⊎ IsReached g (item ∷ []) v →
           (slice_get marks' v ≡ slice_get marks v) ⊎ IsReached g (item ∷ []) v
@@ -75,9 +60,4 @@ module _ {g : Digraph} {marks : List Mark} {active bounds : List ℕ} {pending :
 pub met_is_reached : {g : Digraph} (roots : List ℕ) {c : ComponentsData} → AreComponents g c →
     ((i v : ℕ) → slice_get roots i ≡ Some v → (k : ℕ) × IsIn c v k) → ((v k : ℕ) → IsIn c v k → IsReached g roots v) →
     AreMet g roots c
-met_is_reached {g} roots {c} a met only v =
-    ((λ h. only v h.0 h.1), (λ r. (let k = met r.0 r.1 r.2 in along r.1 v k.0 r.3 k.1)))
-  where
-    along : (u w k : ℕ) → SameOrWay g u w → IsIn c u k → (m : ℕ) × IsIn c w m
-    along u w k (inl e) h = (k, rw e at h)
-    along u w k (inr way) h = (let m = way_falls a way h in (m.0, m.1))
+met_is_reached {g} roots {c} a met only v = grind (arith, way_falls)

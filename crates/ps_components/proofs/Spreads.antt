@@ -78,9 +78,8 @@ module _ {g : Digraph} {seen : List Bool} {steps : List Step} {place : ℕ} (s :
   way-seen all h (inr way) = along way h
     where
       step-on : {v w : ℕ} → Link g v w → slice_get seen v ≡ Some true → slice_get seen w ≡ Some true
-      step-on {v} {w} l h =
-          (let b = s.reached v h in s.looked b.0 w b.1 (omega (arith, slice_get_within steps b.0 b.1 b.2)) b.2
-          (rw b.3 l))
+      step-on {v} {w} l h = (let b = s.reached v h in
+          s.looked b.0 w b.1 (omega (arith, slice_get_within steps b.0 b.1 b.2)) b.2 (rw b.3 l))
 
       along : {v w : ℕ} → Way (Link g) v w → slice_get seen v ≡ Some true → slice_get seen w ≡ Some true
       along (last l) h = step-on l h
@@ -97,8 +96,7 @@ pub trail-more : {g : Digraph} {items : List ℕ} {end at to : ℕ} → IsTrail 
     ((i : ℕ) → slice_get items i ≡ Some to → ⊥) → IsTrail g (items ++ to ∷ []) end to
 trail-more {g} {items} {end} {at} {to} t l new = record {
   first = slice_get-append_left items _ 0 end t.first;
-  last =
-      (let e : length (items ++ to ∷ []) - 1 ≡ length items = omega (arith, length-append items (to ∷ [])) in
+  last = (let e : length (items ++ to ∷ []) - 1 ≡ length items = omega (arith, length-append items (to ∷ [])) in
       rw e (slice_get-push items to));
   links = λ i v w h k. elim (slice_get-push_cases items to i v h) [
     | inl a ↦ elim (slice_get-push_cases items to (i + 1) w k) [

@@ -1,5 +1,5 @@
 -- Ways joined, and what an order says of ways.
-use Rattle.std.proofs.Common.{ℕ, inl, inr}
+use Rattle.std.proofs.Common.{arith, ℕ, inl, inr}
 use Rattle.ps_components.specs.Graphs.{Digraph, Link, SameOrWay, Way, last, next}
 
 pub Way-join : {R : ℕ → ℕ → Type 0} {i j k : ℕ} → Way R i j → Way R j k → Way R i k
@@ -11,9 +11,7 @@ Way-map f (last r) = last (f _ _ r)
 Way-map f (next r w) = next (f _ _ r) (Way-map f w)
 
 pub SameOrWay-join : {g : Digraph} {u v w : ℕ} → SameOrWay g u v → SameOrWay g v w → SameOrWay g u w
-SameOrWay-join (inl e) y = rw e y
-SameOrWay-join (inr x) (inl e) = inr (rw e at x)
-SameOrWay-join (inr x) (inr y) = inr (Way-join x y)
+SameOrWay-join h y = grind (arith, Way-join)
 
 -- by a link, then by a way or by none
 before : {g : Digraph} {u w b : ℕ} → Link g u w → SameOrWay g w b → Way (Link g) u b

@@ -1,7 +1,7 @@
 -- The tree of one letter, made from the last proposition up.
 use Rattle.std.proofs.Common.{◌≡◌, ℕ, zero, suc, ◌+◌, ◌-◌, ◌/◌, ◌^◌, ◌<◌, ◌≤◌, Bool, true, false, cond, nat_eq}
-use Rattle.std.proofs.Common.{Some, None, refl, ap, sym, ◌∙◌, arith, inl, inr, ◌⊎◌}
-use Rattle.std.proofs.lemmas.Bool.{cases_lt, eq-eqb, eqb-true, eqb-false, false_from_ne_true, true_from_ne_false}
+use Rattle.std.proofs.Common.{Some, None, ap, sym, ◌∙◌, arith, inl, inr, ◌⊎◌}
+use Rattle.std.proofs.lemmas.Bool.{eq-eqb, eqb-true, false_from_ne_true, true_from_ne_false}
 use Rattle.std.proofs.lemmas.Nat.Bits.{same_from_bits_below, bit_at-lt, shr_and_one}
 use Rattle.std.specs.Int.{bit_at}
 use Rattle.std.specs.Prelude.{bit_and}
@@ -20,19 +20,14 @@ pub record IsAlone (n level letter : ℕ) (t : Tree) : Type 0 where
 
 pub test_blind : (p : ℕ) (low high t : Tree) → IsTestOf p low high t → IsBlind (p + 1) low →
     IsBlind (p + 1) high → IsBlind p t
-test_blind p low high t h bl bh f g e =
-    let later : (q : ℕ) → p + 1 ≤ q → f q ≡ g q = λ q le. e q (omega arith) in
-    cc (h f, h g, e p (omega arith), bl f g later, bh f g later)
+test_blind p low high t h bl bh f g e = grind arith
 
 pub empty_blind : (level : ℕ) (t : Tree) → ((f : ℕ → Bool) → leaf_at t f ≡ None) → IsBlind level t
 empty_blind level t e f g _ = e f ∙ sym (e g)
 
 -- two letters are alike below n, or differ somewhere
 bool_same : (a b : Bool) → (a ≡ b) ⊎ (a ≡ b → ⊥)
-bool_same true true = inl refl
-bool_same true false = inr true_is_not_false
-bool_same false true = inr (λ e. true_is_not_false (sym e))
-bool_same false false = inl refl
+bool_same a b = grind (arith, true_is_not_false)
 
 -- what a proposition more adds: the tree so far where it is as in the letter, and else no leaf
 alone_step : {n : ℕ} (p letter : ℕ) (v : Bool) (node made : Tree) → IsAlone n (p + 1) letter node →
@@ -61,34 +56,20 @@ alone_made p letter false none node made e a is below h = alone_step p letter fa
 
 alike_or_not : (n : ℕ) (f g : ℕ → Bool) → ((q : ℕ) → q < n → f q ≡ g q) ⊎ ((q : ℕ) × (q < n) × (f q ≡ g q → ⊥))
 alike_or_not zero f g = inl (λ q lt. absurd (omega arith))
-alike_or_not (suc n) f g = elim (alike_or_not n f g) [
-  | inl h ↦ elim (bool_same (f n) (g n)) [
-    | inl e ↦ inl (λ q lt. elim (cases_lt q n) [
-      | inl less ↦ h q less
-      | inr ge ↦ let is : q ≡ n = omega arith in rw is e
-    ])
-    | inr ne ↦ inr (n, omega arith, ne)
-  ]
-  | inr d ↦ inr (d.0, omega (arith, d.1), d.2)
-]
+alike_or_not (suc n) f g = grind (arith, bool_same (f n) (g n), alike_or_not n f g)
 
 bit_same : (a b : ℕ) → a < 2 → b < 2 → nat_eq a 1 ≡ nat_eq b 1 → a ≡ b
-bit_same a b la lb e = elim (bool_cases (nat_eq b 1)) [
-  | inl is ↦ omega (arith, eqb-true a 1 (e ∙ is), eqb-true b 1 is)
-  | inr isnt ↦ omega (arith, eqb-false a 1 (e ∙ isnt), eqb-false b 1 isnt)
-]
+bit_same a b la lb e = grind (arith, bool_cases (nat_eq b 1))
 
 pub same_letter : (n a b : ℕ) → a < 2 ^ n → b < 2 ^ n → ((q : ℕ) → q < n → is_in q a ≡ is_in q b) → a ≡ b
-same_letter n a b la lb h = same_from_bits_below n a b la lb (λ q lt. bit_same (bit_at a q) (bit_at b q) (bit_at-lt a q)
-    (bit_at-lt b q) (h q lt))
+same_letter n a b la lb h = same_from_bits_below n a b la lb (λ q lt. grind (arith, bit_same, bit_at-lt))
 
 pub alone_end : {n m level letter : ℕ} {t : Tree} → letter < 2 ^ n → m ≡ n → level ≡ 0 → IsAlone m level letter t →
     (other : ℕ) → other < 2 ^ n → leaf_at t (assignment other) ≡ one_where (nat_eq other letter)
 alone_end {n} {letter} lt same done alone other olt =
     let a = rw (same, done) at alone in
     elim (alike_or_not n (assignment other) (assignment letter)) [
-      | inl h ↦ a.here (assignment other) (λ q _ below. h q below)
-          ∙ sym (ap one_where (eq-eqb other letter (same_letter n other letter olt lt h)))
+      | inl h ↦ grind (arith, eq-eqb other letter (same_letter n other letter olt lt h))
       | inr d ↦ elim (bool_cases (nat_eq other letter)) [
         | inl is ↦ absurd (d.2 (ap (λ x. is_in d.0 x) (eqb-true other letter is)))
         | inr isnt ↦ a.elsewhere (assignment other) d.0 (omega arith) d.1 d.2 ∙ sym (ap one_where isnt)
@@ -108,7 +89,4 @@ pub bit_true : (letter p : ℕ) → bit_and (letter / 2 ^ p) 1 ≡ 1 → is_in p
 bit_true letter p e = eq-eqb (bit_at letter p) 1 (sym (shr_and_one letter p) ∙ e)
 
 pub bit_false : (letter p : ℕ) → (bit_and (letter / 2 ^ p) 1 ≡ 1 → ⊥) → is_in p letter ≡ false
-bit_false letter p ne = elim (bool_cases (is_in p letter)) [
-  | inl is ↦ absurd (ne (shr_and_one letter p ∙ eqb-true (bit_at letter p) 1 is))
-  | inr isnt ↦ isnt
-]
+bit_false letter p ne = grind (arith, bool_cases, shr_and_one, eqb-true)

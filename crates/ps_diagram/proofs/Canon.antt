@@ -2,7 +2,7 @@
 -- tests none.
 use Rattle.std.proofs.Common.{◌≡◌, ℕ, ◌+◌, ◌<◌, ◌≤◌, Bool, true, false, cond, Option, Some, None, eqb, refl, ap}
 use Rattle.std.proofs.Common.{sym, ◌∙◌, arith, inl, inr}
-use Rattle.std.proofs.lemmas.Bool.{cases_lt, cases_order, eq-eqb, eqb-true, eqb-false}
+use Rattle.std.proofs.lemmas.Bool.{cases_lt, cases_order, eq-eqb, eqb-false}
 use Rattle.ps_diagram.specs.Tree.{Tree, empty, final, choice, leaf_at, IsFrom, IsReduced, IsBlind, HaveSameLeaves}
 use Rattle.ps_diagram.specs.Tree.{IsTestOf}
 use Rattle.ps_diagram.specs.Table.{Table, IsNode, IsSoundTable, tree_of}
@@ -16,15 +16,13 @@ pub changed-here : (f : ℕ → Bool) (p : ℕ) (b : Bool) → changed f p b p �
 changed-here f p b = rw (eq-eqb p p refl)
 
 pub changed-other : (f : ℕ → Bool) (p : ℕ) (b : Bool) (q : ℕ) → (q ≡ p → ⊥) → changed f p b q ≡ f q
-changed-other f p b q ne =
-    elim (bool_cases (eqb q p)) [ inl is ↦ absurd (ne (eqb-true q p is)) | inr is ↦ ap (λ e. cond e b (f q)) is ]
+changed-other f p b q ne = grind (arith, bool_cases (eqb q p))
 
 pub changed-later : (f : ℕ → Bool) (p : ℕ) (b : Bool) (q : ℕ) → p + 1 ≤ q → changed f p b q ≡ f q
 changed-later f p b q le = changed-other f p b q (λ e. omega arith)
 
 pub same_cond : (b : Bool) (x : Option ℕ) → x ≡ cond b x x
-same_cond true x = refl
-same_cond false x = refl
+same_cond b x = grind arith
 
 -- only propositions from the level on and below n matter
 pub from-blind : (level n : ℕ) (t : Tree) → IsFrom level n t → (f g : ℕ → Bool) →
@@ -41,15 +39,11 @@ blind-from level n t o f g e = from-blind level n t o f g (λ q h b. e q h)
 -- the side of a test is the test's leaf at a letter changed there
 pub side_leaf : (p : ℕ) (v : Bool) (t low high : Tree) → IsTestOf p low high t → IsBlind (p + 1) low →
     IsBlind (p + 1) high → (f : ℕ → Bool) → leaf_at t (changed f p v) ≡ cond v (leaf_at high f) (leaf_at low f)
-side_leaf p true t low high h bl bh f =
-    rw (h (changed f p true), changed-here f p true) (bh (changed f p true) f (changed-later f p true))
-side_leaf p false t low high h bl bh f =
-    rw (h (changed f p false), changed-here f p false) (bl (changed f p false) f (changed-later f p false))
+side_leaf p v t low high h bl bh f = grind (arith, changed-here, changed-later)
 
 choice_side : (n p : ℕ) (v : Bool) (low high : Tree) → IsFrom (p + 1) n low → IsFrom (p + 1) n high → (f : ℕ → Bool) →
     leaf_at (choice p low high) (changed f p v) ≡ cond v (leaf_at high f) (leaf_at low f)
-choice_side n p v low high ol oh = side_leaf p v (choice p low high) low high (λ f. refl)
-    (blind-from (p + 1) n low ol) (blind-from (p + 1) n high oh)
+choice_side n p v low high ol oh = grind (arith, blind-from (p + 1) n low ol, blind-from (p + 1) n high oh)
 
 -- the tree that is that leaf at every letter
 abbrev pub leaf_tree : Option ℕ → Tree
@@ -72,8 +66,7 @@ Only n t = (u : Tree) (b : ℕ) → IsFrom b n u → IsReduced u → HaveSameLea
 sides_alike : (n p : ℕ) (l h m g : Tree) → IsFrom (p + 1) n l → IsFrom (p + 1) n h → IsFrom (p + 1) n m →
     IsFrom (p + 1) n g → HaveSameLeaves (choice p l h) (choice p m g) → (v : Bool) (f : ℕ → Bool) →
     cond v (leaf_at h f) (leaf_at l f) ≡ cond v (leaf_at g f) (leaf_at m f)
-sides_alike n p l h m g ol oh om og e v f =
-    sym (choice_side n p v l h ol oh f) ∙ e (changed f p v) ∙ choice_side n p v m g om og f
+sides_alike n p l h m g ol oh om og e v f = grind (arith, choice_side n p v l h ol oh f, choice_side n p v m g om og f)
 
 module _ (n p : ℕ) (low high : Tree) (below : p < n) (ol : IsFrom (p + 1) n low) (oh : IsFrom (p + 1) n high)
     (differ : low ≡ high → ⊥) (il : Only n low) (ih : Only n high) where
@@ -124,12 +117,4 @@ pub record Ready (t : Table) (p low high : ℕ) : Type 0 where
 
 pub ready : {t : Table} → IsSoundTable t → (p : ℕ) {low high : ℕ} → p < t.propositions → IsNode t low → IsNode t high →
     IsBlind (p + 1) (tree_of t low) → IsBlind (p + 1) (tree_of t high) → eqb low high ≡ false → Ready t p low high
-ready {t} s p {low} {high} named hl hh bl bh ne = record {
-  ordered = (
-    omega arith,
-    named,
-    from-level t.propositions (tree_of t low) (p + 1) (s.ordered low hl) (s.reduced low hl) bl,
-    from-level t.propositions (tree_of t high) (p + 1) (s.ordered high hh) (s.reduced high hh) bh,
-  );
-  reduced = ((λ e. eqb-false low high ne (s.one low high hl hh e)), s.reduced low hl, s.reduced high hh);
-}
+ready {t} s p {low} {high} named hl hh bl bh ne = grind (arith, from-level, eqb-false)

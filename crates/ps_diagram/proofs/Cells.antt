@@ -10,7 +10,7 @@ use Rattle.std.specs.List.{list_any, slice_get}
 use Rattle.indexmap.specs.IndexSet.{insert_key}
 use Rattle.ps_diagram.specs.declared.view.View.{View}
 use Rattle.ps_diagram.specs.declared.view.View.TheVariants.{Nothing}
-use Rattle.ps_diagram.specs.Tree.{Tree, empty, IsFrom, IsReduced}
+use Rattle.ps_diagram.specs.Tree.{Tree, IsFrom, IsReduced}
 use Rattle.ps_diagram.specs.Parts.{IsPart}
 use Rattle.ps_diagram.specs.Table.{Table, tree_by, trees_of, tree_at, tree_in, tree_of, IsNode, IsWithin, IsSoundTable}
 use Rattle.ps_diagram.specs.Table.{Keeps}
@@ -37,8 +37,7 @@ length_trees cells = omega (arith, length_from [] cells)
 
 pub tree_at-old : (cells : List View) (cell : View) (k : ℕ) → k < length cells →
     tree_at (cells ++ cell ∷ []) k ≡ tree_at cells k
-tree_at-old cells cell k h =
-    rw (trees_push cells cell) (get_or_append_left (trees_of cells) _ empty k (omega (arith, length_trees cells)))
+tree_at-old cells cell k h = grind (arith, trees_push, get_or_append_left, length_trees)
 
 pub tree_at-new : (cells : List View) (cell : View) → tree_at (cells ++ cell ∷ []) (length cells) ≡ tree_in cells cell
 tree_at-new cells cell = search (rules, trees_push, get_or_push, length_trees)
@@ -46,16 +45,16 @@ tree_at-new cells cell = search (rules, trees_push, get_or_push, length_trees)
 -- the tree of a cell whose nodes are held stays
 pub tree_in-old : (cells : List View) (cell c : View) → IsWithin (length cells) c →
     tree_in (cells ++ cell ∷ []) c ≡ tree_in cells c
-tree_in-old cells cell c h1 = search (rules, tree_at-old)
+tree_in-old cells cell c h = search (rules, tree_at-old)
 
 pub within-weaker : {a : ℕ} (b : ℕ) (c : View) → a ≤ b → IsWithin a c → IsWithin b c
-within-weaker b c h1 h2 = search rules
+within-weaker b c h k = search rules
 
 -- equal trees are of equal cells, where equal trees are one node
 pub same_cell : (t : Table) → IsSoundTable t → (a b : View) → IsWithin (length t.cells) a →
     IsWithin (length t.cells) b → tree_in t.cells a ≡ tree_in t.cells b → a ≡ b
 unfolding tree_of
-same_cell t h1 a b h2 h3 h4 = search rules
+same_cell t h a b k m n = search rules
 
 pub bool_cases : (b : Bool) → (b ≡ true) ⊎ (b ≡ false)
 bool_cases b = cases_Bool b
@@ -78,11 +77,7 @@ push_each P d xs x {count} size is each last i lt = search (rules, cases_lt, get
 
 pub keeps_more : (t : Table) (cell : View) → Keeps t (more t cell)
 unfolding tree_of
-keeps_more t cell = record {
-  propositions = refl;
-  held = λ node h. omega (arith, length-append t.cells (cell ∷ []));
-  same = λ node h. tree_at-old t.cells cell node h;
-}
+keeps_more t cell = grind (arith, length-append, tree_at-old)
 
 -- what holds of the old cells, with their trees, and of the new one holds of all
 each_cell : (P : ℕ → View → Tree → Type 0) (cells : List View) (cell : View) →
@@ -90,10 +85,7 @@ each_cell : (P : ℕ → View → Tree → Type 0) (cells : List View) (cell : V
     P (length cells) cell (tree_in cells cell) → (k : ℕ) → k < length (cells ++ cell ∷ []) →
     P k (get_or (cells ++ cell ∷ []) k Nothing) (tree_at (cells ++ cell ∷ []) k)
 each_cell P cells cell old new k h =
-    elim (old_or_new k (length cells) (omega (arith, length-append cells (cell ∷ [])))) [
-      | inl lt ↦ rw (get_or_append_left cells (cell ∷ []) Nothing k lt, tree_at-old cells cell k lt) (old k lt)
-      | inr is ↦ rw (is, get_or_push cells cell Nothing (length cells) refl, tree_at-new cells cell) new
-    ]
+    search (rules, old_or_new, length-append, get_or_append_left, tree_at-old, get_or_push, tree_at-new)
 
 -- every store with one cell more is sound, where the cell is well made and new
 pub sound_more : {t : Table} {cell : View} → IsSoundTable t → IsWithin (length t.cells) cell →
@@ -114,11 +106,10 @@ sound_more {t} {cell} s w o r new =
       earlier = each_cell (λ k c u. IsWithin k c) old cell s.earlier w;
       ordered = each_cell (λ k c u. IsFrom 0 t.propositions u) old cell s.ordered o;
       reduced = each_cell (λ k c u. IsReduced u) old cell s.reduced r;
-      one = λ a b ha hb. each_cell (λ k c u. u ≡ tree_at (old ++ cell ∷ []) b → k ≡ b) old cell
-          (λ k h. each_cell (λ j c u. tree_at old k ≡ u → k ≡ j) old cell
-          (λ j g. s.one k j h g) (λ e. absurd (apart k h (sym e))) b hb)
-          (each_cell (λ j c u. tree_in old cell ≡ u → n ≡ j) old cell
-          (λ j g e. absurd (apart j g e)) (λ e. refl) b hb) a ha;
+      one = λ a b ha hb. each_cell (λ k c u. u ≡ tree_at (old ++ cell ∷ []) b → k ≡ b) old cell (λ k h. each_cell
+          (λ j c u. tree_at old k ≡ u → k ≡ j) old cell (λ j g. s.one k j h g) (λ e. absurd (apart k h (sym e))) b hb)
+          (each_cell (λ j c u. tree_in old cell ≡ u → n ≡ j) old cell (λ j g e. absurd (apart j g e)) (λ e. refl) b hb)
+          a ha;
     }
 
 -- the table after a cell is interned, and its place
@@ -155,4 +146,4 @@ interned {t} {cells} {cell} place eq sound_eq refl_eq s w o r is stored =
 pub part_of : {t : Table} {node : ℕ} (cell : View) → IsSoundTable t → IsNode t node →
     get_or t.cells node Nothing ≡ cell → IsPart t node cell
 unfolding tree_of
-part_of cell h1 h2 h3 = search rules
+part_of cell h k m = search rules

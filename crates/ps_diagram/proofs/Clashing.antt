@@ -1,5 +1,5 @@
 -- A clash is told at a numbered letter.
-use Rattle.std.proofs.Common.{◌≡◌, ◌↔◌, ℕ, ◌<◌, ◌^◌, Bool, IsTrue, eqb, sym, ap, ◌∙◌, rules}
+use Rattle.std.proofs.Common.{◌≡◌, ◌↔◌, ℕ, ◌<◌, ◌^◌, Bool, IsTrue, eqb, sym, ◌∙◌, rules}
 use Rattle.std.proofs.lemmas.Bool.{eqb-true, eq-eqb}
 use Rattle.ps_diagram.specs.Tree.{HaveSameLeaves}
 use Rattle.ps_diagram.proofs.Canon.{same_tree}
@@ -31,7 +31,8 @@ one_node {t} s {a} {b} ha hb e = search (rules, same_tree)
 pub same_node : {t : Table} → IsSoundTable t → {a b : ℕ} → IsNode t a → IsNode t b → {r : Bool} → r ≡ eqb a b →
     IsTrue r ↔ ((letter : ℕ) → letter < 2 ^ t.propositions → leaf_of t a letter ≡ leaf_of t b letter)
 same_node {t} s {a} {b} ha hb e = (
-  (λ h letter l. let is : a ≡ b = eqb-true a b (sym e ∙ h) in ap (λ node. leaf_of t node letter) is),
-  (λ h. e ∙ eq-eqb a b (one_node s ha hb (same_by_numbers t.propositions (tree_of t a) (tree_of t b)
-      (s.ordered a ha) (s.ordered b hb) h))),
+  search (rules, eqb-true),
+  (λ h. e ∙ eq-eqb a b
+      (one_node s ha hb
+      (same_by_numbers t.propositions (tree_of t a) (tree_of t b) (s.ordered a ha) (s.ordered b hb) h))),
 )

@@ -30,9 +30,8 @@ record IsListed (t : Table) (node : ℕ) (list : List Class) : Type 0 where
   pub complete : (f : ℕ → Bool) (k : ℕ) → leaf_at (tree_of t node) f ≡ Some k → IsThere list k
   pub rising : (i j : ℕ) → i < j → j < length list → IsBefore (class_at list i).letter (class_at list j).letter
 
-listed : (t : Table) (node : ℕ) → IsFrom 0 t.propositions (tree_of t node) →
-    (leaves : List (ℕ × ℕ)) (list : List Class) → AreLeaves t node leaves → AreOf leaves (length leaves) list →
-    IsListed t node list
+listed : (t : Table) (node : ℕ) → IsFrom 0 t.propositions (tree_of t node) → (leaves : List (ℕ × ℕ)) (list : List Class)
+    → AreLeaves t node leaves → AreOf leaves (length leaves) list → IsListed t node list
 listed t node own leaves list h o =
     let n = t.propositions in
     let each = o.each in
@@ -108,28 +107,16 @@ joined_letter n mask x w h p is = search (rules, cases_lt, letter_is, no_bit, le
 
 others_agree : (n mask x y : ℕ) (w : ℕ → Bool) → AgreeOff mask (letter_of n (mixed mask (assignment x) w))
     (letter_of n (mixed mask (assignment y) w))
-others_agree n mask x y w p isnt =
-    let f = mixed mask (assignment x) w in
-    let g = mixed mask (assignment y) w in
-    elim (cases_lt p n) [
-      | inl lt ↦ rw (letter_is n f p lt, letter_is n g p lt, isnt)
-      | inr ge ↦ no_bit n (letter_of n f) p (letter_lt n f) ge ∙ sym (no_bit n (letter_of n g) p (letter_lt n g) ge)
-    ]
+others_agree n mask x y w p isnt = grind (arith, cases_lt, letter_is, no_bit, letter_lt)
 
 module _ {s u : Table} (m : Made s u) where
   place_at : (f : ℕ → Bool) → (k : ℕ) × IsPlaceOf s u m f k
   place_at f =
       let x = m.division f in
-      let there = m.listed.complete f x.0 x.1 in
-      let rest : leaf_at (tree_of u m.divided) f ≡ Some (class_at m.list there.0).rest =
-      rw there.2 x.1 in (search rules)
+      search rules
 
   known_at : (f : ℕ → Bool) {k : ℕ} → leaf_at (tree_of u m.at) f ≡ Some k → IsPlaceOf s u m f k
-  known_at f {k} e =
-      let x = place_at f in
-      let is = x.1.is in
-      let same : x.0 ≡ k = cc in
-      rw (← same) x.1
+  known_at f {k} e = grind (arith, place_at f)
 
   same_letters : (f g : ℕ → Bool) → ((q : ℕ) → f q ≡ g q) → leaf_at (tree_of s m.node) f ≡ leaf_at (tree_of s m.node) g
   same_letters f g e = search (rules, blind-from)
@@ -167,12 +154,7 @@ module _ {s u : Table} (m : Made s u) where
       ∙ h (letter_of n (mixed m.mask (assignment x) w)) (letter_of n (mixed m.mask (assignment y) w))
       (joined_letter n m.mask x w (rw (← m.letters) hx)) (joined_letter n m.mask y w (rw (← m.letters) hy))
       (others_agree n m.mask x y w) ∙ sym (leaf_by_number n a own (mixed m.mask (assignment y) w)) in
-      rw (
-        m.mapped (assignment x),
-        m.mapped (assignment y),
-        divided_alike m.sound m.mask a (tree_of u m.divided)
-            m.division (assignment x) (assignment y) e,
-      )
+      grind (arith, divided_alike m.sound m.mask a (tree_of u m.divided) m.division (assignment x) (assignment y) e)
 
   -- a proposition outside the mask that the letter of a class had could be left out
   masked : (c : Class) → IsLeast (LeadsTo u m.divided c.rest) c.letter → (p : ℕ) → is_in p m.mask ≡ false →
@@ -187,21 +169,7 @@ module _ {s u : Table} (m : Made s u) where
       (search (rules, letter_is, changed-here, changed-other, c.letter)))
 
   class_is : (k : ℕ) → k < length m.list → IsClass s u m.node m.mask m.at k (class_at m.list k)
-  class_is k lt =
-      let c = class_at m.list k in
-      let first = m.listed.least k lt in
-      let its_own : leaf_of u m.at c.letter ≡ Some k = search rules in
-      let here = known_at (assignment c.letter) its_own in
-      record {
-        least = record {
-          here = (first.here.0, its_own);
-          none_before = λ y e before. first.none_before y (e.0, (known_at (assignment y) e.1).rest) before;
-        };
-        masked = masked c first;
-        held = here.held;
-        others = search (rules, same_letters, mixed_second);
-        shared = search (rules, known_at, same_letters, mixed_first);
-      }
+  class_is k lt = grind (arith, masked, same_letters, mixed_second, known_at, mixed_first)
 
   are_classes : IsNode u m.at → AreClasses s u m.node m.mask m.at m.list
   are_classes held = record {
@@ -222,9 +190,8 @@ pub classes_of : {s v u : Table} → Keeps v u → IsSoundTable s → IsSoundTab
     IsNode s node → IsNode v divided → IsNode u at → IsDivided v mask (tree_of s node) (tree_of v divided) →
     AreLeaves v divided leaves → AreOf leaves (length leaves) list → IsPlaced places list →
     IsMapped (λ leaf. option_and_then places leaf) (tree_of v divided) (tree_of u at) → AreClasses s u node mask at list
-classes_of {s} {v} {u} m node_sound sound letters mask {node} {divided} {at} {places} {leaves} {list} hn hd ha
-    division all of placed mapped =
-    are_classes (record {
+classes_of {s} {v} {u} m node_sound sound letters mask {node} {divided} {at} {places} {leaves} {list} hn hd ha division
+    all of placed mapped = are_classes (record {
       mask = mask;
       node = node;
       divided = divided;

@@ -1,6 +1,5 @@
 -- Diagrams whose leaves are nodes.
 use Rattle.std.proofs.Common.{◌≡◌, ℕ, ◌+◌, Bool, true, false, cond, Option, Some, ap, sym, ◌∙◌, rules}
-use Rattle.std.proofs.Common.{inl, inr}
 use Rattle.std.specs.Prelude.{IsSome}
 use Rattle.std.proofs.lemmas.Bool.{eqb-true}
 use Rattle.ps_label.specs.Truth.{is_in}
@@ -33,8 +32,7 @@ leads_kept k level d h f = let r = h f in (r.0, r.1, k.held r.0 r.2, rw (k.same 
 pub tested_kept : {t u : Table} → Keeps t u → {test : (ℕ → Bool) → Bool} {x y z : Option ℕ} → AreTested t test x y z →
     AreTested u test x y z
 tested_kept k h = are_tested h.low_is h.high_is h.made_is (k.held h.low h.low_held) (k.held h.high h.high_held)
-    (k.held h.made h.held)
-    (λ g. rw (k.same h.made h.held, k.same h.high h.high_held, k.same h.low h.low_held) (h.leaf g))
+    (search rules) (λ g. rw (k.same h.made h.held, k.same h.high h.high_held, k.same h.low h.low_held) (h.leaf g))
 
 -- nodes with the same leaves are one, so a tree of nodes has the same node at letters that leave the same
 
@@ -47,22 +45,12 @@ divided_alike {t} s mask a d h f g e =
 
 pub divided_blind : {t : Table} → IsSoundTable t → (mask level : ℕ) (a d : Tree) → IsDivided t mask a d →
     IsBlind level a → IsBlind level d
-divided_blind {t} s mask level a d h b f g e = divided_alike s mask a d h f g (λ w. b (mixed mask f w) (mixed mask g w)
-    (λ q le. ap (λ x. cond (is_in q mask) x (w q)) (e q le)))
+divided_blind {t} s mask level a d h b f g e = divided_alike s mask a d h f g (λ w. search rules)
 
 pub divided_leads : (t : Table) (mask level : ℕ) (a d : Tree) → IsDivided t mask a d → IsBlind level a →
     LeadsToNodes t level d
 divided_leads t mask level a d h b f =
-    let x = h f in (
-      x.0,
-      x.1,
-      x.2,
-      (λ u v e. cc (
-        x.3 u,
-        b (mixed mask f u) (mixed mask f v) (λ q le. ap (λ y. cond (is_in q mask) (f q) y) (e q le)),
-        x.3 v,
-      )),
-    )
+    let x = h f in search rules
 
 tested_alike : {t : Table} → IsSoundTable t → (p : ℕ) (a b d : Tree) → IsTested t p a b d → (f g : ℕ → Bool) →
     leaf_at a f ≡ leaf_at a g → leaf_at b f ≡ leaf_at b g → leaf_at d f ≡ leaf_at d g
@@ -84,8 +72,7 @@ tested_blind {t} s p level a b d h ba bb f g e = tested_alike s p a b d h f g (b
 pub divided_here : {t u : Table} → Keeps t u → (mask : ℕ) {node place : ℕ} (a : Tree) {d : Tree} (leaf : Option ℕ) →
     ((f : ℕ → Bool) → leaf_at a f ≡ leaf) → IsNode t node → ((f : ℕ → Bool) → leaf_at (tree_of t node) f ≡ leaf) →
     place ≡ node → d ≡ final place → IsDivided u mask a d
-divided_here k mask {node} a leaf all held c named is f =
-    (node, rw (is, named), k.held node held, λ g. rw (k.same node held) (c g ∙ sym (all (mixed mask f g))))
+divided_here k mask {node} a leaf all held c named is f = (node, rw (is, named), k.held node held, search rules)
 
 divided_test : (t : Table) (mask p : ℕ) (a al ah d dl dh : Tree) → IsTestOf p al ah a →
     IsDividedTest t mask p dl dh d → IsDivided t mask al dl → IsDivided t mask ah dh → IsDivided t mask a d
@@ -93,9 +80,7 @@ divided_test t mask p a al ah d dl dh ta h il ih f =
     let x = h f in
     let l = il f in
     let r = ih f in
-    let low : x.low ≡ l.0 = cc in
-    let high : x.high ≡ r.0 = cc in
-    (x.made, x.made_is, x.held, λ g. cc (x.leaf g, ta (mixed mask f g), l.3 g, r.3 g))
+    search rules
 
 -- where the proposition is in the mask, and where not
 pub divided_in : (t : Table) (mask p level : ℕ) (a b d : Tree) → is_in p mask ≡ true → LeadsToNodes t level a →
@@ -103,14 +88,7 @@ pub divided_in : (t : Table) (mask p level : ℕ) (a b d : Tree) → is_in p mas
 divided_in t mask p level a b d is la lb td f =
     let x = la f in
     let y = lb f in
-    elim (bool_cases (f p)) [
-      | inl holds ↦ are_tested x.1 y.1 (rw (td f, holds) y.1) x.2 y.2 y.2 (λ g. rw (is, holds))
-      | inr isnt ↦ are_tested x.1 y.1 (rw (td f, isnt) x.1) x.2 y.2 x.2 (λ g. rw (is, isnt))
-    ]
-
-pub divided_off : (t : Table) (mask p : ℕ) (a b d : Tree) → is_in p mask ≡ false → IsTested t p a b d →
-    IsDividedTest t mask p a b d
-divided_off t mask p a b d isnt h f = rw isnt (h f)
+    search (rules, bool_cases, are_tested)
 
 pub tested_same : (t : Table) (p level : ℕ) (a : Tree) → LeadsToNodes t level a → IsTested t p a a a
 tested_same t p level a h f =
@@ -139,9 +117,7 @@ test_same (n, x, y) (p, a, b) e = search (rules, and_both, eqb-true)
 pub tests_more : {t : Table} (known new : ℕ × ℕ × ℕ → Option ℕ) (n : ℕ) {x y value : ℕ} →
     ((q : ℕ × ℕ × ℕ) → new q ≡ cond (test_eq (n, x, y) q) (Some value) (known q)) → KnowsTests t known → IsNode t x →
     IsNode t y → IsNode t value → IsTested t n (tree_of t x) (tree_of t y) (tree_of t value) → KnowsTests t new
-tests_more {t} known new n update h hx hy hv r p a b = one_more (λ k v. IsNode t k.1 × IsNode t k.2 × IsNode t v ×
-    IsTested t k.0 (tree_of t k.1) (tree_of t k.2) (tree_of t v)) test_eq test_same known new update
-    (λ k. h k.0 k.1 k.2) (hx, hy, hv, r) (p, a, b)
+tests_more {t} known new n update h hx hy hv r p a b = search (rules, one_more, test_same)
 
 -- places that are named
 
@@ -152,9 +128,7 @@ pub place_of : (t : Table) (level : ℕ) (d : Tree) → LeadsToNodes t level d �
     ((f : ℕ → Bool) → leaf_at d f ≡ Some node) → IsNode t node × IsBlind level (tree_of t node)
 place_of t level d h node e =
     let r = h (λ _. false) in
-    let here = e (λ _. false) in
-    let same : r.0 ≡ node = cc in
-    rw (← same) (r.2, r.3)
+    search rules
 
 -- the same between three tables, of which each keeps the one before
 pub tested_between : {t u v : Table} → Keeps t u → Keeps u v → (p : ℕ) (a b d : Tree) {low high made : ℕ} →
@@ -163,8 +137,7 @@ pub tested_between : {t u v : Table} → Keeps t u → Keeps u v → (p : ℕ) (
     IsTestOf p (tree_of t low) (tree_of t high) (tree_of u made) → IsTested v p a b d
 tested_between k m p a b d {low} {high} {made} ea eb ed hl hh hm h f =
     let j = keeps_trans k m in
-    are_tested (ea f) (eb f) (ed f) (j.held low hl) (j.held high hh) (m.held made hm)
-    (λ g. rw (m.same made hm, j.same high hh, j.same low hl) (h g))
+    search (rules, are_tested)
 
 pub side_kept : {t u : Table} → Keeps t u → (p : ℕ) {node : ℕ} → IsNode t node →
     LeadsToNodes t (p + 1) (tree_of t node) → LeadsToNodes u (p + 1) (tree_of u node)
@@ -177,10 +150,9 @@ pub sides_tested : {t u v w : Table} → Keeps t u → Keeps u v → Keeps v w �
     IsTested v p (tree_of u ah) (tree_of u bh) (tree_of v high) →
     IsTestOf q (tree_of v low) (tree_of v high) (tree_of w made) →
     IsTested w p (tree_of t a) (tree_of t b) (tree_of w made)
-sides_tested {t} {u} {v} {w} k m n p {a} {b} {q} {al} {ah} {bl} {bh} {low} high made sa sb held l h test =
-    tested_test w p q (tree_of t a) (tree_of t al) (tree_of t ah) (tree_of t b) (tree_of t bl) (tree_of t bh)
-    (tree_of w made) (tree_of v low) (tree_of v high) sa.leaf sb.leaf test
-    (rw (m.same low held) (λ f. tested_kept n (tested_kept m (l f))))
+sides_tested {t} {u} {v} {w} k m n p {a} {b} {q} {al} {ah} {bl} {bh} {low} high made sa sb held l h test = tested_test w
+    p q (tree_of t a) (tree_of t al) (tree_of t ah) (tree_of t b) (tree_of t bl) (tree_of t bh) (tree_of w made)
+    (tree_of v low) (tree_of v high) sa.leaf sb.leaf test (rw (m.same low held) (λ f. search (rules, tested_kept)))
     (rw (← k.same ah sa.high_held, ← k.same bh sb.high_held) (λ f. tested_kept n (h f)))
 
 -- what a side is divided to stays so, and then the node of two sides is divided

@@ -1,7 +1,6 @@
 -- Leaves gathered, low side first: each with the least letter that leads to it.
 use Rattle.std.proofs.Common.{◌≡◌, ℕ, suc, ◌+◌, ◌*◌, ◌%◌, ◌^◌, ◌<◌, ◌≤◌, Bool, true, false, cond, List, [], ◌∷◌, ◌++◌}
-use Rattle.std.proofs.Common.{rules}
-use Rattle.std.proofs.Common.{Option, Some, None, nat_eq, eqb, refl, ap, sym, subst, ◌∙◌, arith, append_assoc}
+use Rattle.std.proofs.Common.{rules, Option, Some, None, nat_eq, eqb, refl, ap, sym, subst, ◌∙◌, arith, append_assoc}
 use Rattle.std.proofs.Common.{inl, inr}
 use Rattle.std.proofs.lemmas.Bool.{cases_order, eq-eqb, eqb-true}
 use Rattle.std.proofs.lemmas.List.Elements.{All-from_recursion}
@@ -28,13 +27,10 @@ use Rattle.ps_diagram.proofs.Letters.{no_bit, top_bit, lower_bit}
 lookup-append : (test : ℕ → Bool) (xs ys : List (ℕ × ℕ)) →
     lookup test (xs ++ ys) ≡ joined (lookup test xs) (lookup test ys)
 lookup-append test [] ys = refl
-lookup-append test (x ∷ xs) ys = elim (bool_cases (test x.0)) [
-  | inl is ↦ rw is
-  | inr isnt ↦ rw isnt (lookup-append test xs ys)
-]
+lookup-append test (x ∷ xs) ys = search (rules, bool_cases, lookup-append test xs ys)
 
 none_front : (a b : Option ℕ) → joined a b ≡ None → a ≡ None
-none_front a b h1 = search rules
+none_front a b h = search rules
 
 found_last : (xs : List (ℕ × ℕ)) (k z : ℕ) → lookup (nat_eq k) xs ≡ None →
     lookup (nat_eq k) (xs ++ (k, z) ∷ []) ≡ Some z
@@ -61,17 +57,13 @@ all_append P (x ∷ xs) ys h g = (h.0, all_append P xs ys h.1 g)
 rising_append : (P Q : ℕ × ℕ → Type 0) (xs ys : List (ℕ × ℕ)) → ((x y : ℕ × ℕ) → P x → Q y → IsBefore x.1 y.1) →
     AllByRecursion P xs → AllByRecursion Q ys → AreRising xs → AreRising ys → AreRising (xs ++ ys)
 rising_append P Q [] ys f ps qs h g = g
-rising_append P Q (x ∷ xs) ys f ps qs h g = (
-  all_append (λ later. IsBefore x.1 later.1) xs ys h.0 (all_map Q (λ later. IsBefore x.1 later.1) ys
-      (λ y q. f x y ps.0 q) qs),
-  rising_append P Q xs ys f ps.1 qs h.1 g,
-)
+rising_append P Q (x ∷ xs) ys f ps qs h g = search (rules, all_append, all_map, rising_append P Q xs ys f ps.1 qs h.1 g)
 
 pub some_of : (o : Option ℕ) → is_some o ≡ true → (z : ℕ) × (o ≡ Some z)
-some_of o h1 = search rules
+some_of o h = search rules
 
 pub none_of : (o : Option ℕ) → is_some o ≡ false → o ≡ None
-none_of o h1 = search rules
+none_of o h = search rules
 
 -- ## Nodes without leaves of their own
 
@@ -88,20 +80,19 @@ leaf_found k {letter} found e is f leaf leads =
 
 pub gathers_leaf : (n : ℕ) {t : Tree} (k letter : ℕ) (old : List (ℕ × ℕ)) {new : List (ℕ × ℕ)} → t ≡ final k →
     letter < 2 ^ root_of n t → lookup (nat_eq k) old ≡ None → new ≡ old ++ (k, letter) ∷ [] → Gathers n t letter old new
-gathers_leaf n {t} k letter old {new} e lt none is =
-    record {
-      added = (k, letter) ∷ [];
-      is = is;
-      first = search rules;
-      fresh = (none, tt);
-      rising = (tt, tt);
-      whole = leaf_found k new e (ap (lookup (nat_eq k)) is ∙ found_last old k letter none);
-    }
+gathers_leaf n {t} k letter old {new} e lt none is = record {
+  added = (k, letter) ∷ [];
+  is = is;
+  first = search rules;
+  fresh = (none, tt);
+  rising = (tt, tt);
+  whole = leaf_found k new e (ap (lookup (nat_eq k)) is ∙ found_last old k letter none);
+}
 
 -- ## Tests
 
 pub root_later : (n p : ℕ) (t : Tree) → IsFrom (p + 1) n t → p < n → p < root_of n t
-root_later n p t h1 h2 = search rules
+root_later n p t h k = search rules
 
 first_low : {n : ℕ} (p : ℕ) {letter : ℕ} {low : Tree} (high : Tree) → letter < 2 ^ p → p < root_of n low →
     {leaf place : ℕ} → IsFirst n low letter leaf place → IsFirst n (choice p low high) letter leaf place
@@ -132,12 +123,7 @@ first_high p letter low {high} lt root {place} fresh h =
 
 low_before_high : {n : ℕ} (p : ℕ) {letter : ℕ} {low high : Tree} → letter < 2 ^ p → p < root_of n low →
     p < root_of n high → {k x m y : ℕ} → IsFirst n low letter k x → IsFirst n high (letter + 2 ^ p) m y → IsBefore x y
-low_before_high p {letter} lt rl rh a b = record {
-  first = p;
-  is_false = a.same p rl ∙ no_bit p letter p lt (omega arith);
-  is_true = b.same p rh ∙ top_bit p letter lt;
-  same = λ q less. a.same q (omega arith) ∙ sym (lower_bit p letter q less) ∙ sym (b.same q (omega arith));
-}
+low_before_high p {letter} lt rl rh a b = grind (arith, no_bit, top_bit, lower_bit)
 
 not_found : (found : List (ℕ × ℕ)) (leaf : ℕ) → lookup (nat_eq leaf) found ≡ None → IsFound found leaf → ⊥
 not_found found leaf none h = cc
@@ -157,9 +143,7 @@ gathers_choice {n} p {letter} {low} {high} {old} {mid} {new} lt rl rh a b =
       first = all_append C a.added b.added (all_map L C a.added (λ pair h. first_low p high lt rl h) a.first)
           (all_both N H C b.added (λ pair none h. search (rules, first_high, not_found, a.whole)) b.fresh b.first);
       fresh = search (rules, all_append, all_map, none_front, lookup-append, a.added, b.added, a.fresh, a.is, b.fresh);
-      rising =
-          rising_append L H a.added b.added (λ x y hx hy. search (rules, low_before_high)) a.first b.first
-          a.rising b.rising;
+      rising = search (rules, rising_append, low_before_high);
       whole = λ f leaf e. elim (bool_cases (f p)) [
         | inl is ↦ b.whole f leaf (rw is at e)
         | inr isnt ↦ rw b.is (found_more mid b.added leaf (a.whole f leaf (rw isnt at e)))
@@ -183,7 +167,7 @@ pub begun_high : {t : Table} {node p low high : ℕ} (letter : ℕ) → IsChoice
 begun_high {t} {node} {p} {low} {high} letter h lt =
     let r = root_later t.propositions p (tree_of t high) h.high_from h.below in
     let le : suc p ≤ root_of t.propositions (tree_of t high) = omega (arith, r) in
-    omega (
+    grind (
       arith,
       pow-suc 2 p,
       begun_below letter h lt,
@@ -216,10 +200,7 @@ entry_of : (P : ℕ → ℕ → Type 0) (es : List (ℕ × ℕ)) (leaf : ℕ) {z
     lookup (nat_eq leaf) es ≡ Some z → P leaf z
 entry_of P [] leaf h e = cc
 entry_of P (pair ∷ es) leaf {z} h e = elim (bool_cases (nat_eq leaf pair.0)) [
-  | inl is ↦
-      let there = rw is at e in
-      let value : z ≡ pair.1 = cc in
-      rw (eqb-true leaf pair.0 is, value) h.0
+  | inl is ↦ grind (arith, eqb-true)
   | inr isnt ↦ entry_of P es leaf h.1 (rw isnt at e)
 ]
 
@@ -247,16 +228,11 @@ any_of_found ((k, place) ∷ es) leaf e = elim (bool_cases (nat_eq leaf k)) [
 
 pairs_of : (es : List (ℕ × ℕ)) → AreRising es → AllPairs (λ a b. IsBefore a.1 b.1) es
 pairs_of [] h = λ i j d lt below. absurd (omega arith)
-pairs_of (x ∷ es) h =
-    AllPairs-cons (λ a b. IsBefore a.1 b.1) x es (All-from_recursion (λ later. IsBefore x.1 later.1) es h.0)
-    (pairs_of es h.1)
+pairs_of (x ∷ es) h = search (rules, AllPairs-cons, All-from_recursion, pairs_of es h.1)
 
 pub are_leaves : {t : Table} {node : ℕ} {found : List (ℕ × ℕ)} → IsGathered t node found → AreLeaves t node found
 are_leaves {t} {node} {found} h = record {
-  least = All-from_recursion (λ pair. IsLeast (LeadsTo t node pair.0) pair.1) found
-      (all_map (λ pair. IsFirst t.propositions (tree_of t node) 0 pair.0 pair.1)
-      (λ pair. IsLeast (LeadsTo t node pair.0) pair.1) found (λ pair f. least_of t node f)
-      (firsts h));
+  least = grind (arith, All-from_recursion, all_map, least_of, firsts);
   each = search (rules, any_of_found, h.all.whole);
   rising = pairs_of found (subst AreRising (sym h.all.is) h.all.rising);
 }

@@ -1,7 +1,6 @@
 -- Rows of nodes, proposition by proposition.
-use Rattle.std.proofs.Common.{◌≡◌, ℕ, ◌+◌, ◌*◌, ◌%◌, ◌^◌, ◌<◌, ◌≤◌, true, false, List, [], ◌∷◌, ◌++◌, rules}
-use Rattle.std.proofs.Common.{length, length-append, get_or, min, Option, None, ap, sym, ◌∙◌, add-one, arith, inl, inr}
-use Rattle.std.proofs.Common.{◌⊎◌}
+use Rattle.std.proofs.Common.{◌≡◌, ℕ, ◌+◌, ◌*◌, ◌%◌, ◌^◌, ◌<◌, ◌≤◌, true, false, List, [], ◌∷◌, ◌++◌, rules, length}
+use Rattle.std.proofs.Common.{length-append, get_or, min, Option, None, ap, ◌∙◌, arith, inl, inr, ◌⊎◌}
 use Rattle.std.specs.List.{slice_get}
 use Rattle.std.specs.Int.{bit_at}
 use Rattle.std.proofs.lemmas.Bool.{eqb-true, eqb-false, cases_lt}
@@ -29,16 +28,13 @@ pub few_bits : (p : ℕ) → p < 64 → 2 ^ p ≤ 2 ^ 63
 few_bits p h = let small : p ≤ 63 = omega arith in pow_mono {i = p} {j = 63} small
 
 first_bits : (p letter : ℕ) → letter % 2 ^ (p + 1) ≡ bit_at letter p * 2 ^ p + letter % 2 ^ p
-first_bits p letter =
-    let twice : 2 ^ (p + 1) ≡ 2 * 2 ^ p = rw add-one (omega (arith, pow-suc 2 p)) in
-    rw twice (mod-mul letter {m = 2} {c = 2 ^ p} (omega arith) (pow_pos p))
+first_bits p letter = grind (arith, pow-suc 2 p, mod-mul letter {m = 2} {c = 2 ^ p} (omega arith) (pow_pos p))
 
 bits_below : (p letter : ℕ) → is_in p letter ≡ false → letter % 2 ^ (p + 1) ≡ letter % 2 ^ p
 bits_below p letter isnt = search (rules, bit_at-lt, eqb-false, first_bits)
 
 bits_above : (p letter : ℕ) → is_in p letter ≡ true → letter % 2 ^ (p + 1) ≡ 2 ^ p + letter % 2 ^ p
-bits_above p letter is =
-    rw (first_bits p letter, eqb-true (bit_at letter p) 1 is) (omega arith)
+bits_above p letter is = rw (first_bits p letter, eqb-true (bit_at letter p) 1 is) (omega arith)
 
 bits_rise : (p letter : ℕ) → letter % 2 ^ p ≤ letter % 2 ^ (p + 1)
 bits_rise p letter = omega (arith, first_bits p letter)
@@ -47,12 +43,10 @@ bits_rise p letter = omega (arith, first_bits p letter)
 
 push_length : (xs : List ℕ) {more : List ℕ} (x : ℕ) {count : ℕ} → length xs ≡ count → more ≡ xs ++ x ∷ [] →
     length more ≡ count + 1
-push_length xs x size is =
-    omega (arith, ap length is, length-append xs (x ∷ []), size)
+push_length xs x size is = omega (arith, ap length is, length-append xs (x ∷ []), size)
 
 pub has_leaf_kept : {t u : Table} → Keeps t u → (node : ℕ) (leaf : Option ℕ) → HasLeaf t node leaf → HasLeaf u node leaf
-has_leaf_kept {t} {u} k node leaf h =
-    (k.held node h.0, rw (k.same node h.0) h.1)
+has_leaf_kept {t} {u} k node leaf h = (k.held node h.0, rw (k.same node h.0) h.1)
 
 pub leaf_nodes_kept : {t u : Table} {leaves nodes : List ℕ} {count : ℕ} → Keeps t u →
     AreLeafNodes t leaves count nodes → AreLeafNodes u leaves count nodes
@@ -97,8 +91,7 @@ pub tests_more : {t u v : Table} {p none half : ℕ} {nodes : List ℕ} {count :
     TestsAt t v p none half nodes count node → AreTests t v p none half nodes (count + 1) more
 tests_more {t} {u} {v} {p} {none} {half} {nodes} {count} {made} {more} node k a is h = record {
   one_each = push_length made node a.one_each is;
-  each = push_each (TestsAt t v p none half nodes) 0 made node a.one_each is
-      (λ i lt. let one = a.each i lt in (k.held _ one.0, rw (k.same _ one.0) one.1)) h;
+  each = push_each (TestsAt t v p none half nodes) 0 made node a.one_each is (λ i lt. grind arith) h;
 }
 
 -- all places are done
@@ -137,13 +130,8 @@ module _ {t u : Table} {p none : ℕ} {nodes made : List ℕ} (row : IsRow t (p 
         let small : letter % 2 ^ p < 2 ^ p = mod-lt letter (pow_pos p) in
         let test = a.each (letter % 2 ^ p) (omega arith) in
         leads_by letter (rw (get_or_default made (letter % 2 ^ p) none 0 (omega (arith, a.one_each))) test.1))
-    | inr past ↦
-        rw (
-          get_or_past made (letter % 2 ^ p) none (omega (arith, a.one_each)),
-          get_or_past nodes (letter % 2 ^ (p + 1)) none (omega (arith, bits_rise p letter)),
-        ) (nothing_now.1 (assignment letter) ∙ sym (row.nothing.1 (assignment letter)))
+    | inr past ↦ grind (arith, get_or_past, bits_rise)
   ]
 
   pub half_leads : (leaves : List ℕ) → LeadsOn t leaves (p + 1) none nodes → LeadsOn u leaves p none made
-  half_leads leaves leads letter =
-      leads_here letter ∙ rw keeps.propositions (leads letter)
+  half_leads leaves leads letter = leads_here letter ∙ rw keeps.propositions (leads letter)

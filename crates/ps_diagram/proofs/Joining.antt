@@ -37,8 +37,7 @@ overlay_sides {t} {u} {v} w k m {a} {b} {p} {al} {ah} {bl} {bh} {low} high made 
 pub clash_side : {t : Table} {a b p al ah bl bh : ℕ} → IsSides t a p al ah → IsSides t b p bl bh → (v : Bool)
     (e : OverlayError) → IsClash (tree_of t (cond v ah al)) (tree_of t (cond v bh bl)) e →
     IsClash (tree_of t a) (tree_of t b) e
-clash_side {p} sa sb v (Clash x y) c =
-    (changed c.0 p v, side_at v sa c.0 ∙ c.1, side_at v sb c.0 ∙ c.2, c.3)
+clash_side {p} sa sb v (Clash x y) c = (changed c.0 p v, side_at v sa c.0 ∙ c.1, side_at v sb c.0 ∙ c.2, c.3)
 clash_side sa sb v OutOfMemory c = tt
 
 pub clash_passes : (r : Result ℕ OverlayError) (a b : Tree) (e : OverlayError) → IsErrAnd r (λ y. y ≡ e) →

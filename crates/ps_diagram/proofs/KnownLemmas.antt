@@ -13,7 +13,7 @@ keeps_trans a b = search rules
 
 -- the table that is read, another one or else the one that grows
 pub read_keeps : (other : Option Table) {t u : Table} → Keeps t u → Keeps (unwrap_or other t) (unwrap_or other u)
-read_keeps other h1 = search (rules, keeps_refl)
+read_keeps other h = search (rules, keeps_refl)
 
 pub kept : (P : Tree → Type 0) {t u : Table} → Keeps t u → {node : ℕ} → IsNode t node → P (tree_of t node) →
     P (tree_of u node)
@@ -44,9 +44,8 @@ one_more F eq same known new {key} {value} update h f q made e = search (rules, 
 pub knows_more : (R : Tree → Tree → Type 0) (s t : Table) (known new : ℕ → Option ℕ) {key value : ℕ} →
     ((q : ℕ) → new q ≡ cond (eqb key q) (Some value) (known q)) →
     Knows R s t known → IsNode s key → IsNode t value → R (tree_of s key) (tree_of t value) → Knows R s t new
-knows_more R s t known new update h hk hv r =
-    one_more (λ k v. IsNode s k × IsNode t v × R (tree_of s k) (tree_of t v)) eqb eqb-true known new update h
-    (hk, hv, r)
+knows_more R s t known new update h hk hv r = one_more (λ k v. IsNode s k × IsNode t v × R (tree_of s k) (tree_of t v))
+    eqb eqb-true known new update h (hk, hv, r)
 
 pair_same : (a b : ℕ × ℕ) → pair_eq a b ≡ true → a ≡ b
 pair_same (x, y) (a, b) e = search (rules, and_both, eqb-true)

@@ -1,5 +1,5 @@
 -- Letters as numbers and as functions.
-use Rattle.std.proofs.Common.{◌≡◌, ℕ, zero, suc, ◌+◌, ◌-◌, ◌*◌, ◌^◌, ◌<◌, ◌≤◌, Bool, true, false, cond, sym}
+use Rattle.std.proofs.Common.{◌≡◌, ℕ, zero, suc, ◌+◌, ◌*◌, ◌^◌, ◌<◌, ◌≤◌, Bool, true, false, cond, sym}
 use Rattle.std.proofs.Common.{add-zero, ◌∙◌, arith, inl, inr}
 use Rattle.std.proofs.lemmas.Bool.{cases_lt}
 use Rattle.std.proofs.Math.Nat.{pow-suc}
@@ -10,8 +10,7 @@ use Rattle.ps_diagram.specs.Tree.{Tree, leaf_at, IsFrom, HaveSameLeaves}
 use Rattle.ps_diagram.proofs.Canon.{from-blind}
 
 added : (b : Bool) (n low : ℕ) → low < 2 ^ n → low + cond b (2 ^ n) 0 < 2 ^ suc n
-added true n low h = omega (arith, pow-suc 2 n)
-added false n low h = omega (arith, pow-suc 2 n)
+added b n low h = grind (arith, pow-suc)
 
 pub letter_lt : (n : ℕ) (f : ℕ → Bool) → letter_of n f < 2 ^ n
 letter_lt zero f = omega arith
@@ -22,8 +21,7 @@ on_top : (n low : ℕ) → low + 2 ^ n ≡ 1 * 2 ^ n + low
 on_top n low = omega arith
 
 pub top_bit : (n low : ℕ) → low < 2 ^ n → is_in n (low + 2 ^ n) ≡ true
-top_bit n low h =
-    let same : n - n ≡ 0 = omega arith in rw (on_top n low, bit_at_cat_high 1 n low n h (omega arith), same)
+top_bit n low h = grind (arith, on_top, bit_at_cat_high)
 
 pub lower_bit : (n low p : ℕ) → p < n → is_in p (low + 2 ^ n) ≡ is_in p low
 lower_bit n low p h = rw (on_top n low, bit_at_cat_low 1 n low p h)
@@ -32,12 +30,10 @@ pub no_bit : (n low p : ℕ) → low < 2 ^ n → n ≤ p → is_in p low ≡ fal
 no_bit n low p h le = rw (bit_at_above low n p h le)
 
 bit_here : (b : Bool) (n low : ℕ) → low < 2 ^ n → is_in n (low + cond b (2 ^ n) 0) ≡ b
-bit_here true n low h = top_bit n low h
-bit_here false n low h = rw add-zero (no_bit n low n h (omega arith))
+bit_here b n low h = grind (arith, top_bit, add-zero, no_bit)
 
 bit_below : (b : Bool) (n low p : ℕ) → p < n → is_in p (low + cond b (2 ^ n) 0) ≡ is_in p low
-bit_below true n low p h = lower_bit n low p h
-bit_below false n low p h = rw add-zero
+bit_below b n low p h = grind (arith, lower_bit, add-zero)
 
 pub letter_is : (n : ℕ) (f : ℕ → Bool) (p : ℕ) → p < n → is_in p (letter_of n f) ≡ f p
 letter_is zero f p h = absurd (omega arith)
@@ -53,5 +49,4 @@ leaf_by_number n t o f = from-blind 0 n t o f (assignment (letter_of n f)) (λ q
 
 pub same_by_numbers : (n : ℕ) (t u : Tree) → IsFrom 0 n t → IsFrom 0 n u →
     ((letter : ℕ) → letter < 2 ^ n → leaf_at t (assignment letter) ≡ leaf_at u (assignment letter)) → HaveSameLeaves t u
-same_by_numbers n t u ot ou h f =
-    leaf_by_number n t ot f ∙ h (letter_of n f) (letter_lt n f) ∙ sym (leaf_by_number n u ou f)
+same_by_numbers n t u ot ou h f = grind (arith, leaf_by_number n t ot f, letter_lt n f, leaf_by_number n u ou f)

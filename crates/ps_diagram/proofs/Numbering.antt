@@ -57,5 +57,4 @@ pub no_place : {leaves : List (ℕ × ℕ)} {n : ℕ} {places : ℕ → Option �
 no_place differ lt h p None e = refl
 no_place {leaves} {n} differ lt h p (Some i) e =
     let found = p.found (pair_at leaves n).0 i e in
-    let below : i < n = omega (arith, found.0, h.each) in
-    absurd (differ i n (0, 0) below lt (sym (h.rest i below) ∙ found.1))
+    grind arith

@@ -26,8 +26,5 @@ sees {t} s node (Test p low high) h =
       high_behind = λ x y e. blind-from (p + 1) n (tree_of t high) h.high_from (assignment x) (assignment y)
           (λ q le. e q (omega (arith, le)));
       leaf = λ letter. ap (λ u. leaf_at u (assignment letter)) h.tree;
-      depends = λ e. h.differ (same_tree n (tree_of t low) 0 (s.ordered low h.low_held) (s.reduced low h.low_held)
-          (tree_of t high) 0 (s.ordered high h.high_held) (s.reduced high h.high_held)
-          (same_by_numbers n (tree_of t low) (tree_of t high) (s.ordered low h.low_held)
-          (s.ordered high h.high_held) e));
+      depends = grind (arith, same_tree, same_by_numbers);
     }

@@ -1,6 +1,5 @@
 -- Nodes split at a proposition.
-use Rattle.std.proofs.Common.{rules}
-use Rattle.std.proofs.Common.{◌≡◌, ℕ, ◌+◌, ◌<◌, ◌≤◌, Bool, cond, Some, None, refl, arith, min}
+use Rattle.std.proofs.Common.{rules, ◌≡◌, ℕ, ◌+◌, ◌<◌, ◌≤◌, Bool, cond, Some, None, refl, arith, min}
 use Rattle.std.proofs.lemmas.Bool.{cases_lt}
 use Rattle.ps_diagram.specs.Tree.{Tree, empty, final, choice, leaf_at, IsFrom}
 use Rattle.ps_diagram.specs.Table.{Table, IsNode, IsSoundTable, tree_of}
@@ -12,7 +11,7 @@ pub sides_of_test : {t : Table} {node p low high : ℕ} → IsChoice t node p lo
 sides_of_test {t} {node} {p} {low} {high} h = search (rules, blind-from)
 
 from_root : (n p : ℕ) (t : Tree) → IsFrom 0 n t → p < root_of n t → IsFrom (p + 1) n t
-from_root n p t h1 h2 = search rules
+from_root n p t h k = search rules
 
 pub sides_of_later : {t : Table} {node : ℕ} (p : ℕ) → IsSoundTable t → IsNode t node →
     p < root_of t.propositions (tree_of t node) → IsSides t node p node node
@@ -26,7 +25,7 @@ constant_root n (choice p low high) o h = absurd (omega arith)
 -- the leaf of a side is the node's at a letter changed there
 pub side_at : {t : Table} {node p low high : ℕ} (v : Bool) → IsSides t node p low high → (f : ℕ → Bool) →
     leaf_at (tree_of t node) (changed f p v) ≡ leaf_at (tree_of t (cond v high low)) f
-side_at v h1 f = search (rules, side_leaf)
+side_at v h f = search (rules, side_leaf)
 
 -- of two places that fall, one does at least, the one that is the least
 pub falls : (a b : ℕ) {r : ℕ} (first second x y : ℕ) → r ≡ min a b → x ≤ first → y ≤ second → (a ≡ r → x < first) →

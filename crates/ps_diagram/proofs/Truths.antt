@@ -16,7 +16,7 @@ use Rattle.ps_diagram.specs.Table.{Table, IsNode, Keeps, leaf_of}
 use Rattle.ps_diagram.proofs.Cells.{push_each}
 
 is_one : (b : Bool) {x : ℕ} → one_where b ≡ Some x → x ≡ 1
-is_one b h1 = search rules
+is_one b h = search rules
 
 one_leaf : {leaf : Option ℕ} {x : ℕ} → IsOneOrNone leaf → leaf ≡ Some x → x ≡ 1
 one_leaf {x} h e = is_one h.0 (sym h.1 ∙ e)
@@ -49,20 +49,12 @@ pub record IsDecided (any : Bool) (leaf : Option ℕ) (rest whole : Bool) : Type
 
 decided_cases : (any a b rest : Bool) → cond (cond a true (cond any b (cond b false true))) any rest ≡ cond a any
     (cond b (cond any true rest) (cond any rest false))
-decided_cases true true b rest = refl
-decided_cases true false b rest = refl
-decided_cases false true b rest = refl
-decided_cases false false true rest = refl
-decided_cases false false false rest = refl
+decided_cases any a b rest = grind arith
 
 pub decided_more : (any : Bool) {old new made : Option ℕ} (b rest : Bool) {whole : Bool} →
     IsDecided any old (cond b (cond any true rest) (cond any rest false)) whole →
     made ≡ one_where (cond any b (cond b false true)) → new ≡ joined old made → IsDecided any new rest whole
-decided_more any b rest h e j = record {
-  so_far = cond h.so_far true (cond any b (cond b false true));
-  is = rw (j, h.is, e) (joined_of h.so_far (cond any b (cond b false true)));
-  decides = decided_cases any h.so_far b rest ∙ h.decides;
-}
+decided_more any b rest h e j = grind (arith, joined_of, decided_cases)
 
 -- the expressions from a place on are the one there and those behind it
 pub drop_is : (items : List Label) (k : ℕ) {x : Label} → k < length items → x ≡ get_or items k x →
@@ -81,16 +73,17 @@ truths_push {t} {u} {nodes} {node} {known} k h held leaf =
     let len = length-append nodes (node ∷ []) in
     record {
       held = λ j lt. push_each (λ i x. IsNode u x) 0 nodes node refl refl old.held held j (omega arith);
-      leaf = λ j letter lt.
-          push_each (λ i x. leaf_of u x letter ≡ one_where (get_or (known letter) i false)) 0 nodes node refl refl
-          (λ i within. old.leaf i letter within) (leaf letter) j (omega arith);
+      leaf = λ j letter lt. push_each (λ i x. leaf_of u x letter ≡ one_where (get_or (known letter) i false)) 0 nodes
+          node refl refl (λ i within. old.leaf i letter within) (leaf letter) j (omega arith);
     }
 
 -- the truth of an alias is that of its expression
 pub alias_truth : (labels : List Label) (letter k : ℕ) {x : Label} → AreOrdered (expressions labels) →
     k < length labels → x ≡ get_or labels k x → get_or (alias_truths (expressions labels) letter) k false ≡ truth
     (alias_truths (expressions labels) letter) letter (expression x)
-alias_truth labels letter k {x} o lt is =
-    let there : get_or (expressions labels) k (constant false) ≡ expression x =
-    get_or-map expression labels k x (constant false) lt ∙ ap expression (sym is) in
-    rw there at ((table (expressions labels) letter o).each k (omega (arith, length-map labels expression)))
+alias_truth labels letter k {x} o lt is = grind (
+  arith,
+  get_or-map expression labels k x (constant false) lt,
+  table (expressions labels) letter o,
+  length-map labels expression,
+)

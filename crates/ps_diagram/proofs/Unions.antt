@@ -1,7 +1,6 @@
 -- Diagrams of truths, joined by halves.
 use Rattle.std.proofs.Common.{◌≡◌, ℕ, suc, Bool, true, false, cond, length, List, [], ◌∷◌, ◌++◌, All, Option, None}
-use Rattle.std.proofs.Common.{take, drop}
-use Rattle.std.proofs.Common.{refl, ap, sym, subst, ◌∙◌, arith, rules}
+use Rattle.std.proofs.Common.{take, drop, refl, ap, sym, subst, ◌∙◌, arith, rules}
 use Rattle.std.proofs.lemmas.List.{map-append, take-append-drop}
 use Rattle.std.proofs.lemmas.List.Elements.{All-drop, All-push, All-take}
 use Rattle.ps_label.specs.Expression.{Expression, row_of}
@@ -24,8 +23,7 @@ joined_assoc a b c = search rules
 
 pub first_leaf-append : (xs ys : List (Option ℕ)) → first_leaf (xs ++ ys) ≡ joined (first_leaf xs) (first_leaf ys)
 first_leaf-append [] ys = refl
-first_leaf-append (x ∷ xs) ys = ap (joined x) (first_leaf-append xs ys)
-    ∙ sym (joined_assoc x (first_leaf xs) (first_leaf ys))
+first_leaf-append (x ∷ xs) ys = search (rules, joined_assoc, first_leaf-append xs ys)
 
 -- one node more
 pub first_leaf-push : (t : Table) (nodes : List ℕ) {more : List ℕ} (node letter : ℕ) → more ≡ nodes ++ node ∷ [] →
@@ -36,8 +34,7 @@ first_leaf-push t nodes node letter e = search (rules, map-append, first_leaf-ap
 pub first_leaf-halves : (t : Table) (nodes : List ℕ) (m letter : ℕ) →
     joined (first_leaf (leaves_of t (take m nodes) letter)) (first_leaf (leaves_of t (drop m nodes) letter))
     ≡ first_leaf (leaves_of t nodes letter)
-first_leaf-halves t nodes m letter =
-    sym (first_leaf-append (leaves_of t (take m nodes) letter) (leaves_of t (drop m nodes) letter))
+first_leaf-halves t nodes m letter = sym (grind (arith, first_leaf-append))
     ∙ ap first_leaf (sym (map-append (λ n. leaf_of t n letter) (take m nodes) (drop m nodes)))
     ∙ ap (λ (ns : List ℕ). first_leaf (leaves_of t ns letter)) (take-append-drop m nodes)
 
@@ -58,26 +55,24 @@ tail_of t node nodes h = λ i d lt. h (suc i) d (omega arith)
 pub leaves_kept : {t u : Table} (nodes : List ℕ) (letter : ℕ) → Keeps t u → All (IsTruth t) nodes →
     leaves_of u nodes letter ≡ leaves_of t nodes letter
 leaves_kept [] letter k h = refl
-leaves_kept {t} {u} (node ∷ nodes) letter k h =
-    ap (λ x. x ∷ leaves_of u nodes letter) (leaf_kept letter k (h 0 node (omega arith)).held)
-    ∙ ap (λ xs. leaf_of t node letter ∷ xs) (leaves_kept nodes letter k (tail_of t node nodes h))
+leaves_kept {t} {u} (node ∷ nodes) letter k h = grind (
+  arith,
+  leaf_kept letter k (h 0 node (omega arith)).held,
+  tail_of t node nodes h,
+  leaves_kept nodes letter k (tail_of t node nodes h),
+)
 
 pub union_truth : (t : Table) (nodes : List ℕ) (letter : ℕ) → All (IsTruth t) nodes →
     IsOneOrNone (first_leaf (leaves_of t nodes letter))
 union_truth t [] letter h = (false, refl)
 union_truth t (node ∷ nodes) letter h =
     let one = (h 0 node (omega arith)).leaf letter in
-    let others = union_truth t nodes letter (tail_of t node nodes h) in (
-      cond one.0 true others.0,
-      ap (λ x. joined x (first_leaf (leaves_of t nodes letter))) one.1
-          ∙ ap (joined (one_where one.0)) others.1 ∙ joined_of one.0 others.0,
-    )
+    search (rules, tail_of, joined_of, union_truth t nodes letter (tail_of t node nodes h))
 
 -- one node more, in a table that has grown
 pub truths_more : {t u : Table} (nodes : List ℕ) {more : List ℕ} {node : ℕ} → Keeps t u → All (IsTruth t) nodes →
     IsTruth u node → more ≡ nodes ++ node ∷ [] → All (IsTruth u) more
-truths_more {t} {u} nodes {node} k h is e =
-    subst (All (IsTruth u)) (sym e) (All-push (IsTruth u) nodes node (all_kept nodes k h) is)
+truths_more {t} {u} nodes {node} k h is e = subst (All (IsTruth u)) (sym e) (search (rules, All-push, all_kept))
 
 pub union_more : {t u : Table} (nodes : List ℕ) {more : List ℕ} (node letter : ℕ) → Keeps t u → All (IsTruth t) nodes →
     more ≡ nodes ++ node ∷ [] →
@@ -98,24 +93,22 @@ module _ {s t u : Table} (nodes : List ℕ) {front back : List ℕ} (m : ℕ) {o
   front_truths = subst (All (IsTruth s)) (sym is_front) (All-take (IsTruth s) m nodes h)
 
   pub one_truth : (letter : ℕ) → IsOneOrNone (leaf_of u one letter)
-  one_truth letter =
-      let truth = union_truth s front letter front_truths in
-      (truth.0, leaf_kept letter second held ∙ one_leaf letter ∙ truth.1)
+  one_truth letter = grind (arith, union_truth s front letter front_truths, leaf_kept letter second held)
 
   pub union_halves : (letter : ℕ) → leaf_of u other letter ≡ first_leaf (leaves_of t back letter) →
       joined (leaf_of u one letter) (leaf_of u other letter) ≡ first_leaf (leaves_of s nodes letter)
   union_halves letter other_leaf =
       let back_truths = All-drop (IsTruth s) m nodes h in
-      ap (λ x. joined x (leaf_of u other letter)) (leaf_kept letter second held ∙ one_leaf letter
-      ∙ ap (λ (ns : List ℕ). first_leaf (leaves_of s ns letter)) is_front)
-      ∙ ap (joined (first_leaf (leaves_of s (take m nodes) letter)))
-      (other_leaf ∙ ap (λ (ns : List ℕ). first_leaf (leaves_of t ns letter)) is_back
-      ∙ ap first_leaf (leaves_kept (drop m nodes) letter first back_truths)) ∙ first_leaf-halves s nodes m letter
+      grind (
+        arith,
+        leaf_kept letter second held,
+        leaves_kept (drop m nodes) letter first back_truths,
+        first_leaf-halves s nodes m letter,
+      )
 
 pub back_kept : {s t : Table} (nodes : List ℕ) {back : List ℕ} (m : ℕ) → back ≡ drop m nodes → Keeps s t →
     All (IsTruth s) nodes → All (IsTruth t) back
-back_kept {s} {t} nodes {back} m e k h =
-    all_kept back k (subst (All (IsTruth s)) (sym e) (All-drop (IsTruth s) m nodes h))
+back_kept {s} {t} nodes {back} m e k h = all_kept back k (grind (arith, All-drop (IsTruth s) m nodes h))
 
 -- ## The operands of a label, one after another
 
@@ -136,13 +129,7 @@ pub no_operands : (any : Bool) {s : Table} {named made : List ℕ} {rest : List 
     AreOver (length named) s.propositions (row_of rest) → ((known : List Bool) (letter : ℕ) →
     cond any (any_true known letter (row_of rest)) (all_true known letter (row_of rest)) ≡ truth known letter label) →
     AreOperands any s s named made rest label
-no_operands any {s} label none given within decides = record {
-  keeps = keeps_refl s;
-  nodes = no_nodes s none;
-  aliases = given;
-  within = within;
-  leaf = λ known h letter. record { so_far = false; is = rw none; decides = decides (known letter) letter };
-}
+no_operands any {s} label none given within decides = grind (arith, keeps_refl, no_nodes)
 
 pub operands_more : (any : Bool) {s t u : Table} {named made more : List ℕ} {e : Expression} {rest : List Expression}
     {label : Expression} {node : ℕ} → (known : ℕ → List Bool) × HaveTruths s named known →

@@ -22,7 +22,7 @@ record Meets (game : ParityGame) (player : ℕ) (table : ℕ → Option ℕ) (hi
   goes_by : GoesBy game player history path
 
 value_of : (o : Option ℕ) (P : ℕ → Type 0) → IsSomeAnd o P → (x : ℕ) × (o ≡ Some x) × P x
-value_of o P h1 = search rules
+value_of o P h = search rules
 
 pub players_differ : (player : ℕ) → player < 2 → player ≡ other_player player → ⊥
 players_differ player is_player same = omega arith
@@ -38,8 +38,7 @@ module _ (game : ParityGame) (player : ℕ) (set : ℕ → Bool) (table : ℕ �
       let some : 0 < length path = met.is_path.begins in
       let last_place : length path - 1 < length path = omega arith in
       let is_vertex : last < vertex_count game = met.is_path.vertices (length path - 1) last_place in
-      let stays =
-      holds.keeps.stays path met.is_path (rw met.starts inside) met.follows (length path - 1) last_place in
+      let stays = holds.keeps.stays path met.is_path (rw met.starts inside) met.follows (length path - 1) last_place in
       let longer : (next : ℕ) → HasEdge game last next →
       (owner_of game last ≡ other_player player → table last ≡ Some next) →
       (owner_of game last ≡ player → history path ≡ next) → Meets game player table history v (suc k) =
@@ -70,20 +69,12 @@ module _ (game : ParityGame) (player : ℕ) (set : ℕ → Bool) (table : ℕ �
     follows = λ k below. absurd (omega arith);
     goes_by = λ k below. absurd (omega arith);
   }
-  meets n history is_table v is_vertex inside (suc k) within =
-      meets_more n history is_table v k inside (omega arith) (meets n history is_table v is_vertex inside
-      k (omega arith))
+  meets n history is_table v is_vertex inside (suc k) within = meets_more n history is_table v k inside (omega arith)
+      (meets n history is_table v is_vertex inside k (omega arith))
 
   pub histories_beaten : (v : ℕ) → v < vertex_count game → IsTrue (set v) → AllHistoriesBeaten game player v
   histories_beaten v is_vertex inside n history is_table =
       let met = meets n history is_table v is_vertex inside n (le_refl n) in (
-        record {
-          path = met.path;
-          is_path = met.is_path;
-          begins = met.starts;
-          long = met.long;
-          goes_by = met.goes_by;
-          loses = λ i j loop. holds.wins met.path i j met.is_path (rw met.starts inside) met.follows loop;
-        },
+        grind arith,
         λ long. HasLoop-IsPath game met.path met.is_path (omega (arith, met.long)),
       )

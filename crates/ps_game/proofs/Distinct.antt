@@ -1,8 +1,7 @@
 -- The numbers of a list at their first places, gone through with stamps.
-use Rattle.std.proofs.Common.{rules}
+use Rattle.std.proofs.Common.{rules, inl, inr, ◌≡◌, ◌≢◌, ℕ, ◌+◌, ◌<◌, ◌≤◌, List, [], ◌∷◌, ◌++◌, cond, Bool, not, ◌||◌}
+use Rattle.std.proofs.Common.{◌==◌, filter, length, take, get_or, set, refl, ap, ◌∙◌, sym, arith}
 use Rattle.std.proofs.Math.Nat.{le_refl}
-use Rattle.std.proofs.Common.{inl, inr, ◌≡◌, ◌≢◌, ℕ, ◌+◌, ◌<◌, ◌≤◌, List, [], ◌∷◌, ◌++◌, cond, Bool}
-use Rattle.std.proofs.Common.{not, ◌||◌, ◌==◌, filter, length, take, get_or, set, refl, ap, ◌∙◌, sym, arith}
 use Rattle.std.specs.List.{All, list_any}
 use Rattle.std.proofs.lemmas.List.{append-nil, take_more, take_more_set, get_or-set_other, ext_get_or, get_or-map}
 use Rattle.std.proofs.lemmas.List.{length-map}
@@ -26,13 +25,7 @@ kept_or_not e b x y ys = search (rules, append-nil)
 pub distinct-push : (xs : List ℕ) (x : ℕ) → distinct (xs ++ x ∷ []) ≡ cond (list_any (λ y. y == x) xs) (distinct xs)
     (distinct xs ++ x ∷ [])
 distinct-push [] x = refl
-distinct-push (y ∷ ys) x =
-    let differs : ℕ → Bool = λ z. not (y == z) in
-    ap (λ zs. y ∷ filter differs zs) (distinct-push ys x)
-    ∙ ap (λ zs. y ∷ zs) (filter-cond differs (list_any (λ z. z == x) ys) (distinct ys) (distinct ys ++ x ∷ []))
-    ∙ ap (λ zs. y ∷ cond (list_any (λ z. z == x) ys) (filter differs (distinct ys)) zs)
-    (filter-append differs (distinct ys) (x ∷ []))
-    ∙ kept_or_not (y == x) (list_any (λ z. z == x) ys) x y (filter differs (distinct ys))
+distinct-push (y ∷ ys) x = search (rules, filter-cond, filter-append, kept_or_not, distinct-push ys x)
 
 -- the front holds what stood in the places gone through, each number at its first place; the other places are
 -- as they were; and the stamps tell which numbers stood in the places gone through
@@ -77,8 +70,7 @@ module _ {before numbers seen : List ℕ} {stamp place kept number : ℕ}
         let new = so_far.marks number known ∙ ne_eqb (get_or seen number 0) stamp fresh in
         record {
           few = omega arith;
-          front =
-              take_more_set numbers kept number (omega arith) ∙ ap (λ xs. xs ++ number ∷ []) so_far.front
+          front = take_more_set numbers kept number (omega arith) ∙ ap (λ xs. xs ++ number ∷ []) so_far.front
               ∙ sym (distinct-more before place inside ∙ rw (same, new) refl);
           back = λ k after. let other : k ≢ kept = omega arith in rw get_or-set_other (so_far.back k (omega arith));
           stamped = All-set (λ earlier. earlier ≤ stamp) seen number stamp (le_refl stamp) so_far.stamped;
@@ -109,6 +101,5 @@ pub record IsDropped (before vertices : ParityGame) (seen : List ℕ) (number : 
 -- where no vertex is left, all repeats are dropped
 pub all_dropped : {before vertices : ParityGame} {seen : List ℕ} {number : ℕ} → IsDropped before vertices seen number →
     length vertices ≡ length before → length before ≤ number → vertices ≡ without_repeats before
-all_dropped {before = before} {vertices = vertices} dropped same_length whole =
-    ext_get_or no_vertex vertices (without_repeats before) (search (rules, length-map))
-    (λ v within. search (rules, get_or-map, dropped.done))
+all_dropped {before = before} {vertices = vertices} dropped same_length whole = ext_get_or no_vertex vertices
+    (without_repeats before) (search (rules, length-map)) (λ v within. search (rules, get_or-map, dropped.done))

@@ -12,8 +12,7 @@ use Rattle.ps_game.specs.Drafts.{distinct, vertex_without_repeats, without_repea
 
 All-distinct : (P : ℕ → Type 0) (xs : List ℕ) → All P xs → All P (distinct xs)
 All-distinct P [] all = all
-All-distinct P (x ∷ xs) all =
-    All-cons P x (filter (λ y. not (x == y)) (distinct xs)) (all 0 0 (omega arith))
+All-distinct P (x ∷ xs) all = All-cons P x (filter (λ y. not (x == y)) (distinct xs)) (all 0 0 (omega arith))
     (All-filter (λ y. not (x == y)) P (distinct xs) (All-distinct P xs (λ k d within. all (suc k) d (omega arith))))
 
 others : (x y : ℕ) → not (x == y) ≡ true → x ≢ y
@@ -21,8 +20,7 @@ others x y passes same = grind (arith, nat_tests)
 
 AllPairs-distinct : (xs : List ℕ) → AllPairs (λ x y. x ≢ y) (distinct xs)
 AllPairs-distinct [] = λ i j d rises within. absurd (omega arith)
-AllPairs-distinct (x ∷ xs) =
-    AllPairs-cons (λ x y. x ≢ y) x (filter (λ y. not (x == y)) (distinct xs))
+AllPairs-distinct (x ∷ xs) = AllPairs-cons (λ x y. x ≢ y) x (filter (λ y. not (x == y)) (distinct xs))
     (λ k d within. others x _ (filter_passes (λ y. not (x == y)) (distinct xs) k d within))
     (AllPairs-filter (λ x y. x ≢ y) (λ y. not (x == y)) (distinct xs) (AllPairs-distinct xs))
 
@@ -54,9 +52,6 @@ owner_below : (draft : ParityGame) → All (λ v. v.owner < 2) draft → (v : �
 unfolding vertex_count owner_of
 owner_below draft owners v within = owners v no_vertex within
 
-All-Contains : (P : ℕ → Type 0) (xs : List ℕ) (x : ℕ) → All P xs → Contains xs x → P x
-All-Contains P xs x all (k, within, same) = subst P same (all k x within)
-
 pub IsGame-without_repeats : (draft : ParityGame) → All (λ v. v.owner < 2) draft → NoneBare draft → NoneUnknown draft →
     IsGame (without_repeats draft)
 IsGame-without_repeats draft owners bare known =
@@ -67,8 +62,10 @@ IsGame-without_repeats draft owners bare known =
       owners = λ v within. rw (owner_of-without_repeats draft v) (owner_below draft owners v (in_draft v within));
       has_successor = search (rules, successors_of-without_repeats, some-distinct);
       different = λ v within. rw (successors_of-without_repeats draft v) (AllPairs-distinct _);
-      within = λ v w edge.
-          let among : Contains (distinct (successors_of draft v)) w = search (rules, successors_of-without_repeats) in
-          rw (vertex_count-without_repeats draft) (All-Contains IsVertex _ w
-          (All-distinct IsVertex _ (known v (in_draft v edge.0))) among);
+      within = λ v w edge. grind (
+        arith,
+        successors_of-without_repeats,
+        vertex_count-without_repeats draft,
+        All-distinct IsVertex _ (known v (in_draft v edge.0)),
+      );
     }

@@ -1,6 +1,6 @@
 -- Games in four arrays: what is read from arrays that tell a game, and that they stand for it.
 use Rattle.std.proofs.Common.{◌≡◌, ℕ, ◌+◌, ◌-◌, ◌^◌, ◌<◌, ◌≤◌, List, [], ◌∷◌, ◌++◌, length, get_or, take, rules}
-use Rattle.std.proofs.Common.{drop, length-append, take-append-drop, append-nil, refl, sym, ap, ap₂, ◌∙◌, arith}
+use Rattle.std.proofs.Common.{drop, length-append, take-append-drop, append-nil, refl, sym, ap, ◌∙◌, arith}
 use Rattle.std.specs.List.{All, flat_map, slice_range}
 use Rattle.std.proofs.lemmas.Grind.{flat_map-append, get_or_default_zero}
 use Rattle.std.proofs.lemmas.List.{get_or-map, get_or_default, get_or-take, get_or-drop}
@@ -30,23 +30,18 @@ piece_at f xs i d lt =
     let x = get_or xs i d in
     let before = flat_map f (take i xs) in
     let behind = flat_map f (drop (i + 1) xs) in
-    let split : flat_map f xs ≡ before ++ (f x ++ behind) =
-    ap (flat_map f) (sym (take-append-drop i xs)) ∙ flat_map-append f (take i xs) (drop i xs)
-    ∙ ap (λ ys. before ++ flat_map f ys) (drop_more xs i d lt) in
-    let n = length before in
-    let m = length (f x) in
-    ap₂ (λ ys b. take (b - n) (drop n ys)) split (piece_ends f xs i d lt)
-    ∙ ap (λ ys. take (n + m - n) ys) (drop_at before (f x ++ behind) n refl)
-    ∙ take_at (f x) behind (n + m - n) (omega arith)
+    let split : flat_map f xs ≡ before ++ (f x ++ behind) = ap (flat_map f) (sym (take-append-drop i xs))
+    ∙ flat_map-append f (take i xs) (drop i xs) ∙ ap (λ ys. before ++ flat_map f ys) (drop_more xs i d lt) in
+    grind (arith, piece_ends, drop_at, take_at)
 
 -- those in front of a vertex are no more than all
 pub front_within : (game : ParityGame) (v : ℕ) → length (all_successors (take v game)) ≤ length (all_successors game)
 front_within game v =
     let f : VertexData → List ℕ = λ d. d.successors in
-    omega (
+    grind (
       arith,
-      ap (λ vs. length (flat_map f vs)) (take-append-drop v game),
-      ap length (flat_map-append f (take v game) (drop v game)),
+      take-append-drop v game,
+      flat_map-append f (take v game) (drop v game),
       length-append (flat_map f (take v game)) (flat_map f (drop v game)),
     )
 
@@ -60,8 +55,7 @@ none_unknown game is_game v lt k d less =
 pub All-successors : (P : ℕ → Type 0) (game : ParityGame) → All (λ v. All P v.successors) game →
     All P (all_successors game)
 All-successors P [] all = λ k d lt. absurd (omega arith)
-All-successors P (v ∷ game) all =
-    All-append P v.successors (all_successors game) (all 0 v (omega arith))
+All-successors P (v ∷ game) all = All-append P v.successors (all_successors game) (all 0 v (omega arith))
     (All-successors P game (All-tail (λ v. All P v.successors) v game all))
 
 -- ---- what arrays tell
@@ -109,21 +103,7 @@ module _ {game : ParityGame} {offsets successors owners priorities : List ℕ}
       let front = tell.offsets_are.in_front v (omega arith) in
       let next = tell.offsets_are.in_front (v + 1) (omega arith) in
       let ends = piece_ends (λ (d : VertexData). d.successors) game v no_vertex less in
-      let inside = front_within game (v + 1) in
-      let many = ap length tell.successors_are in
-      let part : successors_in offsets successors v ≡ (get_or game v no_vertex).successors = search (rules, piece_at) in
-      rw (← is) (record {
-        owned = omega (arith, as_many);
-        ranked = omega (arith, ap length tell.priorities_are, length-map game (λ v. v.priority));
-        ended = omega (arith, tell.offsets_are.offset_each);
-        rises = omega arith;
-        within = omega arith;
-        few = tell.few;
-        owner_is = ap (λ ns. get_or ns v 0) tell.owners_are ∙ get_or-map (λ d. d.owner) game v no_vertex 0 less;
-        priority_is = search (rules, get_or-map);
-        part_is = part;
-        degree_is = omega arith;
-      })
+      grind (arith, front_within, piece_at, as_many, length-map, get_or-map)
 
   -- the two numbers as they are read
   pub part_read : {other : ParityGame} → game ≡ other → {v start end : ℕ} → v < vertex_count other →
@@ -131,19 +111,12 @@ module _ {game : ParityGame} {offsets successors owners priorities : List ℕ}
       IsPart successors start end (successors_of other v)
   part_read is {v = v} {start = start} {end = end} lt starts ends =
       let at = stands is lt in
-      let start_is : start ≡ get_or offsets v 0 = starts ∙ get_or_default_zero offsets v start (omega arith) in
-      let end_is : end ≡ get_or offsets (v + 1) 0 = ends ∙ get_or_default_zero offsets (v + 1) end (omega arith) in
-      record {
-        rises = omega arith;
-        within = omega arith;
-        is = ap₂ (λ a b. slice_range successors a b) start_is end_is ∙ at.part_is;
-      }
+      grind (arith, get_or_default_zero)
 
   pub game_is : game_in offsets successors owners priorities ≡ game
   unfolding game_in owner_of priority_of successors_of vertex_count
-  game_is =
-      sym (fill_by_all (vertex_in offsets successors owners priorities) game (length owners) no_vertex (sym as_many)
-      (λ v lt. search (rules, stands, as_many)))
+  game_is = sym (fill_by_all (vertex_in offsets successors owners priorities) game (length owners) no_vertex
+      (sym as_many) (λ v lt. search (rules, stands, as_many)))
 
   pub game_flat : IsGame game → AreFlat offsets successors owners priorities
   unfolding vertex_count
@@ -169,6 +142,5 @@ module _ {game : ParityGame} {offsets successors owners priorities : List ℕ}
   pub successors_fit : {other : ParityGame} {limit : ℕ} → game ≡ other → IsGame game → FitsWithin other limit →
       length owners < 2 ^ 64 → All (λ w. w ≤ limit) successors
   unfolding vertex_count successors_of
-  successors_fit {limit = limit} is is_game fits few =
-      rw tell.successors_are (All-successors (λ w. w ≤ limit) game
+  successors_fit {limit = limit} is is_game fits few = rw tell.successors_are (All-successors (λ w. w ≤ limit) game
       (λ v d lt k e less. search (rules, get_or_default, none_unknown, owners_count, as_many, fits.vertices)))

@@ -1,7 +1,6 @@
 -- Lists of numbers that are worked on eight at a time.
 use Rattle.std.proofs.Common.{◌≡◌, ℕ, zero, suc, ◌+◌, ◌-◌, ◌*◌, ◌^◌, ◌<◌, ◌≤◌, List, [], ◌∷◌, length, take, map, get_or}
-use Rattle.std.proofs.Common.{rules}
-use Rattle.std.proofs.Common.{refl, sym, ap, ap₂, ◌∙◌, inl, inr, arith}
+use Rattle.std.proofs.Common.{rules, refl, sym, ap, ap₂, ◌∙◌, inl, inr, arith}
 use Rattle.std.specs.Int.Bits.{bit_or, or_zero_l}
 use Rattle.std.specs.List.{fold, sum_by}
 use Rattle.std.specs.Simd.Lanes.{zip2, chunk, put_chunk, fold_l}
@@ -55,8 +54,7 @@ clear_from_or (x ∷ xs) a e (suc k) = clear_from_or xs (bit_or a x) e k
 
 pub or_of_clear : (xs : List ℕ) (a : ℕ) → a ≡ 0 → ((k : ℕ) → k < length xs → get_or xs k 0 ≡ 0) → fold_l bit_or a xs ≡ 0
 or_of_clear [] a none clear = none
-or_of_clear (x ∷ xs) a none clear =
-    or_of_clear xs (bit_or a x) (ap₂ bit_or none (clear 0 (omega arith)) ∙ or_zero_l 0)
+or_of_clear (x ∷ xs) a none clear = or_of_clear xs (bit_or a x) (ap₂ bit_or none (clear 0 (omega arith)) ∙ or_zero_l 0)
     (λ k less. clear (suc k) (omega arith))
 
 -- a group without a bit, behind those in front of it
@@ -66,9 +64,11 @@ group_clear words group none before k lt = elim (cases_lt k (group * 8)) [
   | inl less ↦ before k less
   | inr beyond ↦
       let j = k - group * 8 in
-      let e : group * 8 + j ≡ k = omega arith in
-      rw (← e) (sym (get_or-chunk (group * 8) 8 words j 0 (omega arith))
-      ∙ clear_from_or (chunk (group * 8) 8 words) 0 none j)
+      grind (
+        arith,
+        get_or-chunk (group * 8) 8 words j 0 (omega arith),
+        clear_from_or (chunk (group * 8) 8 words) 0 none j,
+      )
 ]
 
 -- where no word up to the end of a group has a bit, its disjunction is 0
@@ -95,10 +95,7 @@ pub group_summed : (f g : ℕ → ℕ) (words : List ℕ) (group count : ℕ) �
 group_summed f g words group count same before =
     let front = take (group * 8) words in
     let here = chunk (group * 8) 8 words in
-    let next : group * 8 + 8 ≡ (group + 1) * 8 = omega arith in
-    ap₂ ◌+◌ before (summed f g same here 0) ∙ sym (sum_by-append f front here)
-    ∙ ap (sum_by f) (sym (take-add (group * 8) 8 words))
-    ∙ ap (λ n. sum_by f (take n words)) next
+    grind (arith, summed f g same here 0, sum_by-append f front here, take-add (group * 8) 8 words)
 
 -- such a sum fits where that over all words does
 pub group_fits : (f g : ℕ → ℕ) (words : List ℕ) (group count : ℕ) → ((x : ℕ) → g (f x) ≡ f x) →

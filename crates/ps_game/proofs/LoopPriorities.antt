@@ -1,6 +1,6 @@
 -- The priority of a loop is the greatest of its places: it bounds the priority of each, and is the priority of one.
 use Rattle.std.proofs.Common.{◌≡◌, ℕ, suc, ◌+◌, ◌-◌, ◌<◌, ◌≤◌, inl, inr, List, [], ◌∷◌, length, get_or, map}
-use Rattle.std.proofs.Common.{refl, sym, ap, ◌∙◌, arith, rules}
+use Rattle.std.proofs.Common.{refl, arith, rules}
 use Rattle.std.specs.Prelude.{slice_range}
 use Rattle.std.proofs.lemmas.Bool.{cases_lt}
 use Rattle.std.proofs.lemmas.List.Recursion.{max_bounds}
@@ -35,15 +35,15 @@ pub le-loop_priority : (game : ParityGame) (path : List ℕ) (i j k : ℕ) → i
 unfolding loop_priority
 le-loop_priority game path i j k after before within =
     let all : List ℕ = map (priority_of game) (slice_range path i j) in
-    let same : i + (k - i) ≡ k = omega arith in
-    let at = priority_at game path i j within (k - i) (omega arith)
-    ∙ ap (λ n. priority_of game (get_or path n 0)) same in
-    omega (arith, at, le-greatest all (k - i) (omega (arith, places game path i j within)))
+    grind (
+      arith,
+      priority_at game path i j within (k - i) (omega arith),
+      le-greatest all (k - i) (omega (arith, places game path i j within)),
+    )
 
 pub loop_priority_stands : (game : ParityGame) (path : List ℕ) (i j : ℕ) → i < j → j ≤ length path →
     (k : ℕ) × (i ≤ k) × (k < j) × (priority_of game (get_or path k 0) ≡ loop_priority game path i j)
 unfolding loop_priority
 loop_priority_stands game path i j rises within =
     let many = places game path i j within in
-    let (k, below, is) = greatest_stands (map (priority_of game) (slice_range path i j)) (omega arith) in
-    (i + k, omega arith, omega arith, sym (priority_at game path i j within k (omega arith)) ∙ is)
+    grind (arith, greatest_stands, priority_at)

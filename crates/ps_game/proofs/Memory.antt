@@ -10,7 +10,6 @@ use Rattle.ps_game.specs.Games.{ParityGame, vertex_count}
 use Rattle.ps_game.specs.Plays.{IsPath, IsLoop}
 use Rattle.ps_game.specs.Strategies.{FiniteMemory, IsFiniteMemory, memory_at, Agrees, WinsFrom, WinsByNoMemory}
 use Rattle.ps_game.specs.Strategies.{last_vertex, IsHistoryTable, GoesBy, AllHistoriesBeaten}
-use Rattle.ps_game.proofs.Beaten.{players_differ}
 use Rattle.ps_game.proofs.Repeats.{repeats}
 
 module _ (game : ParityGame) (player : ℕ) (strategy : FiniteMemory) (is_strategy : IsFiniteMemory game player strategy)
@@ -19,9 +18,8 @@ module _ (game : ParityGame) (player : ℕ) (strategy : FiniteMemory) (is_strate
     after_below : (memory : ℕ) (met : List ℕ) → memory < strategy.size → All (λ v. v < vertex_count game) met →
         fold strategy.update memory met < strategy.size
     after_below memory [] below all = below
-    after_below memory (v ∷ vs) below all =
-        after_below (strategy.update memory v) vs (is_strategy.update_below memory v below (all 0 0 (omega arith)))
-        (λ k d within. all (suc k) d (omega arith))
+    after_below memory (v ∷ vs) below all = after_below (strategy.update memory v) vs
+        (is_strategy.update_below memory v below (all 0 0 (omega arith))) (λ k d within. all (suc k) d (omega arith))
 
     memory_below : (path : List ℕ) → IsPath game path → (k : ℕ) → memory_at strategy path k < strategy.size
     memory_below path is_path k =
@@ -35,8 +33,7 @@ module _ (game : ParityGame) (player : ℕ) (strategy : FiniteMemory) (is_strate
 
     history_is_table : (n : ℕ) → IsHistoryTable game player n history_of
     unfolding history_of
-    history_is_table n path is_path short owns =
-        is_strategy.moves _ _ (memory_below path is_path (length path - 1))
+    history_is_table n path is_path short owns = is_strategy.moves _ _ (memory_below path is_path (length path - 1))
         (is_path.vertices (length path - 1) (omega (arith, is_path.begins))) owns
 
     -- at place k of a path the history up to there is played as the strategy does
@@ -63,8 +60,7 @@ module _ (game : ParityGame) (player : ℕ) (strategy : FiniteMemory) (is_strate
         search (rules, get_or-map-range_with_len, code_at) in
         let IsCode : ℕ → Type 0 = λ code. code < strategy.size * vertex_count game in
         let found = repeats (strategy.size * vertex_count game) codes
-        (λ k d within. search (rules, mul-add-lt, memory_below, is_path.vertices))
-        (omega arith) in
+        (λ k d within. search (rules, mul-add-lt, memory_below, is_path.vertices)) (omega arith) in
         let later : found.1 < length path = omega (arith, found.2.within) in
         let earlier : found.0 < length path = omega (arith, found.2.rises) in
         let parts =
@@ -77,11 +73,9 @@ module _ (game : ParityGame) (player : ℕ) (strategy : FiniteMemory) (is_strate
         let n : ℕ = strategy.size * vertex_count game in
         let against = (beaten n history_of (history_is_table n)).0 in
         let again = same_again against.path against.is_path (omega (arith, against.long)) in
-        let won =
-        wins against.path again.0 again.1 against.is_path against.begins (agrees against.path against.goes_by)
+        let won = wins against.path again.0 again.1 against.is_path against.begins (agrees against.path against.goes_by)
         again.2 again.3 in
-        let lost = against.loses again.0 again.1 again.2 in
-        players_differ player is_player (sym won ∙ lost)
+        grind arith
 
 pub WinsByNoMemory-AllHistoriesBeaten : (game : ParityGame) (player v : ℕ) → player < 2 →
     AllHistoriesBeaten game player v → WinsByNoMemory game player v

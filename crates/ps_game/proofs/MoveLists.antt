@@ -1,6 +1,6 @@
 -- Tables of moves in two lists: what they hold, and what a new move does to them.
 use Rattle.std.proofs.Common.{◌≡◌, ℕ, ◌<◌, Bool, true, false, cond, List, length, get_or, set, Option, Some}
-use Rattle.std.proofs.Common.{None, sym, ◌∙◌, rules}
+use Rattle.std.proofs.Common.{None, sym, rules}
 use Rattle.std.specs.Prelude.{replicate}
 use Rattle.std.proofs.lemmas.Bool.{cases_eq}
 use Rattle.std.proofs.lemmas.Grind.{get_or-set_at}
@@ -31,10 +31,8 @@ unfolding moves_of
 moves_are chosen moves table long each = sym (fill_by_all (move_in chosen moves) table (length moves) None long each)
 
 pub no_moves : (places : ℕ) → moves_of (replicate places false) (replicate places 0) ≡ replicate places None
-no_moves places =
-    moves_are (replicate places false) (replicate places 0) (replicate places None)
-    (length-replicate places None ∙ sym (length-replicate places 0))
-    (λ v lt. search (rules, length-replicate, get_or-replicate))
+no_moves places = moves_are (replicate places false) (replicate places 0) (replicate places None)
+    (search (rules, length-replicate)) (λ v lt. search (rules, length-replicate, get_or-replicate))
 
 pub one_moved : (chosen : List Bool) (moves : List ℕ) (v w : ℕ) → length chosen ≡ length moves → v < length moves
     → moves_of (set chosen v true) (set moves v w) ≡ set (moves_of chosen moves) v (Some w)

@@ -1,9 +1,8 @@
 -- From what is held within a subgame to what is held on paths.
-use Rattle.std.proofs.Common.{◌≡◌, ℕ, zero, suc, ◌+◌, ◌-◌, ◌<◌, ◌≤◌, List, length, get_or, Bool, IsTrue}
-use Rattle.std.proofs.Common.{rules}
-use Rattle.std.proofs.Common.{Option, IsSomeAnd, sym, ap, ◌∙◌, arith}
+use Rattle.std.proofs.Common.{◌≡◌, ℕ, zero, suc, ◌+◌, ◌-◌, ◌<◌, ◌≤◌, List, length, get_or, Bool, IsTrue, rules, Option}
+use Rattle.std.proofs.Common.{IsSomeAnd, sym, ap, ◌∙◌, arith}
 use Rattle.std.proofs.lemmas.Bool.{cases_eq}
-use Rattle.ps_game.specs.Games.{ParityGame, vertex_count, owner_of, priority_of}
+use Rattle.ps_game.specs.Games.{ParityGame, vertex_count, owner_of}
 use Rattle.ps_game.specs.Plays.{IsPath, IsLoop, Follows, Holds, loop_priority}
 use Rattle.ps_game.specs.Subgames.{IsRound, IsTop, HoldsWithin}
 use Rattle.ps_game.proofs.LoopPriorities.{le-loop_priority, loop_priority_stands}
@@ -17,13 +16,10 @@ pub loop_priority_top : (game : ParityGame) (path : List ℕ) (i j : ℕ) → i 
 loop_priority_top game path i j rises within =
     let (k, after, before, is) = loop_priority_stands game path i j rises within in
     let there : i + (k - i) ≡ k = omega arith in
-    record {
-      bounds = λ t below. le-loop_priority game path i j (i + t) (omega arith) (omega arith) within;
-      stands = (k - i, omega arith, ap (λ n. priority_of game (get_or path n 0)) there ∙ is);
-    }
+    grind (arith, le-loop_priority)
 
 some_more : (P Q : ℕ → Type 0) (o : Option ℕ) → ((w : ℕ) → P w → Q w) → IsSomeAnd o P → IsSomeAnd o Q
-some_more P Q o h1 h2 = search rules
+some_more P Q o h k = search rules
 
 -- a loop of a path that stays in the set is a round
 loop_round : (game : ParityGame) (player : ℕ) (set : ℕ → Bool) (table : ℕ → Option ℕ) (path : List ℕ) (i j : ℕ) →
@@ -50,17 +46,13 @@ module _ (game : ParityGame) (player : ℕ) (subgame set : ℕ → Bool) (table 
         (k : ℕ) → k < length path → IsTrue (set (get_or path k 0))
     stays_on path is_path begins follows zero within = begins
     stays_on path is_path begins follows (suc k) within =
-        let next : k + 1 ≡ suc k = omega arith in
-        let here = stays_on path is_path begins follows k (omega arith) in
-        let step : k + 1 < length path = omega arith in
-        rw (← next) (search (rules, cases_eq, is_path.edges, is_path.vertices))
+        grind (arith, cases_eq, stays_on path is_path begins follows k (omega arith))
 
     pub Holds-HoldsWithin : Holds game player set table
     Holds-HoldsWithin = record {
       keeps = search (rules, some_more, stays_on);
-      wins = λ path i j is_path begins follows is_loop.
-          holds.wins (from_place path i) (j - i) (loop_priority game path i j)
-          (search (rules, loop_round, stays_on))
+      wins = λ path i j is_path begins follows is_loop. holds.wins (from_place path i) (j - i)
+          (loop_priority game path i j) (search (rules, loop_round, stays_on))
           (loop_priority_top game path i j is_loop.rises (omega (arith, is_loop.within)));
     }
 

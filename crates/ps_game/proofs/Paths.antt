@@ -1,6 +1,6 @@
 -- Paths with one more vertex.
 use Rattle.std.proofs.Common.{◌≡◌, ℕ, ◌+◌, ◌-◌, ◌<◌, List, [], ◌∷◌, ◌++◌, length, get_or, take, Option, Some}
-use Rattle.std.proofs.Common.{ap, ◌∙◌, arith, rules}
+use Rattle.std.proofs.Common.{arith, rules}
 use Rattle.std.proofs.Math.Nat.{le_refl}
 use Rattle.std.proofs.lemmas.Bool.{cases_lt}
 use Rattle.std.proofs.lemmas.List.{get_or_append_left, get_or_push, length_push, take-append-le, take_all}
@@ -40,5 +40,4 @@ pub GoesBy-push : (game : ParityGame) (player : ℕ) (table : List ℕ → ℕ) 
     GoesBy game player table (path ++ w ∷ [])
 GoesBy-push game player table path w some goes_by last =
     along-push (λ k u x. owner_of game u ≡ player → table (take (k + 1) (path ++ w ∷ [])) ≡ x) path w some
-    (λ k within owns. ap table (take-append-le (k + 1) path (w ∷ []) (omega arith)) ∙ goes_by k within owns)
-    (λ owns. search (rules, take-append-le, le_refl, take_all))
+    (λ k within owns. grind (arith, take-append-le)) (λ owns. search (rules, take-append-le, le_refl, take_all))

@@ -23,10 +23,8 @@ module _ {game : ParityGame} {parity n : ℕ} {list : List ℕ} (so_far : ListsB
   lists_push lt right =
       let p = priority_of game n in
       record {
-        complete =
-            below_more (λ v. priority_of game v % 2 ≡ parity → Contains (list ++ p ∷ []) (priority_of game v)) n
-            (λ v below h. Contains-append_left list (p ∷ []) (priority_of game v) (so_far.complete v below h))
-            (λ h. Contains-push list p);
+        complete = below_more (λ v. priority_of game v % 2 ≡ parity → Contains (list ++ p ∷ []) (priority_of game v)) n
+            (λ v below h. grind (arith, Contains-append_left)) (λ h. Contains-push list p);
         right_parity = All-push (λ p. p % 2 ≡ parity) list p so_far.right_parity right;
         present = All-push (HasPriority game) list p so_far.present (n, lt, refl);
       }
@@ -38,9 +36,8 @@ module _ {game : ParityGame} {parity n : ℕ} {list : List ℕ} (so_far : ListsB
       IsSorted nat_cmp sorted → kept ≡ dedup eqb sorted → ListsPriorities game parity kept
   lists_from {sorted = sorted} whole moved order e = rw e (record {
     rising = IsStrictlyIncreasing-dedup sorted order;
-    complete =
-        λ v lt h. Contains-dedup_nat sorted (priority_of game v) (Contains-permutation list sorted (priority_of game v)
-        moved (so_far.complete v (omega arith) h));
+    complete = λ v lt h. Contains-dedup_nat sorted (priority_of game v)
+        (Contains-permutation list sorted (priority_of game v) moved (so_far.complete v (omega arith) h));
     right_parity = search (rules, All-dedup, All-permutation);
     present = search (rules, All-dedup, All-permutation);
   })

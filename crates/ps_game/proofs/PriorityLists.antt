@@ -20,18 +20,12 @@ pub priorities_there : (game : ParityGame) (parity : ℕ) → (list : List ℕ) 
 priorities_there game parity = (
   filter test all,
   record {
-    rising = IsStrictlyIncreasing-filter test all (λ k within. omega (
-      arith,
-      size,
-      get_or-range_with_len 0 many k 0 (omega (arith, size)),
-      get_or-range_with_len 0 many (k + 1) 0 (omega (arith, size)),
-    ));
+    rising = grind (arith, IsStrictlyIncreasing-filter, test, size, get_or-range_with_len, many);
     complete = λ v below right.
         let p = priority_of game v in
         let low : p < many = omega (arith, at v 0 below, le-greatest priorities v (omega (arith, count))) in
-        let passes : test p ≡ true =
-        and_from _ _ (any-from_Contains p priorities (v, omega (arith, count), at v p below))
-        (eq-eqb (p % 2) parity right) in
+        let passes : test p ≡ true = and_from _ _
+        (any-from_Contains p priorities (v, omega (arith, count), at v p below)) (eq-eqb (p % 2) parity right) in
         Contains-any p (filter test all)
         (any-filter_same (eqb p) test true (λ k e. ap test (sym (eqb-true p k e)) ∙ passes) all
         ∙ any-from_Contains p all (p, omega (arith, size), omega (arith, get_or-range_with_len 0 many p p low)));

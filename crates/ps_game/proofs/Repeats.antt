@@ -1,6 +1,6 @@
 -- More places than values: two places have the same value.
 use Rattle.std.proofs.Common.{◌≡◌, ◌≢◌, ℕ, suc, ◌<◌, ◌⊎◌, inl, inr, List, [], ◌∷◌, Bool, true, false, ◌==◌, length}
-use Rattle.std.proofs.Common.{refl, sym, ◌∙◌, arith, rules}
+use Rattle.std.proofs.Common.{refl, arith, rules}
 use Rattle.std.specs.List.{All, AllPairs, list_any}
 use Rattle.std.proofs.lemmas.Bool.{eqb-true, eq-eqb}
 use Rattle.std.proofs.lemmas.Bool.Decides.{Decides-eqb}
@@ -21,11 +21,7 @@ head_repeats x xs differ true there =
     inr (
       0,
       suc found.0,
-      record {
-        rises = omega arith;
-        within = omega (arith, found.2);
-        same = eqb-true x found.1 found.4 ∙ sym found.3 ∙ get_or_default xs found.0 found.1 0 found.2;
-      },
+      grind (arith, eqb-true, get_or_default),
     )
 head_repeats x xs differ false none = search (rules, AllPairs-cons, list_any-from_Any, get_or_default, eq-eqb)
 
@@ -36,8 +32,7 @@ differ_or_repeat (x ∷ xs) = elim (differ_or_repeat xs) [
   | inr repeated ↦ inr (
     suc repeated.0,
     suc repeated.1,
-    record
-        { rises = omega (arith, repeated.2.rises); within = omega (arith, repeated.2.within); same = repeated.2.same },
+    grind arith,
   )
   | inl differ ↦ head_repeats x xs differ (list_any (λ y. x == y) xs) refl
 ]
@@ -50,10 +45,10 @@ below_from_there n xs below q there = search (rules, Any-from_list_any, eqb-true
 pub repeats : (n : ℕ) (xs : List ℕ) → All (λ x. x < n) xs → n < length xs → HasLoop xs
 repeats n xs below many = elim (differ_or_repeat xs) [
   | inr repeated ↦ repeated
-  | inl differ ↦
-      let few = length-le_from_distinct_below xs n (IsDistinct-from_AllPairs Decides-eqb xs differ)
-      (below_from_there n xs below) in
-      absurd (omega arith)
+  | inl differ ↦ grind (
+    arith,
+    length-le_from_distinct_below xs n (IsDistinct-from_AllPairs Decides-eqb xs differ) (below_from_there n xs below),
+  )
 ]
 
 -- a path with more vertices than the game has a loop

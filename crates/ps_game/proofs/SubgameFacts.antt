@@ -1,6 +1,5 @@
 -- Subgames: all of a game is one.
-use Rattle.std.proofs.Common.{◌≡◌, ℕ, ◌<◌, List, Bool, true, false, replicate, length, get_or, sym, ap, ◌∙◌}
-use Rattle.std.proofs.Common.{arith, rules}
+use Rattle.std.proofs.Common.{◌≡◌, ℕ, ◌<◌, List, Bool, true, false, replicate, length, get_or, arith, rules}
 use Rattle.std.proofs.lemmas.Bool.{cases_lt, false≢true}
 use Rattle.std.proofs.lemmas.List.{get_or-replicate, get_or_past, get_or_default, length-replicate}
 use Rattle.std.proofs.lemmas.List.Elements.{Contains-get_or}
@@ -48,6 +47,4 @@ number_of_edge game v w edge = search (rules, get_or_default)
 pub none_leads : (game : ParityGame) (set : ℕ → Bool) (v : ℕ) →
     ((k : ℕ) → k < length (successors_of game v) → set (get_or (successors_of game v) k 0) ≡ false) → (w : ℕ) →
     LeadsInto game set v w → ⊥
-none_leads game set v none w leads =
-    let (k, within, same) = number_of_edge game v w leads.edge in
-    false≢true (sym (none k within) ∙ ap set same ∙ leads.inside)
+none_leads game set v none w leads = grind (arith, number_of_edge game v w leads.edge)

@@ -1,8 +1,7 @@
 -- Vertices in arrays that grow: one more vertex, places in place of ids, and no repeats.
-use Rattle.std.proofs.Common.{◌≡◌, ◌≢◌, ℕ, suc, ◌+◌, ◌^◌, ◌<◌, ◌≤◌, Bool, not, List, [], ◌∷◌, ◌++◌, rules}
-use Rattle.std.proofs.Common.{map, filter, length, get_or, take, refl, sym, ap, ap₂, ◌∙◌, arith, length-append, drop}
-use Rattle.std.proofs.Common.{take-append-drop}
-use Rattle.std.specs.Prelude.{◌&&◌, ◌==◌}
+use Rattle.std.proofs.Common.{◌≡◌, ◌≢◌, ℕ, suc, ◌+◌, ◌^◌, ◌<◌, ◌≤◌, Bool, not, List, [], ◌∷◌, ◌++◌, rules, map, filter}
+use Rattle.std.proofs.Common.{length, get_or, take, refl, ap, ap₂, ◌∙◌, arith, length-append, take-append-drop}
+use Rattle.std.specs.Prelude.{◌==◌}
 use Rattle.std.specs.List.{All, AllPairs, list_all}
 use Rattle.std.proofs.lemmas.Bool.{cases_lt, ne_eqb}
 use Rattle.std.proofs.lemmas.Grind.{flat_map-append}
@@ -46,20 +45,17 @@ module _ {game : ParityGame} {offsets successors owners priorities : List ℕ}
       offsets' ≡ offsets ++ n ∷ [] → successors' ≡ successors ++ v.successors → owners' ≡ owners ++ v.owner ∷ [] →
       priorities' ≡ priorities ++ v.priority ∷ [] → n ≡ length successors' → n < 2 ^ 64 →
       TellGame (game ++ v ∷ []) offsets' successors' owners' priorities'
-  tell_more v {n = n} o s w p is few =
-      let all = s ∙ ap (λ ws. ws ++ v.successors) tell.successors_are ∙ sym (all_successors-push game v) in
-      let longer = length-append game (v ∷ []) in
-      let before = tell.offsets_are in
-      record {
-        offsets_are = record {
-          offset_each = omega (arith, ap length o, length-append offsets (n ∷ []), before.offset_each, longer);
-          in_front = search (rules, cases_lt, get_or_append_left, take-append-le, get_or_push, take_all);
-        };
-        successors_are = all;
-        few = omega (arith, is);
-        owners_are = w ∙ ap (λ ns. ns ++ v.owner ∷ []) tell.owners_are ∙ sym (map-append owner_there game (v ∷ []));
-        priorities_are = search (rules, map-append, v.priority);
-      }
+  tell_more v {n = n} o s w p is few = search (
+    rules,
+    all_successors-push,
+    length-append,
+    cases_lt,
+    get_or_append_left,
+    take-append-le,
+    get_or_push,
+    take_all,
+    map-append,
+  )
 
   -- the front of the arrays tells the first vertices
   pub tell_front : {k : ℕ} → k ≤ length game →
@@ -69,17 +65,16 @@ module _ {game : ParityGame} {offsets successors owners priorities : List ℕ}
       let front = tell.offsets_are in
       let long : length (take k game) ≡ k = length-take-le k game le in
       let both = take-append-drop k game in
-      let all : all_successors game ≡ all_successors (take k game) ++ all_successors (drop k game) =
-      search (rules, flat_map-append) in
-      let kept : take (get_or offsets k 0) successors ≡ all_successors (take k game) =
-      search (rules, take-append_seam) in
-      record {
-        offsets_are = search (rules, length-take-le, get_or-take, take-append-le);
-        successors_are = kept;
-        few = omega (arith, ap length kept, front_within game k, ap length tell.successors_are, tell.few);
-        owners_are = ap (take k) tell.owners_are ∙ take-map owner_there k game;
-        priorities_are = ap (take k) tell.priorities_are ∙ take-map priority_there k game;
-      }
+      search (
+        rules,
+        flat_map-append,
+        take-append_seam,
+        length-take-le,
+        get_or-take,
+        take-append-le,
+        front_within,
+        take-map,
+      )
 
   -- arrays that tell a game stand for it
   pub stand_for : All (λ v. v.owner < 2) game → StandFor game offsets successors owners priorities
@@ -90,9 +85,7 @@ module _ {game : ParityGame} {offsets successors owners priorities : List ℕ}
 all_successors-placed : (ids : List ℕ) (game : ParityGame) →
     all_successors (map (with_places ids) game) ≡ map (place_of ids) (all_successors game)
 all_successors-placed ids [] = refl
-all_successors-placed ids (v ∷ game) =
-    ap (λ ws. map (place_of ids) v.successors ++ ws) (all_successors-placed ids game)
-    ∙ sym (map-append (place_of ids) v.successors (all_successors game))
+all_successors-placed ids (v ∷ game) = search (rules, map-append, all_successors-placed ids game)
 
 -- the owners and the priorities stay
 kept-placed : (f : VertexData → ℕ) (ids : List ℕ) → ((v : VertexData) → f (with_places ids v) ≡ f v) →
@@ -103,9 +96,8 @@ kept-placed f ids same (v ∷ game) = ap₂ (λ n ns. n ∷ ns) (same v) (kept-p
 pub players-placed : (ids : List ℕ) (game : ParityGame) → All (λ v. v.owner < 2) game →
     All (λ v. v.owner < 2) (map (with_places ids) game)
 players-placed ids [] all = all
-players-placed ids (v ∷ game) all =
-    All-cons (λ v. v.owner < 2) (with_places ids v) (map (with_places ids) game) (all 0 v (omega arith))
-    (players-placed ids game (All-tail (λ v. v.owner < 2) v game all))
+players-placed ids (v ∷ game) all = All-cons (λ v. v.owner < 2) (with_places ids v) (map (with_places ids) game)
+    (all 0 v (omega arith)) (players-placed ids game (All-tail (λ v. v.owner < 2) v game all))
 
 pub tell_placed : (ids : List ℕ) {game : ParityGame} {offsets successors owners priorities successors' : List ℕ} →
     TellGame game offsets successors owners priorities → successors' ≡ map (place_of ids) successors →
@@ -118,8 +110,7 @@ tell_placed ids {game = game} {successors = successors} tell are =
 pub all_tested-each : (p : ℕ → Bool) (game : ParityGame) →
     list_all p (all_successors game) ≡ list_all (λ v. list_all p v.successors) game
 all_tested-each p [] = refl
-all_tested-each p (v ∷ game) = list_all-append p v.successors (all_successors game)
-    ∙ ap (λ b. list_all p v.successors && b) (all_tested-each p game)
+all_tested-each p (v ∷ game) = search (rules, list_all-append, all_tested-each p game)
 
 -- ---- no repeats
 
@@ -130,13 +121,13 @@ filter_none x (y ∷ ys) all =
 
 distinct_same : (xs : List ℕ) → AllPairs (λ x y. x ≢ y) xs → distinct xs ≡ xs
 distinct_same [] differ = refl
-distinct_same (x ∷ xs) differ =
-    ap (λ ys. x ∷ filter (λ y. not (x == y)) ys) (distinct_same xs
-    (λ i j d lt within. differ (suc i) (suc j) d (omega arith) (omega arith)))
+distinct_same (x ∷ xs) differ = ap (λ ys. x ∷ filter (λ y. not (x == y)) ys)
+    (distinct_same xs (λ i j d lt within. differ (suc i) (suc j) d (omega arith) (omega arith)))
     ∙ ap (λ ys. x ∷ ys) (filter_none x xs (λ k d lt. differ 0 (suc k) d (omega arith) (omega arith)))
 
 pub without_repeats-same : (game : ParityGame) → HaveNoRepeats game → without_repeats game ≡ game
 without_repeats-same [] none = refl
-without_repeats-same (v ∷ game) none =
-    ap₂ (λ ws vs. record v { successors = ws } ∷ vs) (distinct_same v.successors (none 0 v (omega arith)))
-    (without_repeats-same game (λ k d lt. none (suc k) d (omega arith)))
+without_repeats-same (v ∷ game) none = ap₂ (λ ws vs. record v { successors = ws } ∷ vs) (grind (
+  arith,
+  distinct_same v.successors (none 0 v (omega arith)),
+)) (without_repeats-same game (λ k d lt. none (suc k) d (omega arith)))

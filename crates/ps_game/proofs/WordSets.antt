@@ -1,7 +1,6 @@
 -- Sets of vertices in words: what each change of a word does to the set.
-use Rattle.std.proofs.Common.{◌≡◌, ◌≢◌, ℕ, zero, suc, ◌+◌, ◌-◌, ◌*◌, ◌/◌, ◌%◌, ◌^◌, ◌<◌, ◌≤◌, Bool, true}
-use Rattle.std.proofs.Common.{rules}
-use Rattle.std.proofs.Common.{false, not, cond, ◌==◌, ◌&&◌, List, [], ◌∷◌, ◌++◌, map, length, take, get_or, set, max}
+use Rattle.std.proofs.Common.{◌≡◌, ◌≢◌, ℕ, zero, suc, ◌+◌, ◌-◌, ◌*◌, ◌/◌, ◌%◌, ◌^◌, ◌<◌, ◌≤◌, Bool, true, rules, false}
+use Rattle.std.proofs.Common.{not, cond, ◌==◌, ◌&&◌, List, [], ◌∷◌, ◌++◌, map, length, take, get_or, set, max}
 use Rattle.std.proofs.Common.{length-set, add-zero, w64, refl, sym, ap, ap₂, ◌∙◌, subst, arith}
 use Rattle.std.specs.Prelude.{◌||◌, replicate, count_by, count_ones}
 use Prim.Native.Nat.{min}
@@ -48,8 +47,7 @@ pub record AreWords (places : ℕ) (words : List ℕ) (region : List Bool) : Typ
 -- ---- no place
 
 pub empty_is : (places n : ℕ) → members places (replicate n 0) ≡ replicate places false
-empty_is places n =
-    members_are places (replicate n 0) (replicate places false) (length-replicate places false)
+empty_is places n = members_are places (replicate n 0) (replicate places false) (length-replicate places false)
     (λ v lt. search (rules, get_or-replicate, cases_lt, bit_at-zero, bit_past, length-replicate))
 
 -- ---- all places
@@ -127,42 +125,35 @@ module _ {places : ℕ} {words : List ℕ} {region : List Bool} (packed : ArePac
       let long = places_are in
       record {
         packed = search (rules, change.long, change.elsewhere);
-        are =
-            members_are places after (set region v b) (length-set region v b ∙ long)
-            (λ u less. search (
-              rules,
-              cases_eq,
-              get_or-set_at,
-              get_or-set_other,
-              has-bit,
-              change.here,
-              change.elsewhere,
-            ));
+        are = members_are places after (set region v b) (length-set region v b ∙ long)
+            (λ u less. grind (arith, cases_eq, get_or-set_at, get_or-set_other, has-bit));
       }
 
   pub bit_set : {v w : ℕ} → v < length region → w ≡ get_or words (v / 64) w →
       AreWords places (set words (v / 64) (bit_or w (1 * 2 ^ (v % 64) % 2 ^ 64))) (set region v true)
-  bit_set {v = v} {w = w} lt read =
-      changed lt (one_word words v _ true (word_there lt)
-      (ap (λ n. n == 1) (bit_at_set_same w64 w (v % 64) (omega arith)))
-      (λ i below other. bit_at_set_other w64 w (v % 64) (omega arith) i other
-      ∙ ap (λ n. bit_at n i) (read ∙ get_or_default_zero words (v / 64) w (word_there lt))))
+  bit_set {v = v} {w = w} lt read = changed lt (one_word words v _ true (word_there lt)
+      (ap (λ n. n == 1) (bit_at_set_same w64 w (v % 64) (omega arith))) (λ i below other. grind (
+        arith,
+        bit_at_set_other w64 w (v % 64) (omega arith) i other,
+        get_or_default_zero words (v / 64) w (word_there lt),
+      )))
 
   pub bit_cleared : {v w : ℕ} → v < length region → w ≡ get_or words (v / 64) w →
       AreWords places (set words (v / 64) (bit_and w (bit_not w64 (1 * 2 ^ (v % 64) % 2 ^ 64)))) (set region v false)
-  bit_cleared {v = v} {w = w} lt read =
-      changed lt (one_word words v _ false (word_there lt)
-      (ap (λ n. n == 1) (bit_at_clear_same w64 w (v % 64) (omega arith)))
-      (λ i below other. bit_at_clear_other w64 w (v % 64) (omega arith) i below other
-      ∙ ap (λ n. bit_at n i) (read ∙ get_or_default_zero words (v / 64) w (word_there lt))))
+  bit_cleared {v = v} {w = w} lt read = changed lt (one_word words v _ false (word_there lt) (ap (λ n. n == 1)
+      (bit_at_clear_same w64 w (v % 64) (omega arith))) (λ i below other. grind (
+        arith,
+        bit_at_clear_other w64 w (v % 64) (omega arith) i below other,
+        get_or_default_zero words (v / 64) w (word_there lt),
+      )))
 
 -- ---- the bits of two sets
 
 either : (x y : ℕ) → x < 2 → y < 2 → (max x y == 1) ≡ ((x == 1) || (y == 1))
-either x y h1 h2 = search rules
+either x y h k = search rules
 
 first_only : (x y : ℕ) → x < 2 → y < 2 → (min x (1 - y) == 1) ≡ ((x == 1) && not (y == 1))
-first_only x y h1 h2 = search rules
+first_only x y h k = search rules
 
 -- the words of a set that is made of two sets by a rule on each vertex
 pub record IsMade (places : ℕ) (new : List ℕ) (region other : List Bool) (rule : Bool → Bool → Bool) : Type 0 where
@@ -195,14 +186,12 @@ module _ {places others_places : ℕ} {words others : List ℕ} {region other : 
 
     pub union_made : ((k : ℕ) → get_or new k 0 ≡ bit_or (get_or old k 0) (get_or lent k 0)) →
         IsMade places new region other (λ a b. a || b)
-    union_made each =
-        made (λ a b. a || b) refl (λ v. search (rules, bit_at_or, either, bit_at-lt))
+    union_made each = made (λ a b. a || b) refl (λ v. search (rules, bit_at_or, either, bit_at-lt))
 
     pub difference_made : ((k : ℕ) → get_or lent k 0 < 2 ^ 64) →
         ((k : ℕ) → get_or new k 0 ≡ bit_and (get_or old k 0) (bit_not w64 (get_or lent k 0))) →
         IsMade places new region other (λ a b. a && not b)
-    difference_made fits each =
-        made (λ a b. a && not b) refl (λ v.
+    difference_made fits each = made (λ a b. a && not b) refl (λ v.
         let x = get_or old (v / 64) 0 in
         let y = get_or lent (v / 64) 0 in
         let i = v % 64 in
@@ -220,18 +209,15 @@ range_split : (a m n : ℕ) → range_with_len a (m + n) ≡ range_with_len a m 
 range_split a zero n = ap₂ range_with_len (sym (add-zero a)) (let e : 0 + n ≡ n = omega arith in e)
 range_split a (suc m) n =
     let e : suc m + n ≡ suc (m + n) = omega arith in
-    let f : (a + 1) + m ≡ a + suc m = omega arith in
-    ap (range_with_len a) e ∙ ap (λ xs. a ∷ xs) (range_split (a + 1) m n
-    ∙ ap (λ b. range_with_len (a + 1) m ++ range_with_len b n) f)
+    grind (arith, range_split (a + 1) m n)
 
 none_counted : (p : ℕ → Bool) (n m : ℕ) → ((v : ℕ) → n ≤ v → p v ≡ false) → count_by p (range_with_len n m) ≡ 0
 none_counted p n zero none = refl
-none_counted p n (suc m) none =
-    sum_by-cons (λ v. cond (p v) 1 0) n (range_with_len (n + 1) m)
+none_counted p n (suc m) none = sum_by-cons (λ v. cond (p v) 1 0) n (range_with_len (n + 1) m)
     ∙ ap₂ (λ b k. cond b 1 0 + k) (none n (omega arith)) (none_counted p (n + 1) m (λ v past. none v (omega arith)))
 
 bit_again : (x : ℕ) → x < 2 → cond (x == 1) 1 0 ≡ x
-bit_again x h1 = search rules
+bit_again x h = search rules
 
 -- the places of a word, counted
 word_counted : (words : List ℕ) (k : ℕ) → get_or words k 0 < 2 ^ 64 →
@@ -240,14 +226,15 @@ word_counted words k fits =
     let places = range_with_len (k * 64) 64 in
     let bits = map (bit_in words) places in
     let long : length bits ≡ 64 = length-map-range_with_len (bit_in words) (k * 64) 64 in
-    sym (ones-mask_l (bit_in words) places)
-    ∙ ap count_ones (same_from_bits_below 64 (mask_l bits) (get_or words k 0)
-    (subst (λ n. mask_l bits < 2 ^ n) long (mask_l-lt bits)) fits
-    (λ i lt.
-    bit_mask_l bits i
-    ∙ ap (λ b. cond b 1 0) (get_or-map-range_with_len (bit_in words) (k * 64) 64 i (k * 64 + i) false lt refl
-    ∙ ap₂ (λ m n. bit_at (get_or words m 0) n == 1) (div-mul-add k 64 i lt) (mod-mul-add k 64 i lt))
-    ∙ bit_again (bit_at (get_or words k 0) i) (bit_at-lt (get_or words k 0) i)))
+    sym (ones-mask_l (bit_in words) places) ∙ ap count_ones (same_from_bits_below 64 (mask_l bits) (get_or words k 0)
+    (subst (λ n. mask_l bits < 2 ^ n) long (mask_l-lt bits)) fits (λ i lt. grind (
+      arith,
+      bit_mask_l bits i,
+      get_or-map-range_with_len (bit_in words) (k * 64) 64 i (k * 64 + i) false lt refl,
+      div-mul-add k 64 i lt,
+      mod-mul-add k 64 i lt,
+      bit_again (bit_at (get_or words k 0) i) (bit_at-lt (get_or words k 0) i),
+    )))
 
 -- the places of the words in front of a word, counted
 words_counted : (words : List ℕ) → ((k : ℕ) → get_or words k 0 < 2 ^ 64) → (k : ℕ) → k ≤ length words
@@ -263,9 +250,6 @@ words_counted words fits (suc k) le =
     ∙ ap₂ ◌+◌ (words_counted words fits k (omega arith)) (ap (λ n. count_by (bit_in words) (range_with_len n 64)) f
     ∙ word_counted words k (fits k))
     ∙ sym (sum_by_more count_ones words k 0 (omega arith)) ∙ ap (λ n. sum_by count_ones (take n words)) g
-
-bit_is_none : (x : ℕ) → x < 2 → (x == 1) ≡ false → x ≡ 0
-bit_is_none x h1 h2 = search rules
 
 -- the words of a set as they are lent, each of which fits
 module _ {places : ℕ} {words lent : List ℕ} {region : List Bool} (packed : ArePacked places words)
@@ -294,10 +278,11 @@ module _ {places : ℕ} {words lent : List ℕ} {region : List Bool} (packed : A
   clear_has_none clear v = has-bit packed is v ∙ rw (← from, clear (v / 64), bit_at-zero (v % 64))
 
   pub none_is_clear : ((v : ℕ) → has region v ≡ false) → (k : ℕ) → get_or lent k 0 ≡ 0
-  none_is_clear none k =
-      same_from_bits_below 64 (get_or lent k 0) 0 (fits k) (omega arith)
-      (λ i lt.
-      let seen = sym (has-bit packed is (k * 64 + i)) ∙ none (k * 64 + i) in
-      bit_is_none (bit_at (get_or lent k 0) i) (bit_at-lt (get_or lent k 0) i)
-      (rw (from) (rw (div-mul-add k 64 i lt, mod-mul-add k 64 i lt) at seen))
-      ∙ sym (bit_at-zero i))
+  none_is_clear none k = same_from_bits_below 64 (get_or lent k 0) 0 (fits k) (omega arith) (λ i lt. grind (
+    arith,
+    has-bit packed is (k * 64 + i),
+    bit_at-lt (get_or lent k 0) i,
+    div-mul-add k 64 i lt,
+    mod-mul-add k 64 i lt,
+    bit_at-zero i,
+  ))

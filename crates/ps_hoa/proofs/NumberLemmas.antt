@@ -1,6 +1,6 @@
 -- The value of a run of digits, digit by digit, up to the greatest number.
-use Rattle.std.proofs.Common.{◌≡◌, ℕ, ◌+◌, ◌-◌, ◌*◌, ◌<◌, ◌≤◌, cond, List, length, get_or, take, rules, Option, None}
-use Rattle.std.proofs.Common.{Some, ap, ◌∙◌, arith}
+use Rattle.std.proofs.Common.{◌≡◌, ℕ, ◌+◌, ◌-◌, ◌*◌, ◌<◌, ◌≤◌, cond, List, length, get_or, take, Option, None}
+use Rattle.std.proofs.Common.{Some, arith}
 use Rattle.std.proofs.Math.Seq.{take-length}
 use Rattle.std.specs.Prelude.{nat_le}
 use Rattle.ps_text.specs.Digits.{decimal_value}
@@ -14,9 +14,6 @@ checked n = cond (nat_le n number_limit) (Some n) None
 checked-large : (n : ℕ) → number_limit < n → None ≡ checked n
 checked-large n l = grind arith
 
-checked-small : (n : ℕ) → n ≤ number_limit → Some n ≡ checked n
-checked-small n l = grind arith
-
 -- the digits up to one at which the value is too large
 pub checked-front : (ds : List ℕ) (i v : ℕ) → i < length ds → v ≡ decimal_value (take i ds) →
     number_limit < v * 10 + (get_or ds i 0 - 48) → None ≡ checked (decimal_value ds)
@@ -27,5 +24,4 @@ pub checked-whole : (ds : List ℕ) (i v : ℕ) → length ds ≤ i → i ≤ le
     v ≤ number_limit → Some v ≡ checked (decimal_value ds)
 checked-whole ds i v l m e h =
     let all : i ≡ length ds = omega arith in
-    let whole : v ≡ decimal_value ds = search (rules, take-length) in
-    ap Some whole ∙ checked-small (decimal_value ds) (omega (arith, whole))
+    grind (arith, take-length)

@@ -1,7 +1,6 @@
 -- The place of an id: its own, or by a table.
-use Rattle.std.proofs.Common.{◌≡◌, ◌≢◌, ℕ, ◌⊎◌, ◌+◌, ◌<◌, ◌≤◌, Bool, false, eqb, List, [], ◌∷◌, ◌++◌, length}
-use Rattle.std.proofs.Common.{get_or, Option, None, Some, refl, sym, ap, subst, ⊎_elim, ◌∙◌, arith, rules}
-use Rattle.std.proofs.Common.{length-append}
+use Rattle.std.proofs.Common.{◌≡◌, ◌≢◌, ℕ, ◌⊎◌, ◌+◌, ◌<◌, ◌≤◌, Bool, false, eqb, List, [], ◌∷◌, ◌++◌, length, get_or}
+use Rattle.std.proofs.Common.{Option, None, Some, refl, sym, ap, subst, ⊎_elim, ◌∙◌, arith, rules, length-append}
 use Rattle.std.proofs.lemmas.Bool.{cases_Bool, cases_lt, ltb-true, ltb-false, eqb-true, eq-eqb}
 use Rattle.std.proofs.lemmas.List.{get_or_append_left}
 use Rattle.std.proofs.lemmas.List.Elements.{Contains-get_or}
@@ -38,9 +37,8 @@ position_here ids id place distinct l e = search (rules, position_at, position_o
 pub position_nowhere : (ids : List ℕ) (id : ℕ) → ((k : ℕ) → k < length ids → get_or ids k 0 ≢ id) →
     position (is_id id) ids ≡ None
 position_nowhere ids id none = position_none (is_id id) ids
-    (let e : position_or_len (is_id id) ids ≡ length ids =
-    position_or_len_is (is_id id) ids (length ids) 0 (omega arith)
-    (λ k l. unlike id (get_or ids k 0) (λ same. none k l (sym same))) (λ l. absurd (omega (arith, l))) in
+    (let e : position_or_len (is_id id) ids ≡ length ids = position_or_len_is (is_id id) ids (length ids) 0
+    (omega arith) (λ k l. unlike id (get_or ids k 0) (λ same. none k l (sym same))) (λ l. absurd (omega (arith, l))) in
     omega (arith, e))
 
 -- what the table says of an id that does not stand at its own place
@@ -54,9 +52,6 @@ position_by_table first ids table id is not_own = go (table id) refl
     go : (o : Option ℕ) → table id ≡ o → table id ≡ position (is_id id) ids
     go None e = e ∙ sym (position_nowhere ids id (nowhere e))
     go (Some place) e = let at = is.sound id place e in e ∙ sym (position_here ids id place is.distinct at.0 at.1)
-
-pub position_within : (ids : List ℕ) (id place : ℕ) → position (is_id id) ids ≡ Some place → place < length ids
-position_within ids id place e = (position-Some (is_id id) ids place 0 e).0
 
 pub some_position : (p : ℕ → Bool) (ids : List ℕ) → is_some (position p ids) ≡ list_any p ids
 some_position p ids = go (position p ids) refl
@@ -72,21 +67,11 @@ pub table_push : (first : ℕ) (ids ids' : List ℕ) (old new : ℕ → Option �
     place ≡ length ids → KeepsPlace first old new id place →
     (Contains ids id → ⊥) → ids' ≡ ids ++ id ∷ [] → IsTable first ids' new
 table_push first ids ids' old new id place is at keeps absent e = subst (λ xs. IsTable first xs new) (sym e) (record {
-  distinct =
-      all_pairs_push (λ x y. x ≢ y) ids id is.distinct (λ k d l same.
-      absent (subst (λ x. Contains ids x) same (Contains-get_or ids k d l)));
-  sound = λ q p h. ⊎_elim
-      (λ (here : (q ≡ id) × (p ≡ place)). (
-        omega (arith, here.1, at, longer),
-        ap (λ n. get_or (ids ++ id ∷ []) n 0) (here.1 ∙ at) ∙ get_or-append_seam ids id [] 0 ∙ sym here.0,
-      ))
+  distinct = all_pairs_push (λ x y. x ≢ y) ids id is.distinct (λ k d l same. search (rules, Contains-get_or));
+  sound = λ q p h. ⊎_elim (λ (here : (q ≡ id) × (p ≡ place)). grind (arith, longer, get_or-append_seam))
       (λ (before : old q ≡ Some p). let r = is.sound q p before in
-      (omega (arith, r.0, longer), get_or_append_left ids (id ∷ []) 0 p r.0 ∙ r.1))
-      (keeps.sound q p h);
-  whole = λ p l. ⊎_elim
-      (λ (below : p < length ids). before p below)
-      (λ (beyond : length ids ≤ p). last p (let x : p ≡ length ids = omega (arith, beyond, l, longer) in x))
-      (cases_lt p (length ids));
+      (omega (arith, r.0, longer), get_or_append_left ids (id ∷ []) 0 p r.0 ∙ r.1)) (keeps.sound q p h);
+  whole = grind (arith, ⊎_elim, before, last, longer, cases_lt);
 })
   where
     longer : length (ids ++ id ∷ []) ≡ length ids + 1

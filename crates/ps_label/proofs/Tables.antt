@@ -1,5 +1,5 @@
 -- The table of the aliases' truths: there is one, and it is that of the definition.
-use Rattle.std.proofs.Common.{◌≡◌, ℕ, suc, zero, add-zero, append-nil, ◌+◌, ◌<◌, ◌≤◌, Bool, true, false, cond, List, []}
+use Rattle.std.proofs.Common.{◌≡◌, ℕ, suc, zero, append-nil, ◌+◌, ◌<◌, ◌≤◌, Bool, true, false, cond, List, []}
 use Rattle.std.proofs.Common.{◌∷◌, ◌++◌, length, get_or, refl, ap, sym, ◌∙◌, arith, append_assoc, take, drop, set}
 use Rattle.std.proofs.Common.{length-append, zero-add}
 use Rattle.std.proofs.lemmas.List.{get_or-append-add, take_more_set, take_all, drop_all}
@@ -98,20 +98,8 @@ pub only_table : (aliases : List Expression) (letter : ℕ) (known : List Bool) 
 unfolding alias_truths
 only_table aliases letter known o t = only_from [] known letter aliases o t.one_each (λ k h. rw zero-add (t.each k h))
 
--- one alias more is worked out
-pub truths_step : (scratch : List Bool) (k : ℕ) (letter : ℕ) (es : List Expression) (e : Expression) →
-    k < length scratch →
-    truths_behind (take (k + 1) (set scratch k (truth (take k scratch) letter e))) letter es ≡ truths_behind
-    (take k scratch) letter (e ∷ es)
-truths_step scratch k letter es e h =
-    ap (λ (known : List Bool). truths_behind known letter es) (take_more_set scratch k
-    (truth (take k scratch) letter e) h)
-
 -- once each alias is worked out, the table is whole
 pub whole_table : (scratch : List Bool) (k letter : ℕ) (items : List Label) (whole : List Bool) →
     length scratch ≡ length items → length items ≤ k →
     truths_behind (take k scratch) letter (expressions (drop k items)) ≡ whole → scratch ≡ whole
-whole_table scratch k letter items whole room done is =
-    let none : drop k items ≡ [] = drop_all k items done in
-    let all : take k scratch ≡ scratch = take_all k scratch (omega arith) in
-    sym all ∙ (rw none at is)
+whole_table scratch k letter items whole room done is = grind (arith, drop_all, take_all)

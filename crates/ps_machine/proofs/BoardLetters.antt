@@ -15,10 +15,7 @@ use Rattle.ps_machine.specs.Moving.{IsMaskOf}
 
 sum_step : (a b : Bool) (k l : ℕ) {m : ℕ} (s : ℕ) → (a && b) ≡ false → k + l ≡ m →
     (k + cond a s 0) + (l + cond b s 0) ≡ m + cond (a || b) s 0
-sum_step true true k l s apart e = absurd (true_is_not_false apart)
-sum_step true false k l s apart e = omega arith
-sum_step false true k l s apart e = omega arith
-sum_step false false k l s apart e = omega arith
+sum_step a b k l s apart e = grind (arith, true_is_not_false, apart)
 
 sum_of : (n : ℕ) (f g : ℕ → Bool) → ((p : ℕ) → (f p && g p) ≡ false) →
     letter_of n f + letter_of n g ≡ letter_of n (λ p. f p || g p)
@@ -33,19 +30,19 @@ sum_is : (n x y : ℕ) → x < 2 ^ n → y < 2 ^ n → ((p : ℕ) → (is_in p x
 sum_is n x y a b apart = cc (number_is n x a, number_is n y b, sum_of n (assignment x) (assignment y) apart)
 
 and_false-right : (a : Bool) {b : Bool} → b ≡ false → (a && b) ≡ false
-and_false-right a h1 = search rules
+and_false-right a h = search rules
 
 and_false-left : (a b : Bool) → a ≡ false → (a && b) ≡ false
 and_false-left a b e = ap (λ x. x && b) e
 
 or_false-right : (a b : Bool) → b ≡ false → (a || b) ≡ a
-or_false-right a b h1 = search rules
+or_false-right a b h = search rules
 
 or_false-left : {a b : Bool} → a ≡ false → (a || b) ≡ b
 or_false-left {b} e = ap (λ x. x || b) e
 
 and_true-right : (a : Bool) {b : Bool} → b ≡ true → (a && b) ≡ a
-and_true-right a h1 = search rules
+and_true-right a h = search rules
 
 module _ (board : Board) where
   apart : (x y : ℕ) → IsFirstLetter board x → IsSecondLetter board y → (p : ℕ) → (is_in p x && is_in p y) ≡ false
@@ -77,16 +74,13 @@ module _ (board : Board) where
 
   pub agree_on : {mask x y : ℕ} → IsMaskOf board mask → IsFirstLetter board x → IsSecondLetter board y →
       AgreeOn mask x (x + y)
-  agree_on {mask} {x} {y} m hx hy p is =
-      let lt = mask_below mask p m is in
-      sym (sum_first p hx hy lt (sym (m.is p lt) ∙ is))
+  agree_on {mask} {x} {y} m hx hy p is = grind (arith, mask_below, sum_first)
 
   pub agree_off : {mask x y : ℕ} → IsMaskOf board mask → IsFirstLetter board x → IsSecondLetter board y →
       AgreeOff mask y (x + y)
   agree_off {x} {y} m hx hy p isnt = elim (cases_lt p board.propositions) [
     | inl lt ↦ sym (sum_second p hx hy lt (sym (m.is p lt) ∙ isnt))
-    | inr ge ↦ no_bit board.propositions y p hy.within ge ∙ sym
-        (no_bit board.propositions (x + y) p (sum_within hx hy) ge)
+    | inr ge ↦ no_bit board.propositions y p hy.within ge ∙ sym (search (rules, no_bit, sum_within))
   ]
 
   pub agree_second : {mask x w y : ℕ} → IsMaskOf board mask → IsFirstLetter board x → IsFirstLetter board w →
@@ -125,8 +119,7 @@ module _ (board : Board) where
       AgreeOff mask u v → p < board.propositions → is_in p v ≡ is_in p (x + second_of u)
   as_other_sum u v p m hx on off lt = elim (bool_cases (board.is_first p)) [
     | inl is ↦ sym (on p (m.is p lt ∙ is)) ∙ sym (sum_first p hx (second_is u) lt is)
-    | inr isnt ↦ sym (off p (m.is p lt ∙ isnt)) ∙ sym (second_bit u p lt isnt)
-        ∙ sym (sum_second p hx (second_is u) lt isnt)
+    | inr isnt ↦ grind (arith, second_bit, sum_second, second_is)
   ]
 
   pub zero_second : IsSecondLetter board 0
@@ -158,10 +151,10 @@ first_difference (suc n) {f} {g} = elim (first_difference n) [
 ]
 
 not_true : {a : Bool} (b : Bool) → (a ≡ b → ⊥) → a ≡ true → b ≡ false
-not_true b h1 h2 = search rules
+not_true b h k = search rules
 
 not_false : {a : Bool} (b : Bool) → (a ≡ b → ⊥) → a ≡ false → b ≡ true
-not_false b h1 h2 = search rules
+not_false b h k = search rules
 
 pub compared : (n x y : ℕ) → x < 2 ^ n → y < 2 ^ n → (x ≡ y) ⊎ (IsBefore x y ⊎ IsBefore y x)
 compared n x y lx ly = elim (first_difference n) [

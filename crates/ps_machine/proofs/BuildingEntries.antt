@@ -1,5 +1,5 @@
 -- Entries of a certificate, one after another.
-use Rattle.std.proofs.Common.{◌≡◌, ◌⊎◌, ℕ, ◌+◌, ◌<◌, List, [], ◌∷◌, ◌++◌, length, get_or, Option, Bool, true}
+use Rattle.std.proofs.Common.{◌≡◌, ℕ, ◌+◌, ◌<◌, List, [], ◌∷◌, ◌++◌, length, get_or, Option, Bool, true}
 use Rattle.std.proofs.Common.{false, ap, ◌∙◌, rules}
 use Rattle.std.proofs.lemmas.List.{length_push, get_or_push, get_or_append_left}
 use Rattle.ps_game.specs.Games.{ParityGame}
@@ -22,11 +22,9 @@ module _ (game : ParityGame) (region : List Bool) (first second : ℕ → Option
         AreEntries game region first second first_rows second_rows (n + 1) (entries ++ e ∷ [])
     entries_won {n} {entries} {e} are wins is = record {
       each = length_push entries e ∙ ap (λ k. k + 1) are.each;
-      won =
-          each_entry (λ v x. has region v ≡ true → IsEntryAmong game 0 first first_rows v x) n entries e are.each
+      won = each_entry (λ v x. has region v ≡ true → IsEntryAmong game 0 first first_rows v x) n entries e are.each
           are.won (λ _. is);
-      lost =
-          each_entry (λ v x. has region v ≡ false → IsEntryAmong game 1 second second_rows v x) n entries e are.each
+      lost = each_entry (λ v x. has region v ≡ false → IsEntryAmong game 1 second second_rows v x) n entries e are.each
           are.lost (λ loses. cc);
     }
 
@@ -36,11 +34,9 @@ module _ (game : ParityGame) (region : List Bool) (first second : ℕ → Option
         AreEntries game region first second first_rows second_rows (n + 1) (entries ++ e ∷ [])
     entries_lost {n} {entries} {e} are loses is = record {
       each = length_push entries e ∙ ap (λ k. k + 1) are.each;
-      won =
-          each_entry (λ v x. has region v ≡ true → IsEntryAmong game 0 first first_rows v x) n entries e
-          are.each are.won (λ wins. cc);
-      lost =
-          each_entry (λ v x. has region v ≡ false → IsEntryAmong game 1 second second_rows v x) n entries e are.each
+      won = each_entry (λ v x. has region v ≡ true → IsEntryAmong game 0 first first_rows v x) n entries e are.each
+          are.won (λ wins. cc);
+      lost = each_entry (λ v x. has region v ≡ false → IsEntryAmong game 1 second second_rows v x) n entries e are.each
           are.lost (λ _. is);
     }
 

@@ -1,13 +1,13 @@
 -- Two regions that are held and part the game, with the least counts of both, make a valid certificate with the least
 -- counts.
 use Rattle.std.proofs.Common.{◌≡◌, ◌≢◌, ◌⊎◌, inl, inr, ℕ, zero, suc, ◌+◌, ◌<◌, ◌≤◌, List, [], ◌∷◌, length, get_or}
-use Rattle.std.proofs.Common.{Option, Some, None, IfSome, IsSomeAnd, Bool, true, false, IsTrue, refl, ap, sym, subst}
+use Rattle.std.proofs.Common.{Option, Some, None, IfSome, IsSomeAnd, Bool, true, false, IsTrue, refl, sym, subst}
 use Rattle.std.proofs.Common.{◌∙◌, rules, arith, ◌&&◌, not, replicate}
 use Rattle.std.proofs.lemmas.List.{get_or-replicate}
 use Rattle.std.proofs.lemmas.Bool.{cases_Bool, cases_eq}
 use Rattle.ps_game.specs.Games.{ParityGame, IsGame, HasEdge, owner_of, priority_of, vertex_count}
 use Rattle.ps_game.specs.Plays.{Holds, IsPath, Follows}
-use Rattle.ps_game.specs.Ranking.{RemainsFor, KeepRuleWithin, KeepsRule}
+use Rattle.ps_game.specs.Ranking.{RemainsFor, KeepRuleWithin}
 use Rattle.ps_game.specs.Regions.{has}
 use Rattle.ps_certificate.specs.Certificates.{CertificateData, EntryData, no_entry, winner_of, choice_of, counts_of}
 use Rattle.ps_certificate.specs.Certificates.{opposing, opposing_at, Fits, Remains, HasRightMove, KeepsCount, IsValid}
@@ -45,12 +45,11 @@ two_path game v w is_game edge = record { begins = omega arith; vertices = place
     places (suc (suc k)) within = absurd (omega arith)
 
     steps : (k : ℕ) → k + 1 < 2 → HasEdge game (get_or (v ∷ w ∷ []) k 0) (get_or (v ∷ w ∷ []) (k + 1) 0)
-    steps zero within = edge
-    steps (suc k) within = absurd (omega arith)
+    steps k within = grind arith
 
 two_follows : (game : ParityGame) (player : ℕ) (table : ℕ → Option ℕ) (v w : ℕ) →
     (owner_of game v ≡ player → table v ≡ Some w) → Follows game player table (v ∷ w ∷ [])
-two_follows game player table v w h1 = search rules
+two_follows game player table v w h = search rules
 
 some_within : {game : ParityGame} (v : ℕ) → IsGame game → (o : Option ℕ) → IsSomeAnd o (HasEdge game v) →
     IfSome o (λ w. w < vertex_count game)
@@ -66,8 +65,7 @@ module _ {game : ParityGame} (is_game : IsGame game) {player : ℕ} {set : ℕ �
   remains_for s r = search rules
 
   side_stays : (v w : ℕ) → IsSide game player set table priorities rows c v → Remains game c v w → IsTrue (set w)
-  side_stays v w s r =
-      holds.keeps.stays (v ∷ w ∷ []) (two_path game v w is_game r.edge) s.inside
+  side_stays v w s r = holds.keeps.stays (v ∷ w ∷ []) (two_path game v w is_game r.edge) s.inside
       (two_follows game player table v w (remains_for s r).chosen) 1 (omega arith)
 
   side_move : (v : ℕ) → v < vertex_count game → IsSide game player set table priorities rows c v → HasRightMove game c v
@@ -81,13 +79,8 @@ module _ {game : ParityGame} (is_game : IsGame game) {player : ℕ} {set : ℕ �
       IsSide game player set table priorities rows c w → opposing c player ≡ priorities → Remains game c v w →
       k < length priorities → KeepsCount game c v w k
   side_counts v w k s t listed r within =
-      let keep =
-      (ranks.columns k within).keep v w (record { from = s.inside; to = t.inside; remains = remains_for s r }) in
-      let K : ℕ → ℕ → ℕ → Type 0 = λ p x y. KeepsRule p (priority_of game v) (priority_of game w) x y in
-      let at : get_or priorities k 0 ≡ opposing_at c v k =
-      ap (λ l. get_or l k 0) (sym listed ∙ ap (λ q. opposing c q) (sym s.winner)) in
-      subst (λ p. K p (get_or (counts_of c v) k 0) (get_or (counts_of c w) k 0)) at
-      (rw (s.count k, t.count k) keep)
+      let keep = (ranks.columns k within).keep v w (grind (arith, remains_for)) in
+      grind arith
 
   -- the counts of a valid certificate that differs in counts alone keep the rule on the edges of the table
   others_keep : (d : CertificateData) → IsValid game d → DiffersInCounts game c d → opposing d player ≡ priorities →
@@ -108,10 +101,8 @@ module _ {game : ParityGame} (is_game : IsGame game) {player : ℕ} {set : ℕ �
   side_without_meaning : (v k : ℕ) → IsSide game player set table priorities rows c v → opposing c player ≡ priorities →
       k < length (counts_of c v) → opposing_at c v k < priority_of game v → get_or (counts_of c v) k 0 ≡ 0
   side_without_meaning v k s listed inside below =
-      let at : opposing_at c v k ≡ get_or priorities k 0 =
-      ap (λ l. get_or l k 0) (ap (λ q. opposing c q) s.winner ∙ listed) in
-      s.count k ∙ (ranks.columns k (rw s.long at inside)).above v
-      (subst (λ p. p < priority_of game v) at below)
+      let at : opposing_at c v k ≡ get_or priorities k 0 = grind arith in
+      s.count k ∙ (ranks.columns k (rw s.long at inside)).above v (subst (λ p. p < priority_of game v) at below)
 
 -- the two regions, and all that is known of them
 pub record AreBoth (game : ParityGame) (region : List Bool) (lost : ℕ → Bool) (first second : ℕ → Option ℕ)
@@ -140,14 +131,11 @@ module _ {game : ParityGame} {region : List Bool} {lost : ℕ → Bool} {first s
   -- a vertex of a player's set is on the player's side
   one_side : (v : ℕ) → v < vertex_count game → has region v ≡ true → One v
   unfolding One made
-  one_side v within e =
-      side game 0 (has region) first odd odd_rows made v within e b.odd_ranks (b.are_entries.won v within e)
+  one_side v within e = side game 0 (has region) first odd odd_rows made v within e b.odd_ranks (grind arith)
 
   two_side : (v : ℕ) → v < vertex_count game → lost v ≡ true → Two v
   unfolding Two made
-  two_side v within e =
-      side game 1 lost second even even_rows made v within e b.even_ranks
-      (b.are_entries.lost v within ((b.rest v within).1 e))
+  two_side v within e = side game 1 lost second even even_rows made v within e b.even_ranks (grind arith)
 
   sides : (v : ℕ) → v < vertex_count game → One v ⊎ Two v
   sides v within = search (rules, cases_Bool, one_side, two_side)
@@ -162,73 +150,52 @@ module _ {game : ParityGame} {region : List Bool} {lost : ℕ → Bool} {first s
 
   fits : Fits game made
   unfolding One Two made
-  fits = record {
-    entry_each = b.are_entries.each;
-    winners = λ v within. winner_below v (sides v within);
-    choices = λ v within. choice v within (sides v within);
-    odd_listed = b.odd_ranks.listed;
-    even_listed = b.even_ranks.listed;
-    count_each = λ v within. counts v (sides v within);
-  }
+  fits = grind (arith, winner_below, sides, choice, counts)
     where
       winner_below : (v : ℕ) → One v ⊎ Two v → winner_of made v < 2
-      winner_below v (inl s) = omega (arith, s.winner)
-      winner_below v (inr s) = omega (arith, s.winner)
+      winner_below v h = grind arith
 
       choice : (v : ℕ) → v < vertex_count game → One v ⊎ Two v → IfSome (choice_of made v) (λ w. w < vertex_count game)
-      choice v within (inl s) = side_choice b.is_game b.holds_first b.odd_ranks v within s
-      choice v within (inr s) = side_choice b.is_game b.holds_second b.even_ranks v within s
+      choice v within h = grind (arith, side_choice)
 
       counts : (v : ℕ) → One v ⊎ Two v → length (counts_of made v) ≡ length (opposing made (winner_of made v))
-      counts v (inl s) = s.long ∙ ap (λ l. length l) (sym opposing_first ∙ ap (λ p. opposing made p) (sym s.winner))
-      counts v (inr s) = s.long ∙ ap (λ l. length l) (sym opposing_second ∙ ap (λ p. opposing made p) (sym s.winner))
+      counts v h = grind (arith, opposing_first, made, opposing_second)
 
   valid : IsValid game made
   unfolding One Two
   valid = record {
-    closed = record {
-      moves = λ v within. move v within (sides v within);
-      stays = λ v w r. stays v w r (sides v r.edge.0);
-    };
+    closed = grind (arith, move, sides, stays);
     counts =
         λ v w k r same within. keeps v w k r same within (sides v r.edge.0) (sides w (b.is_game.within v w r.edge));
   }
     where
       move : (v : ℕ) → v < vertex_count game → One v ⊎ Two v → HasRightMove game made v
-      move v within (inl s) = side_move b.is_game b.holds_first b.odd_ranks v within s
-      move v within (inr s) = side_move b.is_game b.holds_second b.even_ranks v within s
+      move v within h = grind (arith, side_move)
 
       stays : (v w : ℕ) → Remains game made v w → One v ⊎ Two v → winner_of made w ≡ winner_of made v
-      stays v w r (inl s) =
-          let t = one_side w (b.is_game.within v w r.edge) (side_stays b.is_game b.holds_first b.odd_ranks v w s r) in
-          t.winner ∙ sym s.winner
-      stays v w r (inr s) =
-          let t = two_side w (b.is_game.within v w r.edge) (side_stays b.is_game b.holds_second b.even_ranks v w s r) in
-          t.winner ∙ sym s.winner
+      stays v w r (inl s) = grind (
+        arith,
+        one_side w (b.is_game.within v w r.edge) (side_stays b.is_game b.holds_first b.odd_ranks v w s r),
+      )
+      stays v w r (inr s) = grind (
+        arith,
+        two_side w (b.is_game.within v w r.edge) (side_stays b.is_game b.holds_second b.even_ranks v w s r),
+      )
 
       keeps : (v w k : ℕ) → Remains game made v w → winner_of made w ≡ winner_of made v →
           k < length (opposing made (winner_of made v)) → One v ⊎ Two v → One w ⊎ Two w → KeepsCount game made v w k
-      keeps v w k r same within (inl s) (inl t) = search (rules, side_counts, opposing_first, made)
-      keeps v w k r same within (inr s) (inr t) = search (rules, side_counts, opposing_second, made)
-      keeps v w k r same within (inl s) (inr t) = absurd (omega (arith, same, s.winner, t.winner))
-      keeps v w k r same within (inr s) (inl t) = absurd (omega (arith, same, s.winner, t.winner))
+      keeps v w k r same within h m = grind (arith, side_counts, opposing_first, made, opposing_second)
 
   least : HasLeastCounts game made
   unfolding One Two made opposing
-  least = record {
-    least = λ d d_fits d_valid differs v k within inside. at_most d d_valid differs v k within inside (sides v within);
-    without_meaning = λ v k within inside below. without v k inside below (sides v within);
-  }
+  least = grind (arith, at_most, sides, without)
     where
-      at_most : (d : CertificateData) → IsValid game d → DiffersInCounts game made d → (v k : ℕ) →
-          v < vertex_count game → k < length (counts_of made v) → One v ⊎ Two v →
-          get_or (counts_of made v) k 0 ≤ get_or (counts_of d v) k 0
-      at_most d d_valid differs v k within inside (inl s) =
-          side_least b.is_game b.holds_first b.odd_ranks d d_valid differs
-          (sym differs.odd) (λ u below. one_side u below) v k s inside
-      at_most d d_valid differs v k within inside (inr s) =
-          side_least b.is_game b.holds_second b.even_ranks d d_valid differs
-          (sym differs.even) (λ u below. two_side u below) v k s inside
+      at_most : (d : CertificateData) → IsValid game d → DiffersInCounts game made d → (v k : ℕ) → v < vertex_count game
+          → k < length (counts_of made v) → One v ⊎ Two v → get_or (counts_of made v) k 0 ≤ get_or (counts_of d v) k 0
+      at_most d d_valid differs v k within inside (inl s) = side_least b.is_game b.holds_first b.odd_ranks d d_valid
+          differs (sym differs.odd) (λ u below. one_side u below) v k s inside
+      at_most d d_valid differs v k within inside (inr s) = side_least b.is_game b.holds_second b.even_ranks d d_valid
+          differs (sym differs.even) (λ u below. two_side u below) v k s inside
 
       without : (v k : ℕ) → k < length (counts_of made v) → opposing_at made v k < priority_of game v → One v ⊎ Two v →
           get_or (counts_of made v) k 0 ≡ 0
@@ -269,9 +236,8 @@ pub certified_both : {game : ParityGame} {region full : List Bool} (lost : List 
     Fits game (record { odd = odd; even = even; entries = entries }) ×
     IsValid game (record { odd = odd; even = even; entries = entries })
     × HasLeastCounts game (record { odd = odd; even = even; entries = entries })
-certified_both {game} {region} {full} lost {first} {second} {odd} {even} {odd_rows} {even_rows} {entries} is_game
-    whole is holds_first holds_second odd_ranks even_ranks are_entries =
-    certified (record {
+certified_both {game} {region} {full} lost {first} {second} {odd} {even} {odd_rows} {even_rows} {entries} is_game whole
+    is holds_first holds_second odd_ranks even_ranks are_entries = certified (record {
       is_game = is_game;
       holds_first = holds_first;
       holds_second = lost_held region lost whole is holds_second;

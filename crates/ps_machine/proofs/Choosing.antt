@@ -1,7 +1,7 @@
 -- What can be told of letters and steps by definition: the class of a letter of the first player, and the move of one
 -- of the second.
-use Rattle.std.proofs.Common.{rules}
-use Rattle.std.proofs.Common.{◌≡◌, ◌⊎◌, inl, inr, ℕ, ◌+◌, ◌^◌, ◌<◌, Bool, true, false, not, refl, ap, sym, subst, ◌∙◌}
+use Rattle.std.proofs.Common.{arith, rules, ◌≡◌, ◌⊎◌, inl, inr, ℕ, ◌+◌, ◌^◌, ◌<◌, Bool, true, false, not, refl, ap, sym}
+use Rattle.std.proofs.Common.{◌∙◌}
 use Rattle.std.specs.Prelude.{◌&&◌}
 use Rattle.std.proofs.lemmas.Bool.{cases_eq, cases_lt}
 use Rattle.ps_label.specs.Truth.{is_in}
@@ -33,12 +33,10 @@ module _ (n : ℕ) (mine : ℕ → Bool) where
   pub part_same : (x y : ℕ) → ((p : ℕ) → p < n → mine p ≡ true → is_in p x ≡ is_in p y) → part x ≡ part y
   unfolding part
   part_same x y same = same_letter n (part x) (part y) (part_over x).within (part_over y).within
-      (λ p less. letter_is n (λ q. mine q && is_in q x) p less ∙ bit (mine p) (is_in p x) (is_in p y) (same p less)
-      ∙ sym (letter_is n (λ q. mine q && is_in q y) p less))
+      (λ p less. search (rules, letter_is, bit))
     where
       bit : (m a b : Bool) → (m ≡ true → a ≡ b) → (m && a) ≡ (m && b)
-      bit true a b e = e refl
-      bit false a b e = refl
+      bit m a b e = search rules
 
   pub part_itself : (y : ℕ) → IsOver n mine y → part y ≡ y
   unfolding part
@@ -46,8 +44,7 @@ module _ (n : ℕ) (mine : ℕ → Bool) where
       (λ p less. letter_is n (λ q. mine q && is_in q y) p less ∙ bit (mine p) (is_in p y) (over.own p))
     where
       bit : (m a : Bool) → (m ≡ false → a ≡ false) → (m && a) ≡ a
-      bit true a e = refl
-      bit false a e = sym (e refl)
+      bit m a e = search rules
 
   pub part_bit : (x p : ℕ) → p < n → mine p ≡ true → is_in p (part x) ≡ is_in p x
   unfolding part
@@ -60,11 +57,11 @@ module _ (n : ℕ) (mine : ℕ → Bool) where
   ]
 
 pub not_false : (b : Bool) → not b ≡ false → b ≡ true
-not_false b h1 = search rules
+not_false b h = search rules
 
 -- what two facts say together can be told where each can
 pub both_or_not : (P Q : Type 0) → P ⊎ (P → ⊥) → Q ⊎ (Q → ⊥) → (P × Q) ⊎ (P × Q → ⊥)
-both_or_not P Q h1 h2 = search rules
+both_or_not P Q h k = search rules
 
 module _ (board : Board) where
   pub first_over : (x : ℕ) → IsFirstLetter board x → IsOver board.propositions board.is_first x
@@ -80,10 +77,7 @@ module _ (board : Board) where
   over_second over = record { within = over.within; own = λ p e. over.own p (ap not e) }
 
   pub first_or_not : (x : ℕ) → IsFirstLetter board x ⊎ (IsFirstLetter board x → ⊥)
-  first_or_not x = elim (over_or_not board.propositions board.is_first x) [
-    | inl over ↦ inl (over_first over)
-    | inr none ↦ inr (λ first. none (first_over x first))
-  ]
+  first_or_not x = grind (arith, over_or_not board.propositions board.is_first x)
 
   pub second_or_not : (y : ℕ) → IsSecondLetter board y ⊎ (IsSecondLetter board y → ⊥)
   second_or_not y = elim (over_or_not board.propositions (λ p. not (board.is_first p)) y) [
@@ -106,10 +100,7 @@ module _ (board : Board) where
       Differ y = IsSecondLetter board y × (SameStep board q (one + y) (other + y) → ⊥)
 
       differ_or_not : (y : ℕ) → Differ y ⊎ (Differ y → ⊥)
-      differ_or_not y = elim (second_or_not y) [
-        | inr not_second ↦ inr (λ d. not_second d.0)
-        | inl second ↦ elim (step_or_not) [ inl same ↦ inr (λ d. d.1 same) | inr apart ↦ inl (second, apart) ]
-      ]
+      differ_or_not y = grind (arith, second_or_not y, step_or_not)
 
   pub steps_trans : (q a b c : ℕ) → SameSteps board q a b → SameSteps board q b c → SameSteps board q a c
   steps_trans q a b c one other y second = search rules
@@ -122,9 +113,8 @@ module _ (board : Board) where
       (class : ℕ) × IsClass board q class × SameSteps board q x class
   class_there q {x} first =
       let P : ℕ → Type 0 = λ other. IsFirstLetter board other × SameSteps board q other x in
-      let l = least_there board.propositions P (λ y. both_or_not (IsFirstLetter board y) (SameSteps board q y x)
-      (first_or_not y) (steps_or_not q y x)) (λ y is. is.0.within) x
-      (first, λ y second. record { state = refl; priority = refl }) in
+      let l = least_there board.propositions P (λ y. search (rules, both_or_not, first_or_not, steps_or_not))
+      (λ y is. is.0.within) x (first, search rules) in
       let class = l.0 in
       let here = l.1.here in (
         class,
@@ -140,27 +130,19 @@ module _ (board : Board) where
       (move : ℕ) × IsMove board q class move × SameStep board q (class + move) (class + y)
   move_there {q} class {y} second =
       let P : ℕ → Type 0 = λ other. IsSecondLetter board other × SameStep board q (class + other) (class + y) in
-      let l = least_there board.propositions P (λ z. both_or_not (IsSecondLetter board z)
-      (SameStep board q (class + z) (class + y)) (second_or_not z) (step_or_not))
+      let l = least_there board.propositions P (λ z. search (rules, both_or_not, second_or_not, step_or_not))
       (λ z is. is.0.within) y (second, record { state = refl; priority = refl }) in
-      let here = l.1.here in (
-        l.0,
-        record {
-          here = (here.0, record { state = refl; priority = refl });
-          none_before = search rules;
-        },
-        here.1,
-      )
+      grind arith
 
 -- ## Letters of the other player
 
 pub other_over : (b : Bool) (board : Board) (x : ℕ) → IsOther b board x →
     IsOver board.propositions (is_others b board) x
-other_over b board x h1 = search (rules, second_over, first_over)
+other_over b board x h = search (rules, second_over, first_over)
 
 pub over_other : (b : Bool) (board : Board) {x : ℕ} → IsOver board.propositions (is_others b board) x →
     IsOther b board x
-over_other b board h1 = search (rules, over_second, over_first)
+over_other b board h = search (rules, over_second, over_first)
 
 -- ## Keys
 

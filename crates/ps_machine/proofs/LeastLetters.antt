@@ -26,7 +26,7 @@ twice : (n : ℕ) → 2 ^ suc n ≡ 2 ^ n + 2 ^ n
 twice n = omega (arith, pow-suc 2 n)
 
 bit_more : (b : Bool) (n r : ℕ) → r < 2 ^ n → cond b (2 ^ n) 0 + r < 2 ^ suc n
-bit_more b n r h1 = search (rules, twice)
+bit_more b n r h = search (rules, twice)
 
 pub rank_lt : (from n y : ℕ) → rank from n y < 2 ^ n
 unfolding rank
@@ -34,7 +34,7 @@ rank_lt from zero y = omega arith
 rank_lt from (suc n) y = bit_more (is_in from y) n (rank (from + 1) n y) (rank_lt (from + 1) n y)
 
 bit_decides : (b c : Bool) (n r s : ℕ) → b ≡ false → c ≡ true → r < 2 ^ n → cond b (2 ^ n) 0 + r < cond c (2 ^ n) 0 + s
-bit_decides b c n r s h1 h2 h3 = search rules
+bit_decides b c n r s h k m = search rules
 
 bit_alike : {b c : Bool} (n r s : ℕ) → b ≡ c → r < s → cond b (2 ^ n) 0 + r < cond c (2 ^ n) 0 + s
 bit_alike {b} {c} n r s e h = search rules
@@ -80,10 +80,7 @@ down_to_least n P tell within (suc bound) y here small =
       | inl lower ↦ down_to_least n P tell within bound lower.0 lower.1.0 (omega (arith, small, lower.1.1))
       | inr none ↦ (
         y,
-        record {
-          here = here;
-          none_before = λ x at before. none (x, (at, before_ranks n (within y here) before));
-        },
+        grind (arith, before_ranks),
       )
     ]
   where
@@ -109,17 +106,17 @@ half_bit x p = ap (λ n. nat_eq n 1) (sym (bit_at-suc x p))
 half_within : (n x : ℕ) → x < 2 ^ suc n → x / 2 < 2 ^ n
 half_within n x within = omega (arith, twice n, within)
 
-by_halves : (n x y : ℕ) → x / 2 + y / 2 < 2 ^ n → x % 2 + y % 2 < 2 → x + y < 2 ^ suc n
-by_halves n x y halves bits = omega (arith, twice n, halves, bits)
-
 pub sum_within : (n x y : ℕ) → x < 2 ^ n → y < 2 ^ n → ((p : ℕ) → is_in p x ≡ true → is_in p y ≡ false) → x + y < 2 ^ n
 sum_within zero x y a b apart = omega arith
 sum_within (suc n) x y a b apart =
     let halves : x / 2 + y / 2 < 2 ^ n = sum_within n (x / 2) (y / 2) (half_within n x a) (half_within n y b)
     (λ p is. half_bit y p ∙ apart (suc p) (sym (half_bit x p) ∙ is)) in
-    let low : bit_at x 0 + bit_at y 0 < 2 =
-    bits_apart (bit_at x 0) (bit_at y 0) (bit_at-lt x 0) (bit_at-lt y 0) (apart 0) in
-    by_halves n x y halves (omega (arith, low, bit_at_lowest x, bit_at_lowest y))
+    grind (
+      arith,
+      bits_apart (bit_at x 0) (bit_at y 0) (bit_at-lt x 0) (bit_at-lt y 0) (apart 0),
+      bit_at_lowest x,
+      bit_at_lowest y,
+    )
 
 -- ## Lists
 

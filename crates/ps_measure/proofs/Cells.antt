@@ -31,7 +31,7 @@ from_cell cells fuel i k o is = ap (λ p. max (count_here p k) (count_from cells
 
 next_falls : (cells : List CountCell) → ((i : ℕ) (cell : CountCell) → slice_get cells i ≡ Some cell → cell.next ≤ i) →
     (i : ℕ) (o : Option CountCell) → slice_get cells i ≡ o → next_of o ≤ i
-next_falls cells h1 i o h2 = search rules
+next_falls cells h i o k = search rules
 
 module _ (cells : List CountCell)
     (falls : (i : ℕ) (cell : CountCell) → slice_get cells i ≡ Some cell → cell.next ≤ i) where
@@ -42,10 +42,11 @@ module _ (cells : List CountCell)
   any_fuel (suc f) zero (suc i) k a b = absurd (omega arith)
   any_fuel (suc f) (suc g) (suc i) k a b =
       let less = next_falls cells falls i (slice_get cells i) refl in
-      let rest = any_fuel f g (next_of (slice_get cells i)) k (omega (arith, less, a)) (omega (arith, less, b)) in
-      from_cell cells f i k (slice_get cells i) refl
-      ∙ ap (max (count_here (slice_get cells i) k)) rest
-      ∙ sym (from_cell cells g i k (slice_get cells i) refl)
+      search (
+        rules,
+        from_cell,
+        any_fuel f g (next_of (slice_get cells i)) k (omega (arith, less, a)) (omega (arith, less, b)),
+      )
 
   -- the cell of a number, and those behind it
   pub from_number : (i k : ℕ) (cell : CountCell) → slice_get cells i ≡ Some cell →
@@ -61,10 +62,7 @@ module _ (cells : List CountCell)
       let old = get_or cells i cell in
       let at : slice_get cells i ≡ Some old = slice_get-get_or cells i cell (omega arith) in
       let less = falls i old at in
-      let rest = from_longer cell f old.next k (omega (arith, less, within)) in
-      from_cell (cells ++ cell ∷ []) f i k (Some old) (slice_get-append_left cells (cell ∷ []) i old at)
-      ∙ ap (max (count_here (Some old) k)) rest
-      ∙ sym (from_cell cells f i k (Some old) at)
+      search (rules, from_cell, slice_get-append_left, from_longer cell f old.next k (omega (arith, less, within)))
 
   -- the chain that begins with the new cell
   pub from_new : (cell : CountCell) (k : ℕ) → cell.next ≤ length cells →
@@ -95,9 +93,7 @@ module _ {width : ℕ} {cells : List CountCell} {n : ℕ} (chained : AreChained 
   behind k = count_from cells cell_here.next cell_here.next k
 
   here_and_behind : (k : ℕ) → count_from cells n n k ≡ max (count_here (Some cell_here) k) (behind k)
-  here_and_behind k =
-      let number : suc (n - 1) ≡ n = omega (arith, some) in
-      rw number at (from_number cells chained.falls (n - 1) k cell_here there)
+  here_and_behind k = grind (arith, from_number cells chained.falls (n - 1) k cell_here there)
 
   -- a row with the cell taken into account, where the cells behind are still to be
   pub row_step : (row new : List ℕ) →
@@ -116,10 +112,8 @@ module _ (width : ℕ) (heads : List ℕ) (cells : List CountCell) where
   pub row_at : (v : ℕ) → v < length heads →
       slice_get (rows_in width heads cells) v ≡ Some (row_from width cells (slice_index heads v))
   unfolding rows_in
-  row_at v below =
-      slice_get-get_or (map (row_from width cells) heads) v []
-      (omega (arith, below, length-map heads (row_from width cells)))
-      ∙ ap Some (get_or-map (row_from width cells) heads v 0 [] below)
+  row_at v below = slice_get-get_or (map (row_from width cells) heads) v
+      [] (omega (arith, below, length-map heads (row_from width cells))) ∙ ap Some (grind (arith, get_or-map))
 
   pub width_at : (v : ℕ) → v < length heads → width_of (rows_in width heads cells) v ≡ width
   width_at v below = search (rules, row_at, length-map-range_with_len)
@@ -157,20 +151,13 @@ module _ {width : ℕ} {heads : List ℕ} {cells : List CountCell} {vertex place
   put_done = record {
     each = rows_each width new_heads new_cells ∙ as_many ∙ sym (rows_each width heads cells);
     wide = search (rules, cases_lt, width_at, width_past);
-    here =
-        at_vertex place within
-        ∙ ap (λ b. max (cond b count 0) (count_of old vertex place)) (eq-eqb place place refl);
+    here = search (rules, at_vertex, old, eq-eqb);
     others = λ v k other. elim (cases_lt v (length heads)) [
       | inr past ↦ search (rules, count_past)
       | inl less ↦ elim (cases_lt k width) [
         | inr far ↦ search (rules, count_behind)
         | inl inside ↦ elim (cases_eq v vertex) [
-          | inl same ↦
-              ap (λ u. count_of new u k) same
-              ∙ at_vertex k inside
-              ∙ ap (λ b. max (cond b count 0) (count_of old vertex k)) (ne_eqb place k (λ e. other same (sym e)))
-              ∙ zero-max (count_of old vertex k)
-              ∙ ap (λ u. count_of old u k) (sym same)
+          | inl same ↦ grind (arith, at_vertex k inside, zero-max (count_of old vertex k))
           | inr apart ↦ search (rules, count_at, get_or-set_other, from_longer)
         ]
       ]
@@ -180,21 +167,20 @@ module _ {width : ℕ} {heads : List ℕ} {cells : List CountCell} {vertex place
       old : List (List ℕ)
       old = rows_in width heads cells
 
-      new : List (List ℕ)
-      new = rows_in width new_heads new_cells
-
       as_many : length new_heads ≡ length heads
       as_many = length-set heads vertex (length cells + 1)
 
-      at_vertex : (k : ℕ) → k < width →
-          count_of (rows_in width new_heads new_cells) vertex k
-          ≡ max (cond (place == k) count 0) (count_of (rows_in width heads cells) vertex k)
-      at_vertex k inside =
-          count_at width new_heads new_cells vertex k (omega (arith, below, as_many)) inside
-          ∙ ap (λ h. count_from new_cells h h k)
-          (get_or-set_same heads vertex (length cells + 1) 0 below ∙ add-one (length cells))
-          ∙ from_new cells headed.chained.falls cell k (headed.first vertex)
-          ∙ ap (max (cond (place == k) count 0)) (sym (count_at width heads cells vertex k below inside))
+      at_vertex : (k : ℕ) → k < width → count_of (rows_in width new_heads new_cells) vertex k ≡ max
+          (cond (place == k) count 0) (count_of (rows_in width heads cells) vertex k)
+      at_vertex k inside = grind (
+        arith,
+        count_at width new_heads new_cells vertex k (omega (arith, below, as_many)) inside,
+        get_or-set_same heads vertex (length cells + 1) 0 below,
+        add-one (length cells),
+        from_new cells
+            headed.chained.falls cell k (headed.first vertex),
+        count_at width heads cells vertex k below inside,
+      )
 
 -- ---- no cell
 
@@ -213,8 +199,7 @@ pub row_done : (width : ℕ) (heads : List ℕ) (cells : List CountCell) (v head
     v < length heads → head ≡ slice_index heads v → zeros ≡ replicate width 0 → length row ≡ length zeros →
     ((k : ℕ) → k < length zeros → slice_index row k ≡ max (slice_index zeros k) (count_from cells head head k)) →
     slice_get (rows_in width heads cells) v ≡ Some row
-row_done width heads cells v head zeros row below head_is zeros_are long raised =
-    row_at width heads cells v below
+row_done width heads cells v head zeros row below head_is zeros_are long raised = row_at width heads cells v below
     ∙ ap (λ h. Some (row_from width cells h)) (sym head_is)
     ∙ ap Some (sym (fill_by_all (count_from cells head head) row width 0 as_long each))
   where
@@ -225,8 +210,4 @@ row_done width heads cells v head zeros row below head_is zeros_are long raised 
     as_long = long ∙ many
 
     each : (k : ℕ) → k < width → get_or row k 0 ≡ count_from cells head head k
-    each k within =
-        raised k (omega (arith, within, many))
-        ∙ ap (λ n. max n (count_from cells head head k))
-        (ap (λ (list : List ℕ). slice_index list k) zeros_are ∙ zeros_at width k)
-        ∙ zero-max (count_from cells head head k)
+    each k within = grind (arith, many, zeros_at, zero-max)

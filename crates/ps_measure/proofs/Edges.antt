@@ -1,5 +1,5 @@
 -- Links of the graphs, and the edges that remain.
-use Rattle.std.proofs.Common.{rules, ◌≡◌, ℕ, ◌+◌, ◌-◌, ◌<◌, ◌≤◌, ◌∙◌, length, inl, inr, refl, sym, ap}
+use Rattle.std.proofs.Common.{rules, ◌≡◌, ℕ, ◌+◌, ◌<◌, ◌≤◌, ◌∙◌, length, inl, inr, refl, sym, ap}
 use Rattle.std.proofs.Common.{arith, Option, Some, Bool, true, false, cond, nat_le, not, ◌&&◌, ◌||◌}
 use Rattle.std.specs.Prelude.{slice_index, ◌==◌}
 use Rattle.std.proofs.lemmas.Bool.{cases_eq, eqb-true, eq-eqb, ne_eqb, and_parts, and_from, or_cases, or_left, or_right}
@@ -21,14 +21,13 @@ Remains r = RemainsWithin r.game r.player (has r.region) (move_at r.strategy)
 -- a successor is a vertex
 pub successor_within : (game : ParityGame) (v k : ℕ) → IsGame game → v < vertex_count game →
     k < length (successors_of game v) → slice_index (successors_of game v) k < vertex_count game
-successor_within game v k is_game below within =
-    is_game.within v (slice_index (successors_of game v) k) (
-      below,
-      (k, within, get_or_default (successors_of game v) k (slice_index (successors_of game v) k) 0 within),
-    )
+successor_within game v k is_game below within = is_game.within v (slice_index (successors_of game v) k) (
+  below,
+  (k, within, get_or_default (successors_of game v) k (slice_index (successors_of game v) k) 0 within),
+)
 
 is_move-some : (o : Option ℕ) (w : ℕ) → is_move o w ≡ true → o ≡ Some w
-is_move-some o w h1 = search (rules, eqb-true)
+is_move-some o w h = search (rules, eqb-true)
 
 some-is_move : (o : Option ℕ) (w : ℕ) → o ≡ Some w → is_move o w ≡ true
 some-is_move o w e = rw e (eq-eqb w w refl)
@@ -61,9 +60,8 @@ remains_link r {v} {w} remains = search (rules, get_or_default, so_stays)
 -- ---- links of low vertices
 
 -- a link between vertices that do not pass the priority
-pub low_link : (low : LowData) {w v : ℕ} → Link (low_graph low) w v →
-    Link (star_graph low.star) w v × (slice_index low.levels w ≤ low.priority) ×
-    (slice_index low.levels v ≤ low.priority)
+pub low_link : (low : LowData) {w v : ℕ} → Link (low_graph low) w v → Link (star_graph low.star) w v ×
+    (slice_index low.levels w ≤ low.priority) × (slice_index low.levels v ≤ low.priority)
 low_link low {w} {v} link = search (rules, below_places, cond_some, leb-true)
 
 pub link_low : (low : LowData) {w v : ℕ} → Link (star_graph low.star) w v → slice_index low.levels w ≤ low.priority →
@@ -94,8 +92,7 @@ pub leads_low : {g : Digraph} (low : LowData) {v : ℕ} (k : ℕ) {w : ℕ} → 
     v < g.count → k < g.degree v → g.target v k ≡ Some w → slice_index low.levels v ≤ low.priority →
     nat_le (slice_index low.levels w) low.priority ≡ true → Link (low_graph low) w v
 leads_low low {v} k {w} reverse below within target from to =
-    link_low low (reverse.there v w (record { from = below; place = k; at = within; target = target }))
-    (leb-true (slice_index low.levels w) low.priority to) from
+    link_low low (reverse.there v w (grind arith)) (leb-true (slice_index low.levels w) low.priority to) from
 
 pub leads_nowhere : {g : Digraph} {low : LowData} {v k w : ℕ} → IsReverse g (star_graph low.star) → g.degree v ≤ k →
     NoneLow g low v k → Link (low_graph low) w v → ⊥

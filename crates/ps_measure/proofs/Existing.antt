@@ -1,6 +1,6 @@
 -- Least counts are there for all priorities, as rows, or a cycle that is lost.
-use Rattle.std.proofs.Common.{◌≡◌, ℕ, zero, suc, ◌%◌, ◌<◌, ◌≤◌, ◌⊎◌, ◌∙◌, List, [], ◌∷◌, length, map, get_or, inl, inr}
-use Rattle.std.proofs.Common.{ap, arith, Option, Some, Bool, rules}
+use Rattle.std.proofs.Common.{◌≡◌, ℕ, zero, suc, ◌%◌, ◌<◌, ◌≤◌, ◌⊎◌, List, [], ◌∷◌, length, map, get_or, inl, inr}
+use Rattle.std.proofs.Common.{arith, Option, Some, Bool, rules}
 use Rattle.std.specs.Prelude.{slice_get}
 use Rattle.std.specs.List.{All, range_with_len}
 use Rattle.std.proofs.lemmas.Bool.{cases_lt}
@@ -68,31 +68,27 @@ module _ (game : ParityGame) (player : ℕ) (set : ℕ → Bool) (table : ℕ �
 
     row_there : (v : ℕ) → v < vertex_count game → slice_get rows v ≡ Some (row v)
     unfolding rows
-    row_there v below =
-        slice_get-get_or rows v [] (omega (arith, below, length-map-range_with_len row 0 (vertex_count game)))
-        ∙ ap (λ l. Some l) (get_or-map-range_with_len row 0 (vertex_count game) v v [] below (omega arith))
+    row_there v below = grind (
+      arith,
+      slice_get-get_or rows v [] (omega (
+        arith,
+        below,
+        length-map-range_with_len row 0 (vertex_count game),
+      )),
+      get_or-map-range_with_len row 0 (vertex_count game) v v [] below (omega arith),
+    )
 
     count_there : (k v : ℕ) → k < length priorities → count_of rows v k ≡ c.count k v
     unfolding row rows
     count_there k v within =
-        search (
-          rules,
-          cases_lt,
-          row_there,
-          get_or-map-range_with_len,
-          slice_get_past,
-          rows,
-          length-map-range_with_len,
-          row,
-        )
+        grind (arith, cases_lt, row_there, get_or-map-range_with_len, slice_get_past, rows, length-map-range_with_len)
 
     are_ranks : AreRanks game player set table priorities rows
     unfolding rows row
     are_ranks = record {
       listed = listed;
       shape = search (rules, length-map-range_with_len, row, row_there);
-      columns =
-          λ k within. least_same (λ v. count_there k v within) (c.are_least k within);
+      columns = λ k within. least_same (λ v. count_there k v within) (c.are_least k within);
     }
 
   pub ranks_or_cycle : ((priorities : List ℕ) × (rows : List (List ℕ)) × AreRanks game player set table priorities rows)

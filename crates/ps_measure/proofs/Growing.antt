@@ -1,6 +1,5 @@
 -- Counts grow along ways, and the weights of the components from one on.
-use Rattle.std.proofs.Common.{◌≡◌, ℕ, ◌+◌, ◌<◌, ◌≤◌, inl, inr, refl, ap, arith, Option, Some, rules}
-use Rattle.std.proofs.Common.{cond}
+use Rattle.std.proofs.Common.{◌≡◌, ℕ, ◌+◌, ◌<◌, ◌≤◌, inl, inr, refl, ap, arith, Option, Some, rules, cond}
 use Rattle.std.specs.Prelude.{slice_get}
 use Rattle.std.proofs.lemmas.Bool.{le-leb, lt-leb}
 use Rattle.std.proofs.lemmas.Bool.Decides.{nat_tests}
@@ -26,12 +25,11 @@ one_count weight d {w = w} {v} {k} components counts from to = elim (components.
 
 -- what is met is a vertex
 pub met_below : {g : Digraph} {c : ComponentsData} {v k : ℕ} → AreComponents g c → IsIn c v k → v < g.count
-met_below {c = c} {v} {k} components met =
-    omega (arith, slice_get_within c.numbers v (Some k) met, components.counted)
+met_below {c = c} {v} {k} components met = omega (arith, slice_get_within c.numbers v (Some k) met, components.counted)
 
 -- the weight of a vertex counts at fewer components where these begin later
 weight_from-later : (k m x : ℕ) (o : Option (Option ℕ)) → m ≤ k → weight_from k o x ≤ weight_from m o x
-weight_from-later k m x o h1 = search (rules, nat_tests)
+weight_from-later k m x o h = search (rules, nat_tests)
 
 weight_from-bound : (k x : ℕ) (o : Option (Option ℕ)) → weight_from k o x ≤ x
 weight_from-bound k x o = search (rules, nat_tests)
@@ -42,11 +40,9 @@ module _ {g : Digraph} {c : ComponentsData} (weight : ℕ → ℕ) {m : ℕ} (co
   all_here = rw is (ap (λ b. cond b (weight v) 0) (le-leb m m (omega arith)))
 
   -- the weights from an earlier component on are more by the weight of a vertex in it
-  pub weights_from-more : {k : ℕ} → m < k →
-      weights_from c weight k g.count + weight v ≤ weights_from c weight m g.count
+  pub weights_from-more : {k : ℕ} → m < k → weights_from c weight k g.count + weight v ≤ weights_from c weight m g.count
   weights_from-more {k} less =
-      let none : weight_from k (slice_get c.numbers v) (weight v) ≡ 0 =
-      rw is (ap (λ b. cond b (weight v) 0) (lt-leb k m less)) in
+      let none : weight_from k (slice_get c.numbers v) (weight v) ≡ 0 = rw is (grind (arith, lt-leb)) in
       sum_below-more (λ u. weight_from k (slice_get c.numbers u) (weight u))
       (λ u. weight_from m (slice_get c.numbers u) (weight u)) g.count v (weight v) (met_below components is)
       (λ u _. weight_from-later k m (weight u) (slice_get c.numbers u) (omega arith)) (omega (arith, none, all_here))

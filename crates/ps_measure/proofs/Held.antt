@@ -1,5 +1,5 @@
 -- A player who holds a region by a table loses no cycle in it.
-use Rattle.std.proofs.Common.{◌≡◌, ℕ, ◌+◌, ◌-◌, ◌%◌, ◌<◌, ◌∙◌, List, [], ◌∷◌, ◌++◌, length, map, inl, inr, refl}
+use Rattle.std.proofs.Common.{◌≡◌, ℕ, ◌+◌, ◌<◌, ◌∙◌, List, [], ◌∷◌, ◌++◌, length, map, inl, inr, refl}
 use Rattle.std.proofs.Common.{sym, arith, Option, Bool, rules}
 use Rattle.std.specs.Prelude.{slice_index, IsTrue}
 use Rattle.std.proofs.lemmas.Bool.{cases_lt}
@@ -57,4 +57,4 @@ module _ {game : ParityGame} {player : ℕ} {set : ℕ → Bool} {table : ℕ �
 
 pub held_refusal : {game : ParityGame} {player : ℕ} {set : ℕ → Bool} {table : ℕ → Option ℕ} (fault : MeasureFault) →
     player < 2 → IsRefusal game player set table fault → Holds game player set table → IsOutOfMemory fault
-held_refusal fault h1 h2 h3 = search (rules, not_held)
+held_refusal fault h k m = search (rules, not_held)

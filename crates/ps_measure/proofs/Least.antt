@@ -1,8 +1,8 @@
 -- The least counts of the graph of low vertices are those of the game; a way back to a link's source is a cycle of the
 -- game.
 use Rattle.std.proofs.Common.{◌≡◌, ◌≢◌, ℕ, zero, suc, ◌+◌, ◌-◌, ◌%◌, ◌<◌, ◌≤◌, ◌∙◌, List, [], ◌∷◌, length, map, get_or}
-use Rattle.std.proofs.Common.{inl, inr, refl, ap, arith, Bool, true, false, cond, nat_le, ◌&&◌, rules}
-use Rattle.std.specs.Prelude.{slice_index, IsTrue, ◌==◌}
+use Rattle.std.proofs.Common.{inl, inr, refl, ap, arith, Bool, true, false, cond, nat_le, rules}
+use Rattle.std.specs.Prelude.{slice_index, IsTrue}
 use Rattle.std.proofs.lemmas.Bool.{cases_eq, cases_lt, eq-eqb, ne_eqb, and_from, le-leb, lt-leb}
 use Rattle.std.proofs.lemmas.List.{length-map, get_or-map}
 use Rattle.std.proofs.lemmas.Option.{slice_get_within, slice_get-get_or, get_or_from_slice_get}
@@ -18,7 +18,7 @@ use Rattle.ps_measure.specs.Columns.{AreCounts, AreLeast}
 use Rattle.ps_measure.specs.Filling.{IsLowCycle, AreLevels}
 use Rattle.ps_measure.specs.Ranks.{count_with, AreLeastFor, IsLostCycle}
 use Rattle.ps_measure.proofs.Summing.{sum_below-le}
-use Rattle.ps_measure.proofs.Edges.{Remains, link_remains, remains_link, low_link, link_low, heavy_level}
+use Rattle.ps_measure.proofs.Edges.{Remains, link_remains, remains_link, low_link, heavy_level}
 
 greatest-bound : (xs : List ℕ) (p : ℕ) → ((k : ℕ) → k < length xs → get_or xs k 0 ≤ p) → greatest xs ≤ p
 greatest-bound [] p each = omega arith
@@ -42,15 +42,11 @@ module _ (r : RemainingData) (low : LowData) (is_game : IsGame r.game) (levels :
       (priority_of r.game v ≤ low.priority)
   remains_low w v link =
       let parts = low_link low link in
-      let remains = link_remains r (reverse.back v w parts.0) in
-      let from = is_game.within v w remains.remains.edge in (search rules)
+      grind (arith, link_remains r (reverse.back v w parts.0))
 
   low_remains : (v w : ℕ) → Remains r v w → priority_of r.game w ≤ low.priority →
       priority_of r.game v ≤ low.priority → Link (low_graph low) w v
-  low_remains v w remains from to =
-      let from_below = is_game.within v w remains.remains.edge in
-      link_low low (reverse.there v w (remains_link r remains)) (omega (arith, levels.is w from_below, from))
-      (omega (arith, levels.is v remains.remains.edge.0, to))
+  low_remains v w remains from to = grind (arith, remains_link r remains)
 
   heavy_one : (v : ℕ) → v < vertex_count r.game → priority_of r.game v ≡ low.priority → has r.region v ≡ true →
       low_weight low v ≡ 1
@@ -65,11 +61,7 @@ module _ (r : RemainingData) (low : LowData) (is_game : IsGame r.game) (levels :
   from_rule other keep w v link =
       let parts = remains_low w v link in
       let rule = keep v w parts.0 in
-      let below = parts.0.remains.edge.0 in
-      elim (cases_eq (priority_of r.game v) low.priority) [
-        | inl same ↦ omega (arith, rule.falls same parts.1, heavy_one v below same parts.0.from)
-        | inr apart ↦ omega (arith, rule.never_rises parts.2 parts.1, light_none v below apart)
-      ]
+      grind (arith, cases_eq, heavy_one, light_none)
 
   to_rule : (d : ℕ → ℕ) → AreCounts (low_graph low) (low_weight low) d →
       KeepRuleWithin r.game r.player (has r.region) (move_at r.strategy) low.priority d
@@ -103,13 +95,10 @@ module _ (r : RemainingData) (low : LowData) (is_game : IsGame r.game) (levels :
   least_for {d} least = record {
     keep = to_rule d least.counts;
     least = λ other keep v. least.least other (from_rule other keep) v;
-    outside =
-        λ v not_inside. zero_where (has r.region) d least (λ w v link.
-        (let parts = remains_low w v link in (parts.0.to, parts.0.from))) v (false_unless (has r.region v) not_inside);
-    above =
-        λ v high. zero_where (λ u. nat_le (priority_of r.game u) low.priority) d least
-        (λ w v link. (let parts = remains_low w v link in (search (rules, le-leb)))) v
-        (lt-leb (priority_of r.game v) low.priority high);
+    outside = λ v not_inside. zero_where (has r.region) d least (λ w v link. (let parts = remains_low w v link in
+        (parts.0.to, parts.0.from))) v (false_unless (has r.region v) not_inside);
+    above = λ v high. zero_where (λ u. nat_le (priority_of r.game u) low.priority) d least
+        (λ w v link. grind (arith, remains_low w v link, le-leb)) v (lt-leb (priority_of r.game v) low.priority high);
     bounded = λ v. omega (arith, least.bounded v, weights_same);
   }
     where
@@ -131,9 +120,7 @@ module _ (r : RemainingData) (low : LowData) (is_game : IsGame r.game) (levels :
     link_at : (k : ℕ) → k + 1 < length cycle → Remains r (slice_index cycle k) (slice_index cycle (k + 1)) ×
         (priority_of r.game (slice_index cycle (k + 1)) ≤ low.priority) ×
         (priority_of r.game (slice_index cycle k) ≤ low.priority)
-    link_at k within =
-        remains_low (slice_index cycle (k + 1)) (slice_index cycle k)
-        (search (rules, slice_get-get_or))
+    link_at k within = remains_low (slice_index cycle (k + 1)) (slice_index cycle k) (search (rules, slice_get-get_or))
 
     closing : Remains r way.to way.from × (priority_of r.game way.from ≤ low.priority) ×
         (priority_of r.game way.to ≤ low.priority)
@@ -154,8 +141,7 @@ module _ (r : RemainingData) (low : LowData) (is_game : IsGame r.game) (levels :
     long = length-map cycle (priority_of r.game)
 
     top : greatest (map (priority_of r.game) cycle) ≡ low.priority
-    top =
-        greatest_at (map (priority_of r.game) cycle) (length cycle - 1) low.priority (omega (arith, some, long))
+    top = greatest_at (map (priority_of r.game) cycle) (length cycle - 1) low.priority (omega (arith, some, long))
         (search (rules, at_map, some, last_is, closing, heavy_level))
         (λ k within. search (rules, long, at_map, edge_at))
 

@@ -112,7 +112,7 @@ module _ {g : Digraph} {weight : ℕ → ℕ} {c : ComponentsData} {values roots
   ]
 
   from_passed : (w v : ℕ) → IsPassed weight c values w v → value_of c values w + weight v ≤ value_of c values v
-  from_passed w v h1 = search (rules, value_in)
+  from_passed w v h = search (rules, value_in)
 
   at_link : (w v : ℕ) → Link g w v → (o : Option (Option ℕ)) → slice_get c.numbers w ≡ o →
       value_at values o + weight v ≤ value_of c values v

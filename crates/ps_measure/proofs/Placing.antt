@@ -1,6 +1,6 @@
 -- The counts of one priority, put into a table one after the other.
 use Rattle.std.proofs.Common.{◌≡◌, ◌≢◌, ℕ, zero, suc, ◌+◌, ◌<◌, ◌≤◌, ◌∙◌, List, length, max, inl, inr, nat_lt}
-use Rattle.std.proofs.Common.{sym, ap, arith, Some, rules}
+use Rattle.std.proofs.Common.{ap, arith, Some, rules}
 use Rattle.std.specs.Prelude.{slice_get}
 use Rattle.std.proofs.Math.Nat.{max-zero}
 use Rattle.std.proofs.lemmas.Bool.{cases_eq}
@@ -12,7 +12,6 @@ use Rattle.ps_measure.specs.Ranks.{count_of, width_of}
 use Rattle.ps_measure.specs.Sums.{sum_below, counted}
 use Rattle.ps_measure.specs.Tables.{HasPut, HasColumn}
 use Rattle.ps_measure.proofs.Summing.{sum_below-same, positive_none, positive_some, raised_below, raised_none}
-use Rattle.ps_measure.proofs.Summing.{raised_same}
 
 -- one term more is 1, all others stay
 one_more : (f g : ℕ → ℕ) (n u : ℕ) → u < n → f u ≡ 0 → g u ≡ 1 → ((v : ℕ) → v ≢ u → g v ≡ f v) →
@@ -20,11 +19,7 @@ one_more : (f g : ℕ → ℕ) (n u : ℕ) → u < n → f u ≡ 0 → g u ≡ 1
 one_more f g zero u below none one others = absurd (omega arith)
 one_more f g (suc n) u below none one others = elim (cases_eq u n) [
   | inl same ↦ search (rules, sum_below-same)
-  | inr apart ↦ omega (
-    arith,
-    one_more f g n u (omega (arith, below, apart)) none one others,
-    others n (λ e. apart (sym e)),
-  )
+  | inr apart ↦ grind (arith, one_more f g n u (omega (arith, below, apart)) none one others)
 ]
 
 -- the counts of the first so many vertices of an order were put
@@ -65,8 +60,7 @@ module _ {order : List ℕ} {counts : ℕ → ℕ} {old now : List (List ℕ)} {
     raised_is =
         let more = one_more (λ v. counted (nat_lt 0 (count_of now v place)))
         (λ v. counted (nat_lt 0 (count_of new v place))) (length old) u below (positive_none _ fresh)
-        (positive_some _ (omega (arith, here, some)))
-        (λ v apart. ap (λ n. counted (nat_lt 0 n)) (old_stays v apart)) in
+        (positive_some _ (omega (arith, here, some))) (λ v apart. ap (λ n. counted (nat_lt 0 n)) (old_stays v apart)) in
         omega (arith, more, so_far.raised_is);
   }
     where
@@ -89,10 +83,7 @@ module _ {g : Digraph} {c : ComponentsData} (components : AreComponents g c) whe
   pub put_all : (values : List ℕ) {old new : List (List ℕ)} {place i raised : ℕ} → length c.order ≤ i →
       ArePut c.order (value_of c values) old new place i raised →
       HasColumn old new place (value_of c values) × (raised ≡ raised_below (value_of c values) (length old))
-  put_all values {old} {new} {place} end put = (
-    record { each = put.each; wide = put.wide; here = here; others = put.others },
-    put.raised_is ∙ raised_same (λ v. count_of new v place) (value_of c values) (length old) here,
-  )
+  put_all values {old} {new} {place} end put = grind (arith, here)
     where
       here : (v : ℕ) → count_of new v place ≡ value_of c values v
       here v = search (rules, no_value, slice_get_within)

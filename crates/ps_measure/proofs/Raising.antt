@@ -24,13 +24,7 @@ use Rattle.ps_measure.proofs.Summing.{sum_below-bound, sum_below-more}
 -- one function is above another somewhere, or nowhere
 above_or_not : (f g : ℕ → ℕ) (n : ℕ) → ((v : ℕ) × (v < n) × (f v < g v)) ⊎ ((v : ℕ) → v < n → g v ≤ f v)
 above_or_not f g zero = inr (λ v below. absurd (omega (arith, below)))
-above_or_not f g (suc n) = elim (above_or_not f g n) [
-  | inl found ↦ inl (found.0, omega (arith, found.1), found.2)
-  | inr none ↦ elim (cases_lt (f n) (g n)) [
-    | inl less ↦ inl (n, omega arith, less)
-    | inr most ↦ search (rules, cases_eq)
-  ]
-]
+above_or_not f g (suc n) = grind (arith, cases_lt (f n) (g n), cases_eq, above_or_not f g n)
 
 later_one : (u v : ℕ) (us : List ℕ) → Contains us v → Contains (u ∷ us) v
 later_one u v us c = (suc c.0, omega (arith, c.1), c.2)
@@ -56,9 +50,8 @@ fits h n (u ∷ us) d each =
     )) in
     let left : counted (others u) ≡ 0 = rw (first.0, eq-eqb u u refl) in
     let right : counted (h u) ≡ 1 = rw first.0 in
-    let more : count_below others n + 1 ≤ count_below h n =
-    sum_below-more (λ v. counted (others v)) (λ v. counted (h v)) n u 1 first.1
-    (λ v below. fewer (h v) (not (v == u))) (omega (arith, left, right)) in
+    let more : count_below others n + 1 ≤ count_below h n = sum_below-more (λ v. counted (others v))
+    (λ v. counted (h v)) n u 1 first.1 (λ v below. fewer (h v) (not (v == u))) (omega (arith, left, right)) in
     omega (arith, rest, more)
 
 module _ (game : ParityGame) (player : ℕ) (set : ℕ → Bool) (table : ℕ → Option ℕ) (p : ℕ) where
@@ -83,9 +76,7 @@ module _ (game : ParityGame) (player : ℕ) (set : ℕ → Bool) (table : ℕ �
 
   so_goes : (v w : ℕ) → Goes v w → goes v w ≡ true
   unfolding goes
-  so_goes v w g =
-      and_from (may_stay game player set table v w) (nat_le (priority_of game v) p && nat_le (priority_of game w) p)
-      (so_stays g.0) (search (rules, and_from, le-leb, g.1, g.2))
+  so_goes v w g = grind (arith, and_from, nat_le, so_stays, le-leb)
 
   -- such edges lead from v through the vertices of the list to u
   abbrev IsRun : ℕ → List ℕ → ℕ → Type 0
@@ -105,7 +96,7 @@ module _ (game : ParityGame) (player : ℕ) (set : ℕ → Bool) (table : ℕ �
   run_from v w u g (inr r) = (w ∷ r.0, (g, r.1))
 
   reaches_join : (v x u : ℕ) → Reaches v x → Reaches x u → Reaches v u
-  reaches_join v x u h1 h2 = search (rules, run_join)
+  reaches_join v x u h k = search (rules, run_join)
 
   -- vertices of the set of priority p, the first of them reached from v, each later one behind an edge of the one
   -- before
@@ -142,8 +133,7 @@ module _ (game : ParityGame) (player : ℕ) (set : ℕ → Bool) (table : ℕ �
     | inl d ↦ elim (cases_Bool (list_any (nat_eq u) us)) [
       | inl there ↦
           let at = Contains-from_any (λ x y h. eqb-true x y h) u us there in
-          let run = run_from u c.2.0 u c.2.1 (chain_reaches c.2.0 us c.2.2 at.0 u at.1 at.2) in
-          inr (u, run.0, c.1, run.1)
+          grind (arith, run_from u c.2.0 u c.2.1 (chain_reaches c.2.0 us c.2.2 at.0 u at.1 at.2))
       | inr absent ↦ inl ((λ again. cc (list_any-from_Contains nat_eq_equiv u us again)), d)
     ]
   ]
@@ -227,9 +217,7 @@ module _ (game : ParityGame) (player : ℕ) (set : ℕ → Bool) (table : ℕ �
   best_of d v [] some = absurd (omega (arith, some))
   best_of d v (x ∷ ws) some = elim (cases_lt (best d v ws) (wish d v x)) [
     | inl less ↦ search (rules, cases_Bool, goes, weight)
-    | inr most ↦
-        let rest = best_of d v ws (omega (arith, some, most)) in
-        (rest.0, later_one x rest.0 ws rest.1, rest.2, omega (arith, most, rest.3))
+    | inr most ↦ search (rules, later_one, best_of d v ws (omega (arith, some, most)))
   ]
 
   asked : (k v w : ℕ) → Goes v w → counts k w + weight v ≤ counts (suc k) v
@@ -238,7 +226,7 @@ module _ (game : ParityGame) (player : ℕ) (set : ℕ → Bool) (table : ℕ �
 
   past : (k v : ℕ) → vertex_count game ≤ v → counts k v ≡ 0
   unfolding counts best successors_of vertex_count
-  past k v h1 = search (rules, best, counts, get_or_past)
+  past k v h = search (rules, best, counts, get_or_past)
 
   -- a count is 0, or what one edge asks for
   asked_by : (k v : ℕ) → (counts (suc k) v ≡ 0) ⊎ ((w : ℕ) × Goes v w × (counts (suc k) v ≡ counts k w + weight v))
@@ -275,10 +263,7 @@ module _ (game : ParityGame) (player : ℕ) (set : ℕ → Bool) (table : ℕ �
   all_bounded k = elim (above_or_not (λ _. count_with game set p) (counts k) (vertex_count game)) [
     | inl found ↦
         let c = chain_of k found.0 in
-        elim (chain_bounded found.0 c.0 c.2) [
-          | inl few ↦ absurd (omega (arith, few, c.1, found.2))
-          | inr lost ↦ inr lost
-        ]
+        grind (arith, chain_bounded)
     | inr none ↦ search (rules, cases_lt, past)
   ]
 
@@ -307,11 +292,7 @@ module _ (game : ParityGame) (player : ℕ) (set : ℕ → Bool) (table : ℕ �
   ]
 
   settle : (fuel k : ℕ) → most < total k + fuel → ((k : ℕ) × IsSettled k) ⊎ Lost
-  settle zero k enough = elim (settled_or_more k) [
-    | inl done ↦ inl (k, done)
-    | inr (inl lost) ↦ inr lost
-    | inr (inr more) ↦ absurd (omega (arith, enough, more.0))
-  ]
+  settle zero k enough = grind (arith, settled_or_more k)
   settle (suc fuel) k enough = elim (settled_or_more k) [
     | inl done ↦ inl (k, done)
     | inr (inl lost) ↦ inr lost
@@ -325,26 +306,22 @@ module _ (game : ParityGame) (player : ℕ) (set : ℕ → Bool) (table : ℕ �
   least other keep (suc k) v = elim (asked_by k v) [
     | inl none ↦ omega (arith, none)
     | inr a ↦ (let rule = keep v a.0 a.1.0 in elim (cases_Bool (heavy v)) [
-      | inl one ↦ (let by : weight v ≡ 1 = rw one in
-          omega (arith, by, a.2, least other keep k a.0, rule.falls (heavy_is v one) a.1.2))
-      | inr light ↦ (let by : weight v ≡ 0 = rw light in
-          omega (arith, by, a.2, least other keep k a.0, rule.never_rises a.1.1 a.1.2))
+      | inl one ↦ grind (arith, heavy_is v one, least other keep k a.0)
+      | inr light ↦ grind (arith, least other keep k a.0)
     ])
   ]
 
   -- where no edge goes there is no count
   none_without : (k v : ℕ) → ((w : ℕ) → Goes v w → ⊥) → counts k v ≡ 0
   unfolding counts
-  none_without k v h1 = search (rules, asked_by)
+  none_without k v h = search (rules, asked_by)
 
   are_least : (k : ℕ) → IsSettled k → AreLeastFor game player set table p (counts k)
   unfolding weight heavy
   are_least k s = record {
     keep = λ v w r. record {
       never_rises = λ from to. omega (arith, asked k v w (r, from, to), s.settled v r.remains.edge.0);
-      falls = λ is to.
-          (let one : weight v ≡ 1 = search (rules, and_from, eq-eqb) in
-          omega (arith, asked k v w (r, omega (arith, is), to), s.settled v r.remains.edge.0, one));
+      falls = λ is to. grind (arith, and_from, eq-eqb, asked k v w (r, omega (arith, is), to));
     };
     least = λ other keep v. least other keep k v;
     outside = λ v out. none_without k v (λ w g. out g.0.from);

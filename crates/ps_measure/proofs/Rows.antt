@@ -7,7 +7,7 @@ use Rattle.std.proofs.lemmas.Bool.{cases_eq, cases_lt}
 use Rattle.std.proofs.lemmas.Option.{slice_get_within}
 use Rattle.ps_components.specs.Graphs.{Digraph, Link}
 use Rattle.ps_game.specs.Games.{ParityGame, vertex_count}
-use Rattle.ps_measure.specs.Sums.{sum_below, counted, count_below}
+use Rattle.ps_measure.specs.Sums.{counted, count_below}
 use Rattle.ps_measure.specs.Ranks.{count_of, total_of, raised_of, most_raises, count_with, AreLeastFor}
 use Rattle.ps_measure.specs.Tables.{AreZero, HasColumn}
 use Rattle.ps_measure.specs.Filling.{AreRanked, IsFilled}
@@ -23,9 +23,7 @@ Row = List ℕ
 -- ---- how many counts are not 0
 
 pub raised-le-total : (rows : List Row) (count width : ℕ) → raised_of rows count width ≤ total_of rows count width
-raised-le-total rows count width =
-    sum_below-le (λ k. raised_below (λ v. count_of rows v k) count) (λ k. sum_below (λ v. count_of rows v k) count)
-    width (λ k _. search (rules, sum_below-le, positive_bound))
+raised-le-total rows count width = grind (arith, sum_below-le, positive_bound)
 
 module _ {game : ParityGame} {player : ℕ} {set : ℕ → Bool} {table : ℕ → Option ℕ} where
   -- the counts for one priority that are not 0
@@ -48,10 +46,7 @@ module _ {game : ParityGame} {player : ℕ} {set : ℕ → Bool} {table : ℕ �
   pub raised-le-most : (priorities : List ℕ) (rows : List Row) → ((k : ℕ) → k < length priorities →
       AreLeastFor game player set table (slice_index priorities k) (λ v. count_of rows v k)) →
       raised_of rows (vertex_count game) (length priorities) ≤ most_raises game set priorities
-  raised-le-most priorities rows columns =
-      sum_below-le (λ k. raised_below (λ v. count_of rows v k) (vertex_count game))
-      (λ k. count_below set (vertex_count game) * count_with game set (slice_index priorities k)) (length priorities)
-      (λ k within. column_most (columns k within))
+  raised-le-most priorities rows columns = search (rules, sum_below-le, column_most)
 
   -- ---- the columns so far
 
@@ -69,8 +64,7 @@ module _ {game : ParityGame} {player : ℕ} {set : ℕ → Bool} {table : ℕ �
   -- the counts of one priority more
   pub ranked_more : {priorities : List ℕ} {old new : List Row} {place raises raised : ℕ} {counts : ℕ → ℕ} →
       AreLeastFor game player set table (slice_index priorities place) counts → HasColumn old new place counts →
-      raised ≡ raised_below counts (vertex_count game) →
-      AreRanked game player set table priorities old place raises →
+      raised ≡ raised_below counts (vertex_count game) → AreRanked game player set table priorities old place raises →
       AreRanked game player set table priorities new (place + 1) (raises + raised)
   ranked_more {priorities} {old} {new} {place} {counts = counts} least column raised_is so_far = record {
     shape = search rules;
@@ -81,11 +75,6 @@ module _ {game : ParityGame} {player : ℕ} {set : ℕ → Bool} {table : ℕ �
     after = search rules;
     raises_is = search (rules, sum_below-same, raised_below, raised_same, sum_below-next);
   }
-
-  -- no count is there yet
-  pub ranked_none : {priorities : List ℕ} {rows : List Row} → AreZero rows (vertex_count game) (length priorities) →
-      AreRanked game player set table priorities rows 0 0
-  ranked_none zeros = search rules
 
   -- in an empty set all counts are 0
   pub ranked_empty : {priorities : List ℕ} {rows : List Row} → ((v : ℕ) → set v ≡ false) →
@@ -109,11 +98,7 @@ pub filled_none : (low : LowData) {roots : List ℕ} {rows : List Row} {place : 
     IsFilled (low_graph low) (low_weight low) rows rows place 0
 filled_none low {roots} none are zeros = record {
   counts = λ _. 0;
-  least = record {
-    counts = light;
-    least = λ other counts v. omega arith;
-    bounded = λ v. omega arith;
-  };
+  least = grind (arith, light);
   column = record { each = refl; wide = λ v. refl; here = zeros; others = λ v k other. refl };
   raised_is = sym (raised_none (λ _. 0) low.star.count (λ _. refl));
 }

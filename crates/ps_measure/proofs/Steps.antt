@@ -28,17 +28,14 @@ module _ (low : LowData) {c : ComponentsData} {values : List ℕ} {from number t
   before_in : IsIn c to before × (before ≤ number)
   before_in =
       let falls = counting.components.falls from number to from_in link in
-      let same : o ≡ Some falls.0 = cc (falls.1) in
-      let is : before ≡ falls.0 = before_is ∙ ap (λ p. unwrap_or p number) same in
-      (rw is falls.1, omega (arith, is, falls.2))
+      grind arith
 
   same_component : number ≤ before → IsIn c to number
   same_component more = (let e : number ≡ before = omega (arith, before_in.1) in rw e before_in.0)
 
   pub step_inside : number ≤ before → OnFalse (eqb weight 1) (IsPassed (low_weight low) c values from to)
-  step_inside more =
-      OnFalse_from (eqb weight 1) (IsPassed (low_weight low) c values from to) (λ e. inside number from_in
-      (same_component more) (omega (arith, eqb-false weight 1 e, weight_is, weight_light low to)))
+  step_inside more = OnFalse_from (eqb weight 1) (IsPassed (low_weight low) c values from to) (λ e. inside number
+      from_in (same_component more) (omega (arith, eqb-false weight 1 e, weight_is, weight_light low to)))
 
   pub step_lost : number ≤ before → OnTrue (eqb weight 1) (IsLost (low_graph low) (low_weight low) c from to)
   step_lost more = search (rules, OnTrue_from, same_component, eqb-true)
@@ -55,10 +52,8 @@ module _ (low : LowData) {c : ComponentsData} {values : List ℕ} {from number t
         omega (arith, is_sum, raise_fits counting.components counting.column to before_in.0 less, all)
 
     pub step_counting : IsCounting (low_graph low) (low_weight low) c (slice_set values before (value + weight))
-    step_counting = rw is_sum (record {
-      components = counting.components;
-      column = raise_column counting.components counting.column to before_in.0 less link from_in;
-    })
+    step_counting =
+        rw is_sum (grind (arith, raise_column counting.components counting.column to before_in.0 less link from_in))
 
     pub step_raised : IsPassed (low_weight low) c (slice_set values before (value + weight)) from to
     step_raised = rw is_sum (passed_by_raise counting.components counting.column to before_in.0 less from_in)
@@ -126,8 +121,7 @@ pub record RaisedBelow (c : ComponentsData) (values roots : List ℕ) (n : ℕ) 
 pub root_step : (low : LowData) {roots : List ℕ} {c : ComponentsData} {values : List ℕ} {i number : ℕ} →
     AreComponents (low_graph low) c → AreRoots (low_graph low) (low_weight low) roots → i < length roots →
     slice_get c.numbers (get_or roots i 0) ≡ Some (Some number) → IsColumn (low_graph low) (low_weight low) c values →
-    RaisedBelow c values roots i
-    → IsColumn (low_graph low) (low_weight low) c (slice_set values number 1) ×
+    RaisedBelow c values roots i → IsColumn (low_graph low) (low_weight low) c (slice_set values number 1) ×
     RaisedBelow c (slice_set values number 1) roots (i + 1)
 root_step low {roots} {c} {values} {i} {number} components are within is column raised =
     let root = are.sound i (get_or roots i 0) (slice_get-get_or roots i 0 within) in
@@ -144,11 +138,6 @@ root_met roots c {i} met within is none =
     let found = (met (get_or roots i 0)).1 (i, get_or roots i 0, slice_get-get_or roots i 0 within, inl refl) in
     none found.0 (cc (found.1))
 
--- what stands in the order has a number
-pub order_met : {g : Digraph} {c : ComponentsData} (i : ℕ) {v : ℕ} {o : Option ℕ} → AreComponents g c →
-    slice_get c.order i ≡ Some v → slice_get c.numbers v ≡ Some o → ((n : ℕ) → o ≡ Some n → ⊥) → ⊥
-order_met i {v} components at is none = (let found = components.ordered i v at in none found.0 (cc (found.1)))
-
 -- ---- the end
 
 pub settled : (low : LowData) {roots : List ℕ} {c c' : ComponentsData} {old new : List ℕ} {n : ℕ} →
@@ -156,6 +145,5 @@ pub settled : (low : LowData) {roots : List ℕ} {c c' : ComponentsData} {old ne
     IsCounting (low_graph low) (low_weight low) c' new → GrowsBelow old new n →
     ArePassedFrom (low_graph low) (low_weight low) c' new 0 →
     AreLeast (low_graph low) (low_weight low) (value_of c' new)
-settled low {roots} {c} are met raised same counting grown passed =
-    least_counts (weight_light low) counting.components are (rw same met) counting.column
-    (rw same (raised_before c roots grown raised)) passed
+settled low {roots} {c} are met raised same counting grown passed = least_counts (weight_light low) counting.components
+    are (rw same met) counting.column (rw same (raised_before c roots grown raised)) passed

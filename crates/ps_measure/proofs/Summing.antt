@@ -6,8 +6,7 @@ use Rattle.ps_measure.specs.Sums.{sum_below, counted, count_below}
 
 pub sum_below-le : (f g : ℕ → ℕ) (n : ℕ) → ((v : ℕ) → v < n → f v ≤ g v) → sum_below f n ≤ sum_below g n
 sum_below-le f g zero each = omega arith
-sum_below-le f g (suc n) each =
-    omega (arith, sum_below-le f g n (λ v below. each v (omega arith)), each n (omega arith))
+sum_below-le f g (suc n) each = omega (arith, sum_below-le f g n (λ v below. grind arith), each n (omega arith))
 
 -- and by x less where one term is
 pub sum_below-more : (f g : ℕ → ℕ) (n u x : ℕ) → u < n → ((v : ℕ) → v < n → f v ≤ g v) → f u + x ≤ g u →
@@ -25,13 +24,11 @@ sum_below-more f g (suc n) u x below each more = elim (cases_eq u n) [
 -- at most a bound for each term
 pub sum_below-bound : (f : ℕ → ℕ) (n b : ℕ) → ((v : ℕ) → v < n → f v ≤ b) → sum_below f n ≤ n * b
 sum_below-bound f zero b each = omega arith
-sum_below-bound f (suc n) b each =
-    omega (arith, sum_below-bound f n b (λ v below. each v (omega arith)), each n (omega arith))
+sum_below-bound f (suc n) b each = omega (arith, sum_below-bound f n b (λ v below. grind arith), each n (omega arith))
 
 pub sum_below-same : (f g : ℕ → ℕ) (n : ℕ) → ((v : ℕ) → v < n → f v ≡ g v) → sum_below f n ≡ sum_below g n
 sum_below-same f g zero each = refl
-sum_below-same f g (suc n) each =
-    omega (arith, sum_below-same f g n (λ v below. each v (omega arith)), each n (omega arith))
+sum_below-same f g (suc n) each = omega (arith, sum_below-same f g n (λ v below. grind arith), each n (omega arith))
 
 pub sum_below-zero : (f : ℕ → ℕ) (n : ℕ) → ((v : ℕ) → f v ≡ 0) → sum_below f n ≡ 0
 sum_below-zero f zero each = refl
@@ -47,8 +44,7 @@ pub counted-bound : (b : Bool) → counted b ≤ 1
 counted-bound b = search rules
 
 pub count_below-bound : (test : ℕ → Bool) (n : ℕ) → count_below test n ≤ n
-count_below-bound test n =
-    omega (arith, sum_below-bound (λ v. counted (test v)) n 1 (λ v _. counted-bound (test v)))
+count_below-bound test n = omega (arith, sum_below-bound (λ v. counted (test v)) n 1 (λ v _. counted-bound (test v)))
 
 -- 1 for a number that is not 0
 pub positive_none : (x : ℕ) → x ≡ 0 → counted (nat_lt 0 x) ≡ 0

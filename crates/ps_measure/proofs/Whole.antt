@@ -1,7 +1,6 @@
 -- One priority more, and what is said of all of them.
-use Rattle.std.proofs.Common.{◌≡◌, ℕ, ◌+◌, ◌%◌, ◌<◌, ◌≤◌, ◌∙◌, List, length, ap, arith, Bool, Option, rules}
+use Rattle.std.proofs.Common.{◌≡◌, ℕ, ◌+◌, ◌<◌, ◌≤◌, List, length, arith, Bool, Option, rules}
 use Rattle.std.specs.Prelude.{slice_index}
-use Rattle.std.proofs.lemmas.List.Elements.{All-get_or}
 use Rattle.ps_game.specs.Games.{ParityGame, IsGame, vertex_count}
 use Rattle.ps_game.specs.Plays.{other_player}
 use Rattle.ps_game.specs.Regions.{has, move_at}
@@ -9,8 +8,7 @@ use Rattle.ps_game.specs.Ranking.{ListsPriorities}
 use Rattle.ps_measure.specs.declared.fault.MeasureFault.{MeasureFault}
 use Rattle.ps_measure.specs.declared.fault.MeasureFault.TheVariants.{BadCycle, OutOfMemory}
 use Rattle.ps_measure.specs.Remaining.{RemainingData, StarData, remaining_graph, star_graph, IsReverse, LowData}
-use Rattle.ps_measure.specs.Remaining.{low_graph}
-use Rattle.ps_measure.specs.Remaining.{low_weight}
+use Rattle.ps_measure.specs.Remaining.{low_graph, low_weight}
 use Rattle.ps_measure.specs.Filling.{AreRanked, IsFilled, IsLowRefusal, AreLevels}
 use Rattle.ps_measure.specs.Ranks.{AreRanks, IsRefusal, total_of, raised_of, most_raises}
 use Rattle.ps_measure.proofs.Least.{least_for, lost_cycle}
@@ -45,10 +43,7 @@ module _ {r : RemainingData} {low : LowData} {priorities : List ℕ} {place : �
 
   pub refused : (fault : MeasureFault) → ListsPriorities r.game (other_player r.player) priorities →
       IsLowRefusal low fault → IsRefusal r.game r.player (has r.region) (move_at r.strategy) fault
-  refused (BadCycle cycle) listed way =
-      lost_cycle r low at.is_game at.levels at.reverse at.regions way
-      (ap (λ n. n % 2) at.priority ∙ All-get_or (λ p. p % 2 ≡ other_player r.player) priorities place 0 at.within
-      listed.right_parity)
+  refused (BadCycle cycle) listed way = lost_cycle r low at.is_game at.levels at.reverse at.regions way (grind arith)
   refused OutOfMemory listed way = tt
 
 -- the whole table
@@ -57,9 +52,8 @@ pub whole : {game : ParityGame} {player : ℕ} {set : ℕ → Bool} {table : ℕ
     AreRanked game player set table priorities rows (length priorities) raises
     → AreRanks game player set table priorities rows × (raised_of rows (vertex_count game) (length priorities) ≤ raises)
     × (raises ≤ total_of rows (vertex_count game) (length priorities)) × (raises ≤ most_raises game set priorities)
-whole {game} {priorities = priorities} {rows} listed ranked = (
-  record { listed = listed; shape = ranked.shape; columns = ranked.least },
-  omega (arith, ranked.raises_is),
-  omega (arith, ranked.raises_is, raised-le-total rows (vertex_count game) (length priorities)),
-  omega (arith, ranked.raises_is, raised-le-most priorities rows ranked.least),
+whole {game} {priorities = priorities} {rows} listed ranked = grind (
+  arith,
+  raised-le-total rows (vertex_count game) (length priorities),
+  raised-le-most priorities rows ranked.least,
 )

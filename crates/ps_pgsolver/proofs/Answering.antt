@@ -1,8 +1,6 @@
 -- The answer to a text, from its two readings.
 use Rattle.std.proofs.Common.{◌≡◌, ℕ, ◌≤◌, List, length, Option, None, Some, Result, Ok, Err, IsErrAnd, IfOk, refl, sym}
-use Rattle.std.proofs.Common.{rules}
-use Rattle.std.proofs.Common.{ap, subst, ◌∙◌, zero, suc, ◌+◌, ◌-◌, Bool, cond, [], ◌∷◌, ◌++◌, arith}
-use Rattle.std.proofs.Common.{length-append}
+use Rattle.std.proofs.Common.{rules, ap, subst, zero, suc, ◌+◌, ◌-◌, Bool, cond, [], ◌∷◌, ◌++◌, arith, length-append}
 use Rattle.std.specs.Result.{IfErr}
 use Rattle.std.proofs.lemmas.Result.{err_from_is_err_and}
 use Rattle.ps_text.specs.Answers.{Piece, Stream, Found, signs, offset_of}
@@ -11,8 +9,7 @@ use Rattle.ps_game.specs.Games.{NamedGameData}
 use Rattle.ps_pgsolver.specs.Answered.{FaultAnswers, found_of}
 use Rattle.ps_pgsolver.specs.GameTexts.{pg_causes, game}
 use Rattle.ps_pgsolver.specs.GamesOf.{named_game_of}
-use Rattle.ps_pgsolver.specs.Lexer.{lex, first_sign, first_size, stream_of}
-use Rattle.ps_pgsolver.specs.Bytes.{is_blank}
+use Rattle.ps_pgsolver.specs.Lexer.{lex, first_size, stream_of}
 use Rattle.ps_pgsolver.specs.Causes.{StandsWithin, PgFault}
 use Rattle.ps_pgsolver.specs.Signs.{Sign}
 use Rattle.ps_pgsolver.specs.declared.fault.PgCause.{PgCause}
@@ -28,8 +25,7 @@ tokens text short = record { short = short; tokens = tokens_found text }
 module _ (text : List ℕ) (short : length text ≤ text_limit) where
   first_fault : (e : PgFault) → FaultAnswers None (stream_of text) (found_of e) → IsGameAnswer text (Err e)
   first_fault faults.OutOfMemory h = tt
-  first_fault (faults.Text cause offset) h =
-      refused (stream_of text) (record { cause = cause; offset = offset }) (tokens text short) h refl
+  first_fault (faults.Text cause offset) h = refused (stream_of text) _ (tokens text short) h refl
 
   pub first_exit : (e : PgFault) (r : Result NamedGameData PgFault) → FaultAnswers None (stream_of text) (found_of e) →
       IsErrAnd r (λ y. y ≡ e) → IsGameAnswer text r
@@ -63,7 +59,7 @@ AllWithin n [] = Unit {0}
 AllWithin n (p ∷ ps) = (p.start ≤ n) × AllWithin n ps
 
 chosen : (n : ℕ) (t : Bool) (xs ys : List (Piece Sign)) → AllWithin n xs → AllWithin n ys → AllWithin n (cond t xs ys)
-chosen n t xs ys h1 h2 = search rules
+chosen n t xs ys h k = search rules
 
 lex_within : (n skip : ℕ) (before bytes : List ℕ) → length before + length bytes ≤ n →
     AllWithin n (lex skip before bytes)
@@ -73,10 +69,9 @@ lex_within n (suc skip) before (b ∷ bs) h =
     lex_within n skip (before ++ b ∷ []) bs (omega (arith, h, length-append before (b ∷ [])))
 lex_within n zero before (b ∷ bs) h =
     let next : length (before ++ b ∷ []) + length bs ≤ n = omega (arith, h, length-append before (b ∷ [])) in
-    chosen n (is_blank b) (lex zero (before ++ b ∷ []) bs)
-    ((record { sign = first_sign before (b ∷ bs); start = length before }) ∷ lex (first_size (b ∷ bs) - 1)
-    (before ++ b ∷ []) bs) (lex_within n zero (before ++ b ∷ []) bs next) (
-      omega (arith, h),
+    grind (
+      arith,
+      lex_within n zero (before ++ b ∷ []) bs next,
       lex_within n (first_size (b ∷ bs) - 1) (before ++ b ∷ []) bs next,
     )
 
@@ -97,8 +92,7 @@ same_refusal {f} {g} e = let x : refuses f ≡ refuses g = e in cc
 
 answer_within : {text : List ℕ} {found : Found PgCause} → Answer text (Err found) → found.offset ≤ length text
 answer_within {found} (too_long l e) = search (rules, same_refusal)
-answer_within {text} (refused stream f t p e) =
-    subst (λ g. g.offset ≤ length text) (sym (same_refusal e)) (refused_within f None t p)
+answer_within {text} (refused stream f t p e) = grind (arith, same_refusal e, refused_within f None t p)
 answer_within {text} (unknown stream nodes f t p q e) =
     subst (λ g. g.offset ≤ length text) (sym (same_refusal e)) (refused_within f (Some (ids_of nodes)) t q)
 answer_within {found} (meaning stream nodes t p q e) = search rules

@@ -1,5 +1,5 @@
 -- The parts that may be missing: a setting and a name. And where a loop goes on.
-use Rattle.std.proofs.Common.{◌≡◌, ℕ, ◌<◌, true, false, List, [], ◌∷◌, ◌++◌, length, Option, None, Some, Ok, Err, refl}
+use Rattle.std.proofs.Common.{◌≡◌, ℕ, ◌<◌, true, false, List, length, Option, None, Some, Ok, Err, refl}
 use Rattle.std.proofs.Common.{sym, ap, subst, inl, ◌∙◌, rules}
 use Rattle.ps_text.specs.Answers.{Stream, next_of}
 use Rattle.ps_text.specs.Parts.{one, NoBad}
@@ -11,13 +11,13 @@ use Rattle.ps_pgsolver.specs.Answered.{found_of}
 use Rattle.ps_pgsolver.specs.GameTexts.{pg_causes, setting, keyword, keyword_in, value_line, name, name_in, number_in}
 use Rattle.ps_pgsolver.specs.GameTexts.{comma, comma_in, BadId, more_successor, new_id, node, entry}
 use Rattle.ps_pgsolver.specs.Heads.{is_number, is_comma, name_of}
-use Rattle.ps_pgsolver.specs.Nodes.{NodeData, ids_of}
+use Rattle.ps_pgsolver.specs.Nodes.{NodeData}
 use Rattle.ps_pgsolver.specs.Signs.{Sign, Number, Word, Name, Comma}
 use Rattle.ps_pgsolver.specs.declared.fault.PgCause.{PgCause}
 use Rattle.ps_pgsolver.specs.Causes.{PgFault}
 use Rattle.ps_pgsolver.proofs.Exits.{Done, Halts, stops_right, done_then}
 use Rattle.ps_pgsolver.proofs.PartLaws.{IsKind, kind_of, laws_one_name, laws_no_name, joint_more, joint_id}
-use Rattle.ps_pgsolver.proofs.PartLaws.{from_priority, another, laws_more}
+use Rattle.ps_pgsolver.proofs.PartLaws.{another, laws_more}
 use Rattle.ps_pgsolver.proofs.GameLaws.{laws_line, laws_no_line, joint_line, line, takes_word, laws_entry}
 
 keyword_done : (word : List ℕ) (old : Stream Sign) {new : Stream Sign} →
@@ -28,9 +28,8 @@ keyword_done word old {new} e n = meets_next found_of pg_causes
 
 line_entered : (word : List ℕ) (old : Stream Sign) → next_of old ≡ Some (Word word) → Enters (line word) (next_of old)
 unfolding keyword
-line_entered word old e = subst (λ there. Enters (line word) there) (sym e)
-    (enters_then (keyword word) (λ _. value_line) (joint_line word) (Some (Word word))
-    (enters_one (keyword_in word) NoBad (Word word) (inl (tt, takes_word word))))
+line_entered word old e = subst (λ there. Enters (line word) there) (sym e) (enters_then (keyword word)
+    (λ _. value_line) (joint_line word) (Some (Word word)) (search (rules, enters_one, takes_word)))
 
 pub setting_none : (word : List ℕ) (old : Stream Sign) → (next_of old ≡ Some (Word word) → ⊥) →
     Done (setting word) old tt old
@@ -57,10 +56,10 @@ some_none {t} e = none_is_some t (sym e)
 
 no_name : (t : Sign) → name_of (Some t) ≡ None → IsKind 2 t → ⊥
 unfolding kind_of
-no_name t h1 h2 = search (rules, some_none)
+no_name t h k = search (rules, some_none)
 
 named : (o : Option Sign) (inner : List ℕ) → name_of o ≡ Some inner → o ≡ Some (Name inner)
-named o inner h1 = search (rules, same_some, none_is_some)
+named o inner h = search (rules, same_some, none_is_some)
 
 pub name_none : (old : Stream Sign) → name_of (next_of old) ≡ None → Done name old None old
 unfolding name
@@ -69,20 +68,19 @@ name_none old e = search (rules, right_otherwise, laws_one_name, laws_no_name, n
 pub name_done : (old : Stream Sign) {new : Stream Sign} {inner : List ℕ} →
     name_of (next_of old) ≡ Some inner → new ≡ tail old → Done name old (Some inner) new
 unfolding name
-name_done old {new} {inner} e n = let is : next_of old ≡ Some (Name inner) =
-    named (next_of old) inner e in left_entered found_of pg_causes laws_one_name laws_no_name
-    (λ n. n) old new (Ok (Some inner)) (λ t h k. k) (subst (λ there. Enters (one {F = PgCause} name_in NoBad) there)
-    (sym is) (enters_one name_in NoBad (Name inner) (inl (Some inner, refl))))
-    (search (rules, meets_next))
+name_done old {new} {inner} e n = let is : next_of old ≡ Some (Name inner) = named (next_of old) inner e in
+    left_entered found_of pg_causes laws_one_name laws_no_name (λ n. n) old new (Ok (Some inner)) (λ t h k. k)
+    (subst (λ there. Enters (one {F = PgCause} name_in NoBad) there) (sym is)
+    (enters_one name_in NoBad (Name inner) (inl (Some inner, refl)))) (search (rules, meets_next))
 
 -- ## Loops
 
 comma_is : (o : Option Sign) → is_comma o ≡ true → o ≡ Some Comma
-comma_is o h1 = search rules
+comma_is o h = search rules
 
 no_comma : (t : Sign) → is_comma (Some t) ≡ false → IsKind 3 t → ⊥
 unfolding kind_of
-no_comma t h1 h2 = search rules
+no_comma t h k = search rules
 
 pub comma_avoided : (old : Stream Sign) → is_comma (next_of old) ≡ false → Avoids (IsKind 3) (next_of old)
 comma_avoided old e t h k = no_comma t (sym (ap is_comma h) ∙ e) k
@@ -95,11 +93,11 @@ comma_entered known list old e =
     (λ _. another known list) (joint_more known list) (Some Comma) (enters_one comma_in NoBad Comma (inl (tt, refl))))
 
 number_is : (o : Option Sign) → is_number o ≡ true → (n : ℕ) × (o ≡ Some (Number n))
-number_is o h1 = search rules
+number_is o h = search rules
 
 no_number : (t : Sign) → is_number (Some t) ≡ false → IsKind 0 t → ⊥
 unfolding kind_of
-no_number t h1 h2 = search rules
+no_number t h k = search rules
 
 pub number_avoided : (old : Stream Sign) → is_number (next_of old) ≡ false → Avoids (IsKind 0) (next_of old)
 number_avoided old e t h k = no_number t (sym (ap is_number h) ∙ e) k
@@ -112,9 +110,8 @@ pub number_entered : (known : Option (List ℕ)) (nodes : List NodeData) (old : 
     is_number (next_of old) ≡ true → Enters (entry known nodes) (next_of old)
 unfolding entry node
 number_entered known nodes old e = let is = number_is (next_of old) e in
-    subst (λ there. Enters (entry known nodes) there) (sym is.1) (enters_mapped (λ n. nodes ++ n ∷ [])
-    (node known (ids_of nodes)) (Some (Number is.0)) (enters_then (new_id (ids_of nodes)) (from_priority known
-    (ids_of nodes)) (joint_id known (ids_of nodes)) (Some (Number is.0)) (id_entered (ids_of nodes) is.0)))
+    subst (λ there. Enters (entry known nodes) there) (sym is.1)
+    (search (rules, enters_mapped, enters_then, joint_id, id_entered))
 
 -- what was read leaves fewer pieces
 pub more_shrinks : (known : Option (List ℕ)) (list v : List ℕ) (old new : Stream Sign) →

@@ -1,5 +1,5 @@
 -- Numbers of so few digits that a word holds each.
-use Rattle.std.proofs.Common.{◌≡◌, ℕ, ◌+◌, ◌-◌, ◌*◌, ◌^◌, ◌<◌, ◌≤◌, true, ap, ◌∙◌, add-one, arith, rules}
+use Rattle.std.proofs.Common.{◌≡◌, ℕ, ◌+◌, ◌-◌, ◌*◌, ◌^◌, ◌<◌, ◌≤◌, true, add-one, arith, rules}
 use Rattle.std.proofs.Math.Nat.{pow-suc, pow-le-pow_right}
 use Rattle.std.specs.Char.{is_ascii_digit}
 use Rattle.ps_text.proofs.Decimals.{digit_is}
@@ -12,5 +12,4 @@ pub few_small : (value digits : ℕ) → value < 10 ^ digits → digits < 18 →
 few_small value digits l d = search (rules, pow-le-pow_right)
 
 pub few_more : (value digits d : ℕ) → value < 10 ^ digits → d ≤ 9 → value * 10 + d < 10 ^ (digits + 1)
-few_more value digits d l h = let next : 10 ^ (digits + 1) ≡ 10 ^ digits * 10 =
-    ap (λ n. 10 ^ n) (add-one digits) ∙ pow-suc 10 digits in omega (arith, l, h, next)
+few_more value digits d l h = grind (arith, add-one digits, pow-suc 10 digits)

@@ -1,5 +1,5 @@
 -- A draft of a game, as the nodes of a text make it, and why it is a game.
-use Rattle.std.proofs.Common.{◌≡◌, ℕ, zero, suc, ◌<◌, List, [], ◌∷◌, length, map, refl, sym, ap, subst, arith, rules}
+use Rattle.std.proofs.Common.{◌≡◌, ℕ, zero, suc, ◌<◌, List, [], ◌∷◌, length, map, refl, arith, rules}
 use Rattle.std.proofs.lemmas.List.{length-map}
 use Rattle.std.proofs.lemmas.List.Elements.{All-map}
 use Rattle.std.proofs.lemmas.List.Quantifiers.{position-Some}
@@ -40,16 +40,12 @@ draft_count ids nodes = length-map nodes (vertex_of ids)
 pub draft_bare : (ids : List ℕ) (nodes : List NodeData) → All IsNode nodes → NoneBare (draft_of ids nodes)
 draft_bare ids nodes h v l =
     let r = draft_at ids nodes v l in
-    let is : IsNode r.0 = r.2 IsNode h in
-    omega (arith, ap length r.1, length-map r.0.successors (place_of ids), is.successor)
+    grind (arith, length-map)
 
 pub draft_known : {ids : List ℕ} (nodes : List NodeData) → ids ≡ ids_of nodes → KnowsAll ids nodes →
     NoneUnknown (draft_of ids nodes)
 draft_known {ids} nodes e h v l = let r = draft_at ids nodes v l in
-    let known : All (λ id. Contains ids id) r.0.successors = r.2 (λ n. All (λ id. Contains ids id) n.successors) h in
-    let count : vertex_count (draft_of ids nodes) ≡ length ids =
-    search (rules, draft_count, length-map) in subst (λ n. All (λ w. w < n) (successors_of (draft_of ids nodes) v))
-    (sym count) (subst (λ ws. All (λ w. w < length ids) ws) (sym r.1) (places_within ids r.0.successors known))
+    grind (arith, draft_count, length-map, places_within)
 
 pub same_named : {named : NamedGameData} (nodes : List NodeData) → named.game ≡ game_of nodes →
     named.ids ≡ ids_of nodes → named.names ≡ names_of nodes → named ≡ named_game_of nodes

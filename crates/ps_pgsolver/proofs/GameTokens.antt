@@ -1,5 +1,5 @@
 -- The tokens of a game text are those that the lexer finds, and no others.
-use Rattle.std.proofs.Common.{◌≡◌, ℕ, zero, suc, ◌+◌, ◌-◌, ◌<◌, ◌≤◌, Bool, true, false, cond, eqb, List, [], ◌∷◌, ◌++◌}
+use Rattle.std.proofs.Common.{◌≡◌, ℕ, zero, suc, ◌+◌, ◌<◌, ◌≤◌, Bool, true, false, cond, eqb, List, [], ◌∷◌, ◌++◌}
 use Rattle.std.proofs.Common.{length, get_or, take, drop, refl, sym, ap, subst, ◌∙◌, arith, append_assoc, append-nil}
 use Rattle.std.proofs.Common.{length-append, ne_eqb, lt-ltb, take-append-drop, rules}
 use Rattle.std.specs.List.{prefix_len, take_while}
@@ -27,11 +27,7 @@ use Rattle.ps_pgsolver.proofs.TokenLemmas.{prefix_len-behind, first_size-positiv
 
 first_run : {p : ℕ → Bool} (b : ℕ) (bs : List ℕ) → p b ≡ true →
     IsRun p (take (prefix_len p (b ∷ bs)) (b ∷ bs)) (drop (prefix_len p (b ∷ bs)) (b ∷ bs))
-first_run {p} b bs h = record {
-  some = search (rules, length-prefix_len);
-  all = run_all p (b ∷ bs);
-  longest = run_ends p (b ∷ bs);
-}
+first_run {p} b bs h = grind (arith, length-prefix_len, run_all p (b ∷ bs), run_ends p (b ∷ bs))
 
 -- ## Classes of bytes
 
@@ -119,14 +115,7 @@ mark_found before b bs d l k q = go (eqb b 44) (eqb b 59) refl refl
     go : (e f : Bool) → eqb b 44 ≡ e → eqb b 59 ≡ f → IsToken before (cond e Comma (cond f Semicolon Wrong)) (b ∷ []) bs
     go true f x y = ap (λ z. z ∷ []) (eqb-true b 44 x)
     go false true x y = ap (λ z. z ∷ []) (eqb-true b 59 y)
-    go false false x y = stray b refl (record {
-      no_digit = d;
-      no_letter = l;
-      no_blank = k;
-      no_quote = eqb-false b 34 q;
-      no_comma = eqb-false b 44 x;
-      no_semicolon = eqb-false b 59 y;
-    })
+    go false false x y = stray b refl (grind (arith, eqb-false))
 
 moved : (before w : List ℕ) (t : Sign) (n : ℕ) → first_sign before w ≡ t → first_size w ≡ n → Found before w t n →
     Found before w (first_sign before w) (first_size w)
@@ -144,8 +133,7 @@ found before b bs k = go (is_digit b) (is_letter b) (eqb b 34) refl refl refl
     go true l q x y z = let p = at_digit before b bs refl x in moved before w _ _ p.0 p.1 (number_found before b bs x)
     go false true q x y z =
         let p = at_letter before b bs refl x y in moved before w _ _ p.0 p.1 (word_found before b bs y)
-    go false false true x y z = let p = at_quote before bs refl (eqb-true b 34 z) in moved before w _ _ p.0 p.1 (subst
-        (λ c. Found before (c ∷ bs) (name_sign bs) (name_size bs)) (sym (eqb-true b 34 z)) (name_found before bs))
+    go false false true x y z = grind (arith, at_quote before bs refl (eqb-true b 34 z), name_found before bs)
     go false false false x y z =
         let p = at_mark before b bs refl x y z in moved before w _ _ p.0 p.1 (mark_found before b bs x y k z)
 
@@ -180,27 +168,7 @@ letters_are before {text} {rest} r =
 
 closed_name : (inner rest : List ℕ) → AllOf is_inner inner → (name_sign ((inner ++ 34 ∷ []) ++ rest) ≡ Name inner) ×
     (name_size ((inner ++ 34 ∷ []) ++ rest) ≡ length (34 ∷ (inner ++ 34 ∷ [])))
-closed_name inner rest a =
-    subst (λ bs. (name_sign bs ≡ Name inner) × (name_size bs ≡ length (34 ∷ (inner ++ 34 ∷ []))))
-    (sym (append_assoc inner (34 ∷ []) rest)) both
-  where
-    bs : List ℕ
-    bs = inner ++ 34 ∷ rest
-
-    n : prefix_len is_inner bs ≡ length inner
-    n = run_len is_inner inner (34 ∷ rest) a refl
-
-    closed : is_closed bs ≡ true
-    closed = let x : length bs ≡ length inner + suc (length rest) = length-append inner (34 ∷ rest) in
-        lt-ltb (prefix_len is_inner bs) (length bs) (omega (arith, n, x))
-
-    both : (name_sign bs ≡ Name inner) × (name_size bs ≡ length (34 ∷ (inner ++ 34 ∷ [])))
-    both = (
-      ap (λ e. cond e (Name (take_while is_inner bs)) OpenName) closed ∙ ap (λ k. Name (take k bs)) n
-          ∙ ap Name (take-append_seam inner (34 ∷ rest)),
-      ap (λ e. cond e (prefix_len is_inner bs + 2) (prefix_len is_inner bs + 1)) closed ∙
-          (let x : length (inner ++ 34 ∷ []) ≡ length inner + 1 = length-append inner (34 ∷ []) in omega (arith, n, x)),
-    )
+closed_name inner rest a = grind (arith, append_assoc, run_len, length-append, lt-ltb, take-append_seam)
 
 open_name_is : (inner : List ℕ) {rest : List ℕ} → AllOf is_inner inner → rest ≡ [] →
     (name_sign (inner ++ rest) ≡ OpenName) × (name_size (inner ++ rest) ≡ length (34 ∷ inner))
@@ -211,25 +179,20 @@ not_both b f t = let x : false ≡ true = sym f ∙ t in cc
 
 token_is : (before text rest : List ℕ) (t : Sign) → IsToken before t text rest →
     IsFound before (text ++ rest) t (length text)
-token_is before text rest (Number n) h =
-    let p = digits_are before h.0 in (search (rules, run_taken, h.2, h.0, h.1))
-token_is before text rest (Word letters) h =
-    let p = letters_are before h.0 in (search (rules, run_taken, h.2, h.0, h.1))
+token_is before text rest (Number n) h = grind (arith, digits_are before h.0, run_taken)
+token_is before text rest (Word letters) h = grind (arith, letters_are before h.0, run_taken)
 token_is before text rest (Name inner) h =
     let bs : List ℕ = (inner ++ 34 ∷ []) ++ rest in
     let p = at_quote before bs (ap (λ z. z ++ rest) h.0) refl in
-    let q = closed_name inner rest h.1 in
-    (p.0 ∙ q.0, p.1 ∙ q.1 ∙ ap length (sym h.0))
+    grind (arith, closed_name)
 token_is before text rest Comma h =
     let p = at_mark before 44 rest (ap (λ z. z ++ rest) h) refl refl refl in (p.0, p.1 ∙ ap length (sym h))
 token_is before text rest Semicolon h =
     let p = at_mark before 59 rest (ap (λ z. z ++ rest) h) refl refl refl in (p.0, p.1 ∙ ap length (sym h))
 token_is before text rest OpenName h = let p = at_quote before (h.0 ++ rest) (ap (λ z. z ++ rest) h.1) refl in
     let q = open_name_is h.0 h.2 h.3 in (p.0 ∙ q.0, p.1 ∙ q.1 ∙ ap length (sym h.1))
-token_is before text rest Wrong (number_behind_word r e) = let p = digits_are before r in
-    (p.0 ∙ ap (λ e. cond e Wrong (Number (decimal_value (take_while is_digit (text ++ rest))))) e, p.1)
-token_is before text rest Wrong (word_behind_number r e) =
-    let p = letters_are before r in (p.0 ∙ ap (λ e. cond e Wrong (Word (take_while is_letter (text ++ rest)))) e, p.1)
+token_is before text rest Wrong (number_behind_word r e) = grind (arith, digits_are before r)
+token_is before text rest Wrong (word_behind_number r e) = grind (arith, letters_are before r)
 token_is before text rest Wrong (stray b x s) =
     let p = at_mark before b rest (ap (λ z. z ++ rest) x) s.no_digit s.no_letter (ne_eqb b 34 s.no_quote) in
     (search (rules, s.no_comma, s.no_semicolon))
@@ -238,14 +201,13 @@ token_is before text rest Wrong (stray b x s) =
 
 token_begins : (before text rest : List ℕ) (t : Sign) → IsToken before t text rest →
     (b : ℕ) × (bs : List ℕ) × (text ≡ b ∷ bs) × (is_blank b ≡ true → ⊥)
-token_begins before text rest t h1 = search (rules, run_begins, not_both, digit_no_blank, letter_no_blank)
+token_begins before text rest t h = search (rules, run_begins, not_both, digit_no_blank, letter_no_blank)
 
 pub tokens_differ : TokensDiffer (λ b. is_blank b ≡ true) IsToken
 tokens_differ = search (rules, token_begins, token_is, same_split)
 
 all_blank : (w : List ℕ) → drop (prefix_len is_blank w) w ≡ [] → AllOf is_blank w
-all_blank w e = subst (AllOf is_blank)
-    (sym (ap (λ z. take (prefix_len is_blank w) w ++ z) e) ∙ take-append-drop (prefix_len is_blank w) w)
+all_blank w e = subst (AllOf is_blank) (grind (arith, take-append-drop))
     (subst (AllOf is_blank) (sym (append-nil (take (prefix_len is_blank w) w))) (run_all is_blank w))
 
 abbrev IsLexed : List ℕ → List ℕ → Type 0
@@ -262,8 +224,7 @@ step before w ih = go (drop n w) refl
     front = before ++ take n w
 
     go : (rest : List ℕ) → drop n w ≡ rest → IsLexed before w
-    go [] e = subst (TokensFrom (λ b. is_blank b ≡ true) IsToken before w)
-        (sym (lex-blanks before w ∙ ap (lex 0 front) e ∙ lex-end front)) (all_blank w e)
+    go [] e = grind (arith, lex-blanks before w, lex-end front, all_blank w e)
     go (b ∷ bs) e =
         subst (TokensFrom (λ b. is_blank b ≡ true) IsToken before w)
         (sym (lex-blanks before w ∙ ap (lex 0 front) e ∙ lex-first front (b ∷ bs) zero_blanks (omega arith)))
@@ -277,20 +238,16 @@ step before w ih = go (drop n w) refl
 
         next : NextToken (λ b. is_blank b ≡ true) IsToken before w
             (record { sign = first_sign front (b ∷ bs); start = length front })
-        next = record {
-          blanks = take n w;
-          text = take s (b ∷ bs);
-          rest = drop s (b ∷ bs);
-          split = sym (take-append-drop n w) ∙ ap (λ z. take n w ++ z) (e ∙ sym (take-append-drop s (b ∷ bs)));
-          are_blanks = run_all is_blank w;
-          is_token = found front b bs (subst (StopsBefore is_blank) e (run_ends is_blank w));
-          start = refl;
-        }
+        next = grind (
+          arith,
+          take-append-drop n w,
+          take-append-drop s (b ∷ bs),
+          run_all is_blank w,
+          found front b bs (subst (StopsBefore is_blank) e (run_ends is_blank w)),
+        )
 
         shorter_rest : length (drop s (b ∷ bs)) < length w
-        shorter_rest = let x : length (drop s (b ∷ bs)) ≡ suc (length bs) - s = length-drop s (b ∷ bs) in
-            let y : length (drop n w) ≡ length w - n = length-drop n w in let z : length (drop n w) ≡ suc (length bs) =
-            ap length e in let q : 0 < s = first_size-positive b bs in omega (arith, x, y, z, q)
+        shorter_rest = grind (arith, length-drop s (b ∷ bs), length-drop n w, first_size-positive b bs)
 
         later : IsLexed (front ++ take s (b ∷ bs)) (drop s (b ∷ bs))
         later = ih (front ++ take s (b ∷ bs)) (drop s (b ∷ bs)) shorter_rest

@@ -1,5 +1,5 @@
 -- Nodes that are kept in lists.
-use Rattle.std.proofs.Common.{◌≡◌, ℕ, zero, suc, ◌+◌, ◌-◌, ◌<◌, ◌≤◌, true, List, [], ◌∷◌, ◌++◌, Option, None, Some}
+use Rattle.std.proofs.Common.{◌≡◌, ℕ, zero, suc, ◌+◌, ◌-◌, ◌<◌, ◌≤◌, true, List, [], ◌∷◌, ◌++◌, Option, None}
 use Rattle.std.proofs.Common.{length, map, refl, sym, ap, ap₂, subst, ◌∙◌, arith, length-append, append_assoc, rules}
 use Rattle.std.specs.Prelude.{Vec, replicate}
 use Rattle.std.specs.Global.{Global}
@@ -96,24 +96,8 @@ module _ (ids : List ℕ) (vertices : ParityGame) (names : List (Option (List �
 
     pub AreKept-push : ¬ Contains (ids_of nodes) id → IsNode (node_kept id v name) → AreKept ids' vertices' names'
     AreKept-push new is = record {
-      id_each =
-          omega (
-            arith,
-            ap length i,
-            ap length vs,
-            length-append ids (id ∷ []),
-            length-append vertices (v ∷ []),
-            kept.id_each,
-          );
-      name_each =
-          omega (
-            arith,
-            ap length n,
-            ap length i,
-            length-append names (name ∷ []),
-            length-append ids (id ∷ []),
-            kept.name_each,
-          );
+      id_each = grind (arith, length-append);
+      name_each = grind (arith, length-append);
       well_formed = subst AreNodes (sym pushed_is) (AreNodes-push (subst AreNodes e kept.well_formed) new is);
     }
 
@@ -139,12 +123,11 @@ few_names {count} names e = search (rules, length-replicate)
 -- a place for a name that is not there
 pub none_kept : (count : ℕ) (names : List (Option (List ℕ))) → length names < count →
     with_none count (names ++ None ∷ []) ≡ with_none count names
-none_kept count names room =
-    let left : count - length (names ++ no_name ∷ []) ≡ count - length names - 1 =
-    omega (arith, length-append names (no_name ∷ [])) in
-    let more : suc (count - length names - 1) ≡ count - length names = omega arith in
-    ap (λ n. (names ++ no_name ∷ []) ++ replicate n no_name) left ∙ append_assoc names
-    (no_name ∷ []) (replicate (count - length names - 1) no_name) ∙ ap (λ n. names ++ replicate n no_name) more
+none_kept count names room = grind (
+  arith,
+  length-append names (no_name ∷ []),
+  append_assoc names (no_name ∷ []) (replicate (count - length names - 1) no_name),
+)
 
 none_more : (n : ℕ) → replicate (suc n) no_name ≡ replicate n no_name ++ no_name ∷ []
 none_more zero = refl
@@ -152,25 +135,15 @@ none_more (suc n) = ap (λ xs. no_name ∷ xs) (none_more n)
 
 with_none-more : (count : ℕ) (names : List (Option (List ℕ))) → length names ≤ count →
     with_none (count + 1) names ≡ with_none count names ++ None ∷ []
-with_none-more count names few = let more : count + 1 - length names ≡ suc (count - length names) = omega arith in
-    ap (λ n. names ++ replicate n no_name) more ∙ ap (λ xs. names ++ xs) (none_more (count - length names))
-    ∙ sym (append_assoc names (replicate (count - length names) no_name) (no_name ∷ []))
+with_none-more count names few = grind (arith, none_more, append_assoc)
 
 pub names_pushed : {count : ℕ} (padded old : List (Option (Vec ℕ Global))) (name : Option (Vec ℕ Global)) →
     length padded ≤ count → (is_some name ≡ true → length padded ≡ count) →
     with_none count (map name_bytes padded) ≡ with_none count (map name_bytes old) → with_none
     (count + 1) (map name_bytes (names_with padded name)) ≡ with_none count (map name_bytes old) ++ name_bytes name ∷ []
-names_pushed {count} padded old None few full same = search (rules, with_none-more, length-map)
-names_pushed {count} padded old (Some name) few full same =
-    let whole : length padded ≡ count = full refl in
-    let last = name_bytes (Some name) in
-    let e : map name_bytes (padded ++ Some name ∷ []) ≡ map name_bytes padded ++ last ∷ [] =
-    search (rules, map-append) in
-    ap (with_none (count + 1)) e ∙ with_none-all (count + 1) (map name_bytes padded ++ last ∷ [])
-    (omega (arith, length-append (map name_bytes padded) (last ∷ []), length-map padded name_bytes)) ∙ ap (λ xs. xs ++
-    last ∷ []) (search (rules, with_none-all, length-map))
+names_pushed {count} padded old h4 few full same =
+    grind (arith, with_none-more, length-map, map-append, with_none-all, length-append)
 
 pub plain_kept : (count : ℕ) (names : List (Option (List ℕ))) → All HasNoQuote (with_none count names) →
     All HasNoQuote names
-plain_kept count names plain k d lt = let rest = replicate (count - length names) no_name in
-    subst HasNoQuote (get_or_append_left names rest d k lt) (plain k d (omega (arith, lt, length-append names rest)))
+plain_kept count names plain k d lt = grind (arith, get_or_append_left, length-append)

@@ -20,14 +20,13 @@ head_sign before (b ∷ bs) = Some (first_sign before (b ∷ bs))
 
 first_of_lex : (before rest : List ℕ) → prefix_len is_blank rest ≡ 0 →
     first_of (signs (lex 0 before rest)) ≡ head_sign before rest
-first_of_lex before rest h1 = search (rules, lex-end, lex-first)
+first_of_lex before rest h = search (rules, lex-end, lex-first)
 
 pub next_sign : (text : List ℕ) {before rest : List ℕ} (at : ℕ) {start : ℕ} → start ≡ at + prefix_len is_blank (drop
     at text) → before ≡ take start text → rest ≡ drop start text → next_of (stream_from text at) ≡ head_sign before rest
 next_sign text {before} at {start} begins front back = let none : prefix_len is_blank (drop start text) ≡ 0 =
     rw (begins, ← drop-drop (prefix_len is_blank (drop at text)) at text) (prefix_len-behind is_blank (drop at text)) in
-    ap next_of (stream_from-blanks text at ∙ ap (stream_from text) (sym begins)) ∙ first_of_lex (take start text)
-    (drop start text) none ∙ ap (λ b. head_sign b (drop start text)) (sym front) ∙ ap (head_sign before) (sym back)
+    search (rules, stream_from-blanks, first_of_lex)
 
 -- ## What the first byte says of the sign
 
@@ -61,7 +60,7 @@ by_class P before b bs number word name mark =
 
 -- what holds of both signs holds of the one that a test chooses
 of_both : {X : Type 0} {x : X} {a b : Sign} (f : Sign → X) (t : Bool) → f a ≡ x → f b ≡ x → f (cond t a b) ≡ x
-of_both f t h1 h2 = search rules
+of_both f t h k = search rules
 
 of_marks : {X : Type 0} {x : X} (f : Sign → X) (b : ℕ) → f Comma ≡ x → f Semicolon ≡ x → f Wrong ≡ x →
     f (mark_sign b) ≡ x
@@ -78,8 +77,7 @@ pub at_number : (before rest : List ℕ) →
     is_number (head_sign before rest) ≡ begins_in is_digit rest && not (ends_in is_letter before)
 at_number before [] = refl
 at_number before (b ∷ bs) = by_class (λ sign. is_number (Some sign) ≡ is_digit b && not (ends_in is_letter before))
-    before b bs (λ d. number_number (ends_in is_letter before) _ ∙ other d)
-    (λ d l. of_both is (ends_in is_digit before) refl refl ∙ other d)
+    before b bs (λ d. number_number (ends_in is_letter before) _ ∙ other d) (λ d l. search (rules, of_both, is, other))
     (λ d q. of_both is (is_closed bs) refl refl ∙ other d) (λ d q. of_marks is b refl refl refl ∙ other d)
   where
     is : Sign → Bool
@@ -98,8 +96,7 @@ at_comma before [] = refl
 at_comma before (b ∷ bs) = by_class (λ sign. is_comma (Some sign) ≡ eqb b 44) before b bs
     (λ d. of_both is (ends_in is_letter before) refl refl ∙ sym (no_comma_where b is_digit refl d))
     (λ d l. of_both is (ends_in is_digit before) refl refl ∙ sym (no_comma_where b is_letter refl l))
-    (λ d q. of_both is (is_closed bs) refl refl ∙ sym (no_comma_where b (λ x. eqb x 34) refl q))
-    (λ d q. mark_comma (eqb b 44) (eqb b 59))
+    (λ d q. search (rules, of_both, is, no_comma_where)) (λ d q. mark_comma (eqb b 44) (eqb b 59))
   where
     is : Sign → Bool
     is sign = is_comma (Some sign)
@@ -109,6 +106,5 @@ pub at_no_name : (before rest : List ℕ) → begins_in (λ b. eqb b 34) rest �
     name_of (head_sign before rest) ≡ None
 at_no_name before [] none = refl
 at_no_name before (b ∷ bs) none = by_class (λ sign. name_of (Some sign) ≡ None) before b bs
-    (λ d. of_both (λ sign. name_of (Some sign)) (ends_in is_letter before) refl refl)
-    (λ d l. of_both (λ sign. name_of (Some sign)) (ends_in is_digit before) refl refl)
-    (λ d q. let x : true ≡ false = sym q ∙ none in cc) (λ d q. of_marks (λ sign. name_of (Some sign)) b refl refl refl)
+    (λ d. search (rules, of_both)) (λ d l. search (rules, of_both)) (λ d q. let x : true ≡ false = sym q ∙ none in cc)
+    (λ d q. of_marks (λ sign. name_of (Some sign)) b refl refl refl)

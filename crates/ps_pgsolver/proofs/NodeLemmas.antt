@@ -19,8 +19,7 @@ pub AreNodes-push : {nodes : List NodeData} {node : NodeData} → AreNodes nodes
     IsNode node → AreNodes (nodes ++ node ∷ [])
 AreNodes-push {nodes} {node} are new is = record {
   distinct = subst (λ ids. AllPairs (λ x y. x ≢ y) ids) (sym (ids_of-push nodes node))
-      (all_pairs_push (λ x y. x ≢ y) (ids_of nodes) node.id are.distinct
-      (λ k d l e. new (subst (λ id. Contains (ids_of nodes) id) e (Contains-get_or (ids_of nodes) k d l))));
+      (all_pairs_push (λ x y. x ≢ y) (ids_of nodes) node.id are.distinct (λ k d l e. search (rules, Contains-get_or)));
   each = All-push IsNode nodes node are.each is;
 }
 
@@ -32,8 +31,7 @@ names_plain {nodes} e are =
 -- ## All of a list with one more at its end
 
 pub all_before : {X : Type 0} (P : X → Type 0) (xs : List X) (x : X) → All P (xs ++ x ∷ []) → All P xs
-all_before P xs x h k d l =
-    subst P (get_or_append_left xs (x ∷ []) d k l) (h k d (omega (arith, l, length-append xs (x ∷ []))))
+all_before P xs x h k d l = grind (arith, get_or_append_left, length-append)
 
 pub all_last : {X : Type 0} (P : X → Type 0) (xs : List X) (x : X) → All P (xs ++ x ∷ []) → P x
 all_last P xs x h = subst P (get_or-append_seam xs x [] x) (h (length xs) x (omega (arith, length-append xs (x ∷ []))))

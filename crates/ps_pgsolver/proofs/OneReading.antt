@@ -1,6 +1,6 @@
 -- A game text has one answer.
 use Rattle.std.proofs.Common.{◌≡◌, ℕ, ◌<◌, ◌≤◌, eqb, List, length, Option, None, Some, Result, Ok, Err, sym, ap, subst}
-use Rattle.std.proofs.Common.{◌∙◌, arith, rules}
+use Rattle.std.proofs.Common.{◌∙◌, arith, rules, if◌then◌else◌}
 use Rattle.ps_text.specs.Answers.{Stream, Found, AreNumbered}
 use Rattle.ps_text.specs.Parts.{PartAnswers, IsWrong}
 use Rattle.ps_text.proofs.OneAnswer.{has_one_answer}
@@ -16,7 +16,6 @@ use Rattle.ps_pgsolver.specs.declared.fault.PgCause.{PgCause}
 use Rattle.ps_pgsolver.specs.declared.fault.PgCause.TheVariants as causes
 use Rattle.ps_pgsolver.proofs.GameTokens.{only_tokens}
 use Rattle.ps_pgsolver.proofs.GameLaws.{laws_game}
-use Rattle.std.proofs.Common.{if◌then◌else◌}
 
 abbrev of_number : ℕ → PgCause
 of_number n = if eqb n 30 then causes.Syntax else
@@ -80,8 +79,7 @@ data Over (text : List ℕ) (answer : GameAnswer) : Type 0 where
 
 over : (text : List ℕ) (a : GameAnswer) → Answer text a → Over text a
 over text a (too_long l e) = long l e
-over text a (refused s f h p e) =
-    first h.short f (subst (λ z. PartAnswers pg_causes (game None) z (nodes_err f)) (only_tokens text s h.tokens) p) e
+over text a (refused s f h p e) = first h.short f (grind (arith, only_tokens)) e
 over text a (unknown s ns f h p q e) = both h.short ns
     (nodes_err f) (subst (λ z. PartAnswers pg_causes (game None) z (nodes_ok ns)) (only_tokens text s h.tokens) p)
     (subst (λ z. PartAnswers pg_causes (game (Some (ids_of ns))) z (nodes_err f)) (only_tokens text s h.tokens) q) e
@@ -99,15 +97,12 @@ same_over (long l e) (both m ns r p q k) = absurd (omega (arith, l, m))
 same_over (first l f p e) (long m k) = absurd (omega (arith, l, m))
 same_over {text} (first l f p e) (first m g q k) =
     e ∙ ap refusal (ap (found_in f) (same_answer None (stream_of text) (nodes_err f) (nodes_err g) p q)) ∙ sym k
-same_over {text} (first l f p e) (both m ns r q s k) =
-    absurd (not_both ns f (same_answer None (stream_of text) (nodes_ok ns) (nodes_err f) q p))
+same_over {text} (first l f p e) (both m ns r q s k) = absurd (not_both ns f (search (rules, same_answer)))
 same_over (both l ns r p q e) (long m k) = absurd (omega (arith, l, m))
-same_over {text} (both l ns r p q e) (first m f s k) =
-    absurd (not_both ns f (same_answer None (stream_of text) (nodes_ok ns) (nodes_err f) p s))
+same_over {text} (both l ns r p q e) (first m f s k) = absurd (not_both ns f (search (rules, same_answer)))
 same_over {text} (both l ns r p q e) (both m ms t s u k) =
     let x : ns ≡ ms = ap (nodes_of ns) (same_answer None (stream_of text) (nodes_ok ns) (nodes_ok ms) p s) in
-    let y : r ≡ t = search (rules, same_answer) in
-    e ∙ ap (λ z. result_of z r) x ∙ ap (result_of ms) y ∙ sym k
+    grind (arith, same_answer)
 
 pub one_reading : (text : List ℕ) (a b : GameAnswer) → Answer text a → Answer text b → a ≡ b
 one_reading text a b h k = same_over (over text a h) (over text b k)

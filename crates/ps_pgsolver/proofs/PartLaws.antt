@@ -51,8 +51,7 @@ same A t h = h
 -- one sign, where each that may stand there, or is bad, is one of these
 pub laws_sign : {V : Type 0} (take : Sign → Option V) (Bad : Sign → PgCause → Type 0) (t : Sign) (v : V) (First : Sign →
     Type 0) → take t ≡ Some v → Within (Or (Taken take) (BadSign Bad)) First → Laws Odd (one take Bad) First Nothing ⊥
-laws_sign take Bad t v First e first =
-    weaker (laws_one take Bad Odd t v e (no_odd _) (no_odd _)) first (same Nothing) (λ h. h)
+laws_sign take Bad t v First e first = weaker (search (rules, laws_one, no_odd)) first (same Nothing) (λ h. h)
 
 pub laws_number : Laws Odd number (IsKind 0) Nothing ⊥
 unfolding number kind_of

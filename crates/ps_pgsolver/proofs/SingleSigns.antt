@@ -1,7 +1,6 @@
 -- What the code answers to a token is what the grammar's single signs say of it.
 use Rattle.std.proofs.Common.{◌≡◌, ℕ, ◌≤◌, true, false, ltb, List, Option, None, Some, Result, Ok, Err, refl, sym, ap}
-use Rattle.std.proofs.Common.{rules}
-use Rattle.std.proofs.Common.{subst, inl, inr, ⊎_elim, ◌∙◌, arith}
+use Rattle.std.proofs.Common.{rules, subst, inl, inr, ⊎_elim, ◌∙◌, arith}
 use Rattle.std.proofs.lemmas.Bool.{cases_Bool, ltb-true, ltb-false, lt-ltb}
 use Rattle.std.specs.List.{Contains}
 use Rattle.ps_text.specs.Answers.{Stream, next_of, offset_of}
@@ -45,10 +44,8 @@ one_reads {V} {take} {Bad} s {w} sw answer fits none old {new} {r} n e = go (nex
     Goal x = ReadsAs (λ v. v) (one take Bad) old x new
 
     known : (t : Sign) → next_of old ≡ Some t → (x : Result V PgFault) → r ≡ x → Fits take Bad t at x → Goal x
-    known t h x q (taken v k good y) =
-        subst Goal (sym y) (meets_next found_of pg_causes take Bad (λ z. z) old new t v h n k good)
-    known t h x q (bad f b least y) = subst Goal
-        (sym y) (meets_bad_next found_of pg_causes take Bad (λ z. z) old new t f (faults.Text f at) h b least refl)
+    known t h x q (taken v k good y) = subst Goal (sym y) (search (rules, meets_next))
+    known t h x q (bad f b least y) = subst Goal (sym y) (search (rules, meets_bad_next, at))
     known t h x q (refused k good y) = subst Goal (sym y)
         (meets_refusal found_of pg_causes take Bad (λ z. z) old new s w sw (λ u g. ap take (same_some u t (sym g ∙ h))
         ∙ k) (λ u f g b. good f (subst (λ z. Bad z f) (same_some u t (sym g ∙ h)) b)) (faults.Text causes.Syntax at)
@@ -60,8 +57,7 @@ one_reads {V} {take} {Bad} s {w} sw answer fits none old {new} {r} n e = go (nex
         (faults.Text causes.Syntax at) (sym (ap (λ o. Some (record { cause = refusal_of pg_causes o; offset = at })) h))
 
     go : (o : Option Sign) → next_of old ≡ o → Goal r
-    go None h = let x : r ≡ Err (faults.Text causes.Syntax at) = e ∙ ap (λ o. answer o at) h ∙ none at in
-        subst Goal (sym x) (ended h)
+    go None h = grind (arith, ended h)
     go (Some t) h = let x : r ≡ answer (Some t) at = e ∙ ap (λ o. answer o at) h in
         subst Goal (sym x) (known t h (answer (Some t) at) x (fits t at))
 
@@ -72,10 +68,9 @@ least_here : {f cause : PgCause} → cause ≡ f → cause_number f ≤ cause_nu
 least_here {f} e = subst (λ z. cause_number f ≤ cause_number z) (sym e) (omega arith)
 
 number_fits : (t : Sign) (at : ℕ) → Fits number_in BadNumber t at (number_answer (Some t) at)
-number_fits (Number n) at = ⊎_elim
-    (λ (yes : ltb n too_large ≡ true). taken n refl (λ f b. omega (arith, ltb-true n too_large yes, b.0)) (rw yes refl))
-    (λ (no : ltb n too_large ≡ false). bad causes.Number (ltb-false n too_large no, refl)
-    (λ g b. least_here b.1) (rw no refl)) (cases_Bool (ltb n too_large))
+number_fits (Number n) at = ⊎_elim (λ (yes : ltb n too_large ≡ true). taken n refl
+    (λ f b. omega (arith, ltb-true n too_large yes, b.0)) (rw yes refl)) (λ (no : ltb n too_large ≡ false). bad
+    causes.Number (ltb-false n too_large no, refl) (λ g b. least_here b.1) (rw no refl)) (cases_Bool (ltb n too_large))
 number_fits _ at = refused refl (λ f b. b) refl
 
 id_fits : (ids : List ℕ) (t : Sign) (at : ℕ) → Fits number_in (BadId ids) t at (id_answer ids (Some t) at)
@@ -92,13 +87,12 @@ id_fits ids _ at = refused refl (λ f b. b) refl
 owner_fits : (t : Sign) (at : ℕ) → Fits number_in BadOwner t at (owner_answer (Some t) at)
 owner_fits (Number n) at = ⊎_elim (λ (yes : ltb n 2 ≡ true).
     let small : ltb n too_large ≡ true = lt-ltb n too_large (omega (arith, ltb-true n 2 yes)) in
-    taken n refl (λ f b. omega (arith, ltb-true n 2 yes, b.0)) (rw (small, yes) refl))
-    (λ (no : ltb n 2 ≡ false). bad causes.Number (ltb-false n 2 no, refl) (λ g b. least_here b.1)
-    (search (rules, cases_Bool))) (cases_Bool (ltb n 2))
+    taken n refl (λ f b. omega (arith, ltb-true n 2 yes, b.0)) (rw (small, yes) refl)) (λ (no : ltb n 2 ≡ false). bad
+    causes.Number (ltb-false n 2 no, refl) (λ g b. least_here b.1) (search (rules, cases_Bool))) (cases_Bool (ltb n 2))
 owner_fits _ at = refused refl (λ f b. b) refl
 
 known_yes : (known : Option (List ℕ)) (n : ℕ) → is_known known n ≡ true → IsUnknown known n → ⊥
-known_yes known n h1 h2 = search (rules, Contains-any)
+known_yes known n h k = search (rules, Contains-any)
 
 known_no : (known : Option (List ℕ)) (n : ℕ) → is_known known n ≡ false → IsUnknown known n
 known_no None n e = true_false e

@@ -52,16 +52,13 @@ module _ (A : Type 0) (cause : PgCause) (n : ℕ) where
   OneOf f = ((too_large ≤ n) × (f ≡ causes.Number)) ⊎ ((n < too_large) × A × (f ≡ cause))
 
   judge_two : Decided A → Judged cause_number OneOf
-  judge_two holds = judge_as cause_number to from
-      (search (rules, judge_one, judge_cause, decide_below, decide_both))
+  judge_two holds = judge_as cause_number to from (search (rules, judge_one, judge_cause, decide_below, decide_both))
     where
       to : (f : PgCause) → ((too_large ≤ n) × (f ≡ causes.Number)) ⊎ (((n < too_large) × A) × (f ≡ cause)) → OneOf f
-      to f (inl h) = inl h
-      to f (inr h) = inr (h.0.0, h.0.1, h.1)
+      to f h = search rules
 
       from : (f : PgCause) → OneOf f → ((too_large ≤ n) × (f ≡ causes.Number)) ⊎ (((n < too_large) × A) × (f ≡ cause))
-      from f (inl h) = inl h
-      from f (inr h) = inr ((h.0, h.1), h.2)
+      from f h = search rules
 
 judge_id : (ids : List ℕ) → Judges (BadId ids)
 judge_id ids (Number n) = judge_two (Contains ids n) causes.NodeTwice n (decide_in ids n)
@@ -138,20 +135,9 @@ module _ (known : Option (List ℕ)) where
 
   has_node : (ids : List ℕ) → Has (node known ids)
   unfolding node
-  has_node ids =
-      has_then pg_causes (joint_id known ids) (has_id ids) (λ id.
-      has_then pg_causes (joint_priority known ids id) has_number (λ priority.
-      has_then pg_causes (joint_owner known ids id priority) has_owner
-      (λ owner'. search (
-        rules,
-        has_then,
-        joint_list,
-        has_successors,
-        joint_name,
-        has_name,
-        has_mapped,
-        has_semicolon,
-      ))))
+  has_node ids = has_then pg_causes (joint_id known ids) (has_id ids) (λ id. has_then pg_causes (joint_priority known
+      ids id) has_number (λ priority. has_then pg_causes (joint_owner known ids id priority) has_owner (λ owner'. search
+      (rules, has_then, joint_list, has_successors, joint_name, has_name, has_mapped, has_semicolon))))
 
   has_entry : (nodes : List NodeData) → Has (entry known nodes)
   unfolding entry

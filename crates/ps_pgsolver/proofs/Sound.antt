@@ -1,24 +1,20 @@
 -- What is true of the value of a text in which no cause of the part stands; and that the ids that are known change no
 -- text.
 use Rattle.std.proofs.Common.{◌≡◌, ℕ, zero, suc, true, false, ltb, List, [], ◌∷◌, ◌++◌, Option, None, Some, refl, sym}
-use Rattle.std.proofs.Common.{rules}
-use Rattle.std.proofs.Common.{ap, subst, inl, inr, ⊎_elim, ◌∙◌, append_assoc, arith}
+use Rattle.std.proofs.Common.{rules, ap, subst, inl, inr, ⊎_elim, ◌∙◌, append_assoc, arith}
 use Rattle.std.proofs.lemmas.Bool.{cases_Bool, ltb-true, ltb-false}
 use Rattle.std.proofs.lemmas.List.Elements.{All-push}
 use Rattle.std.specs.List.{All, Contains}
-use Rattle.std.specs.Prelude.{codes}
 use Rattle.ps_text.specs.Answers.{IsClean}
 use Rattle.ps_text.specs.Parts.{Part, IsWrong, by_part, one, then_by, times, many, mapped}
-use Rattle.ps_pgsolver.specs.GameTexts.{pg_causes, too_large, number_in, BadFirst, BadSuccessor, number, new_id, owner}
-use Rattle.ps_pgsolver.specs.GameTexts.{successor, first_successor, more_successor, successors, node, entry, entries}
-use Rattle.ps_pgsolver.specs.GameTexts.{setting, game}
+use Rattle.ps_pgsolver.specs.GameTexts.{pg_causes, too_large, number_in, BadFirst, BadSuccessor, successor}
+use Rattle.ps_pgsolver.specs.GameTexts.{first_successor, more_successor, successors, node, entry, entries, game}
 use Rattle.ps_pgsolver.specs.Nodes.{NodeData, ids_of, is_member, KnowsAll}
 use Rattle.ps_pgsolver.specs.Signs.{Sign, Number}
 use Rattle.ps_pgsolver.specs.declared.fault.PgCause.{PgCause}
 use Rattle.ps_pgsolver.specs.declared.fault.PgCause.TheVariants as causes
 use Rattle.ps_ids.proofs.Members.{Contains-any, any-from_Contains}
-use Rattle.ps_pgsolver.proofs.PartLaws.{from_priority, from_owner, from_successors, from_name}
-use Rattle.ps_pgsolver.proofs.GameLaws.{laws_game, from_start}
+use Rattle.ps_pgsolver.proofs.GameLaws.{laws_game}
 use Rattle.ps_text.proofs.Simple.{none_is_some, same_some}
 
 abbrev pub Quiet : {V : Type 0} → Part Sign V PgCause → List Sign → Type 0
@@ -42,11 +38,9 @@ sound_one take Bad g = record { good = λ text v h q. g h.0 v h.2 (λ f b. q [] 
 sound_then : {A B : Type 0} {P : Part Sign A PgCause} (Q : A → Part Sign B PgCause) {G : A → Type 0} {H : B → Type 0} →
     Sound P G → ((a : A) → G a → Sound (Q a) H) → Sound (then_by P Q) H
 sound_then {P} Q l r = record {
-  good = λ text v h q. let left_quiet : Quiet P h.left = λ front rest t f e c. q front
-      (rest ++ h.right) t f (h.split ∙ ap (λ x. x ++ h.right) e ∙ append_assoc front (t ∷ rest) h.right) (inl c) in
-      let right_quiet : Quiet (Q h.value) h.right = λ front rest t f e c. q
-      (h.left ++ front) rest t f (h.split ∙ ap (λ x. h.left ++ x) e ∙ sym (append_assoc h.left front (t ∷ rest)))
-      (search rules) in
+  good = λ text v h q. let left_quiet : Quiet P h.left = grind (arith, append_assoc) in
+      let right_quiet : Quiet (Q h.value) h.right = λ front rest t f e c. q (h.left ++ front) rest t f
+      (h.split ∙ ap (λ x. h.left ++ x) e ∙ sym (append_assoc h.left front (t ∷ rest))) (search rules) in
       (r h.value (l.good h.left h.value h.is_left left_quiet)).good h.right v h.is_right right_quiet;
 }
 
@@ -61,11 +55,10 @@ sound_times item {G} s (suc n) c g = sound_then (λ d. times n item d) (s c g) (
 
 sound_many : {C : Type 0} (item : C → Part Sign C PgCause) {G : C → Type 0} → ((c : C) → G c → Sound (item c) G) →
     (c : C) → G c → Sound (many item c) G
-sound_many item s c g =
-    record {
-      good = λ text v h q. (sound_times item s h.0 c g).good text v h.1
-          (λ front rest t f e k. q front rest t f e (h.0, k));
-    }
+sound_many item s c g = record {
+  good = λ text v h q. (sound_times item s h.0 c g).good text v h.1
+      (λ front rest t f e k. q front rest t f e (h.0, k));
+}
 
 module _ (ids : List ℕ) where
   abbrev Known : List ℕ → Type 0
@@ -180,11 +173,7 @@ module _ (k : Option (List ℕ)) where
 
   same_node : (ids : List ℕ) → Same (node k ids) (node None ids)
   unfolding node
-  same_node ids = same_then (new_id ids) (new_id ids) (from_priority k ids) (from_priority None ids)
-      (λ text v h. h) (λ id. same_then number number (from_owner k ids id) (from_owner None ids id) (λ text v h. h)
-      (λ priority. same_then owner owner (from_successors k ids id priority) (from_successors None ids id priority)
-      (λ text v h. h) (λ owner'. same_then (successors k) (successors None) (from_name k ids id priority owner')
-      (from_name None ids id priority owner') same_successors (λ list. λ text v h. h))))
+  same_node ids = grind (arith, same_then, same_successors)
 
   same_entry : (nodes : List NodeData) → Same (entry k nodes) (entry None nodes)
   unfolding entry
@@ -196,8 +185,7 @@ module _ (k : Option (List ℕ)) where
 
   same_game : Same (game k) (game None)
   unfolding game
-  same_game = same_then (setting (codes "parity")) (setting (codes "parity"))
-      (λ _. from_start k) (λ _. from_start None) (λ text v h. h) (λ _. search (rules, same_then, same_entries))
+  same_game = grind (arith, same_then, same_entries)
 
   pub same_nodes : (text : List Sign) {nodes other : List NodeData} → (game None).IsText text nodes →
       (game k).IsText text other → nodes ≡ other

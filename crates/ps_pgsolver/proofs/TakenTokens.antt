@@ -1,6 +1,6 @@
 -- Tokens that are read without being made: a number of few digits, a comma, a semicolon.
 use Rattle.std.proofs.Common.{◌≡◌, ℕ, ◌+◌, ◌<◌, ◌≤◌, true, false, eqb, List, [], ◌∷◌, length, take, drop, Some, refl}
-use Rattle.std.proofs.Common.{sym, ap, subst, ◌∙◌, ⊎_elim, arith}
+use Rattle.std.proofs.Common.{sym, ap, ◌∙◌, ⊎_elim, arith}
 use Rattle.std.proofs.lemmas.Bool.{cases_Bool, eqb-true}
 use Rattle.std.specs.List.{prefix_len, take_while}
 use Rattle.ps_text.specs.Answers.{Stream, next_of}
@@ -23,27 +23,20 @@ pub begins_number : {before : List ℕ} (rest : List ℕ) {value digits : ℕ} �
     value ≡ decimal_value (take_while is_digit rest) → digits ≡ prefix_len is_digit rest →
     0 < digits → ends_in is_letter before ≡ false → Begins before rest (Number value) digits
 begins_number [] v d some apart = absurd (omega (arith, d))
-begins_number {before} (b ∷ bs) v d some apart = ⊎_elim (λ (yes : is_digit b ≡ true).
-    let both = at_digit before b bs refl yes in
-    record { some = omega arith; is = sym (both.0 ∙ rw apart (ap Number (sym v))); sized = d ∙ sym both.1 })
-    (λ (other : is_digit b ≡ false). let none : prefix_len is_digit (b ∷ bs) ≡ 0 = rw other refl in
-    absurd (omega (arith, d, none))) (cases_Bool (is_digit b))
+begins_number {before} (b ∷ bs) v d some apart = ⊎_elim (λ (yes : is_digit b ≡ true). grind (
+  arith,
+  at_digit before b bs refl yes,
+)) (λ (other : is_digit b ≡ false). grind arith) (cases_Bool (is_digit b))
 
 pub begins_comma : {before : List ℕ} (rest : List ℕ) → begins_in (λ b. eqb b 44) rest ≡ true →
     Begins before rest Comma 1
 begins_comma [] e = let x : false ≡ true = e in cc
-begins_comma {before} (b ∷ bs) e =
-    let both = at_mark before 44 bs refl refl refl refl in
-    let P : ℕ → Type 0 = λ n. Begins before (n ∷ bs) Comma 1 in
-    subst P (sym (eqb-true b 44 e)) (record { some = omega arith; is = sym both.0; sized = sym both.1 })
+begins_comma {before} (b ∷ bs) e = grind (arith, at_mark before 44 bs refl refl refl refl, eqb-true b 44 e)
 
 pub begins_semicolon : {before : List ℕ} (rest : List ℕ) → begins_in (λ b. eqb b 59) rest ≡ true →
     Begins before rest Semicolon 1
 begins_semicolon [] e = let x : false ≡ true = e in cc
-begins_semicolon {before} (b ∷ bs) e =
-    let both = at_mark before 59 bs refl refl refl refl in
-    let P : ℕ → Type 0 = λ n. Begins before (n ∷ bs) Semicolon 1 in
-    subst P (sym (eqb-true b 59 e)) (record { some = omega arith; is = sym both.0; sized = sym both.1 })
+begins_semicolon {before} (b ∷ bs) e = grind (arith, at_mark before 59 bs refl refl refl refl, eqb-true b 59 e)
 
 -- what such a token leaves
 pub record Leaves (text : List ℕ) (behind : ℕ) (sign : Sign) (stream : Stream Sign) : Type 0 where

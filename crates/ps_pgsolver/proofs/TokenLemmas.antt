@@ -24,8 +24,7 @@ pub ends_in-last : (p : ℕ → Bool) (text : List ℕ) → 0 < length text →
     ends_in p text ≡ p (get_or text (length text - 1) 0)
 ends_in-last p [] h = absurd (omega arith)
 ends_in-last p (b ∷ []) h = refl
-ends_in-last p (b ∷ c ∷ cs) h = let e : suc (suc (length cs)) - 1 ≡ suc (length cs) = omega arith in
-    let e' : suc (length cs) - 1 ≡ length cs = omega arith in ends_in-last p (c ∷ cs) (omega arith) ∙ rw (e, e') refl
+ends_in-last p (b ∷ c ∷ cs) h = grind (arith, ends_in-last p (c ∷ cs) (omega arith))
 
 pub at_digit : (before : List ℕ) (b : ℕ) (bs : List ℕ) {rest : List ℕ} → rest ≡ b ∷ bs → is_digit b ≡ true →
     (first_sign before rest ≡ number_sign before rest) × (first_size rest ≡ prefix_len is_digit rest)
@@ -52,8 +51,7 @@ pub lex-skip : (skip : ℕ) (before bs : List ℕ) → lex skip before bs ≡ le
 unfolding lex
 lex-skip zero before bs = ap (λ front. lex 0 front bs) (sym (append-nil before))
 lex-skip (suc skip) before [] = refl
-lex-skip (suc skip) before (b ∷ bs) = lex-skip skip
-    (before ++ b ∷ []) bs ∙ ap (λ front. lex 0 front (drop skip bs)) (append_assoc before (b ∷ []) (take skip bs))
+lex-skip (suc skip) before (b ∷ bs) = search (rules, append_assoc, lex-skip skip (before ++ b ∷ []) bs)
 
 lex-blank : (before : List ℕ) (b : ℕ) (bs : List ℕ) → is_blank b ≡ true →
     lex 0 before (b ∷ bs) ≡ lex 0 (before ++ b ∷ []) bs
@@ -71,11 +69,8 @@ pub lex-blanks : (before bs : List ℕ) → lex 0 before bs ≡ lex 0 (before ++
 lex-blanks before [] = ap (λ front. lex 0 front []) (sym (append-nil before))
 lex-blanks before (b ∷ bs) = ⊎_elim (λ yes.
     let size : prefix_len is_blank (b ∷ bs) ≡ suc (prefix_len is_blank bs) = rw yes (omega arith) in
-    rw size (lex-blank before b bs yes ∙ lex-blanks (before ++ b ∷ []) bs
-    ∙ ap (λ front. lex 0 front (drop (prefix_len is_blank bs) bs))
-    (append_assoc before (b ∷ []) (take (prefix_len is_blank bs) bs)))) (λ no.
-    let size : prefix_len is_blank (b ∷ bs) ≡ 0 = rw no refl in
-    rw size (ap (λ front. lex 0 front (b ∷ bs)) (sym (append-nil before)))) (cases_Bool (is_blank b))
+    search (rules, lex-blank, append_assoc, lex-blanks (before ++ b ∷ []) bs)) (λ no.
+    grind (arith, append-nil)) (cases_Bool (is_blank b))
 
 -- behind the longest front that passes, none passes
 pub prefix_len-behind : (p : ℕ → Bool) (xs : List ℕ) → prefix_len p (drop (prefix_len p xs) xs) ≡ 0
@@ -94,27 +89,16 @@ first_size-positive b bs = search (rules, name_size-positive, cases_Bool)
 
 pub first_size-none : (rest : List ℕ) → length rest ≡ 0 → first_size rest ≡ 0
 unfolding first_size
-first_size-none rest h1 = search rules
+first_size-none rest h = search rules
 
 -- the first token of a text that begins with no blank
 pub lex-first : (before rest : List ℕ) → prefix_len is_blank rest ≡ 0 → 0 < length rest →
     lex 0 before rest ≡ (record { sign = first_sign before rest; start = length before }) ∷ lex 0
     (before ++ take (first_size rest) rest) (drop (first_size rest) rest)
 lex-first before [] none some = absurd (omega arith)
-lex-first before (b ∷ bs) none some = ⊎_elim
-    (λ yes. let size : prefix_len is_blank (b ∷ bs) ≡ suc (prefix_len is_blank bs) = rw yes (omega arith) in
-    absurd (omega (arith, size, none))) (λ no.
+lex-first before (b ∷ bs) none some = ⊎_elim (λ yes. grind arith) (λ no.
     let one : first_size (b ∷ bs) ≡ suc (first_size (b ∷ bs) - 1) = omega (arith, first_size-positive b bs) in
-    let more : lex (first_size (b ∷ bs) - 1) (before ++ b ∷ []) bs ≡ lex 0
-    (before ++ take (suc (first_size (b ∷ bs) - 1)) (b ∷ bs)) (drop (suc (first_size (b ∷ bs) - 1)) (b ∷ bs)) =
-    lex-skip (first_size (b ∷ bs) - 1) (before ++ b ∷ []) bs ∙ ap
-    (λ front. lex 0 front (drop (first_size (b ∷ bs) - 1) bs))
-    (append_assoc before (b ∷ []) (take (first_size (b ∷ bs) - 1) bs)) in
-    let P : ℕ → Type 0 =
-    λ n. lex 0 before (b ∷ bs) ≡ (record { sign = first_sign before (b ∷ bs); start = length before }) ∷ lex 0
-    (before ++ take n (b ∷ bs)) (drop n (b ∷ bs)) in
-    subst P (sym one) (lex-token before b bs no ∙ ap (λ ps. (record
-    { sign = first_sign before (b ∷ bs); start = length before }) ∷ ps) more)) (cases_Bool (is_blank b))
+    grind (arith, lex-skip, append_assoc, lex-token)) (cases_Bool (is_blank b))
 
 -- at the end of a text no token is left
 pub lex-end : (before : List ℕ) → lex 0 before [] ≡ []
@@ -141,8 +125,7 @@ pub reads : (text : List ℕ) (at start size : ℕ) (kind : Kind) → start ≡ 
     (0 < length (drop start text) → sign_of kind ≡ Some (first_sign (take start text) (drop start text))) →
     size ≡ first_size (drop start text) → Reads text start size kind (stream_from text at)
 reads text at start size kind begins within ended some sized =
-    let e : stream_from text at ≡ stream_from text start =
-    stream_from-blanks text at ∙ ap (stream_from text) (sym begins) in
+    let e : stream_from text at ≡ stream_from text start = grind (arith, stream_from-blanks) in
     let none : prefix_len is_blank (drop start text) ≡ 0 =
     rw (begins, ← drop-drop (prefix_len is_blank (drop at text)) at text) (prefix_len-behind is_blank (drop at text)) in
     let P : Stream Sign → Type 0 = λ stream. Reads text start size kind stream in
@@ -158,8 +141,7 @@ pub reads_split : {text before rest : List ℕ} (at : ℕ) {start size : ℕ} {k
 reads_split {text} {rest} at {start} {size} {kind} begins within front back ended some sized is =
     let P : Stream Sign → Type 0 = λ s. Reads text start size kind s in
     subst P is (reads text at start size kind begins within (λ empty. ended (back ∙ empty))
-    (λ left. let long : 0 < length rest = omega (arith, ap length back) in some long ∙ ap (λ b. Some
-    (first_sign b rest)) front ∙ ap (λ r. Some (first_sign (take start text) r)) back) (sized ∙ ap first_size back))
+    (λ left. grind arith) (sized ∙ ap first_size back))
 
 -- where the next token begins is the offset of what is left
 pub offset_ahead : (text : List ℕ) (at : ℕ) {start : ℕ} → start ≡ at + prefix_len is_blank (drop at text) →
@@ -167,15 +149,6 @@ pub offset_ahead : (text : List ℕ) (at : ℕ) {start : ℕ} → start ≡ at +
 offset_ahead text at {start} begins within = let e : stream_from text at ≡ stream_from text start =
     search (rules, stream_from-blanks) in let none : prefix_len is_blank (drop start text) ≡ 0 = rw (
       begins,
-      ← drop-drop
-          (prefix_len is_blank (drop at text)) at text,
-    ) (prefix_len-behind is_blank (drop at text)) in let here : offset_of
-    (lex 0 (take start text) (drop start text)) (length text) ≡ start = search (
-      rules,
-      lex-first,
-      length-take-le,
-      length-drop,
-      nil_of,
-      lex-end,
-      cases_lt,
-    ) in sym (ap (λ (s : Stream Sign). offset_of s.pieces (length text)) e ∙ here)
+      ← drop-drop (prefix_len is_blank (drop at text)) at text,
+    ) (prefix_len-behind is_blank (drop at text)) in
+    grind (arith, lex-first, length-take-le, length-drop, nil_of, lex-end, cases_lt)

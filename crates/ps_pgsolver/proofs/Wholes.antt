@@ -1,9 +1,7 @@
 -- From what the reading of a whole text did to the answer.
-use Rattle.std.proofs.Common.{rules, ◌≡◌, ℕ, List, [], ◌∷◌, Option, Result, Ok, Err, IsErrAnd, refl, sym, ap, subst}
-use Rattle.std.proofs.Common.{◌∙◌}
+use Rattle.std.proofs.Common.{rules, ◌≡◌, ℕ, List, [], ◌∷◌, Option, Result, Ok, Err, IsErrAnd, refl, sym, subst}
 use Rattle.std.proofs.lemmas.Result.{err_from_is_err_and}
 use Rattle.ps_text.specs.Answers.{Piece, Stream, signs, first_of, next_of, offset_of}
-use Rattle.ps_text.specs.Parts.{IsRead}
 use Rattle.ps_text.proofs.Whole.{answers_ok, answers_fault, answers_trailing}
 use Rattle.ps_pgsolver.specs.Answered.{TextAnswers, FaultAnswers, found_of, end_answer}
 use Rattle.ps_pgsolver.specs.GameTexts.{game}
@@ -18,8 +16,7 @@ use Rattle.ps_pgsolver.proofs.GameLaws.{laws_game}
 halts_answers : (known : Option (List ℕ)) (stream : Stream Sign) (e : PgFault) → Halts (game known) stream e →
     FaultAnswers known stream (found_of e)
 halts_answers known stream faults.OutOfMemory m = tt
-halts_answers known stream (faults.Text cause offset) m =
-    answers_fault (laws_game known) stream (record { cause = cause; offset = offset }) m
+halts_answers known stream (faults.Text cause offset) m = answers_fault (laws_game known) stream _ m
 
 pub answer_exit : (known : Option (List ℕ)) (stream : Stream Sign) (e : PgFault) (r : Result (List NodeData) PgFault) →
     Halts (game known) stream e → IsErrAnd r (λ y. y ≡ e) → TextAnswers known stream r
@@ -41,8 +38,7 @@ ended known old new nodes u m e = go new.pieces refl e
   where
     go : (ps : List (Piece Sign)) → new.pieces ≡ ps → done_as u ≡ end_answer (first_of (signs ps))
         (offset_of ps new.end) → TextAnswers known old (Ok nodes)
-    go [] x e = answers_ok
-        (laws_game known) old nodes (subst (λ ps. IsRead (game known) (signs old.pieces) nodes (signs ps)) x m.1)
+    go [] x e = answers_ok (laws_game known) old nodes (search rules)
     go (p ∷ ps) x e = absurd (ok_is_err u (faults.Text causes.Syntax p.start) e)
 
 same_err : {e f : PgFault} → fails_as e ≡ fails_as f → e ≡ f
@@ -51,9 +47,7 @@ same_err {e} {f} h = let x : fails_as e ≡ fails_as f = h in cc
 pub not_ended : (known : Option (List ℕ)) (old new : Stream Sign) (nodes : List NodeData)
     (e : PgFault) (r : Result (List NodeData) PgFault) → Done (game known) old nodes new → fails_as e ≡ end_answer
     (next_of new) (offset_of new.pieces new.end) → IsErrAnd r (λ y. y ≡ e) → TextAnswers known old r
-not_ended known old new nodes e r m h i =
-    let y = err_from_is_err_and r i in
-    subst (λ z. TextAnswers known old z) (sym (y.1 ∙ ap Err y.2)) (go new.pieces refl h)
+not_ended known old new nodes e r m h i = search (rules, err_from_is_err_and, go)
   where
     go : (ps : List (Piece Sign)) → new.pieces ≡ ps → fails_as e ≡ end_answer (first_of (signs ps))
         (offset_of ps new.end) → FaultAnswers known old (found_of e)

@@ -2,7 +2,7 @@
 use Rattle.std.proofs.Common.{◌≡◌, ℕ, ◌+◌, ◌<◌, ◌≤◌, List, [], ◌∷◌, ◌++◌, length, get_or, take, drop, Option, None, sym}
 use Rattle.std.proofs.Common.{ap, subst, ◌∙◌, arith, append_assoc}
 use Rattle.std.specs.Prelude.{decimal, max}
-use Rattle.std.specs.List.{All, Contains}
+use Rattle.std.specs.List.{All}
 use Rattle.std.proofs.lemmas.List.{drop_more, drop_all, take_all}
 use Rattle.std.proofs.lemmas.List.Elements.{Contains-get_or}
 use Rattle.ps_game.specs.Games.{ParityGame, IsGame, no_vertex, vertex_count, successors_of}
@@ -27,11 +27,7 @@ greatest_end ids v le = rw (drop_all v ids le) (grind arith)
 
 pub commas_step : (ids ws out : List ℕ) {before : List ℕ} (k : ℕ) → k < length ws → out ++ commas ids (drop k ws)
     ≡ before → ((out ++ 44 ∷ []) ++ decimal (get_or ids (get_or ws k 0) 0)) ++ commas ids (drop (k + 1) ws) ≡ before
-commas_step ids ws out k lt e =
-    let a = decimal (get_or ids (get_or ws k 0) 0) in
-    let b = commas ids (drop (k + 1) ws) in
-    append_assoc (out ++ 44 ∷ []) a b
-    ∙ append_assoc out (44 ∷ []) (a ++ b) ∙ ap (λ xs. out ++ commas ids xs) (sym (drop_more ws k 0 lt)) ∙ e
+commas_step ids ws out k lt e = grind (arith, append_assoc, drop_more)
 
 pub commas_end : (ids ws out : List ℕ) {before : List ℕ} (k : ℕ) →
     length ws ≤ k → out ++ commas ids (drop k ws) ≡ before → out ++ [] ≡ before
@@ -39,25 +35,14 @@ commas_end ids ws out k le e = ap (λ xs. out ++ commas ids xs) (sym (drop_all k
 
 pub list_first : (ids ws out : List ℕ) → 0 < length ws → (out ++ decimal (get_or ids (get_or ws 0 0) 0)) ++
     commas ids (drop 1 ws) ≡ out ++ list_text ids ws
-list_first ids [] out some = absurd (omega (arith, some))
-list_first ids (w ∷ ws) out some = append_assoc out (decimal (get_or ids w 0)) (commas ids ws)
+list_first ids ws out some = grind (arith, append_assoc)
 
 pub successor_within : {game g : ParityGame} → g ≡ game → IsGame game → (v k : ℕ) {w : ℕ} → v < vertex_count game →
     k < length (successors_of game v) → w ≡ get_or (successors_of g v) k 0 → w < vertex_count game
-successor_within {game} e is v k {w} lt small x =
-    is.within v w (
-      lt,
-      subst (Contains (successors_of game v)) (sym (x ∙ ap (λ h. get_or (successors_of h v) k 0) e))
-          (Contains-get_or (successors_of game v) k 0 small),
-    )
-
-line_grouped : (o a b c d e f s : List ℕ) → ((((((((o ++ a) ++ s) ++ b) ++ s) ++ c) ++ s) ++ d) ++ e) ++ f ≡ o ++
-    (((((a ++ (s ++ b)) ++ (s ++ c)) ++ (s ++ d)) ++ e) ++ f)
-line_grouped o a b c d e f s = simp (append_assoc)
-
-pub line_joined : (o a b c d e f : List ℕ) → ((((((((o ++ a) ++ 32 ∷ []) ++ b) ++ 32 ∷ []) ++ c) ++ 32 ∷ []) ++ d) ++ e)
-    ++ f ≡ o ++ (((((a ++ 32 ∷ b) ++ 32 ∷ c) ++ 32 ∷ d) ++ e) ++ f)
-line_joined o a b c d e f = line_grouped o a b c d e f (32 ∷ [])
+successor_within {game} e is v k {w} lt small x = is.within v w (
+  lt,
+  grind (arith, Contains-get_or (successors_of game v) k 0 small),
+)
 
 -- ## The lines
 
@@ -65,11 +50,7 @@ pub lines_step : (ids : List ℕ) (names : List (Option (List ℕ))) (game : Par
     (v : ℕ) (out : List ℕ) {out' before : List ℕ} → v < length game → out' ≡ out ++ vertex_line ids (get_or ids v 0)
     (get_or game v no_vertex) (get_or names v None) → out ++ vertex_lines ids names v (drop v game) ≡ before →
     out' ++ vertex_lines ids names (v + 1) (drop (v + 1) game) ≡ before
-lines_step ids names game v out lt new e =
-    let line = vertex_line ids (get_or ids v 0) (get_or game v no_vertex) (get_or names v None) in
-    let later = vertex_lines ids names (v + 1) (drop (v + 1) game) in
-    ap (λ o. o ++ later) new ∙ append_assoc out line later
-    ∙ ap (λ xs. out ++ vertex_lines ids names v xs) (sym (drop_more game v no_vertex lt)) ∙ e
+lines_step ids names game v out lt new e = grind (arith, append_assoc, drop_more)
 
 pub lines_end : (ids : List ℕ) (names : List (Option (List ℕ))) (game : ParityGame) (v : ℕ) (out : List ℕ)
     {before : List ℕ} → length game ≤ v → out ++ vertex_lines ids names v (drop v game) ≡ before → out ++ [] ≡ before

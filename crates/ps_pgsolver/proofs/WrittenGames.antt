@@ -2,12 +2,10 @@
 --     game_kept      the nodes that the lines write make the same game
 --     readable      nodes of different ids can be read, one behind the other
 --     reads_again      the whole text
-use Rattle.std.proofs.Common.{◌≡◌, ℕ, suc, ◌+◌, ◌<◌, ◌≤◌, Bool, true, cond, eqb, ltb, List, [], ◌∷◌, ◌++◌, length}
-use Rattle.std.proofs.Common.{rules}
+use Rattle.std.proofs.Common.{◌≡◌, ℕ, suc, ◌+◌, ◌<◌, ◌≤◌, Bool, true, cond, eqb, List, [], ◌∷◌, ◌++◌, length, rules}
 use Rattle.std.proofs.Common.{get_or, map, drop, Option, Some, None, Ok, refl, sym, ap, ap₂, subst, ◌∙◌, arith}
 use Rattle.std.proofs.Common.{append_assoc, length-append}
 use Rattle.std.specs.Prelude.{not}
-use Rattle.std.specs.Option.{unwrap_or}
 use Rattle.std.specs.List.{All, Contains, filter}
 use Rattle.std.proofs.Math.Seq.{get_or-append_seam}
 use Rattle.std.proofs.lemmas.Bool.{cases_lt, eq-eqb, lt-ltb, ne_eqb}
@@ -33,8 +31,7 @@ use Rattle.ps_pgsolver.proofs.WrittenSigns.{IsPlainVertex, id_at, node_made, nod
 
 filter_keeps : (p : ℕ → Bool) (xs : List ℕ) → All (λ x. p x ≡ true) xs → filter p xs ≡ xs
 filter_keeps p [] h = refl
-filter_keeps p (x ∷ xs) h =
-    ap (λ b. cond b (x ∷ filter p xs) (filter p xs)) (All-head (λ y. p y ≡ true) x xs h)
+filter_keeps p (x ∷ xs) h = ap (λ b. cond b (x ∷ filter p xs) (filter p xs)) (All-head (λ y. p y ≡ true) x xs h)
     ∙ ap (λ ys. x ∷ ys) (filter_keeps p xs (All-tail (λ y. p y ≡ true) x xs h))
 
 distinct_same : (xs : List ℕ) → IsDistinct xs → distinct xs ≡ xs
@@ -47,8 +44,7 @@ distinct_same (x ∷ xs) h =
     ∙ ap (λ ys. x ∷ ys) (filter_keeps (λ y. not (eqb x y)) xs others)
 
 not_before : (xs ys : List ℕ) (y : ℕ) → IsDistinct (xs ++ y ∷ ys) → Contains xs y → ⊥
-not_before xs ys y h c =
-    h c.0 (length xs) y c.1 (omega (arith, length-append xs (y ∷ ys)))
+not_before xs ys y h c = h c.0 (length xs) y c.1 (omega (arith, length-append xs (y ∷ ys)))
     (get_or_append_left xs (y ∷ ys) y c.0 c.1 ∙ c.2 ∙ sym (get_or-append_seam xs y ys y))
 
 -- ## The nodes
@@ -57,14 +53,12 @@ module _ (ids : List ℕ) (names : List (Option (List ℕ))) where
   made_ids : (v : ℕ) (vertices : ParityGame) → v + length vertices ≡ length ids →
       ids_of (nodes_made ids names v vertices) ≡ drop v ids
   made_ids v [] e = sym (drop_all v ids (omega (arith, e)))
-  made_ids v (x ∷ vertices) e = ap (λ xs. id_at ids v ∷ xs) (made_ids (v + 1) vertices (omega (arith, e)))
-      ∙ sym (drop_more ids v 0 (omega (arith, e)))
+  made_ids v (x ∷ vertices) e = search (rules, drop_more, made_ids (v + 1) vertices (omega (arith, e)))
 
   made_names : (v : ℕ) (vertices : ParityGame) → v + length vertices ≡ length names →
       names_of (nodes_made ids names v vertices) ≡ drop v names
   made_names v [] e = sym (drop_all v names (omega (arith, e)))
-  made_names v (x ∷ vertices) e = ap (λ xs. get_or names v None ∷ xs) (made_names (v + 1) vertices (omega (arith, e)))
-      ∙ sym (drop_more names v None (omega (arith, e)))
+  made_names v (x ∷ vertices) e = search (rules, drop_more, made_names (v + 1) vertices (omega (arith, e)))
 
   made_count : (v : ℕ) (vertices : ParityGame) → length (nodes_made ids names v vertices) ≡ length vertices
   made_count v [] = refl
@@ -81,13 +75,11 @@ module _ (ids : List ℕ) (differ : IsDistinct ids) where
       let id = id_at ids w in
       let e = position_or_len_is (λ other. eqb id other) ids w 0 (omega (arith, within))
       (λ k lt. ne_eqb id (get_or ids k 0) (λ x. differ k w 0 lt within (sym x))) (λ _. eq-eqb id id refl) in
-      ap (λ i. unwrap_or (cond (ltb i (length ids)) (Some i) None) 0) e
-      ∙ ap (λ (b : Bool). unwrap_or (cond b (Some w) None) 0) (lt-ltb w (length ids) within)
+      grind (arith, lt-ltb)
 
   places : (ws : List ℕ) → All (λ w. w < length ids) ws → map (place_of ids) (map (id_at ids) ws) ≡ ws
   places [] h = refl
-  places (w ∷ ws) h =
-      ap₂ (λ x xs. x ∷ xs) (found_at (All-head (λ z. z < length ids) w ws h))
+  places (w ∷ ws) h = ap₂ (λ x xs. x ∷ xs) (found_at (All-head (λ z. z < length ids) w ws h))
       (places ws (All-tail (λ z. z < length ids) w ws h))
 
   game_kept : (names : List (Option (List ℕ))) (v : ℕ) (vertices : ParityGame) → All (IsKept (length ids)) vertices →
@@ -95,9 +87,13 @@ module _ (ids : List ℕ) (differ : IsDistinct ids) where
   game_kept names v [] h = refl
   game_kept names v (x ∷ vertices) h =
       let is = All-head (IsKept (length ids)) x vertices h in
-      ap₂ (λ ws xs. record { owner = x.owner; priority = x.priority; successors = ws } ∷ xs)
-      (ap distinct (places x.successors is.within) ∙ distinct_same x.successors is.different)
-      (game_kept names (v + 1) vertices (All-tail (IsKept (length ids)) x vertices h))
+      search (
+        rules,
+        places,
+        distinct_same,
+        All-tail,
+        game_kept names (v + 1) vertices (All-tail (IsKept (length ids)) x vertices h),
+      )
 
 -- ## What can be read
 
@@ -115,9 +111,8 @@ readable known before (n ∷ nodes) differ h =
     let is = All-head (IsPlainNode known) n nodes h in (
       record {
         id = is.id;
-        new =
-            not_before (ids_of before) (ids_of nodes) n.id (subst IsDistinct
-            (map-append (λ m. m.id) before (n ∷ nodes)) differ);
+        new = not_before (ids_of before) (ids_of nodes) n.id
+            (subst IsDistinct (map-append (λ m. m.id) before (n ∷ nodes)) differ);
         priority = is.priority;
         owner = is.owner;
         some = is.some;
@@ -140,8 +135,7 @@ module _ (ids : List ℕ) (names : List (Option (List ℕ))) (small : (w : ℕ) 
         priority = omega (arith, is.priority);
         owner = is.owner;
         some = omega (arith, is.some, length-map x.successors (id_at ids));
-        successors =
-            All-map (IsKnown known) (id_at ids) x.successors (λ i d lt. search (rules, small, x.successors));
+        successors = All-map (IsKnown known) (id_at ids) x.successors (λ i d lt. search (rules, small, x.successors));
       } in
       All-cons (IsPlainNode known) (node_made ids names v x) (nodes_made ids names (v + 1) vertices) one
       (made_plain (v + 1) vertices (All-tail IsPlainVertex x vertices h) (All-tail (IsKept (length ids)) x vertices k))
@@ -159,8 +153,7 @@ module _ (named : NamedGameData) (is : IsNamedGame named) (some : 0 < vertex_cou
 
   vertices_plain : All IsPlainVertex named.game
   unfolding vertex_count owner_of successors_of
-  vertices_plain =
-      All-from_get_or IsPlainVertex named.game no_vertex (λ v lt. search rules)
+  vertices_plain = All-from_get_or IsPlainVertex named.game no_vertex (λ v lt. search rules)
 
   vertices_kept : All (IsKept (length named.ids)) named.game
   unfolding vertex_count successors_of
@@ -168,8 +161,7 @@ module _ (named : NamedGameData) (is : IsNamedGame named) (some : 0 < vertex_cou
     within = λ k d l. let ws = (get_or named.game v no_vertex).successors in
         let x : get_or ws k 0 < length named.game =
         is.is_game.within v (get_or ws k 0) (lt, Contains-get_or ws k 0 l) in
-        let e = get_or_default ws k d 0 l in
-        omega (arith, x, e, is.id_each);
+        grind (arith, get_or_default);
     different = is.is_game.different v lt;
   })
 
@@ -186,16 +178,12 @@ module _ (named : NamedGameData) (is : IsNamedGame named) (some : 0 < vertex_cou
 
   game_is : named ≡ named_game_of nodes
   unfolding nodes
-  game_is =
-      let kept = game_kept named.ids is.ids_differ named.names 0 named.game vertices_kept in
-      same_named nodes (sym (ap (λ ids. without_repeats (draft_of ids nodes)) ids_are ∙ kept)) (sym ids_are)
-      (sym names_are)
+  game_is = search (rules, game_kept, vertices_kept, same_named, nodes, ids_are, names_are)
 
   nodes_readable : (known : Option (List ℕ)) → ((w : ℕ) → w < length named.ids → IsUnknown known (id_at named.ids w) →
       ⊥) → AreReadable known [] nodes
   unfolding nodes
-  nodes_readable known knows =
-      readable known [] nodes (subst IsDistinct (sym ids_are) is.ids_differ)
+  nodes_readable known knows = readable known [] nodes (subst IsDistinct (sym ids_are) is.ids_differ)
       (made_plain named.ids named.names small known knows 0 named.game vertices_plain vertices_kept)
 
   pub reads_again : length (game_text named) ≤ text_limit → IsGameAnswer (game_text named) (Ok named)
@@ -206,6 +194,5 @@ module _ (named : NamedGameData) (is : IsNamedGame named) (some : 0 < vertex_cou
       let first = written_answers None t.0 (greatest named.ids) nodes t.2 (omega (arith, word)) count
       (nodes_readable None (λ w lt u. u)) in
       let second = written_answers (Some (ids_of nodes)) t.0 (greatest named.ids) nodes t.2 (omega (arith, word)) count
-      (nodes_readable (Some (ids_of nodes)) (λ w lt u. u (subst (λ ids. Contains ids (id_at named.ids w)) (sym ids_are)
-      (Contains-get_or named.ids w 0 lt)))) in
+      (search (rules, nodes_readable, nodes, ids_are, Contains-get_or)) in
       meaning t.0 nodes (record { short = short; tokens = t.1 }) first second (ap Ok game_is)

@@ -3,8 +3,7 @@
 --     AreReadable known before nodes      so can each of these nodes, one behind the other
 --     written_answers      the answer to the signs of a whole text
 use Rattle.std.proofs.Common.{◌≡◌, ℕ, ◌<◌, List, [], ◌∷◌, ◌++◌, length, Option, Some, None, Ok, refl, sym, ap, subst}
-use Rattle.std.proofs.Common.{rules}
-use Rattle.std.proofs.Common.{◌∙◌, arith, append_assoc, append-nil}
+use Rattle.std.proofs.Common.{rules, ◌∙◌, arith, append_assoc, append-nil}
 use Rattle.std.specs.Prelude.{codes}
 use Rattle.std.specs.List.{All, Contains}
 use Rattle.std.proofs.lemmas.List.Elements.{All-head, All-tail}
@@ -23,7 +22,7 @@ use Rattle.ps_pgsolver.specs.GameTexts.{name, node, entry, entries, keyword, val
 use Rattle.ps_pgsolver.specs.Nodes.{NodeData, ids_of}
 use Rattle.ps_pgsolver.specs.Signs.{Sign, Number, Word, Comma, Semicolon}
 use Rattle.ps_pgsolver.proofs.PartLaws.{IsKind, kind_of, joint_more, laws_more, joint_successors, laws_one_name}
-use Rattle.ps_pgsolver.proofs.PartLaws.{laws_no_name, joint_name, joint_list, joint_owner, joint_priority, joint_id}
+use Rattle.ps_pgsolver.proofs.PartLaws.{joint_name, joint_list, joint_owner, joint_priority, joint_id}
 use Rattle.ps_pgsolver.proofs.GameLaws.{IsWord, laws_entry, joint_entries, joint_value, takes_word, joint_line, line}
 use Rattle.ps_pgsolver.proofs.GameLaws.{laws_line, laws_no_line, joint_start, joint_parity, laws_game}
 use Rattle.ps_pgsolver.proofs.WrittenSigns.{comma_signs, list_signs, name_signs, node_signs, nodes_signs, written_signs}
@@ -86,24 +85,25 @@ module _ (known : Option (List ℕ)) where
   read_commas [] list {rest} are avoids = subst (λ v. IsRead (many (more_successor known) list) rest v rest)
       (sym (append-nil list)) (read_none (more_successor known) (laws_more known) (λ t h k. h) list rest avoids)
   read_commas (n ∷ ns) list {rest} are avoids = read_item (more_successor known) (laws_more known) (λ t h k. h)
-      (read_another list (All-head (IsKnown known) n ns are))
-      (subst (λ v. IsRead (many (more_successor known) (list ++ n ∷ [])) (comma_signs ns rest) v rest)
-      (append_assoc list (n ∷ []) ns) (read_commas ns (list ++ n ∷ []) (All-tail (IsKnown known) n ns are) avoids))
+      (read_another list (All-head (IsKnown known) n ns are)) (search (
+        rules,
+        append_assoc,
+        All-tail,
+        read_commas ns (list ++ n ∷ []) (All-tail (IsKnown known) n ns are) avoids,
+      ))
 
   read_list : (ns : List ℕ) {rest : List Sign} → 0 < length ns → All (IsKnown known) ns →
       Avoids (IsKind 3) (first_of rest) → IsRead (successors known) (list_signs ns rest) ns rest
   unfolding successors
   read_list [] some are avoids = absurd (omega (arith, some))
-  read_list (n ∷ ns) some are avoids =
-      read_then (joint_successors known) (search (rules, read_first, All-head))
+  read_list (n ∷ ns) some are avoids = read_then (joint_successors known) (search (rules, read_first, All-head))
       (read_commas ns (n ∷ []) (All-tail (IsKnown known) n ns are) avoids)
 
 read_name : (name' : Option (List ℕ)) (rest : List Sign) → IsRead name (name_signs name' (Semicolon ∷ rest)) name'
     (Semicolon ∷ rest)
 unfolding name
 read_name None rest = search (rules, read_as, covers_right, laws_one_name, semicolon_avoids, read_give)
-read_name (Some inner) rest = read_as (one name_in NoBad) name
-    (covers_left (one name_in NoBad) (give None) laws_no_name _ (λ t e h. h)) (read_one name_in NoBad refl (λ f b. b))
+read_name (Some inner) rest = read_as (one name_in NoBad) name (grind arith) (read_one name_in NoBad refl (λ f b. b))
 
 name_avoids : (name' : Option (List ℕ)) (rest : List Sign) →
     Avoids (IsKind 3) (first_of (name_signs name' (Semicolon ∷ rest)))
@@ -144,8 +144,7 @@ module _ (known : Option (List ℕ)) where
   read_more [] before are = subst (λ v. IsRead (many (entry known) before) [] v []) (sym (append-nil before))
       (read_none (entry known) (laws_entry known) (λ t h k. h) before [] (λ t e h. none_is_some t e))
   read_more (n ∷ nodes) before are = read_item (entry known) (laws_entry known) (λ t h k. h)
-      (read_entry before are.0) (subst (λ v. IsRead (many (entry known) (before ++ n ∷ [])) (nodes_signs nodes) v [])
-      (append_assoc before (n ∷ []) nodes) (read_more nodes (before ++ n ∷ []) are.1))
+      (read_entry before are.0) (search (rules, append_assoc, read_more nodes (before ++ n ∷ []) are.1))
 
   read_entries : (n : NodeData) (nodes : List NodeData) → AreReadable known [] (n ∷ nodes) →
       IsRead (entries known) (nodes_signs (n ∷ nodes)) (n ∷ nodes) []

@@ -5,8 +5,7 @@
 --     node_made, nodes_made      the nodes that the lines write
 --     written_tokens      the tokens of the whole text
 use Rattle.std.proofs.Common.{◌≡◌, ℕ, suc, ◌+◌, ◌^◌, ◌<◌, Bool, true, false, List, [], ◌∷◌, ◌++◌, length, get_or, map}
-use Rattle.std.proofs.Common.{rules}
-use Rattle.std.proofs.Common.{Option, Some, None, refl, sym, ap, subst, ◌∙◌, arith, append_assoc}
+use Rattle.std.proofs.Common.{rules, Option, Some, None, refl, sym, ap, subst, ◌∙◌, arith, append_assoc}
 use Rattle.std.specs.Prelude.{decimal, codes}
 use Rattle.std.specs.List.{All, AllByRecursion, Contains}
 use Rattle.std.proofs.lemmas.Bool.{ne_eqb}
@@ -42,7 +41,7 @@ token before blanks text rest s ss b t l = record {
   pieces = (record { sign = s; start = length (before ++ blanks) }) ∷ l.pieces;
   are = ap (λ z. s ∷ z) l.are;
   tokens = (
-    record { blanks = blanks; text = text; rest = rest; split = refl; are_blanks = b; is_token = t; start = refl },
+    grind arith,
     l.tokens,
   );
 }
@@ -54,8 +53,7 @@ ends_after p (x ∷ y ∷ ys) b = ends_after p (y ∷ ys) b
 
 number_token : (before : List ℕ) (n : ℕ) (rest : List ℕ) → n < 2 ^ 64 → ends_in is_letter before ≡ false →
     StopsBefore is_digit rest → IsToken before (Number n) (decimal n) rest
-number_token before n rest small e stops =
-    let t = number_text n small in (record { some = t.some; all = t.pass; longest = stops }, sym t.value, e)
+number_token before n rest small e stops = grind (arith, number_text n small)
 
 blank_number : (b n : ℕ) (rest : List ℕ) (ss : List Sign) → is_blank b ≡ true → is_letter b ≡ false → n < 2 ^ 64 →
     StopsBefore is_digit rest → Lexes rest ss → Lexes (b ∷ (decimal n ++ rest)) (Number n ∷ ss)
@@ -75,9 +73,11 @@ semicolon_token rest ss more before = token before [] (59 ∷ []) rest Semicolon
 
 name_token : (name rest : List ℕ) (ss : List Sign) → AllOf is_inner name → Lexes rest ss →
     Lexes (32 ∷ 34 ∷ (name ++ 34 ∷ rest)) (Name name ∷ ss)
-name_token name rest ss inner more before =
-    subst (λ z. Lexed before (32 ∷ 34 ∷ z) (Name name ∷ ss)) (append_assoc name (34 ∷ []) rest)
-    (token before (32 ∷ []) (34 ∷ (name ++ 34 ∷ [])) rest (Name name) ss (refl, tt) (refl, inner) (more _))
+name_token name rest ss inner more before = grind (
+  arith,
+  append_assoc name (34 ∷ []) rest,
+  token before (32 ∷ []) (34 ∷ (name ++ 34 ∷ [])) rest (Name name) ss (refl, tt) (refl, inner) (more _),
+)
 
 parity_token : (rest : List ℕ) (ss : List Sign) → Lexes (32 ∷ rest) ss →
     Lexed [] (codes "parity" ++ 32 ∷ rest) (Word (codes "parity") ∷ ss)
@@ -116,17 +116,12 @@ commas_stop ids (w ∷ ws) rest stops = refl
 lexes_commas : (ids ws rest : List ℕ) (ss : List Sign) → ((w : ℕ) → IsWord (id_at ids w)) → StopsBefore is_digit rest →
     Lexes rest ss → Lexes (commas ids ws ++ rest) (comma_signs (map (id_at ids) ws) ss)
 lexes_commas ids [] rest ss small stops more = more
-lexes_commas ids (w ∷ ws) rest ss small stops more = subst (λ z. Lexes (44 ∷ z)
-    (comma_signs (map (id_at ids) (w ∷ ws)) ss)) (sym (append_assoc (decimal (id_at ids w)) (commas ids ws) rest))
-    (comma_number (id_at ids w) (commas ids ws ++ rest) (comma_signs (map (id_at ids) ws) ss)
-    (small w) (commas_stop ids ws rest stops) (lexes_commas ids ws rest ss small stops more))
+lexes_commas ids (w ∷ ws) rest ss small stops more =
+    search (rules, append_assoc, comma_number, commas_stop, lexes_commas ids ws rest ss small stops more)
 
 lexes_list : (ids ws rest : List ℕ) (ss : List Sign) → ((w : ℕ) → IsWord (id_at ids w)) → 0 < length ws → StopsBefore
     is_digit rest → Lexes rest ss → Lexes (32 ∷ (list_text ids ws ++ rest)) (list_signs (map (id_at ids) ws) ss)
-lexes_list ids [] rest ss small some stops more = absurd (omega (arith, some))
-lexes_list ids (w ∷ ws) rest ss small some stops more = subst (λ z. Lexes (32 ∷ z)
-    (list_signs (map (id_at ids) (w ∷ ws)) ss)) (sym (append_assoc (decimal (id_at ids w)) (commas ids ws) rest))
-    (search (rules, blank_number, commas_stop, lexes_commas))
+lexes_list ids ws rest ss small some stops more = grind (arith, append_assoc, blank_number, commas_stop, lexes_commas)
 
 inner_of : (name : List ℕ) → (Contains name 34 → ⊥) → AllOf is_inner name
 inner_of [] h = tt
@@ -135,9 +130,7 @@ inner_of (b ∷ name) h = let other : b ≡ 34 → ⊥ = λ e. h (0, omega arith
 
 lexes_name : (name : Option (List ℕ)) (rest : List ℕ) (ss : List Sign) → HasNoQuote name → Lexes rest ss →
     Lexes (name_text name ++ rest) (name_signs name ss)
-lexes_name None rest ss plain more = more
-lexes_name (Some name) rest ss plain more = subst (λ z. Lexes (32 ∷ 34 ∷ z) (Name name ∷ ss))
-    (sym (append_assoc name (34 ∷ []) rest)) (name_token name rest ss (inner_of name plain) more)
+lexes_name name rest ss plain more = grind (arith, append_assoc, name_token, inner_of)
 
 name_stops : (name : Option (List ℕ)) (rest : List ℕ) → StopsBefore is_digit (name_text name ++ 59 ∷ rest)
 name_stops name rest = search rules
@@ -199,9 +192,13 @@ module _ (ids : List ℕ) (names : List (Option (List ℕ))) (small : (w : ℕ) 
   lexes_lines : (v : ℕ) (vertices : ParityGame) → All IsPlainVertex vertices →
       Lexes (10 ∷ vertex_lines ids names v vertices) (nodes_signs (nodes_made ids names v vertices))
   lexes_lines v [] are = λ before. record { pieces = []; are = refl; tokens = (refl, tt) }
-  lexes_lines v (vertex ∷ vertices) are = lexes_line v (vertex_lines ids names (v + 1) vertices)
-      (nodes_signs (nodes_made ids names (v + 1) vertices)) (All-head IsPlainVertex vertex vertices are)
-      (lexes_lines (v + 1) vertices (All-tail IsPlainVertex vertex vertices are))
+  lexes_lines v (vertex ∷ vertices) are = search (
+    rules,
+    lexes_line,
+    All-head,
+    All-tail,
+    lexes_lines (v + 1) vertices (All-tail IsPlainVertex vertex vertices are),
+  )
 
   head_groups : (a s b e r : List ℕ) → (((a ++ s) ++ b) ++ e) ++ r ≡ a ++ (s ++ (b ++ (e ++ r)))
   head_groups a s b e r = simp (append_assoc)
@@ -213,9 +210,11 @@ module _ (ids : List ℕ) (names : List (Option (List ℕ))) (small : (w : ℕ) 
       let ss = nodes_signs (nodes_made ids names 0 game) in
       let l1 : Lexes (59 ∷ 10 ∷ lines) (Semicolon ∷ ss) = semicolon_token (10 ∷ lines) ss (lexes_lines 0 game are) in
       let l2 = blank_number 32 id (59 ∷ 10 ∷ lines) (Semicolon ∷ ss) refl refl word refl l1 in
-      subst (λ z. Lexed [] z (Word (codes "parity") ∷ Number id ∷ Semicolon ∷ ss))
-      (sym (head_groups (codes "parity") (32 ∷ []) (decimal id) (59 ∷ 10 ∷ []) lines))
-      (parity_token (decimal id ++ 59 ∷ 10 ∷ lines) (Number id ∷ Semicolon ∷ ss) l2)
+      grind (
+        arith,
+        head_groups (codes "parity") (32 ∷ []) (decimal id) (59 ∷ 10 ∷ []) lines,
+        parity_token (decimal id ++ 59 ∷ 10 ∷ lines) (Number id ∷ Semicolon ∷ ss) l2,
+      )
 
   pub written_tokens : (id : ℕ) (game : ParityGame) → IsWord id → All IsPlainVertex game →
       (stream : Stream Sign) × AreGameTokens (head_text id ++ vertex_lines ids names 0 game) stream ×

@@ -1,6 +1,5 @@
 -- What two reports on one text have in common, and what two certificates of one game.
-use Rattle.std.proofs.Common.{◌≡◌, ◌∙◌, ◌<◌, ◌↔◌, ℕ, Bool, true, false, List, Result, Ok, refl, sym, ap, subst, arith}
-use Rattle.std.proofs.Common.{IsTrue}
+use Rattle.std.proofs.Common.{◌≡◌, ◌∙◌, ◌<◌, ◌↔◌, ℕ, Bool, List, Result, Ok, sym, ap, subst, arith, IsTrue}
 use Rattle.std.proofs.lemmas.Option.{slice_get_within}
 use Rattle.ps_text.specs.Answers.{Found}
 use Rattle.ps_certificate.specs.Certificates.{CertificateData, Fits, IsValid, winner_of}
@@ -15,9 +14,7 @@ use Rattle.ps_machine.specs.FileGames.{IsGameOfFile}
 use Rattle.ps_machine.specs.Keys.{mover_of, owner_of_key}
 use Rattle.ps_machine.specs.Solving.{IsCertified}
 use Rattle.ps_machine.specs.declared.key.Key.{Key}
-use Rattle.ps_machine.specs.declared.key.Key.TheVariants.{First, Second}
 use Rattle.ps_machine.specs.declared.key.Order.{Order}
-use Rattle.ps_machine.specs.declared.key.Order.TheVariants.{Mealy, Moore}
 use Rattle.ps_pgsolver.specs.Written.{game_text}
 use Rattle.ps_synthesis.specs.Promises.{MayAnswer}
 use Rattle.ps_synthesis.specs.Reports.{IsReport}
@@ -52,10 +49,7 @@ ok_same v w e = cc
 
 -- the players of a file's game are 0 and 1
 owner_below : (order : Order) (key : Key) → owner_of_key (mover_of order) key < 2
-owner_below Mealy (First state priority) = omega arith
-owner_below Mealy (Second state letter) = omega arith
-owner_below Moore (First state priority) = omega arith
-owner_below Moore (Second state letter) = omega arith
+owner_below order key = grind arith
 
 owners_below : (order : Order) (file : FileData) (game : NamedGameData) → IsGameOfFile order file game → (v : ℕ) →
     v < vertex_count game.game → owner_of game.game v < 2
@@ -65,15 +59,10 @@ owners_below order file game is v within =
 
 first_there : (order : Order) (file : FileData) (game : NamedGameData) → IsGameOfFile order file game →
     0 < vertex_count game.game
-first_there order file game is =
-    (let first = slice_get_within is.keys 0 _ is.is_game.by_keys.begins in
-    omega (arith, first, is.is_game.by_keys.count))
+first_there order file game is = grind (arith, slice_get_within)
 
 pub tests_agree : (a b : Bool) (n m : ℕ) → IsTrue a ↔ (n ≡ 0) → IsTrue b ↔ (m ≡ 0) → n ≡ m → a ≡ b
-tests_agree true true n m h k e = refl
-tests_agree false false n m h k e = refl
-tests_agree true false n m h k e = sym (k.1 (sym e ∙ h.0 refl))
-tests_agree false true n m h k e = h.1 (e ∙ k.0 refl)
+tests_agree a b n m h k e = grind arith
 
 -- what two reports are compared by
 pub record Facts (May : MayAnswer) (order : Order) (compact : Bool) (text : List ℕ) (report : Report) : Type 0 where
@@ -88,16 +77,7 @@ pub record Facts (May : MayAnswer) (order : Order) (compact : Bool) (text : List
 
 facts_of : (May : MayAnswer) (order : Order) (compact : Bool) (text : List ℕ) (report : Report) →
     IsReport May order compact text report → Facts May order compact text report
-facts_of May order compact text report r = let p = r.promise in record {
-  file = p.file;
-  reads = p.accepted.reads;
-  game = p.game;
-  is_game = p.is_game;
-  printed = p.game_text.written;
-  certificate = p.certificate;
-  certified = p.certified;
-  realizable = p.realizable;
-}
+facts_of May order compact text report r = grind arith
 
 module _ (files : OneFile) (file_games : OneFileGame) (winners : OneWinner) where
   module _ (May : MayAnswer) (order : Order) (compact : Bool) (text : List ℕ) (a b : Report)
@@ -112,9 +92,7 @@ module _ (files : OneFile) (file_games : OneFileGame) (winners : OneWinner) wher
     same_file = ok_same f.file g.file (files text (Ok f.file) (Ok g.file) f.reads g.reads)
 
     same_game : f.game ≡ g.game
-    same_game =
-        file_games order g.file f.game g.game (subst (λ file. IsGameOfFile order file f.game) same_file f.is_game)
-        g.is_game
+    same_game = file_games order g.file f.game g.game (grind (arith, same_file)) g.is_game
 
     -- who wins
     pub reports-winner : a.realizable ≡ b.realizable
@@ -131,9 +109,8 @@ module _ (files : OneFile) (file_games : OneFileGame) (winners : OneWinner) wher
 
   -- any two certificates of one game
   pub certificates_agree : (compact : Bool) (game : NamedGameData) (one other : CertificateData) (a b : Reply) →
-      IsCertified game one → IsCertified game other
-      → a ≡ text_reply (text_in compact game one) → b ≡ text_reply (text_in compact game other) →
-      AgreeInWinners compact a b
+      IsCertified game one → IsCertified game other → a ≡ text_reply (text_in compact game one) →
+      b ≡ text_reply (text_in compact game other) → AgreeInWinners compact a b
   certificates_agree compact game one other a b c d is_one is_other = record {
     game = game;
     one = one;

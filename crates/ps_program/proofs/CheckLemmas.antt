@@ -1,17 +1,15 @@
 -- What is told of a certificate that was tested.
-use Rattle.std.proofs.Common.{◌≡◌, ◌↔◌, ℕ, List, Result, Ok, Err, false, true, ap, refl}
+use Rattle.std.proofs.Common.{arith, ◌≡◌, ◌↔◌, ℕ, List, Result, Ok, Err, false, true, ap}
 use Rattle.std.specs.Prelude.{IfErr, IsOk}
 use Rattle.ps_game.specs.Games.{NamedGameData, ParityGame, IsGame, vertex_count}
 use Rattle.ps_certificate.specs.Certificates.{CertificateData, Fits, IsFirstFlaw}
 use Rattle.ps_certificate.specs.declared.flaw.Flaw.{Flaw}
 use Rattle.ps_program.specs.declared.answer.Answer.{Answer}
 use Rattle.ps_program.specs.declared.answer.Refusal.{Refusal}
-use Rattle.ps_program.specs.declared.answer.Refusal.TheVariants as refusal
 use Rattle.ps_program.specs.Checks.{Tests, test_told}
-use Rattle.ps_program.specs.Faults.{fault_text}
 use Rattle.ps_program.specs.Outcomes.{Gives}
-use Rattle.ps_program.specs.Replies.{Reply, line_reply, reply_of}
-use Rattle.ps_program.specs.Texts.{NamesVertices, flaw_text}
+use Rattle.ps_program.specs.Replies.{Reply, reply_of}
+use Rattle.ps_program.specs.Texts.{NamesVertices}
 use Rattle.ps_program.proofs.TextLemmas.{flaw_names_vertices}
 
 reply_or : Reply → Result Reply (List ℕ) → Reply
@@ -49,9 +47,7 @@ no_fault same = cc
 pub outcome_names_vertices : (game : ParityGame) (given : CertificateData) (outcome : Result (Unit {0}) Flaw) →
     IsGame game → Fits game given → IfErr outcome (IsFirstFlaw game given) →
     IfErr outcome (NamesVertices (vertex_count game))
-outcome_names_vertices game given (Ok done) is_game fits first = tt
-outcome_names_vertices game given (Err flaw) is_game fits first =
-    flaw_names_vertices game given flaw is_game fits first.is_flaw
+outcome_names_vertices game given outcome is_game fits first = grind (arith, flaw_names_vertices)
 
 -- what is told is the answer of the test
 pub tests_told : (IsGood : ParityGame → CertificateData → Type 0) (word : List ℕ) (named : NamedGameData)
@@ -59,12 +55,5 @@ pub tests_told : (IsGood : ParityGame → CertificateData → Type 0) (word : Li
     → (IsOk outcome ↔ IsGood named.game given) → IfErr outcome (IsFirstFlaw named.game given) →
     Gives reply_of (λ told. told ≡ test_told word named outcome) result →
     Gives reply_of (Tests IsGood word named given) result
-tests_told IsGood word named given (Ok done) (Ok answer) is_game exact first told =
-    (exact.0 refl, same_reply (reply_of answer) (line_reply word) told)
-tests_told IsGood word named given (Ok done) (Err (refusal.Fault fault)) is_game exact first told =
-    absurd (no_fault told)
-tests_told IsGood word named given (Ok done) (Err refusal.OutOfMemory) is_game exact first told = tt
-tests_told IsGood word named given (Err flaw) (Ok answer) is_game exact first told = absurd (no_reply told)
-tests_told IsGood word named given (Err flaw) (Err (refusal.Fault fault)) is_game exact first told =
-    (is_game, (λ good. no_ok (exact.1 good)), (flaw, first, same_line (fault_text fault) (flaw_text named flaw) told))
-tests_told IsGood word named given (Err flaw) (Err refusal.OutOfMemory) is_game exact first told = tt
+tests_told IsGood word named given outcome result is_game exact first told =
+    grind (arith, same_reply, no_fault, no_reply, no_ok, same_line)

@@ -1,5 +1,5 @@
 -- Texts of circuits and of stimuli.
-use Rattle.std.proofs.Common.{ℕ, false, Bool, List, length, Ok, Err, refl, inl, inr}
+use Rattle.std.proofs.Common.{arith, ℕ, false, Bool, List, length, Ok, Err, refl, inl, inr}
 use Rattle.ps_circuit.specs.Circuits.{CircuitData}
 use Rattle.ps_simulate.specs.Stimuli.{StimulusData, stem_of}
 use Rattle.ps_simulate.specs.StimulusTexts.{ReadsStimulus, IsLettersAnswer}
@@ -24,8 +24,7 @@ run_view both = (both.0, stem_of both.1)
 pub simulated_circuit_fault : (texts first second : List ℕ) (fault : Refusal) → CutsInTwo texts (Ok (first, second))
     → Gives {X = CircuitData} (λ given. given) (ReadsCircuitText first) (Err fault) →
     Gives run_view (ReadsSimulated texts) (Err fault)
-simulated_circuit_fault texts first second (refusal.Fault fault) cuts h =
-    inr ((first, second), cuts, inl (fault_text fault, h, refl))
+simulated_circuit_fault texts first second (refusal.Fault fault) cuts h = inr ((first, second), cuts, grind arith)
 simulated_circuit_fault texts first second refusal.OutOfMemory cuts h = tt
 
 -- so is the fault of a stimulus behind the text of a circuit
@@ -39,10 +38,8 @@ simulated_stimulus_fault texts first second c refusal.OutOfMemory cuts reads h =
 
 -- what is refused of the text of a stem alone is refused of its stimulus
 pub letters_fault : (text : List ℕ) (width : ℕ) (given : StimulusFault) (refused : Refusal) →
-    IsLettersAnswer text width (Err given)
-    → IsRefusalOf cause_number cause_name given refused → Gives {X = List (List Bool)} stem_of
-    (ReadsStimulusText width false text) (Err refused)
+    IsLettersAnswer text width (Err given) → IsRefusalOf cause_number cause_name given refused →
+    Gives {X = List (List Bool)} stem_of (ReadsStimulusText width false text) (Err refused)
 letters_fault text width (Text cause offset) refused answer same =
     gives_fault cause_number cause_name (ReadsStimulus text width false) stem_of (Text cause offset) refused answer same
-letters_fault text width OutOfMemory refused answer same =
-    gives_fault cause_number cause_name (ReadsStimulus text width false) stem_of OutOfMemory refused tt same
+letters_fault text width OutOfMemory refused answer same = grind (arith, gives_fault)

@@ -1,6 +1,6 @@
 -- A lasso's outcome, text by text.
-use Rattle.std.proofs.Common.{◌≡◌, ◌≢◌, ◌∙◌, ◌<◌, ℕ, Bool, true, List, All, length, Result, Ok, Err, refl, inl, inr}
-use Rattle.std.proofs.Common.{subst, sym}
+use Rattle.std.proofs.Common.{arith, ◌≡◌, ◌≢◌, ◌∙◌, ◌<◌, ℕ, Bool, true, List, All, length, Result, Ok, Err, refl, inl}
+use Rattle.std.proofs.Common.{inr, subst, sym}
 use Rattle.ps_circuit.specs.Circuits.{CircuitData, IsCircuit}
 use Rattle.ps_automaton.specs.Automata.{AutomatonData, IsBuiltFrom}
 use Rattle.ps_automaton.specs.Chains.{Chain}
@@ -39,11 +39,6 @@ module _ (role : Role) (texts first second third : List ℕ) (cuts : CutsInThree
 
 module _ (role : Role) (file : FileData) (text letters : List ℕ) where
   -- the fault of a circuit's text
-  pub run_circuit_fault : (fault : Refusal) → Gives {X = CircuitData} (λ circuit. circuit) (ReadsCircuitText text)
-      (Err fault) → Gives {X = Answer} reply_of (RunsCircuit role file text letters) (Err fault)
-  run_circuit_fault (refusal.Fault fault) h = inl (fault_text fault, h, refl)
-  run_circuit_fault refusal.OutOfMemory h = tt
-
   module _ (c : CircuitData) (is_circuit : ReadsCircuitText text (Ok c)) (width : ℕ)
       (is_width : width ≡ length c.inputs) where
     -- the fault of a stimulus behind it
@@ -73,14 +68,7 @@ module _ (role : Role) (file : FileData) (chain : Chain) (a : AutomatonData) (c 
     (stem lap : List (List Bool)) (built : IsBuiltFrom file chain a) (same_stem : stem ≡ s.stem)
     (same_lap : lap ≡ s.lap) where
   symbols_of_file : HasSymbols role a.names a.controllable c → HasSymbols role file.names file.controllable c
-  symbols_of_file has =
-      subst (λ (ps : List ℕ). HasSymbols role file.names ps c) built.controllable
-      (subst (λ (names : List (List ℕ)). HasSymbols role names a.controllable c) built.names has)
-
-  symbols_of_automaton : HasSymbols role file.names file.controllable c → HasSymbols role a.names a.controllable c
-  symbols_of_automaton has =
-      subst (λ (names : List (List ℕ)). HasSymbols role names a.controllable c) (sym built.names)
-      (subst (λ (ps : List ℕ). HasSymbols role file.names ps c) (sym built.controllable) has)
+  symbols_of_file has = grind arith
 
   some_of_lap : 0 < length lap → 0 < length s.lap
   some_of_lap some = subst (λ (ls : List (List Bool)). 0 < length ls) same_lap some
@@ -88,32 +76,7 @@ module _ (role : Role) (file : FileData) (chain : Chain) (a : AutomatonData) (c 
   pub tells : (verdict : Verdict) (reply : Reply) → IsCircuit c → HasNoLassoFault role a c stem lap →
       IsVerdictOf file c stem lap verdict → reply ≡ line_reply (verdict_text verdict) →
       TellsVerdict role file c s (Ok reply)
-  tells verdict reply is_circuit sound is_verdict is = (
-    is_circuit,
-    some_of_lap sound.some,
-    symbols_of_file sound.symbols,
-    (
-      verdict,
-      subst (λ (ls : List (List Bool)). IsVerdictOf file c s.stem ls verdict) same_lap
-          (subst (λ (ls : List (List Bool)). IsVerdictOf file c ls lap verdict) same_stem is_verdict),
-      is,
-    ),
-  )
-
-  tells_no_lap : (line : List ℕ) → Stands role a c stem lap EmptyLap → line ≡ lasso_line EmptyLap →
-      TellsVerdict role file c s (Err line)
-  tells_no_lap line stands is = inl (sym same_lap ∙ stands.1, is)
-
-  tells_no_symbols : (line : List ℕ) → Stands role a c stem lap Symbols → line ≡ lasso_line Symbols →
-      TellsVerdict role file c s (Err line)
-  tells_no_symbols line stands is = inr (some_of_lap stands.1, (λ has. stands.2 (symbols_of_automaton has)), is)
-
-  pub tells_fault : (fault : LassoFault) (line : List ℕ) → fault ≢ Width → fault ≢ OutOfMemory →
-      Stands role a c stem lap fault → line ≡ lasso_line fault → TellsVerdict role file c s (Err line)
-  tells_fault Width line not_width some stands is = absurd (not_width refl)
-  tells_fault EmptyLap line not_width some stands is = tells_no_lap line stands is
-  tells_fault Symbols line not_width some stands is = tells_no_symbols line stands is
-  tells_fault OutOfMemory line not_width some stands is = absurd (some refl)
+  tells verdict reply is_circuit sound is_verdict is = grind (arith, some_of_lap, symbols_of_file)
 
 -- each letter of a stimulus has a bit for each input
 pub is_wide : (role : Role) (a : AutomatonData) (c : CircuitData) (s : StimulusData) (stem lap : List (List Bool)) →

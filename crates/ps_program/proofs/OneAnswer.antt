@@ -1,14 +1,9 @@
 -- Two answers to one input are one.
-use Rattle.std.proofs.Common.{◌≡◌, ◌⊎◌, ◌∙◌, ℕ, Bool, true, false, List, length, Result, Ok, Err, refl, sym, ap, subst}
+use Rattle.std.proofs.Common.{rules, ◌≡◌, ◌⊎◌, ◌∙◌, ℕ, Bool, true, false, List, length, Result, Ok, Err, refl, sym, ap}
 use Rattle.std.proofs.Common.{inl, inr, arith}
-use Rattle.std.specs.Prelude.{codes}
 use Rattle.ps_game.specs.Games.{ParityGame, NamedGameData}
-use Rattle.ps_pgsolver.specs.Reading.{Answer}
-use Rattle.ps_pgsolver.specs.Causes as game
 use Rattle.ps_pgsolver.specs.Written.{game_text}
-use Rattle.ps_certificate.specs.Certificates.{CertificateData, IsClosed, IsValid}
-use Rattle.ps_certificate.specs.Faults as certificate
-use Rattle.ps_certificate.specs.Texts as certificate_text
+use Rattle.ps_certificate.specs.Certificates.{CertificateData}
 use Rattle.ps_circuit.specs.CauseNames as circuit_names
 use Rattle.ps_circuit.specs.Causes as circuit
 use Rattle.ps_circuit.specs.Texts as circuit_text
@@ -32,12 +27,12 @@ use Rattle.ps_program.specs.Simulating.{AnswersSim}
 use Rattle.ps_program.specs.Solvers.{SolverData, Solvers, answers_now, feed}
 use Rattle.ps_program.specs.Solving.{AnswersGame, AnswersSolve}
 use Rattle.ps_program.specs.Synthesis.{AnswersBy, AnswersReport}
-use Rattle.ps_program.specs.Texts.{CutsInTwo, ReadsCertified, ReadsGameText, ReadsSimulated, flaw_text}
+use Rattle.ps_program.specs.Texts.{CutsInTwo, ReadsCertified, ReadsGameText, ReadsSimulated}
 use Rattle.ps_program.specs.declared.command_line.SynthLine.{SynthLine}
 use Rattle.ps_program.proofs.Agreeing.{OneCertificate, OneFile, OneFileGame, OneWinner, reports-winner, reports-game}
 use Rattle.ps_program.proofs.Agreeing.{certificates_agree}
 use Rattle.ps_program.proofs.OneTrace.{traces_agree}
-use Rattle.ps_program.proofs.OneStep.{IsOne, ok_of, err_of, err_or, then_one, then_one_or, ended_one, reading_one}
+use Rattle.ps_program.proofs.OneStep.{IsOne, then_one, then_one_or, ended_one, reading_one}
 use Rattle.ps_program.proofs.OneCut.{cut_one, cut_three_one}
 use Rattle.ps_program.proofs.OneStage.{OneGame, OneFlaw, OneCircuit, OneStimulus, OneRefusal, OneOutcome, OneVerdict}
 use Rattle.ps_program.proofs.OneStage.{OneValues, automaton_one, makes_one, tells_one, game_accepted, RefusedOr}
@@ -48,35 +43,18 @@ module _ (games : OneGame) (certificates : OneCertificate) (flaws : OneFlaw) (ci
     (stimuli : OneStimulus) (files : OneFile) (refusals : OneRefusal) (outcomes : OneOutcome) (verdicts : OneVerdict)
     (values : OneValues) (file_games : OneFileGame) (winners : OneWinner) where
   certified_one : (texts : List ℕ) → IsOne (ReadsCertified texts)
-  certified_one texts =
-      then_one _ _ (cut_one texts) (λ parts. then_one _ _ (reading_one game.cause_number game.cause_name
-      (Answer parts.0) (games parts.0))
-      (λ named. then_one _ _ (reading_one certificate.cause_number certificate.cause_name
-      (certificate_text.ReadsCertificate named parts.1) (certificates named parts.1))
-      (λ given. ended_one (Ok (named, given)))))
+  certified_one texts = then_one _ _ (cut_one texts) (λ parts. search (rules, then_one, reading_one, ended_one))
 
   tests_one : (IsGood : ParityGame → CertificateData → Type 0) (word : List ℕ) (named : NamedGameData)
       (given : CertificateData) → IsOne (Tests IsGood word named given)
-  tests_one IsGood word named given (Ok r) (Ok s) h k = ap (ok_of {V = Reply} {E = List ℕ}) (h.1 ∙ sym k.1)
-  tests_one IsGood word named given (Ok r) (Err m) h k = absurd (k.1 h.0)
-  tests_one IsGood word named given (Err l) (Ok s) h k = absurd (h.1 k.0)
-  tests_one IsGood word named given (Err l) (Err m) (is_game, bad, (flaw, first, e))
-      (is_game', bad', (flaw', first', e')) =
-      ap (err_of {V = Reply}) (e ∙ ap (flaw_text named) (flaws named.game given flaw flaw' is_game first first')
-      ∙ sym e')
+  tests_one h1 word named given h5 h6 h k = grind arith
 
   simulated_one : (texts : List ℕ) → IsOne (ReadsSimulated texts)
-  simulated_one texts =
-      then_one _ _ (cut_one texts) (λ parts. then_one _ _ (reading_one circuit.cause_number circuit_names.cause_name
-      (circuit_text.ReadsCircuit parts.0) (circuits parts.0))
-      (λ c. then_one _ _ (reading_one stimulus.cause_number stimulus.cause_name
-      (stimulus_text.ReadsStimulus parts.1 (length c.inputs) false) (stimuli parts.1 (length c.inputs) false))
-      (λ s. ended_one (Ok (c, s)))))
+  simulated_one texts = then_one _ _ (cut_one texts) (λ parts. search (rules, then_one, reading_one, ended_one))
 
   sim_one : (texts : List ℕ) → IsOne (AnswersSim texts)
   sim_one texts = then_one _ _ (simulated_one texts) (λ both x y h k.
-      h.1.2 ∙ ap (λ (text : List ℕ). ok_of {V = Reply} {E = List ℕ} (text_reply text))
-      (traces_agree both.0 h.0 (values both.0 h.0) both.1.stem h.1.0 k.1.0 h.1.1 k.1.1) ∙ sym k.1.2)
+      grind (arith, traces_agree both.0 h.0 (values both.0 h.0) both.1.stem h.1.0 k.1.0 h.1.1 k.1.1))
 
   lasso_one : (role : Role) (texts : List ℕ) → IsOne (AnswersLasso role texts)
   lasso_one role texts =
@@ -104,19 +82,14 @@ module _ (games : OneGame) (certificates : OneCertificate) (flaws : OneFlaw) (ci
 
   games_alike : (solver : SolverData) (compact : Bool) (named : NamedGameData) (x y : Result Reply (List ℕ)) →
       AnswersGame solver compact named x → AnswersGame solver compact named y → Alike (AgreeInWinners compact) x y
-  games_alike solver compact named x y (inl (l, s, e)) k = inl (fault_is x l e)
-  games_alike solver compact named x y (inr (c, s, e)) (inl (m, t, f)) = inr (inl (fault_is y m f))
-  games_alike solver compact named x y (inr (c, s, e)) (inr (d, t, f)) =
-      inr (inr (certificates_agree files file_games winners compact named c d (printed x) (printed y) s.0 t.0
-      (ap printed e) (ap printed f)))
+  games_alike solver compact named x y h k = search (rules, fault_is, certificates_agree)
 
   solve_one_or : (solver : SolverData) (compact : Bool) (text : List ℕ) (x y : Result Reply (List ℕ)) →
       AnswersSolve solver compact text x → AnswersSolve solver compact text y
       → (x ≡ y) ⊎ (IsOpen (line.Solve compact) text × Alike (AgreeInWinners compact) x y)
   solve_one_or solver compact text x y h k =
       by (then_one_or (ReadsGameText text) (AnswersGame solver compact) (λ _. Alike (AgreeInWinners compact) x y)
-      (reading_one game.cause_number game.cause_name (Answer text) (games text)) x y
-      (λ v n m. inr (games_alike solver compact v x y n m)) h k)
+      (search (rules, reading_one)) x y (λ v n m. inr (games_alike solver compact v x y n m)) h k)
     where
       by : (x ≡ y) ⊎ ((v : NamedGameData) × ReadsGameText text (Ok v) × Alike (AgreeInWinners compact) x y) →
           (x ≡ y) ⊎ (IsOpen (line.Solve compact) text × Alike (AgreeInWinners compact) x y)
@@ -139,33 +112,29 @@ module _ (games : OneGame) (certificates : OneCertificate) (flaws : OneFlaw) (ci
       AnswersReport solver asked text x → AnswersReport solver asked text y → Alike (AgreeAsReports asked.full) x y
   reports_alike solver asked text x y (inl (l, s, e)) k = inl (fault_is x l e)
   reports_alike solver asked text x y (inr (r, s, e)) (inl (m, t, f)) = inr (inl (fault_is y m f))
-  reports_alike solver asked text x y (inr (r, s, e)) (inr (r', t, f)) =
-      inr (inr (record {
-        one = r;
-        other = r';
-        is_one = ap printed e;
-        is_other = ap printed f;
-        winner = reports-winner files file_games winners (answers_now solver) asked.order asked.compact text r r' s t;
-        game = reports-game files file_games winners (answers_now solver) asked.order asked.compact text r r' s t;
-      }))
+  reports_alike solver asked text x y (inr (r, s, e)) (inr (r', t, f)) = inr (inr (record {
+    one = r;
+    other = r';
+    is_one = ap printed e;
+    is_other = ap printed f;
+    winner = reports-winner files file_games winners (answers_now solver) asked.order asked.compact text r r' s t;
+    game = reports-game files file_games winners (answers_now solver) asked.order asked.compact text r r' s t;
+  }))
 
   report_one_or : (solver : SolverData) (asked : SynthLine) (text : List ℕ) (x y : Result Reply (List ℕ)) →
       AnswersReport solver asked text x → AnswersReport solver asked text y
       → (x ≡ y) ⊎ (HasAutomaton text × Alike (AgreeAsReports asked.full) x y)
-  report_one_or solver asked text x y h k =
-      by (report_refused solver asked text x h) (report_refused solver asked text y k)
+  report_one_or solver asked text x y h k = search (rules, by, report_refused)
     where
       by : RefusedOr text x → RefusedOr text y → (x ≡ y) ⊎ (HasAutomaton text × Alike (AgreeAsReports asked.full) x y)
       by (inr choice) other = inr (choice, reports_alike solver asked text x y h k)
       by (inl refused) (inr choice) = inr (choice, reports_alike solver asked text x y h k)
       by (inl (l, reads, e)) (inl (m, reads', e')) =
-          let same : l ≡ m = ap (err_or l) (automaton_one files refusals outcomes text (Err l) (Err m) reads reads') in
-          inl (e ∙ ap (err_of {V = Reply}) same ∙ sym e')
+          grind (arith, automaton_one files refusals outcomes text (Err l) (Err m) reads reads')
 
   synth_one_or : (solvers : Solvers) (asked : SynthLine) (texts : List ℕ) (cert : Bool) (x y : Result Reply (List ℕ)) →
-      AnswersBy cert solvers asked texts x → AnswersBy cert solvers asked texts y
-      → (x ≡ y) ⊎ (((text : List ℕ) × AsksFor cert texts text × HasAutomaton text) ×
-      Alike (AgreeAsReports asked.full) x y)
+      AnswersBy cert solvers asked texts x → AnswersBy cert solvers asked texts y → (x ≡ y) ⊎
+      (((text : List ℕ) × AsksFor cert texts text × HasAutomaton text) × Alike (AgreeAsReports asked.full) x y)
   synth_one_or solvers asked texts false x y h k = by (report_one_or solvers.built_in asked texts x y h k)
     where
       by : (x ≡ y) ⊎ (HasAutomaton texts × Alike (AgreeAsReports asked.full) x y) →
@@ -173,15 +142,13 @@ module _ (games : OneGame) (certificates : OneCertificate) (flaws : OneFlaw) (ci
       by (inl same) = inl same
       by (inr (choice, alike)) = inr ((texts, refl, choice), alike)
   synth_one_or solvers asked texts true x y h k =
-      by (then_one_or (CutsInTwo texts) (λ (parts : List ℕ × List ℕ).
-      AnswersReport (feed parts.1 solvers.replay) asked parts.0)
-      (λ (parts : List ℕ × List ℕ). HasAutomaton parts.0 × Alike (AgreeAsReports asked.full) x y) (cut_one texts) x
-      y (λ parts n m. report_one_or (feed parts.1 solvers.replay) asked parts.0 x y n m) h k)
+      by (then_one_or (CutsInTwo texts) (λ (parts : List ℕ × List ℕ). AnswersReport (feed parts.1 solvers.replay) asked
+      parts.0) (λ (parts : List ℕ × List ℕ). HasAutomaton parts.0 × Alike (AgreeAsReports asked.full) x y)
+      (cut_one texts) x y (λ parts n m. report_one_or (feed parts.1 solvers.replay) asked parts.0 x y n m) h k)
     where
       by : (x ≡ y) ⊎ ((parts : List ℕ × List ℕ) × CutsInTwo texts (Ok parts) ×
-          (HasAutomaton parts.0 × Alike (AgreeAsReports asked.full) x y)) →
-          (x ≡ y) ⊎ (((text : List ℕ) × AsksFor true texts text × HasAutomaton text) ×
-          Alike (AgreeAsReports asked.full) x y)
+          (HasAutomaton parts.0 × Alike (AgreeAsReports asked.full) x y)) → (x ≡ y) ⊎
+          (((text : List ℕ) × AsksFor true texts text × HasAutomaton text) × Alike (AgreeAsReports asked.full) x y)
       by (inl same) = inl same
       by (inr (parts, cuts, (choice, alike))) = inr ((parts.0, (parts.1, cuts), choice), alike)
 
@@ -190,10 +157,8 @@ module _ (games : OneGame) (certificates : OneCertificate) (flaws : OneFlaw) (ci
       AnswersLine solvers l texts x → AnswersLine solvers l texts y → (x ≡ y) ⊎ (IsOpen l texts × Alike (Agree l) x y)
   line_one solvers line.Refused texts x y h k = inl (ended_one _ x y h k)
   line_one solvers line.Help texts x y h k = inl (ended_one _ x y h k)
-  line_one solvers line.Closed texts x y h k =
-      inl (then_one _ _ (certified_one texts) (λ both. tests_one IsClosed (codes "closed") both.0 both.1) x y h k)
-  line_one solvers line.Check texts x y h k =
-      inl (then_one _ _ (certified_one texts) (λ both. tests_one IsValid (codes "valid") both.0 both.1) x y h k)
+  line_one solvers line.Closed texts x y h k = inl (search (rules, then_one, certified_one, tests_one))
+  line_one solvers line.Check texts x y h k = inl (search (rules, then_one, certified_one, tests_one))
   line_one solvers line.Sim texts x y h k = inl (sim_one texts x y h k)
   line_one solvers (line.Lasso role) texts x y h k = inl (lasso_one role texts x y h k)
   line_one solvers (line.Solve compact) texts x y h k = solve_one_or solvers.built_in compact texts x y h k
@@ -202,21 +167,17 @@ module _ (games : OneGame) (certificates : OneCertificate) (flaws : OneFlaw) (ci
   line_one solvers (line.Synth asked) texts x y h k = synth_one_or solvers asked texts asked.cert x y h k
 
   answers_one : (solvers : Solvers) (input : List ℕ) (a b : Reply) → AnswersInput solvers input a →
-      AnswersInput solvers input b
-      → (a ≡ b) ⊎ ((l : Line) × IsLine (first_line input) l × IsOpen l (behind_line input) ×
-      (IsFault a ⊎ IsFault b ⊎ Agree l a b))
+      AnswersInput solvers input b → (a ≡ b) ⊎
+      ((l : Line) × IsLine (first_line input) l × IsOpen l (behind_line input) × (IsFault a ⊎ IsFault b ⊎ Agree l a b))
   answers_one solvers input a b (l, is_line, (outcome, answers, e)) (l', is_line', (outcome', answers', e')) =
-      by (line_one solvers l (behind_line input) outcome outcome' answers
-      (subst (λ (k : Line). AnswersLine solvers k (behind_line input) outcome') (sym same) answers'))
+      by (grind (arith, line_one, same))
     where
       same : l ≡ l'
       same = is_line_one (first_line input) l l' is_line is_line'
 
       printed_so : IsFault (printed outcome) ⊎ IsFault (printed outcome') ⊎
           Agree l (printed outcome) (printed outcome') → IsFault a ⊎ IsFault b ⊎ Agree l a b
-      printed_so alike =
-          subst (λ (r : Reply). IsFault r ⊎ IsFault b ⊎ Agree l r b) (sym e)
-          (subst (λ (r : Reply). IsFault (printed outcome) ⊎ IsFault r ⊎ Agree l (printed outcome) r) (sym e') alike)
+      printed_so alike = search rules
 
       by : (outcome ≡ outcome') ⊎ (IsOpen l (behind_line input) × Alike (Agree l) outcome outcome') →
           (a ≡ b) ⊎ ((k : Line) × IsLine (first_line input) k × IsOpen k (behind_line input) ×

@@ -1,8 +1,8 @@
 -- By a certificate that is given, an automaton's text has one answer: the file, its game and the certificate leave one
 -- report,
 -- or one line of a fault.
-use Rattle.std.proofs.Common.{◌≡◌, ◌⊎◌, ◌∙◌, ◌↔◌, ◌++◌, ℕ, Bool, true, false, List, Option, None, Some, Result, Ok, Err}
-use Rattle.std.proofs.Common.{IsTrue, refl, sym, ap, ap₂, subst, inl, inr, arith}
+use Rattle.std.proofs.Common.{rules, ◌≡◌, ◌⊎◌, ◌∙◌, ◌↔◌, ◌++◌, ℕ, Bool, true, false, List, Option, None, Some, Result}
+use Rattle.std.proofs.Common.{Ok, Err, IsTrue, refl, sym, ap, ap₂, subst, inl, inr, arith}
 use Rattle.std.specs.Prelude.{codes}
 use Rattle.ps_text.specs.Answers.{Found}
 use Rattle.ps_aiger.specs.Wires.{IsOutOfLiterals}
@@ -32,14 +32,13 @@ use Rattle.ps_program.specs.CommandLine.{IsLine}
 use Rattle.ps_program.specs.Cut.{behind_line, first_line}
 use Rattle.ps_program.specs.Determined.{IsReplaying}
 use Rattle.ps_program.specs.Outcomes.{printed}
-use Rattle.ps_program.specs.Program.{AnswersInput, AnswersLine, AnswersWhole}
+use Rattle.ps_program.specs.Program.{AnswersInput, AnswersWhole}
 use Rattle.ps_program.specs.Replies.{Reply}
 use Rattle.ps_program.specs.Solvers.{SolverData, Solvers, answers_now, feed}
 use Rattle.ps_program.specs.StageFaults.{stage_line}
 use Rattle.ps_program.specs.Synthesis.{AnswersBy, AnswersReport, AnswersSynth, report_reply, verdict_line}
 use Rattle.ps_program.specs.Synthesis.{verdict_status}
 use Rattle.ps_program.specs.Texts.{CutsInTwo}
-use Rattle.ps_program.specs.declared.command_line.Line.{Line}
 use Rattle.ps_program.specs.declared.command_line.Line.TheVariants as line
 use Rattle.ps_program.specs.declared.command_line.SynthLine.{SynthLine}
 use Rattle.ps_program.proofs.Agreeing.{OneCertificate, OneFile, OneFileGame, ok_same, tests_agree}
@@ -47,7 +46,7 @@ use Rattle.ps_program.proofs.AutomatonLemmas.{no_line, text_refused}
 use Rattle.ps_program.proofs.OneCut.{cut_one}
 use Rattle.ps_program.proofs.OneLine.{is_line_one}
 use Rattle.ps_program.proofs.OneStage.{OneOutcome, OneRefusal, automaton_one}
-use Rattle.ps_program.proofs.OneStep.{IsOne, err_of, err_or, ok_is_not_err, then_one}
+use Rattle.ps_program.proofs.OneStep.{IsOne, ok_is_not_err, then_one}
 
 -- the laws of the winner's circuit
 abbrev pub OneWinnersCircuit : Type 0
@@ -74,9 +73,7 @@ line_or (Some line) other = line
 
 lines_one : (fault : SynthFault) (x y : Result Reply (List ℕ)) → IsLineOf fault x → IsLineOf fault y → x ≡ y
 unfolding line_or
-lines_one fault x y (l, told, e) (m, told', e') =
-    let same : l ≡ m = ap (λ o. line_or o l) (sym told ∙ told') in
-    e ∙ ap (err_of {V = Reply}) same ∙ sym e'
+lines_one fault x y (l, told, e) (m, told', e') = grind arith
 
 -- ---- reports
 
@@ -91,8 +88,7 @@ reply_by false realizable circuit game certificate =
 
 is_reply_by : (full : Bool) (r : Report) →
     report_reply full r ≡ reply_by full r.realizable r.circuit_text.items r.game_text.items r.certificate_text.items
-is_reply_by true r = refl
-is_reply_by false r = refl
+is_reply_by full r = grind arith
 
 -- ---- what an answer goes by
 
@@ -136,8 +132,7 @@ module _ (order : Order) (compact full : Bool) where
     reports_one file game c x y a b =
         let one = tests_agree a.realizable b.realizable (winner c) (winner c) a.is_realizable b.is_realizable refl in
         let circuit = circuits order file game a.is_game b.is_game c a.circuit b.circuit a.is_circuit b.is_circuit in
-        a.is_reply ∙ ap₂ (λ (r : Bool) (z : CircuitData). Ok (reply_by full r (text_of z) (game_text game)
-        (text_in compact game c))) one circuit ∙ sym b.is_reply
+        grind arith
 
     tells_one : (file : FileData) (game : NamedGameData) (x y : Result Reply (List ℕ))
         (answer : Result CertificateData (Found CertCause)) →
@@ -147,10 +142,8 @@ module _ (order : Order) (compact full : Bool) where
     tells_one file game x y (Ok c) (inl a) (inr b) = absurd (a.0 b.0)
     tells_one file game x y (Ok c) (inr a) (inl b) = absurd (b.0 a.0)
     tells_one file game x y (Ok c) (inr (h, inl a)) (inr (k, inl b)) = lines_one stage.CircuitTooLarge x y a.line b.line
-    tells_one file game x y (Ok c) (inr (h, inl a)) (inr (k, inr b)) =
-        absurd (apart order file game b.is_game a.is_game c b.circuit a.machine b.is_circuit a.winners a.above)
-    tells_one file game x y (Ok c) (inr (h, inr a)) (inr (k, inl b)) =
-        absurd (apart order file game a.is_game b.is_game c a.circuit b.machine a.is_circuit b.winners b.above)
+    tells_one file game x y (Ok c) (inr (h, inl a)) (inr (k, inr b)) = search rules
+    tells_one file game x y (Ok c) (inr (h, inr a)) (inr (k, inl b)) = search rules
     tells_one file game x y (Ok c) (inr (h, inr a)) (inr (k, inr b)) = reports_one file game c x y a b
 
     goes_one : OneFile → OneFileGame → OneCertificate → (text : List ℕ) (fed : Option (List ℕ))
@@ -166,9 +159,8 @@ module _ (order : Order) (compact full : Bool) where
         subst (λ g. ReadsCertificate g b.certificate a.answer) game
         (subst (λ t. ReadsCertificate a.game t a.answer) certificate a.reads) in
         let answer = certificates b.game b.certificate a.answer b.answer reads b.reads in
-        tells_one b.file b.game x y b.answer
-        (subst (Tells b.file b.game x) answer (subst (λ g. Tells b.file g x a.answer) game
-        (subst (λ f. Tells f a.game x a.answer) file a.tells))) b.tells
+        tells_one b.file b.game x y b.answer (subst (Tells b.file b.game x) answer
+        (subst (λ g. Tells b.file g x a.answer) game (subst (λ f. Tells f a.game x a.answer) file a.tells))) b.tells
 
 -- ---- the answers
 
@@ -181,14 +173,12 @@ record Replayed (game : NamedGameData) (fed : Option (List ℕ))
 
 replayed : (game : NamedGameData) (fed : Option (List ℕ)) (c : CertificateData) → Replays game fed (Ok c) →
     Replayed game fed (Ok c)
-replayed game None c h = absurd h
-replayed game (Some text) c h = record { certificate = text; is_fed = refl; reads = h }
+replayed game fed c h = search rules
 
 replayed_fault : (game : NamedGameData) (fed : Option (List ℕ)) (cause : CertCause) (offset : ℕ) →
     Replays game fed (Err (solver_fault.Text cause offset)) →
     Replayed game fed (Err (record { cause = cause; offset = offset }))
-replayed_fault game None cause offset h = absurd h
-replayed_fault game (Some text) cause offset h = record { certificate = text; is_fed = refl; reads = h }
+replayed_fault game fed cause offset h = search rules
 
 abbrev IsCycle : SolveFault → Type 0
 IsCycle (solver_fault.BadCycle cycle) = Unit {0}
@@ -196,10 +186,7 @@ IsCycle fault = ⊥
 
 never_lost : (game : NamedGameData) (fed : Option (List ℕ)) (fault : SolveFault) → IsCycle fault →
     Replays game fed (Err fault) → ⊥
-never_lost game None fault is h = h
-never_lost game (Some text) (solver_fault.BadCycle cycle) is h = h
-never_lost game (Some text) (solver_fault.Text cause offset) is h = is
-never_lost game (Some text) solver_fault.OutOfMemory is h = is
+never_lost game fed fault is h = grind arith
 
 module _ (solver : SolverData) (replaying : IsReplaying solver) (asked : SynthLine) (text : List ℕ) where
   -- the text is refused by a line, or the answer goes by the certificate
@@ -211,23 +198,10 @@ module _ (solver : SolverData) (replaying : IsReplaying solver) (asked : SynthLi
   certified : (file : FileData) (game : NamedGameData) (c : CertificateData) (x : Result Reply (List ℕ)) →
       IsAcceptedText text file → IsGameOfFile asked.order file game →
       answers_now solver game (Ok c) → Tells asked.order asked.compact asked.full file game x (Ok c) → Told x
-  certified file game c x accepted is_game answered tells =
-      let given = replayed game solver.fed c (replaying solver.fed game (Ok c) answered) in
-      inr (record {
-        file = file;
-        accepted = accepted;
-        game = game;
-        is_game = is_game;
-        certificate = given.certificate;
-        is_fed = given.is_fed;
-        answer = Ok c;
-        reads = given.reads;
-        tells = tells;
-      })
+  certified file game c x accepted is_game answered tells = grind (arith, replayed game solver.fed c (grind arith))
 
   told_fault : (fault : SynthFault) (line : List ℕ) (x : Result Reply (List ℕ)) →
-      IsSynthFault (answers_now solver) asked.order text fault →
-      stage_line fault ≡ Some line → x ≡ Err line → Told x
+      IsSynthFault (answers_now solver) asked.order text fault → stage_line fault ≡ Some line → x ≡ Err line → Told x
   told_fault (stage.Text cause offset) line x h told e =
       inl (line, text_refused text (stage.Text cause offset) line h told, e)
   told_fault (stage.Automaton fault) line x h told e =
@@ -235,35 +209,13 @@ module _ (solver : SolverData) (replaying : IsReplaying solver) (asked : SynthLi
   told_fault (stage.BadCycle ids) line x h told e =
       absurd (never_lost h.game solver.fed (solver_fault.BadCycle h.holds.cycle) tt
       (replaying solver.fed h.game (Err (solver_fault.BadCycle h.holds.cycle)) h.holds.answered))
-  told_fault (stage.Certificate cause offset) line x h told e =
-      let given =
-      replayed_fault h.game solver.fed cause offset (replaying solver.fed h.game
-      (Err (solver_fault.Text cause offset)) h.holds) in
-      inr (record {
-        file = h.file;
-        accepted = h.accepted;
-        game = h.game;
-        is_game = h.is_game;
-        certificate = given.certificate;
-        is_fed = given.is_fed;
-        answer = Err (record { cause = cause; offset = offset });
-        reads = given.reads;
-        tells = (line, told, e);
-      })
-  told_fault stage.NotCertified line x h told e =
-      certified h.file h.game h.holds.certificate x h.accepted h.is_game h.holds.answered
-      (inl (h.holds.wrong, (line, told, e)))
+  told_fault (stage.Certificate cause offset) line x h told e = search (rules, replayed_fault, told)
+  told_fault stage.NotCertified line x h told e = certified h.file h.game h.holds.certificate x h.accepted h.is_game
+      h.holds.answered (inl (h.holds.wrong, (line, told, e)))
   told_fault stage.CircuitTooLarge line x h told e =
-      certified h.file h.game h.holds.certificate x h.accepted h.is_game h.holds.answered
-      (inr (
+      certified h.file h.game h.holds.certificate x h.accepted h.is_game h.holds.answered (inr (
         h.holds.certified,
-        inl (record {
-          is_game = h.holds.is_game;
-          machine = h.holds.machine;
-          winners = h.holds.winners;
-          above = h.holds.out_of_literals;
-          line = (line, told, e);
-        }),
+        inl (search (rules, told)),
       ))
   told_fault stage.OutOfMemory line x h told e = absurd (no_line told)
 
@@ -305,13 +257,9 @@ report_one files refusals outcomes games certificates circuits apart solver repl
     accepted file a = inr (file, a.reads, (a.admitted, refl))
 
     by : Told solver replaying asked text x → Told solver replaying asked text y → x ≡ y
-    by (inl (l, reads, e)) (inl (m, reads', e')) =
-        let same : l ≡ m = ap (err_or l) (lines (Err l) (Err m) reads reads') in e
-        ∙ ap (err_of {V = Reply}) same ∙ sym e'
-    by (inl (l, reads, e)) (inr b) =
-        absurd (ok_is_not_err b.file l (lines (Ok b.file) (Err l) (accepted b.file b.accepted) reads))
-    by (inr a) (inl (m, reads, e)) =
-        absurd (ok_is_not_err a.file m (lines (Ok a.file) (Err m) (accepted a.file a.accepted) reads))
+    by (inl (l, reads, e)) (inl (m, reads', e')) = grind (arith, lines (Err l) (Err m) reads reads')
+    by (inl (l, reads, e)) (inr b) = grind (arith, ok_is_not_err, lines, accepted)
+    by (inr a) (inl (m, reads, e)) = grind (arith, ok_is_not_err, lines, accepted)
     by (inr a) (inr b) =
         goes_one asked.order asked.compact asked.full circuits apart files games certificates text solver.fed x y a b
 
@@ -322,26 +270,16 @@ module _ (files : OneFile) (refusals : OneRefusal) (outcomes : OneOutcome) (game
     (apart : CircuitOrNone) (solvers : Solvers) (replaying : IsReplaying solvers.replay) (asked : SynthLine)
     (cert : asked.cert ≡ true) where
   synth_one : (texts : List ℕ) → IsOne (AnswersSynth solvers asked texts)
-  synth_one texts x y h k =
-      then_one (CutsInTwo texts) (λ (parts : List ℕ × List ℕ). AnswersReport (feed parts.1 solvers.replay) asked
-      parts.0) (cut_one texts)
-      (λ parts. report_one files refusals outcomes games certificates circuits apart (feed parts.1 solvers.replay)
-      replaying asked parts.0) x y
+  synth_one texts x y h k = then_one (CutsInTwo texts) (λ (parts : List ℕ × List ℕ). AnswersReport
+      (feed parts.1 solvers.replay) asked parts.0) (cut_one texts) (λ parts. search (rules, report_one)) x y
       (subst (λ b. AnswersBy b solvers asked texts x) cert h) (subst (λ b. AnswersBy b solvers asked texts y) cert k)
 
   outcome_of : (input : List ℕ) → IsLine (first_line input) (line.Synth asked) → (a : Reply) →
       AnswersInput solvers input a →
       (x : Result Reply (List ℕ)) × AnswersSynth solvers asked (behind_line input) x × (a ≡ printed x)
   outcome_of input is_line a (l, is_other, (x, answers, e)) =
-      let same = is_line_one (first_line input) l (line.Synth asked) is_other is_line in
-      (x, subst (λ (k : Line). AnswersLine solvers k (behind_line input) x) same answers, e)
+      grind (arith, is_line_one (first_line input) l (line.Synth asked) is_other is_line)
 
   pub certified_one : (input : List ℕ) → IsLine (first_line input) (line.Synth asked) → (a b : Reply) →
       AnswersWhole solvers input a → AnswersWhole solvers input b → a ≡ b
-  certified_one input is_line a b (inl (long, e)) (inl (long', e')) = e ∙ sym e'
-  certified_one input is_line a b (inl (long, e)) (inr (short, h)) = absurd (omega (arith, long, short))
-  certified_one input is_line a b (inr (short, h)) (inl (long, e)) = absurd (omega (arith, long, short))
-  certified_one input is_line a b (inr (short, h)) (inr (short', k)) =
-      let one = outcome_of input is_line a h in
-      let other = outcome_of input is_line b k in
-      one.2 ∙ ap printed (synth_one (behind_line input) one.0 other.0 one.1 other.1) ∙ sym other.2
+  certified_one input is_line a b h k = grind (arith, outcome_of, synth_one)

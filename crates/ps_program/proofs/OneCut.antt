@@ -1,6 +1,5 @@
 -- A text is cut at its marks in one way.
-use Rattle.std.proofs.Common.{◌≡◌, ◌∙◌, ◌+◌, ℕ, true, false, List, [], ◌∷◌, take, drop, Ok, Err, sym, ap, ap₂, subst}
-use Rattle.std.proofs.Common.{inl, inr}
+use Rattle.std.proofs.Common.{arith, ◌≡◌, ◌∙◌, ℕ, true, false, List, [], ◌∷◌, Ok, Err, sym, ap, ap₂, subst, inl, inr}
 use Rattle.std.proofs.lemmas.Bool.{cases_order}
 use Rattle.ps_program.specs.Cut.{AreTexts, Cuts, HasFewerMarks, HasNoMark}
 use Rattle.ps_program.specs.Texts.{CutsInTwo, CutsInThree}
@@ -8,34 +7,19 @@ use Rattle.ps_program.proofs.OneStep.{IsOne, ok_of, err_of}
 
 marks_one : (input first rest first' rest' : List ℕ) (a : Cuts input first rest) (b : Cuts input first' rest') →
     a.mark ≡ b.mark
-marks_one input first rest first' rest' a b = elim (cases_order a.mark b.mark) [
-  | inl equal ↦ equal
-  | inr (inl below) ↦ let bad : true ≡ false = sym a.stands ∙ b.none_before a.mark below in cc
-  | inr (inr above) ↦ let bad : true ≡ false = sym b.stands ∙ a.none_before b.mark above in cc
-]
+marks_one input first rest first' rest' a b = grind (arith, cases_order)
 
 no_cut : (input first rest : List ℕ) → HasNoMark input → Cuts input first rest → ⊥
 no_cut input first rest none a = let bad : true ≡ false = sym a.stands ∙ none a.mark a.within in cc
 
 pub cut_one : (texts : List ℕ) → IsOne (CutsInTwo texts)
-cut_one texts (Ok p) (Ok q) (rest, a, last) (rest', b, last') =
-    let marks = marks_one texts p.0 rest q.0 rest' a b in
-    let firsts : p.0 ≡ q.0 = a.before ∙ ap (λ (n : ℕ). take n texts) marks ∙ sym b.before in
-    let seconds : p.1 ≡ q.1 = last ∙ a.behind ∙ ap (λ (n : ℕ). drop (n + 3) texts) marks ∙ sym b.behind ∙ sym last' in
-    ap₂ (λ (first second : List ℕ). ok_of {V = List ℕ × List ℕ} {E = List ℕ} (first, second)) firsts seconds
-cut_one texts (Ok p) (Err l) (rest, a, last) (inl none, e) = absurd (no_cut texts p.0 rest none a)
-cut_one texts (Ok p) (Err l) h (inr (first, rest, cuts, none), e) = absurd none
-cut_one texts (Err l) (Ok q) (inl none, e) (rest, a, last) = absurd (no_cut texts q.0 rest none a)
-cut_one texts (Err l) (Ok q) (inr (first, rest, cuts, none), e) h = absurd none
-cut_one texts (Err l) (Err m) h k = ap (err_of {V = List ℕ × List ℕ}) (h.1 ∙ sym k.1)
+cut_one texts h2 h3 h k = grind (arith, marks_one, no_cut)
 
 firsts_one : (input first rest first' rest' : List ℕ) → Cuts input first rest → Cuts input first' rest' → first ≡ first'
-firsts_one input first rest first' rest' a b =
-    a.before ∙ ap (λ (n : ℕ). take n input) (marks_one input first rest first' rest' a b) ∙ sym b.before
+firsts_one input first rest first' rest' a b = grind (arith, marks_one)
 
 rests_one : (input first rest first' rest' : List ℕ) → Cuts input first rest → Cuts input first' rest' → rest ≡ rest'
-rests_one input first rest first' rest' a b =
-    a.behind ∙ ap (λ (n : ℕ). drop (n + 3) input) (marks_one input first rest first' rest' a b) ∙ sym b.behind
+rests_one input first rest first' rest' a b = grind (arith, marks_one)
 
 -- two marks, and fewer
 two_marks : (texts first second third : List ℕ) → AreTexts texts (first ∷ second ∷ third ∷ []) →
@@ -54,8 +38,7 @@ cut_three_one texts (Ok p) (Ok q) (rest, a, (behind, b, last)) (rest', a', (behi
     let seconds : p.1 ≡ q.1 = firsts_one rest p.1 behind q.1 behind' b c in
     let thirds : p.2 ≡ q.2 = last ∙ rests_one rest p.1 behind q.1 behind' b c ∙ sym last' in
     ap₂ (λ (first second : List ℕ). ok_of {V = List ℕ × List ℕ × List ℕ} {E = List ℕ} (first, second, p.2)) firsts
-    seconds
-    ∙ ap (λ (third : List ℕ). ok_of {V = List ℕ × List ℕ × List ℕ} {E = List ℕ} (q.0, q.1, third)) thirds
+    seconds ∙ ap (λ (third : List ℕ). ok_of {V = List ℕ × List ℕ × List ℕ} {E = List ℕ} (q.0, q.1, third)) thirds
 cut_three_one texts (Ok p) (Err l) h (fewer, e) = absurd (two_marks texts p.0 p.1 p.2 h fewer)
 cut_three_one texts (Err l) (Ok q) (fewer, e) k = absurd (two_marks texts q.0 q.1 q.2 k fewer)
 cut_three_one texts (Err l) (Err m) h k = ap (err_of {V = List ℕ × List ℕ × List ℕ}) (h.1 ∙ sym k.1)

@@ -1,5 +1,5 @@
 -- A first line is one line of the program.
-use Rattle.std.proofs.Common.{◌≡◌, ◌∙◌, ℕ, true, List, [], refl, sym, subst, inl, inr}
+use Rattle.std.proofs.Common.{arith, ◌≡◌, ◌∙◌, ℕ, true, List, [], refl, sym, subst, inl, inr}
 use Rattle.clap.specs.Simple.{built}
 use Rattle.clap.specs.Words.{Text, IsAmong, fault_of}
 use Rattle.clap.specs.declared.error.kind.ErrorKind.{ErrorKind}
@@ -21,8 +21,7 @@ said_one words a b (inl (none, e)) (inl (none', e')) = e ∙ sym e'
 said_one words a b (inl (none, e)) (inr (kind, among, e')) = absurd (none_among words kind none among)
 said_one words a b (inr (kind, among, e)) (inl (none, e')) = absurd (none_among words kind none among)
 said_one words a b (inr (kind, among, e)) (inr (kind', among', e')) =
-    let one = one_fault table words no_help_command in
-    e ∙ one.same kind among ∙ sym (one.same kind' among') ∙ sym e'
+    grind (arith, one_fault table words no_help_command)
 
 pub is_line_one : (first : List ℕ) → IsOne (IsLine first)
 is_line_one first a b (inl (utf8, h)) (inl (utf8', k)) = said_one (words_of first) a b h k

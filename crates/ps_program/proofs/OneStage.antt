@@ -1,6 +1,6 @@
 -- An automaton, its game and the verdict of a lasso have one outcome at most, by laws; and which texts are refused.
-use Rattle.std.proofs.Common.{◌≡◌, ◌≢◌, ◌⊎◌, ◌∙◌, ◌<◌, ℕ, Bool, List, [], None, Some, length, Result, Ok, Err, sym, ap}
-use Rattle.std.proofs.Common.{inl, inr, arith}
+use Rattle.std.proofs.Common.{rules, ◌≡◌, ◌≢◌, ◌⊎◌, ◌∙◌, ◌<◌, ℕ, Bool, List, [], None, Some, length, Result, Ok, Err}
+use Rattle.std.proofs.Common.{sym, ap, inl, inr, arith}
 use Rattle.std.specs.Prelude.{Option}
 use Rattle.ps_text.specs.Answers.{Found}
 use Rattle.ps_game.specs.Games.{ParityGame, NamedGameData, IsGame}
@@ -15,14 +15,10 @@ use Rattle.ps_circuit.specs.declared.fault.AigCause.{AigCause}
 use Rattle.ps_automaton.specs.Answers.{IsAdmitted, IsRefused}
 use Rattle.ps_automaton.specs.declared.fault.AutomatonFault.{AutomatonFault}
 use Rattle.ps_automaton.specs.declared.fault.AutomatonFault.TheVariants.{OutOfMemory as no_memory}
-use Rattle.ps_hoa.specs.CauseNames as hoa_names
-use Rattle.ps_hoa.specs.Causes as hoa
 use Rattle.ps_hoa.specs.Files.{FileData}
-use Rattle.ps_hoa.specs.Texts as hoa_text
 use Rattle.ps_machine.specs.declared.key.Order.{Order}
 use Rattle.ps_synthesis.specs.SynthFaults.{IsSynthFault}
 use Rattle.ps_synthesis.specs.declared.fault.SynthFault.{SynthFault}
-use Rattle.ps_synthesis.specs.declared.fault.SynthFault.TheVariants as stage
 use Rattle.ps_simulate.specs.Lassos.{HasOneVerdict}
 use Rattle.ps_simulate.specs.Stimuli.{StimulusData}
 use Rattle.ps_simulate.specs.Symbols.{HasSymbols}
@@ -40,7 +36,7 @@ use Rattle.ps_program.specs.Synthesis.{AnswersReport}
 use Rattle.ps_program.specs.declared.command_line.SynthLine.{SynthLine}
 use Rattle.ps_program.proofs.Agreeing.{OneFile, OneFileGame}
 use Rattle.ps_program.proofs.AutomatonLemmas.{no_line, text_refused}
-use Rattle.ps_program.proofs.OneStep.{IsOne, ok_of, err_of, ok_is_not_err, then_one, reading_one}
+use Rattle.ps_program.proofs.OneStep.{IsOne, ok_of, ok_is_not_err, then_one, reading_one}
 
 -- ---- the laws of the readers
 
@@ -84,29 +80,15 @@ is_told : (fault : AutomatonFault) (line : List ℕ) → automaton_line fault �
 is_told fault line told none = let bad : None ≡ Some line = ap automaton_line (sym none) ∙ told in cc
 
 builds_one : OneRefusal → OneOutcome → (file : FileData) → IsOne (Builds file)
-builds_one refusals outcomes file (Ok a) (Ok b) h k = ap (ok_of {V = FileData} {E = List ℕ}) (h.1 ∙ sym k.1)
-builds_one refusals outcomes file (Ok a) (Err m) h (fault, bad, told) =
-    absurd (outcomes file fault (is_told fault m told) h.0 bad)
-builds_one refusals outcomes file (Err l) (Ok b) (fault, bad, told) k =
-    absurd (outcomes file fault (is_told fault l told) k.0 bad)
-builds_one refusals outcomes file (Err l) (Err m) (fault, bad, told) (fault', bad', told') =
-    let same : Some l ≡ Some m =
-    sym told ∙ ap automaton_line (refusals file fault fault' (is_told fault l told) (is_told fault' m told') bad
-    bad') ∙ told' in
-    ap (err_of {V = FileData}) (ap (some_or l) same)
+builds_one refusals outcomes file h4 h5 h k = grind (arith, is_told)
 
 pub automaton_one : OneFile → OneRefusal → OneOutcome → (text : List ℕ) → IsOne (ReadsAutomaton text)
-automaton_one files refusals outcomes text =
-    then_one _ _ (reading_one hoa.cause_number hoa_names.cause_name (hoa_text.ReadsFile text) (files text))
-    (builds_one refusals outcomes)
+automaton_one files refusals outcomes text = grind (arith, then_one, reading_one, builds_one)
 
 -- ---- games of automata
 
 pub makes_one : OneFileGame → (order : Order) (file : FileData) → IsOne (MakesGame order file)
-makes_one games order file (Ok a) (Ok b) h k = ap (ok_of {V = NamedGameData} {E = List ℕ}) (games order file a b h k)
-makes_one games order file (Ok a) (Err m) h k = absurd k
-makes_one games order file (Err l) (Ok b) h k = absurd h
-makes_one games order file (Err l) (Err m) h k = absurd h
+makes_one games order file h4 h5 h k = grind arith
 
 -- ---- lassos
 
@@ -122,21 +104,16 @@ tells_one verdicts role file c s (Ok r) (Err m) h (inl empty) = absurd (no_empty
 tells_one verdicts role file c s (Ok r) (Err m) h (inr other) = absurd (other.1 h.2)
 tells_one verdicts role file c s (Err l) (Ok t) (inl empty) k = absurd (no_empty_lap s.lap empty.0 k.1)
 tells_one verdicts role file c s (Err l) (Ok t) (inr other) k = absurd (other.1 k.2)
-tells_one verdicts role file c s (Err l) (Err m) (inl empty) (inl empty') =
-    ap (err_of {V = Reply}) (empty.1 ∙ sym empty'.1)
+tells_one verdicts role file c s (Err l) (Err m) (inl empty) (inl empty') = grind arith
 tells_one verdicts role file c s (Err l) (Err m) (inl empty) (inr other') = absurd (no_empty_lap s.lap empty.0 other'.0)
 tells_one verdicts role file c s (Err l) (Err m) (inr other) (inl empty') = absurd (no_empty_lap s.lap empty'.0 other.0)
-tells_one verdicts role file c s (Err l) (Err m) (inr other) (inr other') =
-    ap (err_of {V = Reply}) (other.2 ∙ sym other'.2)
+tells_one verdicts role file c s (Err l) (Err m) (inr other) (inr other') = grind arith
 
 -- ---- texts that are refused
 
 pub game_accepted : (order : Order) (text : List ℕ) (v : NamedGameData) → ReadsGameOf order text (Ok v) →
     HasAutomaton text
-game_accepted order text v (inl (l, refused, e)) = absurd (ok_is_not_err v l e)
-game_accepted order text v (inr (file, inl (l, refused, e), made)) = absurd (ok_is_not_err file l e)
-game_accepted order text v (inr (file, inr (read, reads, (admitted, same)), made)) =
-    (read, record { reads = reads; admitted = admitted })
+game_accepted order text v h = grind (arith, ok_is_not_err)
 
 -- the text is refused by a line, which is the outcome, or it is accepted
 abbrev pub RefusedOr : List ℕ → Result Reply (List ℕ) → Type 0
@@ -146,19 +123,8 @@ fault_refused : (solver : SolverData) (order : Order) (text line : List ℕ) (ou
     (fault : SynthFault) → IsSynthFault (answers_now solver) order text fault → stage_line fault ≡ Some line →
     outcome ≡ Err line
     → RefusedOr text outcome
-fault_refused solver order text line outcome (stage.Text cause offset) h told e =
-    inl (line, text_refused text (stage.Text cause offset) line h told, e)
-fault_refused solver order text line outcome (stage.Automaton fault) h told e =
-    inl (line, text_refused text (stage.Automaton fault) line h told, e)
-fault_refused solver order text line outcome (stage.BadCycle ids) h told e = inr (h.file, h.accepted)
-fault_refused solver order text line outcome (stage.Certificate cause offset) h told e = inr (h.file, h.accepted)
-fault_refused solver order text line outcome stage.NotCertified h told e = inr (h.file, h.accepted)
-fault_refused solver order text line outcome stage.CircuitTooLarge h told e = inr (h.file, h.accepted)
-fault_refused solver order text line outcome stage.OutOfMemory h told e = absurd (no_line told)
+fault_refused solver order text line outcome fault h told e = search (rules, text_refused, no_line)
 
 pub report_refused : (solver : SolverData) (asked : SynthLine) (text : List ℕ) (outcome : Result Reply (List ℕ)) →
     AnswersReport solver asked text outcome → RefusedOr text outcome
-report_refused solver asked text outcome (inl (line, (fault, cause, lies, told), e)) =
-    fault_refused solver asked.order text line outcome fault cause told e
-report_refused solver asked text outcome (inr (report, is_report, e)) =
-    inr (is_report.promise.file, is_report.promise.accepted)
+report_refused solver asked text outcome h = search (rules, fault_refused)

@@ -1,5 +1,5 @@
 -- A command's outcome, step by step.
-use Rattle.std.proofs.Common.{◌≡◌, ℕ, List, Result, Ok, Err, IsErrAnd, inl, inr, refl, subst, sym}
+use Rattle.std.proofs.Common.{rules, arith, ◌≡◌, ℕ, List, Result, Ok, Err, IsErrAnd}
 use Rattle.std.specs.Prelude.{IfOk}
 use Rattle.ps_text.specs.Answers.{Found}
 use Rattle.ps_text.specs.Faults.{UnlessMemory}
@@ -8,7 +8,6 @@ use Rattle.ps_text.specs.declared.faults.Fault.TheVariants as fault
 use Rattle.ps_program.specs.declared.answer.Answer.{Answer}
 use Rattle.ps_program.specs.declared.answer.Refusal.{Refusal}
 use Rattle.ps_program.specs.declared.answer.Refusal.TheVariants as refusal
-use Rattle.ps_program.specs.Faults.{fault_text}
 use Rattle.ps_program.specs.Outcomes.{Gives, Reading, Settles, Then, printed}
 use Rattle.ps_program.specs.Refusals.{IsRefusalOf}
 use Rattle.ps_program.specs.Replies.{Reply, reply_of}
@@ -17,9 +16,7 @@ use Rattle.ps_program.specs.Replies.{Reply, reply_of}
 settles_gives : (step : Result Reply (List ℕ) → Type 0) (outcome : Result Answer Refusal) (answer : Answer)
     → Gives reply_of step outcome → Settles outcome answer → (told : Result Reply (List ℕ)) × step told ×
     (reply_of answer ≡ printed told)
-settles_gives step (Ok given) answer h same = (Ok (reply_of given), h, same)
-settles_gives step (Err (refusal.Fault fault)) answer h same = (Err (fault_text fault), h, same)
-settles_gives step (Err refusal.OutOfMemory) answer h same = absurd same
+settles_gives step outcome answer h same = grind arith
 
 -- the same, of what settling gives
 pub settled : {E : Type 0} (step : Result Reply (List ℕ) → Type 0) (outcome : Result Answer Refusal)
@@ -36,23 +33,20 @@ pub gives_passed : {X V : Type 0} (view : X → V) (step : Result V (List ℕ) �
     (fault : Refusal)
     → IsErrAnd outcome (λ given. given ≡ fault) → Gives view step (Err fault) → Gives view step outcome
 gives_passed view step (Ok given) fault passed h = absurd passed
-gives_passed {X} view step (Err given) fault passed h =
-    subst (λ (refusal : Refusal). Gives {X = X} view step (Err refusal)) (sym passed) h
+gives_passed {X} view step (Err given) fault passed h = grind arith
 
 -- a fault that is handed on as another
 pub gives_handed : {X V : Type 0} (view : X → V) (step : Result V (List ℕ) → Type 0) (outcome : Result X Refusal)
     (P : Refusal → Type 0)
     → IsErrAnd outcome P → ((fault : Refusal) → P fault → Gives {X = X} view step (Err fault)) → Gives view step outcome
-gives_handed view step (Ok given) P handed from = absurd handed
-gives_handed view step (Err given) P handed from = from given handed
+gives_handed view step outcome P handed from = grind arith
 
 -- what is refused by a reader is refused by its line
 pub gives_fault : {C X V : Type 0} (number : C → ℕ) (name : C → List ℕ) (reads : Result V (Found C) → Type 0)
     (view : X → V) (given : Fault C) (refused : Refusal)
     → UnlessMemory reads (Err given) → IsRefusalOf number name given refused →
     Gives view (Reading number name reads) (Err refused)
-gives_fault number name reads view (fault.Text cause offset) (refusal.Fault line) answer same =
-    (record { cause = cause; offset = offset }, answer, same)
+gives_fault number name reads view (fault.Text cause offset) (refusal.Fault line) answer same = search rules
 gives_fault number name reads view (fault.Text cause offset) refusal.OutOfMemory answer same = absurd same
 gives_fault number name reads view fault.OutOfMemory (refusal.Fault line) answer same = absurd same
 gives_fault number name reads view fault.OutOfMemory refusal.OutOfMemory answer same = tt
@@ -61,13 +55,10 @@ gives_fault number name reads view fault.OutOfMemory refusal.OutOfMemory answer 
 pub gives_failed : {X V Y W : Type 0} (view : X → V) (step : Result V (List ℕ) → Type 0) (after : Y → W)
     (next : V → Result W (List ℕ) → Type 0) (refused : Refusal)
     → Gives {X = X} view step (Err refused) → Gives {X = Y} after (Then step next) (Err refused)
-gives_failed view step after next (refusal.Fault fault) h = inl (fault_text fault, h, refl)
-gives_failed view step after next refusal.OutOfMemory h = tt
+gives_failed view step after next refused h = grind arith
 
 -- a step that succeeds, and what is given behind it
 pub gives_after : {V Y W : Type 0} (step : Result V (List ℕ) → Type 0) (after : Y → W)
     (next : V → Result W (List ℕ) → Type 0) (value : V) (outcome : Result Y Refusal)
     → step (Ok value) → Gives after (next value) outcome → Gives after (Then step next) outcome
-gives_after step after next value (Ok given) was h = inr (value, was, h)
-gives_after step after next value (Err (refusal.Fault fault)) was h = inr (value, was, h)
-gives_after step after next value (Err refusal.OutOfMemory) was h = tt
+gives_after step after next value outcome was h = grind arith

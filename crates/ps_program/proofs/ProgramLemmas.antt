@@ -1,6 +1,5 @@
 -- Which reply the whole program gives.
-use Rattle.std.proofs.Common.{◌≡◌, ◌≤◌, ◌∙◌, ℕ, Bool, true, false, List, [], ◌++◌, length, Some, inl, inr, sym, ap, ap₂}
-use Rattle.std.proofs.Common.{subst}
+use Rattle.std.proofs.Common.{arith, ◌≡◌, ◌≤◌, ℕ, Bool, false, List, [], length, Some, inl, inr, sym, subst}
 use Rattle.std.specs.Prelude.{Option}
 use Rattle.ps_program.specs.Input.{AgreesWith, input_limit}
 use Rattle.ps_program.specs.Program.{AnswersInput, AnswersWhole, Replies, RepliesTo, Writes}
@@ -10,18 +9,15 @@ use Rattle.ps_program.specs.Streams.{Breaks}
 
 -- an answer to the whole input is a reply to the source that had it
 pub replies_answer : (solvers : Solvers) (known : Option (List ℕ)) (has_failed : Bool) (input : List ℕ) (reply : Reply)
-    → has_failed ≡ false
-    → AgreesWith known input → length input ≤ input_limit → AnswersInput solvers input reply →
+    → has_failed ≡ false → AgreesWith known input → length input ≤ input_limit → AnswersInput solvers input reply →
     Replies solvers known has_failed reply
-replies_answer solvers known false input reply sound agrees small answers = inr (input, agrees, inr (small, answers))
-replies_answer solvers known true input reply sound agrees small answers = cc
+replies_answer solvers known has_failed input reply sound agrees small answers = grind arith
 
 abbrev made : List ℕ → ℕ → Reply
 made text status = record { text = text; status = status }
 
 unbroken : (has_failed : Bool) → has_failed ≡ false → Breaks has_failed false → ⊥
-unbroken has_failed sound (inl failed) = let bad : true ≡ false = sym failed.0 ∙ sound in cc
-unbroken has_failed sound (inr stalled) = let bad : false ≡ true = stalled.1 in cc
+unbroken has_failed sound h = grind arith
 
 -- what went out to an empty sink that neither failed nor stalled is the reply
 written_whole : (reply : Reply) (items text : List ℕ) (failed_before flushed_before failed_after flushed_after : Bool)
@@ -34,10 +30,8 @@ written_whole : (reply : Reply) (items text : List ℕ) (failed_before flushed_b
     })
     (record { contents = Some text; has_failed = failed_after; has_stalled = false; is_flushed = flushed_after }) reply
     status → made text status ≡ reply
-written_whole reply items text failed_before flushed_before failed_after flushed_after status none sound (inl all) =
-    ap₂ made (all.text ∙ ap (λ (front : List ℕ). front ++ reply.text) none) all.answered
-written_whole reply items text failed_before flushed_before failed_after flushed_after status none sound (inr part) =
-    absurd (unbroken failed_after sound part.broken)
+written_whole reply items text failed_before flushed_before failed_after flushed_after status none sound h =
+    grind (arith, unbroken)
 
 replies_to : (solvers : Solvers) (input : List ℕ) (reply : Reply) → Replies solvers (Some input) false reply →
     RepliesTo solvers input reply
@@ -59,5 +53,4 @@ pub replies_to_whole : (solvers : Solvers) (input : List ℕ) (reply : Reply) (i
 replies_to_whole solvers input reply items text failed_before flushed_before failed_after flushed_after status none
     sound replies writes =
     subst (λ (r : Reply). RepliesTo solvers input r) (sym (written_whole reply items text failed_before flushed_before
-    failed_after flushed_after status none sound writes))
-    (replies_to solvers input reply replies)
+    failed_after flushed_after status none sound writes)) (replies_to solvers input reply replies)

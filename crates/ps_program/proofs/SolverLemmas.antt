@@ -1,32 +1,22 @@
 -- What is told of a solver's fault.
-use Rattle.std.proofs.Common.{◌≡◌, ◌∙◌, Bool, true, false, Err, ap, refl, sym}
+use Rattle.std.proofs.Common.{arith, ◌≡◌, Bool, true, false, Err}
 use Rattle.ps_game.specs.Games.{NamedGameData}
 use Rattle.ps_certificate.specs.Certificates.{CertificateData}
 use Rattle.ps_synthesis.specs.Stages.{IsSolverFault}
 use Rattle.ps_synthesis.specs.declared.fault.SynthFault.{SynthFault}
 use Rattle.ps_synthesis.specs.declared.fault.SynthFault.TheVariants.{OutOfMemory}
 use Rattle.ps_program.specs.declared.answer.Refusal.{Refusal}
-use Rattle.ps_program.specs.declared.answer.Refusal.TheVariants as refusal
-use Rattle.ps_program.specs.Faults.{fault_text}
 use Rattle.ps_program.specs.Outcomes.{Gives}
 use Rattle.ps_program.specs.Solvers.{SolverData, answers_now}
 use Rattle.ps_program.specs.Solving.{Certifies}
-use Rattle.ps_program.specs.StageFaults.{IsTold, stage_line}
+use Rattle.ps_program.specs.StageFaults.{IsTold}
 use Rattle.ps_program.proofs.AutomatonLemmas.{no_line}
 
 pub unsure : (sure : Bool) → (sure ≡ true → ⊥) → sure ≡ false
-unsure false never = refl
-unsure true never = absurd (never refl)
+unsure sure never = grind arith
 
 -- what is answered in the place of a certificate
 pub certifies_refused : (solver : SolverData) (named : NamedGameData) (fault : SynthFault) (refused : Refusal) →
     IsSolverFault (answers_now solver) named fault → (solver.is_sure ≡ true → fault ≡ OutOfMemory)
     → IsTold fault refused → Gives (λ (c : CertificateData). c) (Certifies solver named) (Err refused)
-certifies_refused solver named fault (refusal.Fault line) cause surely told = (
-  fault,
-  cause,
-  unsure solver.is_sure (λ t. no_line {line = fault_text line}
-      (sym (ap stage_line (surely t)) ∙ told)),
-  told,
-)
-certifies_refused solver named fault refusal.OutOfMemory cause surely told = tt
+certifies_refused solver named fault refused cause surely told = grind (arith, unsure, no_line)

@@ -1,5 +1,5 @@
 -- What synthesis answers: where its fault lies, and by what its solver may answer.
-use Rattle.std.proofs.Common.{◌≡◌, ◌∙◌, ℕ, Bool, true, false, List, Result, Ok, Err, inl, inr, subst, sym}
+use Rattle.std.proofs.Common.{rules, arith, ◌≡◌, ℕ, Bool, true, false, List, Result, Ok, Err, inl, inr, subst}
 use Rattle.std.specs.Prelude.{Option}
 use Rattle.ps_hoa.specs.Files.{FileData}
 use Rattle.ps_machine.specs.declared.key.Order.{Order}
@@ -7,7 +7,6 @@ use Rattle.ps_synthesis.specs.Reports.{IsReport}
 use Rattle.ps_synthesis.specs.Promises.{IsAcceptedText, MayAnswer}
 use Rattle.ps_synthesis.specs.SynthFaults.{IsOutcome, IsSynthFault}
 use Rattle.ps_synthesis.specs.declared.fault.SynthFault.{SynthFault}
-use Rattle.ps_synthesis.specs.declared.fault.SynthFault.TheVariants.{BadCycle, Certificate, NotCertified}
 use Rattle.ps_synthesis.specs.declared.report.Report.{Report}
 use Rattle.ps_synthesis.proofs.Outcomes.{AnswersMore, fault_more, report_more, sure_in}
 use Rattle.ps_program.specs.declared.answer.Answer.{Answer}
@@ -27,13 +26,7 @@ pub unsure_of : (May : MayAnswer) (order : Order) (compact : Bool) (text : List 
     IsSynthFault May order text fault
     → (sure ≡ true → (file : FileData) → IsAcceptedText text file → IsOutcome May order compact text (Err fault)) →
     IsOfSolver fault → sure ≡ false
-unsure_of May order compact text sure (BadCycle ids) cause surely lies =
-    unsure sure (λ t. sure_in May order compact text (Err (BadCycle ids)) (surely t cause.file cause.accepted))
-unsure_of May order compact text sure (Certificate c offset) cause surely lies =
-    unsure sure (λ t. sure_in May order compact text (Err (Certificate c offset)) (surely t cause.file cause.accepted))
-unsure_of May order compact text sure NotCertified cause surely lies =
-    unsure sure (λ t. sure_in May order compact text (Err NotCertified) (surely t cause.file cause.accepted))
-unsure_of May order compact text sure _ cause surely lies = absurd lies
+unsure_of May order compact text sure fault cause surely lies = grind (arith, unsure, sure_in)
 
 -- what is answered where there is no report
 pub gives_told : (solver : SolverData) (order : Order) (compact : Bool) (text : List ℕ) (fault : SynthFault)
@@ -42,9 +35,7 @@ pub gives_told : (solver : SolverData) (order : Order) (compact : Bool) (text : 
     → (solver.is_sure ≡ true → (file : FileData) → IsAcceptedText text file →
     IsOutcome (answers_now solver) order compact text (Err fault))
     → IsTold fault refused → Gives (λ (report : Report). report) (Synthesises solver order compact text) (Err refused)
-gives_told solver order compact text fault (refusal.Fault line) cause surely told =
-    (fault, cause, unsure_of (answers_now solver) order compact text solver.is_sure fault cause surely, told)
-gives_told solver order compact text fault refusal.OutOfMemory cause surely told = tt
+gives_told solver order compact text fault refused cause surely told = grind (arith, unsure_of)
 
 -- ---- a solver that was fed
 
@@ -54,24 +45,15 @@ module _ (sure sure' : Bool) (held held' : Option (List ℕ)) (may may' : Option
     synthesises_fed : (order : Order) (compact : Bool) (text : List ℕ) (outcome : Result Report (List ℕ))
         → Synthesises (solver_of sure' held' may') order compact text outcome →
         Synthesises (solver_of sure held may) order compact text outcome
-    synthesises_fed order compact text (Ok report) h =
-        report_more (may' held) (may held) (same held) order text compact report
-        (subst (λ (fed : Option (List ℕ)). IsReport (may' fed) order compact text report) fed h)
-    synthesises_fed order compact text (Err line) (fault, cause, lies, told) = (
-      fault,
-      fault_more (may' held) (may held) (same held) order text fault
-          (subst (λ (fed : Option (List ℕ)). IsSynthFault (may' fed) order text fault) fed cause),
-      (λ h. sym steady ∙ lies h),
-      told,
-    )
+    synthesises_fed order compact text (Ok report) h = report_more (may' held) (may held) (same held) order text compact
+        report (subst (λ (fed : Option (List ℕ)). IsReport (may' fed) order compact text report) fed h)
+    synthesises_fed order compact text (Err line) (fault, cause, lies, told) = grind (arith, fault_more)
 
     answers_fed : (asked : SynthLine) (text : List ℕ) (outcome : Result Reply (List ℕ))
         → AnswersReport (solver_of sure' held' may') asked text outcome →
         AnswersReport (solver_of sure held may) asked text outcome
-    answers_fed asked text outcome (inl (line, h, e)) =
-        inl (line, synthesises_fed asked.order asked.compact text (Err line) h, e)
-    answers_fed asked text outcome (inr (report, h, e)) =
-        inr (report, synthesises_fed asked.order asked.compact text (Ok report) h, e)
+    answers_fed asked text outcome (inl (line, h, e)) = inl (line, search (rules, synthesises_fed), e)
+    answers_fed asked text outcome (inr (report, h, e)) = inr (report, search (rules, synthesises_fed), e)
 
     -- what is given by the solver as it is now is given by the one that it was, once fed
     pub gives_fed : (asked : SynthLine) (text : List ℕ) (result : Result Answer Refusal)

@@ -1,5 +1,5 @@
 -- Faults of texts, and the vertices of flaws.
-use Rattle.std.proofs.Common.{◌<◌, ℕ, List, Option, IfSome, Ok, Err, refl, inl, inr, subst}
+use Rattle.std.proofs.Common.{arith, ◌<◌, ℕ, List, Ok, Err, refl, inl, inr}
 use Rattle.ps_game.specs.Games.{ParityGame, NamedGameData, IsGame, vertex_count}
 use Rattle.ps_certificate.specs.declared.flaw.Flaw.{Flaw}
 use Rattle.ps_certificate.specs.declared.flaw.Flaw.TheVariants as flaw
@@ -17,8 +17,7 @@ remains_within game given v w is_game remains = (remains.edge.0, is_game.within 
 
 pub flaw_names_vertices : (game : ParityGame) (given : CertificateData) (found : Flaw) → IsGame game → Fits game given
     → IsFlaw game given found → NamesVertices (vertex_count game) found
-flaw_names_vertices game given (flaw.Move v choice) is_game fits h =
-    (h.0, subst (λ (move : Option ℕ). IfSome move (λ w. w < vertex_count game)) h.1 (fits.choices v h.0))
+flaw_names_vertices game given (flaw.Move v choice) is_game fits h = grind arith
 flaw_names_vertices game given (flaw.Escape v w) is_game fits h = remains_within game given v w is_game h.0
 flaw_names_vertices game given (flaw.Rank v w p) is_game fits h = remains_within game given v w is_game h.remains
 
@@ -33,8 +32,7 @@ both_view both = (both.0, both.1)
 pub certified_game_fault : (texts first second : List ℕ) (fault : Refusal) → CutsInTwo texts (Ok (first, second))
     → Gives {X = NamedGameData} (λ named. named) (ReadsGameText first) (Err fault) →
     Gives both_view (ReadsCertified texts) (Err fault)
-certified_game_fault texts first second (refusal.Fault fault) cuts h =
-    inr ((first, second), cuts, inl (fault_text fault, h, refl))
+certified_game_fault texts first second (refusal.Fault fault) cuts h = inr ((first, second), cuts, grind arith)
 certified_game_fault texts first second refusal.OutOfMemory cuts h = tt
 
 -- so is the fault of a certificate text behind a game text

@@ -1,19 +1,14 @@
 -- Lists of bits that differ are no more than the numbers of as many bits.
 use Rattle.std.proofs.Common.{◌≡◌, ◌≢◌, ℕ, suc, ◌+◌, ◌*◌, ◌^◌, ◌<◌, ◌≤◌, Bool, true, false, List, [], ◌∷◌, length}
-use Rattle.std.proofs.Common.{get_or, map, refl, ◌∙◌, subst, arith, rules}
-use Rattle.std.specs.Prelude.{◌||◌}
+use Rattle.std.proofs.Common.{get_or, map, refl, arith, rules, cond, ◌++◌, ◌⊎◌, inl, inr, length-append}
 use Rattle.std.proofs.Math.Nat.{pow-suc}
 use Rattle.std.proofs.Math.Dec.{eqb}
 use Rattle.std.specs.List.{list_any}
-use Rattle.std.proofs.lemmas.Bool.{ne_eqb, eqb-true}
-use Rattle.std.proofs.lemmas.List.{length-map, get_or-map}
+use Rattle.std.proofs.lemmas.Bool.{ne_eqb, eqb-true, cases_lt}
+use Rattle.std.proofs.lemmas.List.{length-map, get_or-map, get_or_append_left}
 use Rattle.std.proofs.lemmas.Map.Keys.{IsDistinct-from_apart}
 use Rattle.std.proofs.lemmas.Map.Steps.{length-le_from_distinct_below}
-use Rattle.std.proofs.Common.{cond}
-use Rattle.std.proofs.Common.{◌++◌, ◌⊎◌, inl, inr, length-append}
 use Rattle.std.proofs.Math.Seq.{get_or-append_seam}
-use Rattle.std.proofs.lemmas.Bool.{cases_lt}
-use Rattle.std.proofs.lemmas.List.{get_or_append_left}
 
 -- an element of a list with one more is one of the list's, or the last
 pub at_push : {X : Type 0} (xs : List X) (x d : X) (k : ℕ) → k < length (xs ++ x ∷ []) →
@@ -21,8 +16,7 @@ pub at_push : {X : Type 0} (xs : List X) (x d : X) (k : ℕ) → k < length (xs 
     ((k ≡ length xs) × (get_or (xs ++ x ∷ []) k d ≡ x))
 at_push xs x d k lt = elim (cases_lt k (length xs)) [
   | inl less ↦ inl (less, get_or_append_left xs (x ∷ []) d k less)
-  | inr ge ↦ (let e : k ≡ length xs = omega (arith, length-append xs (x ∷ [])) in
-      inr (e, rw e (get_or-append_seam xs x [] d)))
+  | inr ge ↦ grind (arith, length-append xs (x ∷ []), get_or-append_seam xs x [] d)
 ]
 
 -- a list of bits as a number
@@ -49,8 +43,7 @@ below n (x ∷ xs) all q e =
 -- different numbers below n are no more than n
 pub few_below : (n : ℕ) (xs : List ℕ) → ((k : ℕ) → k < length xs → get_or xs k 0 < n) →
     ((k l d : ℕ) → k < l → l < length xs → get_or xs k d ≢ get_or xs l d) → length xs ≤ n
-few_below n xs all differ = length-le_from_distinct_below xs n (IsDistinct-from_apart eqb xs
-    (λ i j d lt within. ne_eqb (get_or xs i d) (get_or xs j d) (differ i j d lt within))) (below n xs all)
+few_below n xs all differ = search (rules, length-le_from_distinct_below, IsDistinct-from_apart, ne_eqb, below)
 
 pub few_seen : (n : ℕ) (seen : List (List Bool)) → ((k : ℕ) → k < length seen → length (get_or seen k []) ≡ n)
     → ((k l : ℕ) → k < l → l < length seen → get_or seen k [] ≢ get_or seen l []) → length seen ≤ 2 ^ n
@@ -62,6 +55,5 @@ few_seen n seen wide differ =
     let apart : (i j d : ℕ) → i < j → j < length codes → eqb (get_or codes i d) (get_or codes j d) ≡ false =
     search (rules, ne_eqb, code_same) in
     let le : length codes ≤ 2 ^ n = length-le_from_distinct_below codes (2 ^ n) (IsDistinct-from_apart eqb codes apart)
-    (below (2 ^ n) codes (λ k lt. rw (at k (omega arith) 0) (subst (λ m. code (get_or seen k []) < 2 ^ m)
-    (wide k (omega arith)) (code_lt (get_or seen k []))))) in
+    (below (2 ^ n) codes (λ k lt. grind (arith, code_lt))) in
     omega arith

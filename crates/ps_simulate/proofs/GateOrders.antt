@@ -1,9 +1,9 @@
 -- Numbers below n, of which none leads back to itself, stand in an order; so do the gates of a circuit.
-use Rattle.std.proofs.Common.{◌≡◌, ◌≢◌, ℕ, zero, suc, ◌+◌, ◌<◌, ◌⊎◌, inl, inr, List, [], ◌∷◌, ◌++◌, length, get_or, sym}
-use Rattle.std.proofs.Common.{ap, ◌∙◌, subst, arith, Some, length-append, rules}
+use Rattle.std.proofs.Common.{◌≡◌, ◌≢◌, ℕ, zero, suc, ◌+◌, ◌<◌, inl, inr, List, [], ◌∷◌, ◌++◌, length, get_or, sym}
+use Rattle.std.proofs.Common.{ap, ◌∙◌, arith, Some, length-append, rules}
 use Rattle.std.specs.Prelude.{slice_get}
 use Rattle.std.proofs.Math.Seq.{get_or-append_seam}
-use Rattle.std.proofs.lemmas.Bool.{cases_lt, cases_eq}
+use Rattle.std.proofs.lemmas.Bool.{cases_lt, cases_eq, cases_order}
 use Rattle.std.proofs.lemmas.List.{get_or_append_left, get_or_default}
 use Rattle.std.proofs.lemmas.Option.{slice_get-get_or, get_or_from_slice_get, slice_get_within}
 use Rattle.ps_components.specs.Graphs.{Way, last}
@@ -13,7 +13,6 @@ use Rattle.ps_circuit.specs.declared.parts.Gate.{Gate}
 use Rattle.ps_circuit.specs.Circuits.{CircuitData, IsCircuit, ReadsGate}
 use Rattle.ps_circuit.specs.Literals.{variable}
 use Rattle.ps_simulate.proofs.CountLemmas.{at_push, few_below}
-use Rattle.std.proofs.lemmas.Bool.{cases_order}
 use Rattle.ps_text.proofs.Decisions.{Decided, decide_as, decide_below, decide_in, decide_one}
 use Rattle.ps_automaton.proofs.Deciding.{decide_some}
 
@@ -70,16 +69,10 @@ module _ (R : ℕ → ℕ → Type 0) (n : ℕ) (to_within : (i j : ℕ) → R i
   longer {path} {i} j is lt r = record { below = below; differ = differ; leads = leads }
     where
       below : (k : ℕ) → k < length (i ∷ path) → get_or (i ∷ path) k 0 < n
-      below zero k_lt = lt
-      below (suc k) k_lt = is.below k (omega (arith, k_lt))
+      below k k_lt = grind arith
 
       differ : (k l d : ℕ) → k < l → l < length (i ∷ path) → get_or (i ∷ path) k d ≢ get_or (i ∷ path) l d
-      differ zero zero d less l_lt e = absurd (omega (arith, less))
-      differ zero (suc l) d less l_lt e =
-          acyclic i (subst (λ m. Way R m i) (sym (e ∙ get_or_default path l d 0 (omega (arith, l_lt))))
-          (is.leads l (omega (arith, l_lt))))
-      differ (suc k) zero d less l_lt e = absurd (omega (arith, less))
-      differ (suc k) (suc l) d less l_lt e = is.differ k l d (omega (arith, less)) (omega (arith, l_lt)) e
+      differ h1 h2 d less l_lt e = grind (arith, get_or_default)
 
       leads : (k : ℕ) → k < length (i ∷ path) → Way R (get_or (i ∷ path) k 0) j
       leads zero k_lt = last r
@@ -100,26 +93,15 @@ module _ (R : ℕ → ℕ → Type 0) (n : ℕ) (to_within : (i j : ℕ) → R i
           keeps = λ j s. (let old = sides.keeps j s in (
             old.0,
             omega (arith, old.1, length-append sides.new (i ∷ [])),
-            get_or_append_left sides.new (i ∷ []) 0 old.0 old.1 ∙ old.2,
+            grind (arith, get_or_append_left),
           ));
-          has = λ k e. (
-            length sides.new,
-            omega (arith, length-append sides.new (i ∷ [])),
-            get_or-append_seam sides.new i [] 0 ∙ e,
-          );
+          has = grind (arith, length-append sides.new (i ∷ []), get_or-append_seam sides.new i [] 0);
         }
       ]
 
   all_placed : Grown [] (λ k. (k < n) × (k < n))
-  all_placed = each_below (λ k. k < n) (λ k. decide_below (suc k) n) (λ j lt. visit (suc n) [] (record {
-    below = λ k k_lt. absurd (omega (arith, k_lt));
-    differ = λ k l d less l_lt. absurd (omega (arith, l_lt));
-    leads = λ k k_lt. absurd (omega (arith, k_lt));
-  }) (omega arith) lt) n [] (record {
-    below = λ k k_lt. absurd (omega (arith, k_lt));
-    once = λ k l less l_lt. absurd (omega (arith, l_lt));
-    behind = λ k j k_lt r. absurd (omega (arith, k_lt));
-  })
+  all_placed = each_below (λ k. k < n) (λ k. decide_below (suc k) n)
+      (λ j lt. visit (suc n) [] (grind arith) (omega arith) lt) n [] (grind arith)
 
   pub order_exists : (order : List ℕ) × IsOrder R n order
   order_exists =
@@ -138,8 +120,7 @@ module _ (R : ℕ → ℕ → Type 0) (n : ℕ) (to_within : (i j : ℕ) → R i
             s.0,
             slice_get-get_or xs s.0 0 s.1 ∙ ap (λ (x : ℕ). Some x) s.2,
           ));
-          behind = λ k l i j e f r.
-              (let b = is.behind k j (slice_get_within xs k i e) (rw (read k i e) r) in
+          behind = λ k l i j e f r. (let b = is.behind k j (slice_get_within xs k i e) (rw (read k i e) r) in
               let there : slice_get xs b.0 ≡ Some j = search (rules, slice_get-get_or, slice_get_within) in
               omega (arith, once b.0 l j there f, b.1));
         },
@@ -147,11 +128,10 @@ module _ (R : ℕ → ℕ → Type 0) (n : ℕ) (to_within : (i j : ℕ) → R i
 
 -- the one gate has a literal of the other, or hasn't
 reads_or_not : (gates : List Gate) (i j : ℕ) → Decided (ReadsGate gates i j)
-reads_or_not gates i j =
-    decide_as (λ h. record { reader = h.0; read = h.2.0; at_i = h.1; at_j = h.2.1; side = h.2.2 })
+reads_or_not gates i j = decide_as (λ h. record { reader = h.0; read = h.2.0; at_i = h.1; at_j = h.2.1; side = h.2.2 })
     (λ r. (r.reader, r.at_i, (r.read, r.at_j, r.side)))
-    (decide_some (slice_get gates i) _ (λ g. decide_some (slice_get gates j) _ (λ h.
-    decide_one (cases_eq (variable g.first) (variable h.literal)) (cases_eq (variable g.second) (variable h.literal)))))
+    (decide_some (slice_get gates i) _ (λ g. decide_some (slice_get gates j) _ (λ h. decide_one
+    (cases_eq (variable g.first) (variable h.literal)) (cases_eq (variable g.second) (variable h.literal)))))
 
 pub gates_in_order : {c : CircuitData} → IsCircuit c → (order : List ℕ) ×
     IsOrder (ReadsGate c.gates) (length c.gates) order

@@ -1,6 +1,6 @@
 -- Lanes of words: each goes as the plain table goes.
 use Rattle.std.proofs.Common.{◌≡◌, ℕ, ◌+◌, ◌/◌, ◌%◌, ◌<◌, ◌&&◌, ◌==◌, Bool, true, false, not, cond, List, []}
-use Rattle.std.proofs.Common.{◌∷◌, ◌++◌, map, take, drop, length, get_or, sym, ap, ap₂, ◌∙◌, arith, rules}
+use Rattle.std.proofs.Common.{◌∷◌, ◌++◌, map, take, drop, length, get_or, arith, rules}
 use Rattle.std.specs.Prelude.{◌^◌, replicate, slice_set, slice_get, Some}
 use Prim.Native.Nat.{min}
 use Rattle.std.specs.Int.{bit_at}
@@ -45,9 +45,14 @@ bit_in-flipped a b lane lt le =
     let i = lane % 64 in
     let m = all_or_none b in
     let x = get_or a word 0 in
-    ap (λ n. bit_at n i == 1) (get_or-zip2 bit_xor a (replicate 4 m) word 0 0 0 (omega (arith, le)) (omega arith)
-    ∙ ap (bit_xor x) (get_or-replicate 4 word m 0 (omega arith))) ∙ ap (λ n. n == 1) (bit_at_xor x m i)
-    ∙ flipped b (bit_at x i) (bit_at-lt x i) (mask_bit b i (omega arith))
+    grind (
+      arith,
+      get_or-zip2 bit_xor a (replicate 4 m) word 0 0 0 (omega (arith, le)) (omega arith),
+      get_or-replicate 4
+          word m 0 (omega arith),
+      bit_at_xor x m i,
+      flipped b (bit_at x i) (bit_at-lt x i) (mask_bit b i (omega arith)),
+    )
 
 -- the words of a literal
 pub bit_in-read : (values : List (List ℕ)) (wire : Wire) {m : ℕ} (lane : ℕ) → lane < 256 → wire.place < length values →
@@ -74,9 +79,16 @@ pub read_on : (literals : List ℕ) (values table : List (List ℕ)) (words : Li
 read_on literals values table words k lane lt room here before =
     let f : List ℕ → Bool = λ ws. bit_in ws lane in
     let bit : ℕ → Bool = λ l. read (lane_of values lane) (wire_in l) in
-    ap (take (k + 1)) (map-set f table k words) ∙ take_more_set (lane_of table lane) k (f words)
-    (omega (arith, length-map table f)) ∙ ap₂ (λ (xs : List Bool) (x : Bool). xs ++ x ∷ []) before here
-    ∙ sym (ap (map bit) (take_more literals k 0 lt) ∙ map-append bit (take k literals) (get_or literals k 0 ∷ []))
+    grind (
+      arith,
+      map-set f table k words,
+      take_more_set (lane_of table lane) k (f words) (omega (
+        arith,
+        length-map table f,
+      )),
+      take_more literals k 0 lt,
+      map-append bit (take k literals) (get_or literals k 0 ∷ []),
+    )
 
 -- the words of a latch's reset behind those of the latches in front of it
 pub reset_on : (latches : List Latch) (words : List (List ℕ)) {more : List (List ℕ)} {m : ℕ} (k lane : ℕ) → lane < 256 →
@@ -86,11 +98,13 @@ pub reset_on : (latches : List Latch) (words : List (List ℕ)) {more : List (Li
 reset_on latches words {m} k lane lt room is grown before =
     let f : List ℕ → Bool = λ ws. bit_in ws lane in
     let reset : Latch → Bool = λ l. l.reset in
-    ap (map f) grown ∙ map-append f words (replicate 4 m ∷ [])
-    ∙ ap₂ (λ (xs : List Bool) (x : Bool). xs ++ x ∷ []) before
-    (ap (λ n. bit_in (replicate 4 n) lane) is ∙ bit_in-mask (get_or latches k no_latch).reset lane lt)
-    ∙ sym (ap (map reset) (take_more latches k no_latch room) ∙ map-append reset (take k latches)
-    (get_or latches k no_latch ∷ []))
+    grind (
+      arith,
+      map-append f words (replicate 4 m ∷ []),
+      bit_in-mask (get_or latches k no_latch).reset lane lt,
+      take_more latches k no_latch room,
+      map-append reset (take k latches) (get_or latches k no_latch ∷ []),
+    )
 
 -- the lanes of two tables agree where their words do
 pub same_lane : (xs ys : List (List ℕ)) (p q lane : ℕ) → p < length xs → q < length ys → get_or xs p [] ≡ get_or ys q []

@@ -1,11 +1,11 @@
 -- The plan of the lanes: where a circuit's rows are moved.
 use Rattle.std.proofs.Common.{◌≡◌, ℕ, zero, suc, ◌+◌, ◌-◌, ◌/◌, ◌^◌, ◌⊎◌, ◌<◌, ◌≤◌, Bool, inl, inr, List, [], ◌∷◌, ◌++◌}
-use Rattle.std.proofs.Common.{map, take, drop, length, get_or, refl, sym, ap, ap₂, ◌∙◌, arith, All, rules}
+use Rattle.std.proofs.Common.{map, take, drop, length, get_or, refl, ap, ◌∙◌, arith, All, rules}
 use Rattle.std.proofs.Common.{get_or-set_same, get_or-set_other}
 use Rattle.std.specs.Prelude.{slice_set}
 use Rattle.std.specs.Int.Bits.{bit_and}
 use Rattle.std.specs.Simd.Lanes.{zip2}
-use Rattle.std.proofs.lemmas.List.{length-map, length-take-le, map-append, get_or_default, drop_all}
+use Rattle.std.proofs.lemmas.List.{length-map, length-take-le, map-append, get_or_default, drop_all, take_more}
 use Rattle.std.proofs.lemmas.List.Elements.{All-from_get_or}
 use Rattle.std.proofs.lemmas.Bool.{cases_lt}
 use Rattle.std.proofs.lemmas.Option.{slice_get-get_or}
@@ -23,12 +23,11 @@ use Rattle.ps_simulate.proofs.PlacesLemmas.{variables_once, variables_at}
 use Rattle.ps_simulate.proofs.RowLemmas.{length-variables, gate_within, length-rows, row_of_gate, target_is}
 use Rattle.ps_simulate.proofs.RowLemmas.{IsScheduled-rows}
 use Rattle.ps_simulate.proofs.WorkLemmas.{row, no_row}
-use Rattle.std.proofs.lemmas.List.{take_more}
 
 module _ {c : CircuitData} (is : IsCircuit c) where
   -- a circuit has no more variables than literals have room for
   variables_below : (k : ℕ) → k < length (variables c) → get_or (variables c) k 0 < c.most + 1
-  variables_below k h1 = search (rules, length-map, variables_at)
+  variables_below k h = search (rules, length-map, variables_at)
 
   pub few_variables : length (variables c) ≤ 2 ^ 31
   few_variables =
@@ -41,22 +40,16 @@ module _ {c : CircuitData} (is : IsCircuit c) where
 
     -- there is a row for each gate, and no other
     pub few_rows : length rows ≤ length c.gates
-    few_rows =
-        let le : length are.order ≤ length c.gates = search (rules, few_below, slice_get-get_or) in
-        omega (arith, length-rows is are)
+    few_rows = grind (arith, few_below, slice_get-get_or, length-rows is are)
 
     pub gate_row : (k : ℕ) → k < length rows → IsGateRow front (length (variables c)) (row rows k)
-    gate_row k lt =
-        let there = target_is is are k lt in
-        let within = gate_within is are k lt in
-        record { behind = omega (arith, there); within = omega (arith, there, within, length-variables c) }
+    gate_row k lt = grind (arith, target_is is are k lt, gate_within is are k lt, length-variables c)
 
     pub gate_rows : All (IsGateRow front (length (variables c))) rows
     gate_rows = All-from_get_or (IsGateRow front (length (variables c))) rows no_row gate_row
 
     pub rows_once : AreOnce rows
-    rows_once k l d lt within e = absurd (let same = (IsScheduled-rows is are).once k l (omega arith) within
-        (at k (omega arith) ∙ e ∙ sym (at l within)) in omega arith)
+    rows_once k l d lt within e = grind (arith, IsScheduled-rows is are, at k (omega arith), at l within)
       where
         at : (k : ℕ) → k < length rows → (row rows k).target ≡ (get_or rows k d).target
         at k lt = ap (λ (r : Row). r.target) (get_or_default rows k no_row d lt)
@@ -87,10 +80,7 @@ module _ {c : CircuitData} (is : IsCircuit c) where
           | inl lq ↦ omega (arith, kept p lp, kept q lq, same)
           | inr w ↦ absurd (omega (arith, kept p lp, goes w.0 w.1 w.2, same))
         ]
-        | inr v ↦ elim (whose q hq) [
-          | inl lq ↦ absurd (omega (arith, kept q lq, goes v.0 v.1 v.2, same))
-          | inr w ↦ search (rules, goes, row)
-        ]
+        | inr v ↦ grind (arith, whose q hq, goes v.0 v.1 v.2)
       ]
 
       pub AreMoved-rows : AreMoved (length (variables c)) front places
@@ -127,9 +117,7 @@ pub rows_from_at : (place : ℕ) (gates : List Operands) (k : ℕ) → k < lengt
     get_or (rows_from place gates) k no_row ≡ row_of_operands (place + k) (get_or gates k no_operands)
 rows_from_at place [] k lt = absurd (omega arith)
 rows_from_at place (g ∷ gates) zero lt = ap (λ n. row_of_operands n g) (omega arith)
-rows_from_at place (g ∷ gates) (suc k) lt =
-    rows_from_at (place + 1) gates k (omega arith) ∙ ap (λ n. row_of_operands n (get_or gates k no_operands))
-    (omega arith)
+rows_from_at place (g ∷ gates) (suc k) lt = grind (arith, rows_from_at (place + 1) gates k (omega arith))
 
 abbrev row_of_wires : ℕ → Wire → Wire → Row
 row_of_wires place a b = record { target = place; first = a; second = b }
@@ -137,9 +125,7 @@ row_of_wires place a b = record { target = place; first = a; second = b }
 rows_from-append : (place : ℕ) (gates : List Operands) (g : Operands) →
     rows_from place (gates ++ g ∷ []) ≡ rows_from place gates ++ row_of_operands (place + length gates) g ∷ []
 rows_from-append place [] g = ap (λ n. row_of_operands n g ∷ []) (omega arith)
-rows_from-append place (h ∷ gates) g = ap (λ rs. row_of_operands place h ∷ rs) (rows_from-append (place + 1) gates g
-    ∙ ap (λ n. rows_from (place + 1) gates ++ row_of_operands n g ∷ [])
-    (omega arith))
+rows_from-append place (h ∷ gates) g = grind (arith, rows_from-append (place + 1) gates g)
 
 -- one more row that is moved
 pub rows_more : (rows : List Row) (places : List ℕ) (gates : List Operands) {more : List Operands}
@@ -152,40 +138,32 @@ pub rows_more : (rows : List Row) (places : List ℕ) (gates : List Operands) {m
 rows_more rows places gates first second front k lt in_order at_first at_second grown before =
     let r = get_or rows k no_row in
     let g : Operands = record { first = first; second = second } in
-    let many : length gates ≡ k = search (rules, length-rows_from, length-map, length-take-le) in
-    let here : row_of_operands (front + length gates) g ≡ move_row places r = search (rules, no_row) in
-    ap (rows_from front) grown ∙ rows_from-append front gates g
-    ∙ ap₂ (λ (xs : List Row) (x : Row). xs ++ x ∷ []) before here
-    ∙ sym (ap (map (move_row places)) (take_more rows k no_row lt)
-    ∙ map-append (move_row places) (take k rows) (r ∷ []))
+    grind (
+      arith,
+      length-rows_from,
+      length-map,
+      length-take-le,
+      rows_from-append front gates g,
+      take_more rows k no_row lt,
+      map-append (move_row places) (take k rows) (r ∷ []),
+    )
 
 -- one more place that is moved
 module _ (rows : List Row) (places : List ℕ) (front : ℕ) {size : ℕ} (n : ℕ) {target : ℕ} (lt : n < length rows)
     (e : target ≡ (get_or rows n no_row).target) (gates : All (IsGateRow front size) rows) (many : length places ≡ size)
   where
-    this_row : IsGateRow front size (get_or rows n no_row)
-    this_row = gates n no_row lt
-
     pub kept_more : AreKept front places → AreKept front (slice_set places target (front + n))
     kept_more kept p less = search rules
 
-    pub order_more : AreOnce rows → ((k : ℕ) (d : Row) → k < n → moved places (get_or rows k d).target ≡ front + k)
-        → (k : ℕ) (d : Row) → k < n + 1 → moved (slice_set places target (front + n))
-        (get_or rows k d).target ≡ front + k
+    pub order_more : AreOnce rows → ((k : ℕ) (d : Row) → k < n → moved places (get_or rows k d).target ≡ front + k) →
+        (k : ℕ) (d : Row) → k < n + 1 → moved (slice_set places target (front + n)) (get_or rows k d).target ≡ front + k
     order_more once before k d less = go (cases_lt k n)
       where
         default : (m : ℕ) → m < length rows → (get_or rows m d).target ≡ (get_or rows m no_row).target
         default m lm = ap (λ (r : Row). r.target) (get_or_default rows m d no_row lm)
 
         go : (k < n) ⊎ (n ≤ k) → moved (slice_set places target (front + n)) (get_or rows k d).target ≡ front + k
-        go (inl first) =
-            get_or-set_other places target _ (front + n) 0 (λ same. once k n d first lt (same ∙ e ∙ sym (default n lt)))
-            ∙ before k d first
-        go (inr last) = (let here : k ≡ n = omega arith in
-            ap (λ m. moved (slice_set places target (front + n)) (get_or rows m d).target) here
-            ∙ ap (moved (slice_set places target (front + n))) (default n lt ∙ sym e)
-            ∙ get_or-set_same places target (front + n) 0 (omega (arith, this_row.within, e, many))
-            ∙ ap (λ m. front + m) (sym here))
+        go h = grind (arith, get_or-set_other, default, get_or-set_same)
 
 -- a gate that is worked out in all lanes
 pub gate_on : (front : ℕ) (gates : List Operands) (values initial : List (List ℕ)) (a b : List ℕ) (k lane : ℕ) →
@@ -200,18 +178,13 @@ gate_on front gates values initial a b k lane less lt la lb first second before 
     let rows = rows_from front gates in
     let at : get_or rows k no_row ≡ row_of_operands (front + k) (get_or gates k no_operands) =
     rows_from_at front gates k lt in
-    rw (ap (λ (r : Row). r.target) at) at (worked_on rows values initial a b k lane less
-    (omega (arith, length-rows_from front gates)) la lb (search rules)
-    (second ∙ ap (λ (r : Row). read (lane_of values lane) r.second) (sym at)) before)
+    grind (arith, worked_on, length-rows_from)
 
 -- the literals of a gate within the table
 pub gate_fits : (front size : ℕ) (gates : List Operands) (k : ℕ) → k < length gates →
     All (IsWithin size) (rows_from front gates)
     → ((get_or gates k no_operands).first / 2 < size) × ((get_or gates k no_operands).second / 2 < size)
-gate_fits front size gates k lt within =
-    let there : IsWithin size (get_or (rows_from front gates) k no_row) =
-    within k no_row (omega (arith, length-rows_from front gates)) in
-    let e = rows_from_at front gates k lt in (search rules)
+gate_fits front size gates k lt within = grind (arith, length-rows_from front gates, rows_from_at front gates k lt)
 
 -- the gates have their places in the table
 pub gates_end : (front size : ℕ) (gates : List Operands) (rows : List Row) (places : List ℕ) →

@@ -28,11 +28,11 @@ literals_within : {size front : ℕ} {places : List ℕ} (literals : List ℕ) (
     All (λ literal. literal / 2 < size) literals
 literals_within {size} {places} literals wires are e within k d lt =
     let many : length literals ≡ length wires = search (rules, length-map) in
-    let w = get_or wires k no_wire in
-    let here : w.place < size = within k no_wire (omega arith) in
-    let same : wire_in (get_or literals k d) ≡ move_wire places w = sym (get_or-map wire_in literals k d no_wire lt)
-    ∙ ap (λ ws. get_or ws k no_wire) e ∙ get_or-map (move_wire places) wires k no_wire no_wire (omega arith) in
-    omega (arith, are.within w.place here, ap (λ (v : Wire). v.place) same)
+    grind (
+      arith,
+      get_or-map wire_in literals k d no_wire lt,
+      get_or-map (move_wire places) wires k no_wire no_wire (omega arith),
+    )
 
 module _ {c : CircuitData} {p : LanePlan} {values latches : List (List ℕ)} (t : AreTables c p values latches) where
   first_table : IsTable c t.plan (unmoved t.places (lane_of values 0)) (lane_of latches 0)
@@ -61,11 +61,7 @@ module _ {c : CircuitData} {p : LanePlan} {values latches : List (List ℕ)} (t 
   gates_within =
       let are = t.is_lane_plan.are_moved in
       rw t.is_lane_plan.gates_are (All-map (IsWithin p.size) (move_row t.places) t.plan.rows.items (λ k d lt.
-      let r = plan_rows k d lt in record {
-        target = are.within _ r.target;
-        first = are.within _ r.first;
-        second = are.within _ r.second;
-      }))
+      grind (arith, plan_rows)))
 
   pub outputs_in_table : All (λ literal. literal / 2 < p.size) p.outputs.items
   outputs_in_table = search (rules, literals_within, plan_outputs)
@@ -81,12 +77,8 @@ module _ {c : CircuitData} {p : LanePlan} {values latches : List (List ℕ)} (t 
 
   -- the gates stand in the table
   pub gates_fit : p.front + length p.gates.items ≤ p.size
-  gates_fit = gates_end p.front p.size p.gates.items t.plan.rows.items t.places t.is_lane_plan.gates_are (omega (
-    arith,
-    t.is_lane_plan.front_is,
-    few_rows first_table.is_circuit t.plan.rows.items t.is_lane_plan.is_plan.rows_are,
-    room,
-  ))
+  gates_fit = gates_end p.front p.size p.gates.items t.plan.rows.items t.places t.is_lane_plan.gates_are
+      (grind (arith, few_rows, room))
 
   -- the constant stands in the table
   pub constant_there : (lane : ℕ) → lane < 256 → get_or (lane_of values lane) 0 false ≡ false

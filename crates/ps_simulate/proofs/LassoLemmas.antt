@@ -1,13 +1,12 @@
 -- Runs of a circuit through letters, and their first repetition.
 use Rattle.std.proofs.Common.{◌≡◌, ◌≢◌, ℕ, zero, suc, ◌+◌, ◌-◌, ◌*◌, ◌^◌, ◌<◌, ◌≤◌, inl, inr, Bool, false, List, rules}
-use Rattle.std.proofs.Common.{[], ◌∷◌, ◌++◌, None, Vec, All, length, take, drop, get_or, map, refl, ap}
-use Rattle.std.proofs.Common.{sym, ◌∙◌, arith, append_assoc, add-one}
+use Rattle.std.proofs.Common.{[], ◌∷◌, ◌++◌, None, Vec, All, length, take, drop, get_or, map, refl, ap, sym, ◌∙◌, arith}
+use Rattle.std.proofs.Common.{append_assoc, add-one, length-append}
 use Rattle.ps_hoa.specs.Files.{FileData}
 use Rattle.ps_automaton.specs.Acceptance.{IsAccepted}
 use Rattle.std.specs.Prelude.{◌==◌, ◌↔◌, IsTrue, ◌||◌}
 use Rattle.std.specs.Global.{Global}
 use Rattle.std.proofs.lemmas.List.{map-append, length-map, get_or-map, append-nil, take_more, map_push}
-use Rattle.std.proofs.Common.{length-append}
 use Rattle.std.proofs.Math.ListN.{get_or-append}
 use Rattle.std.proofs.Math.Seq.{get_or-append_seam}
 use Rattle.std.proofs.Math.Nat.{mul-le-mul_right, mul-sub, mul_comm}
@@ -52,8 +51,7 @@ few_letters names c (m ∷ ms) (u ∷ us) a (suc k) d lt = few_letters names c m
 pub goes_wide : (c : CircuitData) (from to : List Bool) (ms : List Moment) → GoesOn c from ms to →
     length from ≡ length c.latches → length to ≡ length c.latches
 goes_wide c from to [] on e = ap length (sym on) ∙ e
-goes_wide c from to (m ∷ ms) (next, at, step, on) e =
-    goes_wide c next to ms on (ap length step.next_are ∙ length-map c.latches _)
+goes_wide c from to (m ∷ ms) (next, at, step, on) e = goes_wide c next to ms on (grind (arith, length-map))
 
 -- ## One letter more
 
@@ -66,9 +64,8 @@ letter_is {naming} m letter h few bits = search (rules, length-map, or-false)
 pub letter_fits : (items : List (Vec Bool Global)) (i width : ℕ) {item : Vec Bool Global} →
     All (λ letter. length letter ≡ width) (letters_of items) → i < length items → item ≡ get_or items i item
     → length item.items ≡ width
-letter_fits items i width {item} fits lt is = ap (λ (l : Vec Bool Global). length l.items) is
-    ∙ ap length (sym (get_or-map (λ (l : Vec Bool Global). l.items) items i item [] lt))
-    ∙ fits i [] (omega (arith, length-map items (λ (l : Vec Bool Global). l.items)))
+letter_fits items i width {item} fits lt is = ap (λ (l : Vec Bool Global). length l.items) is ∙ ap length
+    (grind (arith, get_or-map)) ∙ fits i [] (omega (arith, length-map items (λ (l : Vec Bool Global). l.items)))
 
 letters_more : (items : List (Vec Bool Global)) (i : ℕ) {item : Vec Bool Global} {letter : List Bool} →
     i < length items → item ≡ get_or items i item → letter ≡ item.items
@@ -82,14 +79,13 @@ ReadsWord-more : {names : List (List ℕ)} {c : CircuitData} {from between last 
     {old new : List ℕ} {m : Moment} {letter : ℕ} → ReadsWord names c from word old new between → m.latches ≡ between →
     Steps c m.latches m.inputs m.outputs last → IsLetterOf names c m letter →
     ReadsWord names c from (word ++ m.inputs ∷ []) old (new ++ letter ∷ []) last
-ReadsWord-more {names} {c} {from} {between} {last} {old} {m} {letter} h at step is = record {
-  trace = h.trace ++ m ∷ [];
-  goes_on = search (rules, GoesOn-append);
-  reads = search (rules, map_push);
-  letters = h.letters ++ letter ∷ [];
-  are_letters = AreLetters-append names c h.trace (m ∷ []) h.letters (letter ∷ []) h.are_letters (is, refl);
-  new_is = ap (λ (ls : List ℕ). ls ++ letter ∷ []) h.new_is ∙ append_assoc old h.letters (letter ∷ []);
-}
+ReadsWord-more {names} {c} {from} {between} {last} {old} {m} {letter} h at step is = grind (
+  arith,
+  GoesOn-append,
+  map_push,
+  AreLetters-append names c h.trace (m ∷ []) h.letters (letter ∷ []) h.are_letters (is, refl),
+  append_assoc old h.letters (letter ∷ []),
+)
 
 pub ReadsWord-letter : {names : List (List ℕ)} {c : CircuitData} {from between last : List Bool}
     (items : List (Vec Bool Global)) (i : ℕ) {item : Vec Bool Global} {old new : List ℕ} {m : Moment} {letter : ℕ} →
@@ -113,12 +109,7 @@ pub along_more : (c : CircuitData) (trace ms : List Moment) (last to : List Bool
     t ≤ length trace → get_or (latches_along (trace ++ ms) to) t [] ≡ get_or (latches_along trace last) t []
 along_more c trace [] last to t on le = search (rules, append-nil)
 along_more c trace (m ∷ ms) last to t (next, at, step, on) le =
-    let front = map (λ (n : Moment). n.latches) trace in
-    ap (λ (ls : List (List Bool)). get_or (ls ++ to ∷ []) t []) (map-append (λ (n : Moment). n.latches) trace (m ∷ ms))
-    ∙ ap (λ (ls : List (List Bool)). get_or ls t []) (append_assoc front
-    (m.latches ∷ map (λ (n : Moment). n.latches) ms) (to ∷ []))
-    ∙ seam front (map (λ (n : Moment). n.latches) ms ++ to ∷ []) [] t
-    (omega (arith, length-map trace (λ (n : Moment). n.latches))) at
+    grind (arith, map-append, append_assoc, seam, length-map)
 
 pub at_end : (trace : List Moment) (last : List Bool) → get_or (latches_along trace last) (length trace) [] ≡ last
 at_end trace last = search (rules, length-map, get_or-append_seam)
@@ -129,8 +120,7 @@ length_laps lap (suc k) = grind (arith, length-append (laps_of lap k) lap, lengt
 
 pub length_trace : (stem lap : List (List Bool)) (trace : List Moment) (k : ℕ) →
     map (λ (m : Moment). m.inputs) trace ≡ stem ++ laps_of lap k → length trace ≡ length stem + k * length lap
-length_trace stem lap trace k e = sym (length-map trace (λ (m : Moment). m.inputs)) ∙ ap length e
-    ∙ length-append stem (laps_of lap k) ∙ ap (λ n. length stem + n) (length_laps lap k)
+length_trace stem lap trace k e = grind (arith, length-map, length-append, length_laps)
 
 -- ## The latches seen
 
@@ -158,10 +148,11 @@ HasRead-lap {names} {c} {stem} {lap} {seen} {old} {from} {last} h r wide fresh =
       are_letters = rw r.new_is (AreLetters-append names c h.trace r.trace old r.letters h.are_letters r.are_letters);
       seen_is = λ k lt. elim (at_push seen from [] k lt) [
         | inl old_one ↦ search (rules, along_more, mul-le-mul_right)
-        | inr new_one ↦ new_one.1 ∙ sym (at_end h.trace from)
-            ∙ sym (along_more c h.trace r.trace from last (length h.trace) r.goes_on (omega arith))
-            ∙ ap (λ i. get_or (latches_along (h.trace ++ r.trace) last) i [])
-            (size ∙ ap (λ i. length stem + i * length lap) (sym new_one.0))
+        | inr new_one ↦ grind (
+          arith,
+          at_end h.trace from,
+          along_more c h.trace r.trace from last (length h.trace) r.goes_on (omega arith),
+        )
       ];
       wide = search (rules, at_push);
       differ = search (rules, at_push, get_or-append);
@@ -178,10 +169,7 @@ pub fewer : {names : List (List ℕ)} {c : CircuitData} {stem lap seen' : List (
     {last : List Bool} (seen : List (List Bool)) (latches : List Bool) → HasRead names c stem lap seen' new last →
     IsSeen seen seen' latches None →
     2 ^ length c.latches - length seen' < 2 ^ length c.latches - length seen
-fewer {c} {seen'} seen latches h s =
-    let le = few_seen (length c.latches) seen' h.wide h.differ in
-    let size : length seen' ≡ length seen + 1 = ap length s.1 ∙ length-append seen (latches ∷ []) in
-    omega arith
+fewer {c} {seen'} seen latches h s = grind (arith, few_seen, length-append)
 
 -- ## The first repetition
 
@@ -206,17 +194,18 @@ times_more i l = grind arith
 -- the first of the two laps ends behind its begin, and no later than the second begins
 pub lap_within : {names : List (List ℕ)} {c : CircuitData} {stem lap : List (List Bool)} {i : ℕ} {letters : List ℕ}
     (h : RepeatsBy names c stem lap i letters) → length stem + i * length lap + length lap ≤ length letters
-lap_within {lap} {i} h =
-    let le = mul-le-mul_right {m = suc i} {n = h.j} (length lap) h.repeats.earlier in
-    omega (arith, le, times_more i (length lap), length_of_letters h)
+lap_within {lap} {i} h = grind (
+  arith,
+  mul-le-mul_right {m = suc i} {n = h.j} (length lap) h.repeats.earlier,
+  times_more i (length lap),
+  length_of_letters h,
+)
 
 pub lap_length : {names : List (List ℕ)} {c : CircuitData} {stem lap : List (List Bool)} {i : ℕ} (count : ℕ)
     {letters : List ℕ} (h : RepeatsBy names c stem lap i letters)
     → count + (length stem + i * length lap) ≡ length letters → count ≡ (h.j - i) * length lap
 lap_length {names} {c} {stem} {lap} {i} count {letters} h e =
-    let size = length_of_letters h in
-    let back : count ≡ length lap * h.j - length lap * i = search (rules, mul_comm, h.j) in
-    back ∙ sym (mul-sub (length lap) h.j i) ∙ mul_comm (length lap) (h.j - i)
+    grind (arith, length_of_letters h, mul-sub (length lap) h.j i, mul_comm (length lap) (h.j - i))
 
 -- the same of letters that the code keeps
 pub lap_within_items : {names : List (List ℕ)} {c : CircuitData} (stem lap : List (Vec Bool Global)) {i : ℕ}
@@ -250,4 +239,4 @@ verdict file {names} {c} stem lap {letters} {before} {behind} {i} accepted same 
     }
 
 pub not_empty : (n : ℕ) → (n == 0) ≡ false → 0 < n
-not_empty n h1 = search rules
+not_empty n h = search rules

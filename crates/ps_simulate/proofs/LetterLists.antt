@@ -1,7 +1,6 @@
 -- Letters whose bits stand one behind another.
 use Rattle.std.proofs.Common.{◌≡◌, ℕ, zero, suc, ◌+◌, ◌*◌, ◌<◌, ◌≤◌, Bool, List, [], ◌∷◌, ◌++◌, length, take, drop}
-use Rattle.std.proofs.Common.{refl, ap, ap₂, ◌∙◌, arith, Some, slice_get, length-drop, length-append}
-use Rattle.std.proofs.Common.{false, inr, Err, rules}
+use Rattle.std.proofs.Common.{refl, ap, arith, Some, slice_get, length-drop, length-append, false, inr, Err, rules}
 use Rattle.std.proofs.Math.Nat.{mul-le-mul_right}
 use Rattle.std.proofs.lemmas.List.{take-append-le, drop-append-le, take_all, drop-drop, nil_from_length}
 use Rattle.ps_text.specs.declared.faults.Fault.TheVariants.{Text, OutOfMemory}
@@ -21,8 +20,7 @@ mul_suc m n = grind arith
 -- the bits behind the first letter are those of the others
 rest_length : (width count : ℕ) (bits : List Bool) → length bits ≡ suc count * width →
     (length (drop width bits) ≡ count * width) × (width ≤ length bits)
-rest_length width count bits whole =
-    (omega (arith, mul_suc count width, length-drop width bits), omega (arith, mul_suc count width))
+rest_length width count bits whole = grind (arith, mul_suc, length-drop)
 
 -- the bits of one more letter
 pub whole-push : {width : ℕ} (count : ℕ) (bits letter : List Bool) → length bits ≡ count * width →
@@ -35,8 +33,7 @@ pub letters_in-push : {width : ℕ} (count : ℕ) (bits letter : List Bool) → 
 letters_in-push {width} zero bits letter whole fits = search (rules, nil_from_length, take_all)
 letters_in-push {width} (suc count) bits letter whole fits =
     let rest = rest_length width count bits whole in
-    ap₂ ◌∷◌ (take-append-le width bits letter rest.1) (ap (letters_in width (suc count))
-    (drop-append-le width bits letter rest.1) ∙ letters_in-push count (drop width bits) letter rest.0 fits)
+    search (rules, take-append-le, drop-append-le, letters_in-push count (drop width bits) letter rest.0 fits)
 
 -- a letter of them
 pub slice_get-letters_in : (width count : ℕ) (bits : List Bool) (i : ℕ) → i < count →
@@ -44,9 +41,7 @@ pub slice_get-letters_in : (width count : ℕ) (bits : List Bool) (i : ℕ) → 
 slice_get-letters_in width zero bits i lt = absurd (omega arith)
 slice_get-letters_in width (suc count) bits zero lt = search rules
 slice_get-letters_in width (suc count) bits (suc i) lt =
-    let next : width + i * width ≡ suc i * width = grind arith in
-    slice_get-letters_in width count (drop width bits) i (omega arith)
-    ∙ ap (λ (l : List Bool). Some (take width l)) (drop-drop (i * width) width bits ∙ ap (λ (n : ℕ). drop n bits) next)
+    search (rules, drop-drop, slice_get-letters_in width count (drop width bits) i (omega arith))
 
 -- a letter's bits stand within those of all
 pub letter_within : (place count width : ℕ) {size : ℕ} → place < count → size ≡ count * width →

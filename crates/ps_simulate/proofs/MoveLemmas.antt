@@ -1,5 +1,5 @@
 -- Rows that are worked out in a table whose places were moved.
-use Rattle.std.proofs.Common.{◌≡◌, ◌≢◌, ℕ, suc, ◌+◌, ◌⊎◌, ◌<◌, ◌≤◌, ◌&&◌, Bool, false, not, cond, List, []}
+use Rattle.std.proofs.Common.{◌≡◌, ℕ, suc, ◌+◌, ◌<◌, ◌≤◌, Bool, false, not, cond, List, []}
 use Rattle.std.proofs.Common.{◌∷◌, map, length, get_or, refl, sym, ap, ap₂, ◌∙◌, arith, All, length-set, rules}
 use Rattle.std.specs.Prelude.{slice_set}
 use Rattle.std.proofs.lemmas.Bool.{cases_eq}
@@ -32,8 +32,7 @@ module _ {size front : ℕ} {places : List ℕ} (are : AreMoved size front place
   -- a value that is put at the place to which a place is moved
   unmoved-set : (values : List Bool) (t : ℕ) (x : Bool) → t < size → length values ≡ size
       → unmoved places (slice_set values (moved places t) x) ≡ slice_set (unmoved places values) t x
-  unmoved-set values t x lt many = ext_get_or false _ _ (length-unmoved places (slice_set values (moved places t) x)
-      ∙ sym (length-set (unmoved places values) t x ∙ length-unmoved places values))
+  unmoved-set values t x lt many = ext_get_or false _ _ (grind (arith, length-unmoved, length-set))
       (λ k less. at k (omega (arith, are.each, length-unmoved places (slice_set values (moved places t) x))))
     where
       at : (k : ℕ) → k < size → get_or (unmoved places (slice_set values (moved places t) x)) k false ≡ get_or
@@ -46,11 +45,8 @@ module _ {size front : ℕ} {places : List ℕ} (are : AreMoved size front place
   work_out-unmoved (r ∷ rows) values many within =
       let here : IsWithin size r = within 0 r (omega arith) in
       let next = work_row values (move_row places r) in
-      work_out-unmoved rows next (length-set values (moved places r.target) _ ∙ many)
-      (λ k d lt. within (suc k) d (omega arith)) ∙ ap (work_out rows)
-      (unmoved-set values r.target _ here.target many ∙ ap (slice_set (unmoved places values) r.target)
-      (sym (ap₂ ◌&&◌ (read-unmoved places values r.first (omega (arith, here.first, are.each)))
-      (read-unmoved places values r.second (omega (arith, here.second, are.each))))))
+      work_out-unmoved rows next (grind (arith, length-set)) (λ k d lt. within (suc k) d (omega arith))
+      ∙ ap (work_out rows) (grind (arith, unmoved-set, read-unmoved))
 
   -- a table in its moved form is worked out where it is in its first form
   pub IsWorkedOut-unmoved : (rows : List Row) {moved_rows : List Row} {inputs latches values : List Bool} →

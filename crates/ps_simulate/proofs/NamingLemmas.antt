@@ -28,9 +28,7 @@ not_among (x ∷ xs) name p lt h e = go (bytes_eq name x) refl h p lt e (λ q lq
     go : (b : Bool) → bytes_eq name x ≡ b → cond b true (is_name_among name xs) ≡ false → (p : ℕ) →
         p < length (x ∷ xs) → get_or (x ∷ xs) p [] ≡ name
         → ((q : ℕ) → q < length xs → is_name_among name xs ≡ false → get_or xs q [] ≢ name) → ⊥
-    go true d h p lt e rest = cc
-    go false d h zero lt e rest = cc ((bytes_eq-Decides name x).1 (sym e))
-    go false d h (suc p) lt e rest = rest p (omega arith) h e
+    go b d h p lt e rest = grind (arith, bytes_eq-Decides)
 
 pub names_differ : (names : List (List ℕ)) → AreNames names → (p q : ℕ) → p < length names → q < length names →
     get_or names p [] ≡ get_or names q [] → p ≡ q
@@ -63,18 +61,12 @@ module _ (names : List (List ℕ)) (controllable : List ℕ) (wanted : Bool) (sy
       → ArePut names controllable wanted symbols (k + 1) (set places p (Some k))
   put_step {k} p {places} h there lp named sides free =
       let lt : p < length places = omega (arith, h.size) in
-      let sym_k : IsSymbol names symbols k p =
-      record { within = lp; is = there ∙ ap (λ (n : List ℕ). Some n) (sym named) } in
+      let sym_k : IsSymbol names symbols k p = grind arith in
       record {
         size = length-set places p (Some k) ∙ h.size;
         put = λ j lj. elim (cases_eq j k) [
           | inl same ↦ search (rules, get_or-set_same)
-          | inr other ↦ let old = h.put j (omega arith) in (
-            old.0,
-            old.1,
-            get_or-set_other places p old.0 (Some k) None
-                (λ e. none_some (sym free ∙ sym (ap (λ n. get_or places n None) e) ∙ old.2)) ∙ old.2,
-          )
+          | inr other ↦ let old = h.put j (omega arith) in grind (arith, get_or-set_other, none_some)
         ];
         before = λ q j e. grind (arith, set_cases places p k q lt e, h.before q j);
         is = λ q j e. elim (set_cases places p k q lt e) [
@@ -104,10 +96,7 @@ module _ (names : List (List ℕ)) (controllable : List ℕ) (wanted : Bool) (sy
       go None e = full e
       go (Some j) e =
           let lt = h.before p j e in
-          let same : j ≡ k = once.once j k p (h.is p j e) (record {
-            within = lp;
-            is = there ∙ ap (λ (n : List ℕ). Some n) (sym named);
-          }) in
+          let same : j ≡ k = once.once j k p (h.is p j e) (grind arith) in
           absurd (omega (arith, lt, same))
 
   -- ## All symbols
@@ -117,8 +106,7 @@ module _ (names : List (List ℕ)) (controllable : List ℕ) (wanted : Bool) (sy
     placed : (p k : ℕ) → IsSymbol names symbols k p → get_or places p None ≡ Some k
     placed p k s =
         let at = h.put k (within symbols k (get_or names p []) s.is) in
-        let same : at.0 ≡ p = search (rules, names_differ, some_same) in
-        ap (λ n. get_or places n None) (sym same) ∙ at.2
+        grind (arith, names_differ, some_same)
 
     pub all_placed : ArePlacesOf names controllable wanted symbols places
     all_placed = record { size = h.size; placed = placed; within = h.before; side = h.side }
@@ -145,16 +133,13 @@ module _ (names : List (List ℕ)) (controllable : List ℕ) (wanted : Bool) (sy
 pub beq_same : (a b : Bool) → beq a b ≡ true → a ≡ b
 beq_same a b e = grind arith
 
-pub beq_other : (a b : Bool) → beq a b ≡ false → a ≢ b
-beq_other a b e = grind arith
-
 pub is_free : (places : List (Option ℕ)) (p : ℕ) (there : Option ℕ) {b : Bool} → p < length places →
     there ≡ get_or places p there → is_some there ≡ not b → b ≡ true → get_or places p None ≡ None
-is_free places p there h1 h2 h3 h4 = search rules
+is_free places p there h k m n = search rules
 
 pub is_full : (places : List (Option ℕ)) (p : ℕ) (there : Option ℕ) {b : Bool} → p < length places →
     there ≡ get_or places p there → is_some there ≡ not b → b ≡ false → get_or places p None ≢ None
-is_full places p there h1 h2 h3 h4 = search (rules, get_or_default)
+is_full places p there h k m n = search (rules, get_or_default)
 
 pub name_at : (names : List (Vec ℕ Global)) (p : ℕ) {name : Vec ℕ Global} → p < length names →
     name ≡ get_or names p name → get_or (map bytes_of names) p [] ≡ name.items

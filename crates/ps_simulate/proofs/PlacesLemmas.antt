@@ -1,6 +1,6 @@
 -- The places of a circuit's variables.
 use Rattle.std.proofs.Common.{◌≡◌, ◌≢◌, ℕ, zero, suc, ◌<◌, inl, inr, List, [], ◌∷◌, ◌++◌, map, length, get_or, refl}
-use Rattle.std.proofs.Common.{sym, ap, ◌∙◌, arith, nat_eq, AllPairs, Contains, rules}
+use Rattle.std.proofs.Common.{sym, arith, nat_eq, AllPairs, Contains, rules}
 use Rattle.std.specs.List.{flat_map}
 use Rattle.std.proofs.lemmas.List.{length-map, get_or-map, get_or_default}
 use Rattle.std.proofs.lemmas.List.Sums.{position_or_len_is}
@@ -38,13 +38,10 @@ module _ {c : CircuitData} (is : IsCircuit c) where
       → (place_of c (variable literal) < length (variables c)) ×
       (get_or (variables c) (place_of c (variable literal)) 0 ≡ variable literal)
   place_known literal (inl zero_is) = known_at literal 0 (omega arith) (sym zero_is)
-  place_known literal (inr (k, lt, e)) =
-      known_at literal (suc k) (omega arith) (get_or_default (map variable (definitions c)) k 0 (variable literal) lt
-      ∙ e)
+  place_known literal (inr (k, lt, e)) = known_at literal (suc k) (omega arith) (grind (arith, get_or_default))
 
   contains_variable : (literal : ℕ) → Contains (definitions c) literal → IsKnown (definitions c) literal
-  contains_variable literal (k, lt, e) =
-      inr (k, omega (arith, many), get_or-map variable (definitions c) k literal (variable literal) lt ∙ ap variable e)
+  contains_variable literal (k, lt, e) = inr (k, omega (arith, many), grind (arith, get_or-map))
 
   contains_mapped : {A : Type 0} (f : A → ℕ) (xs : List A) (i : ℕ) (d : A) → i < length xs →
       Contains (map f xs) (f (get_or xs i d))
@@ -60,25 +57,21 @@ module _ {c : CircuitData} (is : IsCircuit c) where
       Contains (flat_map (λ g. g.first ∷ g.second ∷ []) gates) (get_or gates i d).second
   reads_contain [] i d lt = absurd (omega arith)
   reads_contain (g ∷ gates) zero d lt = ((0, omega arith, refl), (1, omega arith, refl))
-  reads_contain (g ∷ gates) (suc i) d lt =
-      let rest = reads_contain gates i d (omega arith) in (
-        Contains-append_right (g.first ∷ g.second ∷ []) _ _ rest.0,
-        Contains-append_right (g.first ∷ g.second ∷ []) _ _ rest.1,
-      )
+  reads_contain (g ∷ gates) (suc i) d lt = search (rules, Contains-append_right, reads_contain gates i d (omega arith))
 
   pub sides_known : (i : ℕ) (d : Gate) → i < length c.gates
       → IsKnown (definitions c) (get_or c.gates i d).first × IsKnown (definitions c) (get_or c.gates i d).second
   sides_known i d lt =
       let both = reads_contain c.gates i d lt in
-      let front = map (λ l. l.next) c.latches ++ c.outputs in (
+      let front = map (λ l. l.next) c.latches ++ c.outputs in grind (
+        arith,
         All-contains (IsKnown (definitions c)) (readings c) _ is.draft.known (Contains-append_right front _ _ both.0),
         All-contains (IsKnown (definitions c)) (readings c) _ is.draft.known (Contains-append_right front _ _ both.1),
       )
 
   pub output_known : (i d : ℕ) → i < length c.outputs → IsKnown (definitions c) (get_or c.outputs i d)
   output_known i d lt = All-contains (IsKnown (definitions c)) (readings c) _ is.draft.known
-      (Contains-append_left (map (λ l. l.next) c.latches ++ c.outputs) _ _
-      (Contains-append_right (map (λ l. l.next) c.latches) _ _ (Contains-get_or c.outputs i d lt)))
+      (search (rules, Contains-append_left, Contains-append_right, Contains-get_or))
 
   pub next_known : (i : ℕ) (d : Latch) → i < length c.latches → IsKnown (definitions c) (get_or c.latches i d).next
   next_known i d lt = All-contains (IsKnown (definitions c)) (readings c) _ is.draft.known

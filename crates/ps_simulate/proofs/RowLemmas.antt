@@ -16,38 +16,21 @@ no_latch = record { literal = 0; next = 0; reset = Rattle.std.proofs.Common.fals
 
 module _ (c : CircuitData) where
   pub definitions_input : (k : ℕ) → k < length c.inputs → get_or (definitions c) k 0 ≡ get_or c.inputs k 0
-  definitions_input k lt =
-      let latches = map (λ l. l.literal) c.latches in
-      get_or_append_left (c.inputs ++ latches) (map (λ g. g.literal) c.gates) 0 k
-      (omega (arith, length-append c.inputs latches)) ∙ get_or_append_left c.inputs latches 0 k lt
+  definitions_input k lt = grind (arith, get_or_append_left, length-append)
 
   pub definitions_latch : (k : ℕ) → k < length c.latches → get_or (definitions c) (length c.inputs + k) 0 ≡
       (get_or c.latches k no_latch).literal
-  definitions_latch k lt =
-      let latches = map (λ l. l.literal) c.latches in
-      get_or_append_left (c.inputs ++ latches) (map (λ g. g.literal) c.gates) 0 (length c.inputs + k)
-      (omega (arith, length-append c.inputs latches, length-map c.latches (λ l. l.literal)))
-      ∙ get_or-append-add c.inputs latches k 0 ∙ get_or-map (λ l. l.literal) c.latches k no_latch 0 lt
+  definitions_latch k lt = grind (arith, get_or_append_left, length-append, length-map, get_or-append-add, get_or-map)
 
   pub definitions_gate : (i : ℕ) → i < length c.gates → get_or (definitions c) (length c.inputs + length c.latches + i)
       0 ≡ (get_or c.gates i no_gate).literal
   definitions_gate i lt =
       let front = c.inputs ++ map (λ l. l.literal) c.latches in
-      let many : length front ≡ length c.inputs + length c.latches =
-      omega (arith, length-append c.inputs (map (λ l. l.literal) c.latches), length-map c.latches (λ l. l.literal))
-      in ap (λ n. get_or (definitions c) (n + i) 0) (sym many)
-      ∙ get_or-append-add front (map (λ g. g.literal) c.gates) i 0 ∙ get_or-map (λ g. g.literal) c.gates i no_gate 0 lt
+      let many : length front ≡ length c.inputs + length c.latches = grind (arith, length-append, length-map) in
+      grind (arith, get_or-append-add, get_or-map)
 
   pub length-definitions : length (definitions c) ≡ length c.inputs + length c.latches + length c.gates
-  length-definitions =
-      let latches = map (λ l. l.literal) c.latches in
-      omega (
-        arith,
-        length-append (c.inputs ++ latches) (map (λ g. g.literal) c.gates),
-        length-append c.inputs latches,
-        length-map c.latches (λ l. l.literal),
-        length-map c.gates (λ g. g.literal),
-      )
+  length-definitions = grind (arith, length-append, length-map)
 
   pub length-variables : length (variables c) ≡ length c.inputs + length c.latches + length c.gates + 1
   length-variables = omega (arith, length-definitions, length-map (definitions c) variable)
@@ -84,11 +67,7 @@ module _ {c : CircuitData} (is : IsCircuit c) where
     -- each gate has a row
     pub row_of_gate : (i : ℕ) → i < length c.gates → (k : ℕ) × (k < length rows) × (gate_place k ≡ i)
     row_of_gate i lt =
-        let there = are.is_order.each i lt in (
-          there.0,
-          omega (arith, length-rows, slice_get_within are.order there.0 i there.1),
-          get_or_from_slice_get are.order there.0 i 0 there.1,
-        )
+        let there = are.is_order.each i lt in grind (arith, length-rows, slice_get_within, get_or_from_slice_get)
 
     pub target_is : (k : ℕ) → k < length rows → (row rows k).target ≡ suc
         (length c.inputs + length c.latches + gate_place k)
@@ -97,9 +76,7 @@ module _ {c : CircuitData} (is : IsCircuit c) where
     reads : (k l literal : ℕ) → k < length rows → l < length rows → IsKnown (definitions c) literal
         → place_of c (variable literal) ≡ (row rows l).target → variable literal ≡ variable
         (get_or c.gates (gate_place l) no_gate).literal
-    reads k l literal hk hl known e =
-        place_of-same literal _ known (gate_known is (gate_place l) no_gate (gate_within l hl))
-        (e ∙ ap (λ (r : Row). r.target) (row_is l hl))
+    reads k l literal hk hl known e = grind (arith, place_of-same, gate_known, gate_within, row_is)
 
     at : (k : ℕ) → k < length rows → Rattle.std.specs.Prelude.slice_get are.order k ≡ Some (gate_place k)
     at k lt = slice_get-get_or are.order k 0 (omega (arith, length-rows))
@@ -110,22 +87,11 @@ module _ {c : CircuitData} (is : IsCircuit c) where
 
     pub IsScheduled-rows : IsScheduled rows
     IsScheduled-rows = record {
-      once = λ k l hk hl e. (let same : gate_place k ≡ gate_place l = omega (arith, target_is k hk, target_is l hl) in
-          are.is_order.once k l (gate_place l) (at k hk ∙ ap Some same) (at l hl));
-      first_behind = λ k l hk hl e. are.is_order.behind k l (gate_place k) (gate_place l) (at k hk) (at l hl) (record {
-        reader = _;
-        read = _;
-        at_i = gate_at k hk;
-        at_j = gate_at l hl;
-        side = search (rules, reads, sides_known, gate_within, row_is);
-      });
-      second_behind = λ k l hk hl e. are.is_order.behind k l (gate_place k) (gate_place l) (at k hk) (at l hl) (record {
-        reader = _;
-        read = _;
-        at_i = gate_at k hk;
-        at_j = gate_at l hl;
-        side = search (rules, reads, sides_known, gate_within, row_is);
-      });
+      once = λ k l hk hl e. grind (arith, target_is k hk, target_is l hl, at k hk, at l hl);
+      first_behind = λ k l hk hl e. are.is_order.behind k l (gate_place k) (gate_place l) (at k hk) (at l hl)
+          (grind (arith, gate_at, reads, sides_known, gate_within, row_is));
+      second_behind = λ k l hk hl e. are.is_order.behind k l (gate_place k) (gate_place l) (at k hk) (at l hl)
+          (search (rules, gate_at, reads, sides_known, gate_within, row_is));
     }
 
     -- rows stay within the table

@@ -1,5 +1,5 @@
 -- Lanes that go on as plain runs do.
-use Rattle.std.proofs.Common.{◌∙◌, ℕ, ◌<◌, Bool, List, [], ◌∷◌, map, sym, ap}
+use Rattle.std.proofs.Common.{arith, ℕ, ◌<◌, Bool, List, [], ◌∷◌, map, ap}
 use Rattle.std.proofs.lemmas.Simd.{map-map}
 use Rattle.ps_circuit.specs.Circuits.{CircuitData, IsCircuit}
 use Rattle.ps_circuit.specs.Values.{Moment, GoesOn, HasOneValues}
@@ -22,8 +22,4 @@ module _ {c : CircuitData} (is : IsCircuit c) (one : HasOneValues c) where
   pub AreLanesPlain-circuit : AreLanesPlain c
   AreLanesPlain-circuit latches last ms on lane lt =
       let inputs_of : Moment → List Bool = λ m. m.inputs in
-      let run = lane_goes_on lane lt latches last ms on in (
-        run,
-        λ plain end other same. runs_agree c is one (lane_of latches lane) end (lane_of last lane) plain
-            (map (moment_in lane) ms) other run (same ∙ sym (map-map inputs_of (moment_in lane) ms)),
-      )
+      let run = lane_goes_on lane lt latches last ms on in grind (arith, runs_agree, map-map)

@@ -1,6 +1,6 @@
 -- A map that has the place of each of the latches seen.
-use Rattle.std.proofs.Common.{◌≡◌, ◌≢◌, ℕ, ◌+◌, ◌<◌, ◌⊎◌, Bool, true, cond, List, [], ◌∷◌}
-use Rattle.std.proofs.Common.{◌++◌, None, Some, Vec, length, get_or, refl, ap, sym, ◌∙◌, length-append, rules}
+use Rattle.std.proofs.Common.{◌≡◌, ◌≢◌, ℕ, ◌+◌, ◌<◌, Bool, true, cond, List, [], ◌∷◌, ◌++◌, None, Some, Vec, length}
+use Rattle.std.proofs.Common.{get_or, refl, ap, sym, ◌∙◌, length-append, rules, arith}
 use Rattle.std.specs.BTreeMap.{BTreeMap, btree_map_len, get, IsEmpty}
 use Rattle.std.specs.Cmp.{bool_cmp_total}
 use Rattle.std.specs.Cmp.Lexicographic.{slice_cmp}
@@ -10,7 +10,6 @@ use Rattle.std.proofs.lemmas.Cmp.{lists_total, tied_itself}
 use Rattle.std.proofs.lemmas.Option.{slice_get_within, slice_get-get_or, get_or_from_slice_get}
 use Rattle.ps_text.proofs.Simple.{none_is_some}
 use Rattle.ps_simulate.specs.LassoRuns.{IsSeen, HavePlaces, bits_cmp}
-use Rattle.std.proofs.Common.{arith}
 use Rattle.ps_automaton.proofs.Distinct.{at_end, at_last, at_left}
 
 -- ## The order of lists of bits
@@ -48,21 +47,6 @@ module _ {seen : List (List Bool)} {old : BTreeMap (Vec Bool Global) ℕ} (new :
   pub places_push : HavePlaces (seen ++ key.items ∷ []) new
   places_push = record {
     each = more ∙ ap (λ n. n + 1) have.each ∙ sym (length-append seen (key.items ∷ []));
-    sound = λ q p h. grind (
-      arith,
-      puts q,
-      bits_tied key.items q.items,
-      at_end seen key.items,
-      at_left seen (key.items ∷ []) p,
-      have.sound q p,
-    );
-    whole = λ q p h. grind (
-      arith,
-      at_last seen key.items p h,
-      puts q,
-      have.whole q p,
-      have.whole key p,
-      bits_tied key.items q.items,
-      bits_own key.items,
-    );
+    sound = λ q p h. grind (arith, bits_tied key.items q.items, at_end seen key.items, at_left seen (key.items ∷ []) p);
+    whole = λ q p h. grind (arith, at_last seen key.items p h, bits_tied key.items q.items, bits_own key.items);
   }

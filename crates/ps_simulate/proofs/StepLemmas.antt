@@ -21,14 +21,11 @@ module _ {c : CircuitData} (is : IsCircuit c) {plan : Plan} (p : IsPlan c plan) 
 
   pub outputs_within : All (λ w. w.place < length (variables c)) plan.outputs.items
   outputs_within = rw p.outputs_are (All-map (λ w. w.place < length (variables c)) (wire_of c) c.outputs
-      (All-from_get_or (λ l. (wire_of c l).place < length (variables c)) c.outputs 0
-      (λ k lt. (place_known is _ (output_known is k 0 lt)).0)))
+      (grind (arith, All-from_get_or, place_known, output_known)))
 
   pub nexts_within : All (λ w. w.place < length (variables c)) plan.nexts.items
   nexts_within = rw p.nexts_are (All-map (λ w. w.place < length (variables c)) (λ (l : Latch). wire_of c l.next)
-      c.latches
-      (All-from_get_or (λ (l : Latch). (wire_of c l.next).place < length (variables c)) c.latches no_latch
-      (λ k lt. (place_known is _ (next_known is k no_latch lt)).0)))
+      c.latches (grind (arith, All-from_get_or, place_known, next_known)))
 
 -- the bits that a table has for literals
 reads : {A : Type 0} (literal : A → ℕ) (wire : A → Wire) (table values : List Bool) (xs : List A) (d : A)
@@ -48,9 +45,8 @@ Steps-worked_out {c} is {plan} p {inputs} {latches} {values} many_inputs many_la
     record {
       values = values_by c values;
       are_values = rw worked.done (AreValues-work_out is p.rows_are worked.each many_inputs many_latches worked.holds);
-      outputs_are = outputs_are ∙ ap (map (read values)) p.outputs_are
-          ∙ reads (λ l. l) (wire_of c) values (values_by c values) c.outputs 0
-          (λ k lt. sym (bit_of-values_by is values _ (output_known is k 0 lt)));
+      outputs_are = outputs_are ∙ ap (map (read values)) p.outputs_are ∙ reads (λ l. l) (wire_of c) values
+          (values_by c values) c.outputs 0 (λ k lt. sym (bit_of-values_by is values _ (output_known is k 0 lt)));
       next_are = next_are ∙ ap (map (read values)) p.nexts_are
           ∙ reads (λ (l : Latch). l.next) (λ (l : Latch). wire_of c l.next) values (values_by c values) c.latches
           no_latch (λ k lt. sym (bit_of-values_by is values _ (next_known is k no_latch lt)));
@@ -64,8 +60,7 @@ IsTable-worked_out {c} {plan} next t worked each = record {
   is_circuit = t.is_circuit;
   is_plan = t.is_plan;
   values_each = ap length worked.done ∙ length-work_out plan.rows.items worked.table ∙ worked.each;
-  constant = ap (λ (all : List Bool). get_or all 0 false) worked.done
-      ∙ work_out-other plan.rows.items worked.table 0 (λ k lt e.
-      (let h = target_is t.is_circuit t.is_plan.rows_are k lt in omega arith)) ∙ worked.holds.constant;
+  constant = ap (λ (all : List Bool). get_or all 0 false) worked.done ∙ work_out-other plan.rows.items worked.table 0
+      (λ k lt e. (let h = target_is t.is_circuit t.is_plan.rows_are k lt in omega arith)) ∙ worked.holds.constant;
   latches_each = each;
 }

@@ -1,6 +1,6 @@
 -- A table of values by places, and the values of the circuit.
-use Rattle.std.proofs.Common.{◌≡◌, ℕ, suc, ◌+◌, ◌%◌, ◌<◌, ◌&&◌, ◌==◌, Bool, false, not, inl, inr, List, ◌∷◌, ◌++◌}
-use Rattle.std.proofs.Common.{map, length, get_or, refl, sym, ap, ap₂, subst, ◌∙◌, arith, length-append, rules}
+use Rattle.std.proofs.Common.{◌≡◌, ℕ, suc, ◌+◌, ◌<◌, ◌&&◌, Bool, false, inl, inr, List, ◌∷◌, ◌++◌}
+use Rattle.std.proofs.Common.{map, length, get_or, sym, ap, subst, ◌∙◌, arith, length-append, rules}
 use Rattle.std.specs.Prelude.{replicate}
 use Rattle.std.specs.List.{range_with_len}
 use Rattle.std.proofs.lemmas.List.{length-map, get_or-map, ext_get_or, get_or_append_left, get_or-append-add}
@@ -28,10 +28,7 @@ module _ {c : CircuitData} (is : IsCircuit c) where
   variable-le_most literal (inl e) = omega arith
   variable-le_most literal (inr (k, lt, e)) =
       let within : k < length (definitions c) = omega (arith, length-map (definitions c) variable) in
-      let is_definition = is.draft.defined k 0 within in
-      let same : variable (get_or (definitions c) k 0) ≡ variable literal =
-      sym (get_or-map variable (definitions c) k 0 (variable literal) within) ∙ e in
-      omega (arith, is_definition.2, same)
+      grind (arith, get_or-map variable (definitions c) k 0 (variable literal) within)
 
   -- a literal reads the table as it reads the values
   pub bit_of-values_by : (table : List Bool) (literal : ℕ) → IsKnown (definitions c) literal
@@ -72,16 +69,13 @@ module _ {c : CircuitData} (is : IsCircuit c) where
             ∙ holds.inputs_there k (omega arith)
 
     latches_hold : map (λ l. bit_of (values_by c (work_out rows table)) l.literal) c.latches ≡ latches
-    latches_hold = ext_get_or false _ latches (length-map c.latches _ ∙ sym many_latches) (λ k lt. at k (omega (
-      arith,
-      length-map c.latches (λ (l : Latch). bit_of (values_by c (work_out rows table)) l.literal),
-    )))
+    latches_hold =
+        ext_get_or false _ latches (length-map c.latches _ ∙ sym many_latches) (λ k lt. grind (arith, at, length-map))
       where
         at : (k : ℕ) → k < length c.latches → get_or (map (λ l. bit_of (values_by c (work_out rows table)) l.literal)
             c.latches) k false ≡ get_or latches k false
-        at k lt =
-            get_or-map (λ (l : Latch). bit_of (values_by c (work_out rows table)) l.literal) c.latches k no_latch false
-            lt ∙ value_at (work_out rows table) (length c.inputs + k) (omega (arith, length-definitions c))
+        at k lt = get_or-map (λ (l : Latch). bit_of (values_by c (work_out rows table)) l.literal) c.latches k no_latch
+            false lt ∙ value_at (work_out rows table) (length c.inputs + k) (omega (arith, length-definitions c))
             (definitions_latch c k lt) ∙ kept (suc (length c.inputs + k)) (omega arith)
             ∙ ap (λ p. get_or table p false) (omega arith) ∙ holds.latches_there k (omega arith)
 
@@ -99,9 +93,14 @@ module _ {c : CircuitData} (is : IsCircuit c) where
         let sides = sides_known is i no_gate lt in
         let here = length c.inputs + length c.latches + i in
         let many : here < length (definitions c) = omega (arith, length-definitions c) in
-        value_at all here many (definitions_gate c i lt) ∙ ap (λ p. get_or all p false)
-        (sym (place_of-definition is here many (definitions_gate c i lt))) ∙ work_there
-        ∙ ap₂ ◌&&◌ (sym (bit_of-values_by all g.first sides.0)) (sym (bit_of-values_by all g.second sides.1))
+        grind (
+          arith,
+          value_at all here many (definitions_gate c i lt),
+          place_of-definition is here many
+              (definitions_gate c i lt),
+          bit_of-values_by all g.first sides.0,
+          bit_of-values_by all g.second sides.1,
+        )
 
     -- what the rows make of the table are the circuit's values
     pub AreValues-work_out : AreValues c inputs latches (values_by c (work_out rows table))
@@ -119,14 +118,4 @@ first_table c inputs latches = false ∷ inputs ++ latches ++ replicate (length 
 
 pub Holds-first_table : (c : CircuitData) (inputs latches : List Bool) →
     Holds inputs latches (first_table c inputs latches)
-Holds-first_table c inputs latches = record {
-  constant = refl;
-  inputs_there =
-      λ k lt. ap (λ p. get_or (first_table c inputs latches) p false) (let e : 1 + k ≡ suc k = omega arith in e)
-      ∙ get_or_append_left (inputs ++ latches) (replicate (length c.gates) false) false k
-      (omega (arith, length-append inputs latches)) ∙ get_or_append_left inputs latches false k lt;
-  latches_there = λ k lt. ap (λ p. get_or (first_table c inputs latches) p false)
-      (let e : 1 + length inputs + k ≡ suc (length inputs + k) = omega arith in e)
-      ∙ get_or_append_left (inputs ++ latches) (replicate (length c.gates) false) false (length inputs + k)
-      (omega (arith, length-append inputs latches)) ∙ get_or-append-add inputs latches k false;
-}
+Holds-first_table c inputs latches = grind (arith, get_or_append_left, length-append, get_or-append-add)

@@ -53,12 +53,10 @@ pub work_out-row : (rows : List Row) (values : List Bool) (k : ℕ) → IsSchedu
 work_out-row [] values k s within lt = absurd (omega arith)
 work_out-row (r ∷ rows) values zero s within lt =
     let all = work_out (r ∷ rows) values in
-    let first : read all r.first ≡ read values r.first =
-    read-same all values r.first (work_out-other (r ∷ rows) values r.first.place
-    (λ l less e. absurd (omega (arith, s.first_behind 0 l lt less (sym e))))) in
-    let second : read all r.second ≡ read values r.second =
-    read-same all values r.second (work_out-other (r ∷ rows) values r.second.place
-    (λ l less e. absurd (omega (arith, s.second_behind 0 l lt less (sym e))))) in
+    let first : read all r.first ≡ read values r.first = read-same all values r.first (work_out-other (r ∷ rows) values
+    r.first.place (λ l less e. absurd (omega (arith, s.first_behind 0 l lt less (sym e))))) in
+    let second : read all r.second ≡ read values r.second = read-same all values r.second (work_out-other (r ∷ rows)
+    values r.second.place (λ l less e. absurd (omega (arith, s.second_behind 0 l lt less (sym e))))) in
     let kept : get_or all r.target false ≡ get_or (work_row values r) r.target false =
     work_out-other rows (work_row values r) r.target (λ l less e.
     absurd (let h : suc l ≡ 0 = s.once (suc l) 0 (omega arith) lt e in omega arith)) in

@@ -1,5 +1,5 @@
 -- The winner's circuit by a certificate is there: its machine is, and so is that one's circuit.
-use Rattle.std.proofs.Common.{◌≡◌, ◌<◌, ◌≤◌, ◌⊎◌, ℕ, List, length, refl, inl, inr}
+use Rattle.std.proofs.Common.{rules, ◌≡◌, ◌<◌, ◌≤◌, ◌⊎◌, ℕ, List, length, refl}
 use Rattle.ps_aiger.specs.Encoded.{Encodes, IsTidy}
 use Rattle.ps_aiger.specs.Wires.{IsOutOfLiterals, IsWired}
 use Rattle.ps_certificate.specs.Certificates.{CertificateData, Fits, IsValid}
@@ -37,21 +37,6 @@ pub circuit_or_out : MachineThere → CircuitThere → (order : Order) (file : F
     ((m : Behaviour) × IsWinners order file game is_game certificate m × IsOutOfLiterals m) ⊎
     ((c : CircuitData) × IsWinnersCircuit order file game is_game certificate c)
 circuit_or_out machines circuits order file game is_game certificate sound certified =
-    let found =
-    machines file.names (board_of_file order file is_game.auto) (mover_of order) is_game.keys game.game certificate
-    sound.few_names sound.names refl (small_mover order) is_game.is_game certified.fits certified.valid in
-    let winners : IsWinners order file game is_game certificate found.0 =
-    record { is_machine = found.1; propositions = found.2; machine_of = found.3 } in
-    elim (circuits found.0 found.1) [
-      | inl out ↦ inl (found.0, winners, out)
-      | inr made ↦ inr (
-        made.0,
-        record {
-          machine = found.0;
-          winners = winners;
-          encodes = made.1;
-          tidy = made.2;
-          wired = made.3;
-        },
-      )
-    ]
+    let found = machines file.names (board_of_file order file is_game.auto) (mover_of order) is_game.keys game.game
+    certificate sound.few_names sound.names refl (small_mover order) is_game.is_game certified.fits certified.valid in
+    search rules

@@ -1,5 +1,5 @@
 -- The winner's circuit by a certificate: the machine is one, and so is its circuit.
-use Rattle.std.proofs.Common.{◌≡◌}
+use Rattle.std.proofs.Common.{rules, ◌≡◌}
 use Rattle.ps_aiger.specs.Encoded.{Encodes, IsTidy}
 use Rattle.ps_aiger.specs.Wires.{IsOutOfLiterals, IsWired}
 use Rattle.ps_certificate.specs.Certificates.{CertificateData}
@@ -37,23 +37,16 @@ module _ (machines : OneMachine) where
   alike : (order : Order) (file : FileData) (game : NamedGameData) (first second : IsGameOfFile order file game)
       (certificate : CertificateData) (m o : Behaviour) →
       IsWinners order file game first certificate m → IsWinners order file game second certificate o → BehavesAs m o
-  alike order file game first second certificate m o a b =
-      machines order file game first second certificate m o a.is_machine b.is_machine a.propositions b.propositions
-      a.machine_of b.machine_of
+  alike order file game first second certificate m o a b = search rules
 
   pub one_circuit : OneCircuit → (order : Order) (file : FileData) (game : NamedGameData)
       (first second : IsGameOfFile order file game) (certificate : CertificateData) (c d : CircuitData) →
       IsWinnersCircuit order file game first certificate c → IsWinnersCircuit order file game second certificate d →
       c ≡ d
-  one_circuit circuits order file game first second certificate c d a b =
-      circuits a.machine b.machine c d a.winners.is_machine (alike order file game first second certificate a.machine
-      b.machine a.winners b.winners)
-      a.encodes a.tidy a.wired b.encodes b.tidy b.wired
+  one_circuit circuits order file game first second certificate c d a b = search (rules, alike)
 
   pub circuit_or_none : HasLiterals → (order : Order) (file : FileData) (game : NamedGameData)
       (first second : IsGameOfFile order file game) (certificate : CertificateData) (c : CircuitData) (m : Behaviour) →
       IsWinnersCircuit order file game first certificate c → IsWinners order file game second certificate m →
       ¬ IsOutOfLiterals m
-  circuit_or_none literals order file game first second certificate c m a b =
-      literals a.machine m c a.winners.is_machine (alike order file game first second certificate a.machine m a.winners
-      b) a.encodes a.tidy a.wired
+  circuit_or_none literals order file game first second certificate c m a b = search (rules, alike)

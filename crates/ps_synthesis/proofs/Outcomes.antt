@@ -1,17 +1,15 @@
 -- What is said of a report, a fault or an outcome by what one solver may answer holds by what another one may, that may
 -- answer as much; and what an outcome says of the report, or of the fault.
-use Rattle.std.proofs.Common.{ℕ, Bool, List, Result, Ok, Err, refl, subst, sym}
+use Rattle.std.proofs.Common.{rules, arith, ℕ, Bool, List, Result, Ok, Err, refl, subst, sym}
 use Rattle.std.specs.Prelude.{IfErr, IfOk}
 use Rattle.ps_certificate.specs.Certificates.{CertificateData}
 use Rattle.ps_game.specs.Games.{NamedGameData}
 use Rattle.ps_hoa.specs.Files.{FileData}
 use Rattle.ps_machine.specs.declared.fault.SolveFault.{SolveFault}
-use Rattle.ps_machine.specs.declared.fault.SolveFault.TheVariants as solver
 use Rattle.ps_machine.specs.declared.key.Order.{Order}
 use Rattle.ps_synthesis.specs.Promises.{KeepsPromise, MayAnswer}
 use Rattle.ps_synthesis.specs.Reports.{IsReport}
-use Rattle.ps_synthesis.specs.SynthFaults.{IsOutcome, Reported, TooLarge, LacksMemory, IsLost, IsNotCertified}
-use Rattle.ps_synthesis.specs.SynthFaults.{IsSynthFault, IsTooLarge, OfGame}
+use Rattle.ps_synthesis.specs.SynthFaults.{IsOutcome, Reported, TooLarge, LacksMemory, IsSynthFault, IsTooLarge, OfGame}
 use Rattle.ps_synthesis.specs.declared.fault.SynthFault.{SynthFault}
 use Rattle.ps_synthesis.specs.declared.fault.SynthFault.TheVariants.{Text, Automaton, BadCycle, Certificate}
 use Rattle.ps_synthesis.specs.declared.fault.SynthFault.TheVariants.{NotCertified, CircuitTooLarge, OutOfMemory}
@@ -50,49 +48,17 @@ module _ (May Other : MayAnswer) (more : AnswersMore May Other) (order : Order) 
 
   of_game : (P Q : FileData → NamedGameData → Type 0) → OfGame order text P →
       ((file : FileData) (game : NamedGameData) → P file game → Q file game) → OfGame order text Q
-  of_game P Q h f =
-      record {
-        file = h.file;
-        accepted = h.accepted;
-        game = h.game;
-        is_game = h.is_game;
-        holds = f h.file h.game h.holds;
-      }
+  of_game P Q h f = grind arith
 
   too_large_more : OfGame order text (IsTooLarge May order) → OfGame order text (IsTooLarge Other order)
-  too_large_more h = of_game (IsTooLarge May order) (IsTooLarge Other order) h (λ file game t. record {
-    certificate = t.certificate;
-    answered = more game (Ok t.certificate) t.answered;
-    certified = t.certified;
-    is_game = t.is_game;
-    machine = t.machine;
-    winners = t.winners;
-    out_of_literals = t.out_of_literals;
-  })
+  too_large_more h = search (rules, of_game)
 
   pub fault_more : (fault : SynthFault) → IsSynthFault May order text fault → IsSynthFault Other order text fault
   fault_more (Text cause offset) h = h
   fault_more (Automaton fault) h = h
-  fault_more (BadCycle ids) h =
-      of_game (λ file game. IsLost May game ids.items) (λ file game. IsLost Other game ids.items) h
-      (λ file game l. record {
-        cycle = l.cycle;
-        answered = more game (Err (solver.BadCycle l.cycle)) l.answered;
-        some = l.some;
-        vertices = l.vertices;
-        ids_are = l.ids_are;
-      })
-  fault_more (Certificate cause offset) h =
-      of_game (λ file game. May game (Err (solver.Text cause offset)))
-      (λ file game. Other game (Err (solver.Text cause offset))) h
-      (λ file game may. more game (Err (solver.Text cause offset)) may)
-  fault_more NotCertified h =
-      of_game (λ file game. IsNotCertified May game) (λ file game. IsNotCertified Other game) h
-      (λ file game n. record {
-        certificate = n.certificate;
-        answered = more game (Ok n.certificate) n.answered;
-        wrong = n.wrong;
-      })
+  fault_more (BadCycle ids) h = search (rules, of_game)
+  fault_more (Certificate cause offset) h = grind arith
+  fault_more NotCertified h = grind arith
   fault_more CircuitTooLarge h = too_large_more h
   fault_more OutOfMemory h = h
 
@@ -141,6 +107,4 @@ module _ (May : MayAnswer) (order : Order) (compact : Bool) (text : List ℕ) wh
       subst (λ (a : Result Report SynthFault). IfErr a (IsSynthFault May order text)) (sym e) tt
 
   pub sure_in : (answer : Result Report SynthFault) → IsOutcome May order compact text answer → IfErr answer IsSureFault
-  sure_in answer (Reported report e is) = subst (λ (a : Result Report SynthFault). IfErr a IsSureFault) (sym e) tt
-  sure_in answer (TooLarge e is) = subst (λ (a : Result Report SynthFault). IfErr a IsSureFault) (sym e) tt
-  sure_in answer (LacksMemory e) = subst (λ (a : Result Report SynthFault). IfErr a IsSureFault) (sym e) tt
+  sure_in answer h = grind arith

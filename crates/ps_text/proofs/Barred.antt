@@ -2,7 +2,7 @@
 --     laws_barred; read_barred      P is read, and Bad says nothing of the sign behind it
 --     fault_barred      P's own fault; fault_bar      Bad says what is wrong with the sign behind P
 --     reads_barred, stops_barred, stops_bar      the same at the exits of a reading function
-use Rattle.std.proofs.Common.{◌≡◌, ◌+◌, ◌<◌, ◌≤◌, ◌⊎◌, List, [], ◌∷◌, ◌++◌, length, Option, Some, sym, ap, subst, inl}
+use Rattle.std.proofs.Common.{◌≡◌, ◌+◌, ◌≤◌, ◌⊎◌, List, [], ◌∷◌, ◌++◌, length, Option, Some, sym, ap, subst, inl}
 use Rattle.std.proofs.Common.{inr, ⊎_elim, ◌∙◌, append_assoc, arith, rules}
 use Rattle.ps_text.specs.Answers.{Begins, Stream, Found, first_of, next_of, offset_of}
 use Rattle.ps_text.specs.Parts.{Part, Causes, IsRead, IsBroken, IsFault, is_cause, CleanUpTo, barred}
@@ -38,8 +38,7 @@ module _ {T V F : Type 0} {odd : T → Type 0} {P : Part T V F} (Bad : V → T �
     -- no bar stands inside what begins P
     no_bar : (front m : List T) (t : T) (v : V) (f : F) → Begins P.IsText (front ++ t ∷ m) → P.IsText front v →
         Bad v t f → ⊥
-    no_bar front m t v f b h c =
-        apart t (l.more_text front (m ++ b.more) t v b.value h (rw append_assoc at b.is_text)) (v, f, c)
+    no_bar front m t v f b h c = apart t (grind (arith, append_assoc)) (v, f, c)
 
     clean_barred : {all front : List T} (rest : List T) → all ≡ front ++ rest → Begins P.IsText front →
         CleanUpTo P all (length front) → CleanUpTo (barred P Bad) all (length front)
@@ -53,8 +52,7 @@ module _ {T V F : Type 0} {odd : T → Type 0} {P : Part T V F} (Bad : V → T �
 
     pub read_barred : {all rest : List T} {v : V} → ((t : T) (f : F) → first_of rest ≡ Some t → Bad v t f → ⊥) →
         IsRead P all v rest → IsRead (barred P Bad) all v rest
-    read_barred {all} {rest} {v} good p =
-        record { text = p.text; split = p.split; is_text = p.is_text; stops = p.stops; clean = clean }
+    read_barred {all} {rest} {v} good p = grind (arith, clean)
       where
         clean : CleanUpTo (barred P Bad) all (length p.text + 1)
         clean front r t f e n (inl c) = p.clean front r t f e n c
@@ -83,14 +81,12 @@ module _ {T V F : Type 0} {odd : T → Type 0} {P : Part T V F} (Bad : V → T �
     fault_bar causes {all} {rest} {t} {v} {f} p e bad m = record {
       front = p.text;
       split = p.split;
-      clean = clean_barred rest p.split (text_begins P.IsText p.is_text)
-          (λ front r u g x n. p.clean front r u g x (omega (arith, n)));
+      clean = clean_barred rest p.split (text_begins P.IsText p.is_text) (λ front r u g x n. grind arith);
       fault = is_cause t e (inr (v, p.is_text, bad)) least;
     }
       where
         least : (g : F) → (barred P Bad).IsCause p.text t g → causes.number f ≤ causes.number g
-        least g (inl c) = absurd (quiet_at P p.text e (read_quiet p) c)
-        least g (inr c) = m g (bar_value p.text t v c.0 g p.is_text c.1 c.2)
+        least g h = grind (arith, quiet_at, read_quiet, bar_value)
 
     pub reads_barred : {old new : Stream T} {v : V} → ((t : T) (f : F) → next_of new ≡ Some t → Bad v t f → ⊥) →
         Reads P old v new → Reads (barred P Bad) old v new
@@ -103,10 +99,4 @@ module _ {T V F : Type 0} {odd : T → Type 0} {P : Part T V F} (Bad : V → T �
     pub stops_bar : (causes : Causes T F) {old mid : Stream T} {v : V} → Reads P old v mid → (t : T) (f : F) (o : Option
         (Found F)) → next_of mid ≡ Some t → Bad v t f → ((g : F) → Bad v t g → causes.number f ≤ causes.number g) →
         o ≡ Some (record { cause = f; offset = offset_of mid.pieces mid.end }) → Stops causes (barred P Bad) old o
-    stops_bar causes {old} {mid} m t f o n bad least k = rw k (record {
-      front = m.0.taken;
-      rest = mid.pieces;
-      split = m.0.split;
-      fault = fault_bar causes m.1 n bad least;
-      offset = ap (offset_of mid.pieces) m.0.end;
-    })
+    stops_bar causes {old} {mid} m t f o n bad least k = grind (arith, fault_bar causes m.1 n bad least)

@@ -8,11 +8,11 @@
 --     reads_as, stops_as_well, meets_as w m      what is said of P is said of Q
 --     many_ends, many_reads, many_fails      `many` stops where no item begins; behind an item; an item that begins
 --               fails
---     times_ends, times_reads, times_fails      no item is left to read; behind an item; an item fails
+--     times_reads, times_fails      behind an item; an item fails
 --     carries_many, carries_times      the invariant of a loop behind an item
 --     reads_shrinks      a part that takes a sign leaves fewer pieces: the measure of a loop
-use Rattle.std.proofs.Common.{◌≡◌, ℕ, zero, suc, ◌+◌, ◌-◌, ◌<◌, List, [], ◌∷◌, ◌++◌, length, Option, Some, Result, Ok}
-use Rattle.std.proofs.Common.{Err, ap, subst, inl, inr, ◌∙◌, arith, length-append, rules}
+use Rattle.std.proofs.Common.{◌≡◌, ℕ, zero, suc, ◌-◌, ◌<◌, List, [], ◌∷◌, ◌++◌, length, Option, Some, Result, Ok}
+use Rattle.std.proofs.Common.{Err, subst, arith, length-append, rules}
 use Rattle.std.proofs.lemmas.List.{length-map}
 use Rattle.ps_text.specs.Answers.{Stream, Found, signs, next_of}
 use Rattle.ps_text.specs.Parts.{Part, Causes, IsRead, IsBroken, either, times, many}
@@ -33,8 +33,7 @@ shrinks {T} P all rest v some p = go p.text p.split p.is_text
   where
     go : (text : List T) → all ≡ text ++ rest → P.IsText text v → length rest < length all
     go [] e h = absurd (some v h)
-    go (t ∷ text) e h = let x : length all ≡ suc (length text) + length rest = ap length e
-        ∙ length-append (t ∷ text) rest in omega (arith, x)
+    go (t ∷ text) e h = grind (arith, length-append)
 
 -- a reading that took a sign has fewer to come
 pub reads_shrinks : {T V F : Type 0} {P : Part T V F} {old new : Stream T} {v : V} → ((w : V) → P.IsText [] w → ⊥) →
@@ -78,18 +77,10 @@ module _ {T V F : Type 0} {odd : T → Type 0} {P Q : Part T V F} {F1 M1 F2 M2 :
   }
 
   pub left_otherwise : Avoids F2 there → (N2 → ⊥) → Stands there P (either P Q)
-  left_otherwise a n = record { covers = covers_left P Q r there a; starts = none }
-    where
-      none : IsBroken P [] there → (v : V) → (either P Q).IsText [] v → ⊥
-      none b v (inl h) = b.no_text v h
-      none b v (inr h) = n (r.null v h)
+  left_otherwise a n = grind (arith, covers_left P Q r there a)
 
   pub right_otherwise : Avoids F1 there → (N1 → ⊥) → Stands there Q (either P Q)
-  right_otherwise a n = record { covers = covers_right P Q l there a; starts = none }
-    where
-      none : IsBroken Q [] there → (v : V) → (either P Q).IsText [] v → ⊥
-      none b v (inr h) = b.no_text v h
-      none b v (inl h) = n (l.null v h)
+  right_otherwise a n = grind (arith, covers_right P Q l there a)
 
 module _ {T C F : Type 0} {odd : T → Type 0} (item : C → Part T C F) {First More : T → Type 0}
     (l : (c : C) → Laws odd (item c) First More ⊥) (apart : Apart More First) where
@@ -129,9 +120,6 @@ module _ {T C F : Type 0} {odd : T → Type 0} (item : C → Part T C F) {First 
       go : Carries causes whole start (many item d) next
       go (Ok e) new n = k (Ok e) new (many_reads m n)
       go (Err o) new n = k (Err o) new (many_fails_later causes o m n)
-
-  pub times_ends : (n : ℕ) (c : C) (s : Stream T) → n ≡ 0 → Reads (times n item c) s c s
-  times_ends n c s z = search (rules, reads_give)
 
   pub times_reads : (n : ℕ) {c d e : C} {old mid new : Stream T} → 0 < n → Reads (item c) old d mid →
       Reads (times (n - 1) item d) mid e new → Reads (times n item c) old e new

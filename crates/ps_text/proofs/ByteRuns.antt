@@ -1,10 +1,10 @@
 -- Runs of bytes that pass a test.
---     all_joined, all_left, all_right      two runs, one behind the other
+--     all_left, all_right      two runs, one behind the other
 --     run_len, run_all, run_ends      the longest run that a text begins with
 --     run_whole      a text that is one run
 --     same_run      there is only one longest run
-use Rattle.std.proofs.Common.{◌≡◌, ℕ, suc, Bool, List, [], ◌∷◌, ◌++◌, length, take, rules, drop, refl, ap, ap₂, sym}
-use Rattle.std.proofs.Common.{⊎_elim, ◌∙◌, append-nil, arith}
+use Rattle.std.proofs.Common.{◌≡◌, ℕ, suc, Bool, List, [], ◌∷◌, ◌++◌, length, take, rules, drop, refl, ap₂}
+use Rattle.std.proofs.Common.{⊎_elim, append-nil, arith}
 use Rattle.std.specs.List.{prefix_len, take_while}
 use Rattle.std.proofs.Math.Seq.{take-length}
 use Rattle.std.proofs.lemmas.Bool.{cases_Bool}
@@ -12,10 +12,6 @@ use Rattle.ps_text.specs.Runs.{AllOf, StopsBefore}
 use Rattle.ps_text.proofs.Splits.{same_head, same_tail}
 
 module _ (p : ℕ → Bool) where
-  pub all_joined : (a b : List ℕ) → AllOf p a → AllOf p b → AllOf p (a ++ b)
-  all_joined [] b h k = k
-  all_joined (x ∷ a) b h k = (h.0, all_joined a b h.1 k)
-
   pub all_left : (a b : List ℕ) → AllOf p (a ++ b) → AllOf p a
   all_left [] b h = tt
   all_left (x ∷ a) b h = (h.0, all_left a b h.1)
@@ -27,15 +23,13 @@ module _ (p : ℕ → Bool) where
   pub run_len : (run rest : List ℕ) → AllOf p run → StopsBefore p rest → prefix_len p (run ++ rest) ≡ length run
   run_len [] [] a s = refl
   run_len [] (b ∷ bs) a s = rw s refl
-  run_len (b ∷ run) rest a s =
-      let ih : prefix_len p (run ++ rest) ≡ length run = run_len run rest a.1 s in rw a.0 (omega (arith, ih))
+  run_len (b ∷ run) rest a s = grind (arith, run_len run rest a.1 s)
 
   -- the longest run that a text begins with, and what stands behind it
   pub run_all : (text : List ℕ) → AllOf p (take (prefix_len p text) text)
   run_all [] = tt
-  run_all (b ∷ bs) =
-      ⊎_elim (λ yes. let size : prefix_len p (b ∷ bs) ≡ suc (prefix_len p bs) = rw yes (omega arith) in rw size
-      (yes, run_all bs)) (λ no. let size : prefix_len p (b ∷ bs) ≡ 0 = rw no refl in rw size tt) (cases_Bool (p b))
+  run_all (b ∷ bs) = ⊎_elim (λ yes. let size : prefix_len p (b ∷ bs) ≡ suc (prefix_len p bs) = rw yes (omega arith) in
+      rw size (yes, run_all bs)) (λ no. grind arith) (cases_Bool (p b))
 
   pub run_ends : (text : List ℕ) → StopsBefore p (drop (prefix_len p text) text)
   run_ends [] = tt
@@ -43,8 +37,7 @@ module _ (p : ℕ → Bool) where
       rw size (run_ends bs)) (λ no. let size : prefix_len p (b ∷ bs) ≡ 0 = rw no refl in rw size no) (cases_Bool (p b))
 
   pub run_whole : (run : List ℕ) → AllOf p run → take_while p run ≡ run
-  run_whole run a = let n : prefix_len p (run ++ []) ≡ length run =
-      run_len run [] a tt in ap (λ k. take k run) (ap (prefix_len p) (sym (append-nil run)) ∙ n) ∙ take-length run
+  run_whole run a = grind (arith, run_len run [] a tt, append-nil run, take-length run)
 
   pub same_run : (a b x y : List ℕ) → a ++ x ≡ b ++ y → AllOf p a → AllOf p b → StopsBefore p x → StopsBefore p y →
       a ≡ b

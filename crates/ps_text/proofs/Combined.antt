@@ -15,7 +15,7 @@ use Rattle.ps_text.proofs.Covered.{laws_either}
 use Rattle.ps_text.proofs.Repeated.{laws_times, laws_many}
 
 pub both_within : {T : Type 0} {A B C : T → Type 0} → Within A C → Within B C → Within (Or A B) C
-both_within h1 h2 = search rules
+both_within h k = search rules
 
 module _ {T V F : Type 0} {odd : T → Type 0} where
   pub wider_first : {P : Part T V F} {First First' More : T → Type 0} {Null : Type 0} →
@@ -26,24 +26,19 @@ module _ {T V F : Type 0} {odd : T → Type 0} where
       Laws odd P First More Null → Within More More' → Laws odd P First More' Null
   wider_more l m = weaker l (λ t h. h) m (λ n. n)
 
-  pub laws_first : {take : T → Option V} {Bad : T → F → Type 0} {First : T → Type 0} (t : T) (v : V) →
-      take t ≡ Some v → Apart First odd → Within (Taken take) First → Within (BadSign Bad) First →
-      Laws odd (one take Bad) First Nothing ⊥
-  laws_first {take} {Bad} t v e plain taken bad = wider_first
-      (laws_one take Bad odd t v e (λ u h. plain u (taken u h)) (λ u h. plain u (bad u h))) (both_within taken bad)
+  pub laws_first : {take : T → Option V} {Bad : T → F → Type 0} {First : T → Type 0} (t : T) (v : V) → take t ≡ Some v →
+      Apart First odd → Within (Taken take) First → Within (BadSign Bad) First → Laws odd (one take Bad) First Nothing ⊥
+  laws_first {take} {Bad} t v e plain taken bad = wider_first (search (rules, laws_one)) (both_within taken bad)
 
   pub laws_forms : {P Q : Part T V F} {F1 F2 More : T → Type 0} → Laws odd P F1 More ⊥ → Laws odd Q F2 More ⊥ →
       Apart F1 F2 → Laws odd (either P Q) (Or F1 F2) More ⊥
-  laws_forms l r apart = weaker (laws_either l r apart (λ n _. n)) (λ t h. h)
-      (search (rules, both_within))
+  laws_forms l r apart = weaker (laws_either l r apart (λ n _. n)) (λ t h. h) (search (rules, both_within))
       (λ n. elim n [ inl x ↦ x | inr x ↦ x ])
 
   pub laws_option : {P : Part T V F} {First : T → Type 0} → Laws odd P First Nothing ⊥ → (v : V) →
       Laws odd (either P (give v)) First First (Unit {0})
   laws_option l v = weaker (laws_either l (laws_give odd v) (λ t _ b. b) (λ n _. n))
-      (both_within (λ t h. h) (λ t h. absurd h))
-      (search (rules, both_within))
-      (λ _. tt)
+      (both_within (λ t h. h) (λ t h. absurd h)) (search (rules, both_within)) (λ _. tt)
 
   module _ (item : V → Part T V F) {First : T → Type 0} (l : (c : V) → Laws odd (item c) First Nothing ⊥) where
     pub laws_all : (c : V) → Laws odd (many item c) First First (Unit {0})

@@ -4,8 +4,8 @@
 --     Avoids A there      the next sign is none of these
 --     covers_left, covers_right      `either` is read as one of its two, where the other does not begin
 --     laws_either
-use Rattle.std.proofs.Common.{◌≡◌, ◌⊎◌, List, [], ◌∷◌, ◌++◌, Option, None, Some, refl, subst, inl, inr, ◌∙◌, rules}
-use Rattle.std.proofs.Common.{⊎_elim}
+use Rattle.std.proofs.Common.{arith, ◌≡◌, ◌⊎◌, List, [], ◌∷◌, ◌++◌, Option, None, Some, refl, subst, inl, inr, ◌∙◌}
+use Rattle.std.proofs.Common.{rules, ⊎_elim}
 use Rattle.ps_text.specs.Answers.{Begins, first_of}
 use Rattle.ps_text.specs.Parts.{Part, IsRead, IsBroken, one, then_by, mapped, either}
 use Rattle.ps_text.proofs.Laws.{Laws, Or, When, Apart, Joint}
@@ -36,8 +36,7 @@ enters_then P Q j there e = search (rules, begins_left)
 pub enters_mapped : {T A B F : Type 0} (h : A → B) (P : Part T A F) (there : Option T) → Enters P there →
     Enters (mapped h P) there
 enters_mapped h P None e = e
-enters_mapped h P (Some t) (inl b) =
-    inl (record { more = b.more; value = h b.value; is_text = (b.value, b.is_text, refl) })
+enters_mapped h P (Some t) (inl b) = inl (record { more = b.more; value = h b.value; is_text = grind arith })
 enters_mapped h P (Some t) (inr c) = inr c
 
 pub enters_one : {T V F : Type 0} (take : T → Option V) (Bad : T → F → Type 0) (t : T) →
@@ -72,8 +71,7 @@ covers_one {T} {V} {F} {P = P} {Q = Q} W l there a text cause text_of cause_of =
   where
     back : (t : T) (text : List T) (v : V) → there ≡ Some t → P.IsText (t ∷ text) v ⊎ Q.IsText (t ∷ text) v →
         P.IsText (t ∷ text) v
-    back t text v e (inl h) = h
-    back t text v e (inr h) = absurd (a t e (l.first_text t text v h))
+    back t text v e h = grind arith
 
     cause_back : (front : List T) (t : T) (f : F) → there ≡ first_of (front ++ t ∷ []) →
         P.IsCause front t f ⊎ Q.IsCause front t f → P.IsCause front t f
@@ -126,10 +124,7 @@ module _ {T V F : Type 0} {odd : T → Type 0} {P Q : Part T V F} {F1 M1 F2 M2 :
       apart_texts (t ∷ text) v w h k = apart t (l.first_text t text v h) (r.first_text t text w k)
 
       values : (text : List T) (v w : V) → (either P Q).IsText text v → (either P Q).IsText text w → v ≡ w
-      values text v w (inl h) (inl k) = l.one_value text v w h k
-      values text v w (inl h) (inr k) = absurd (apart_texts text v w h k)
-      values text v w (inr h) (inl k) = absurd (apart_texts text w v k h)
-      values text v w (inr h) (inr k) = r.one_value text v w h k
+      values text v w h k = grind (arith, apart_texts)
 
       mores : (text more : List T) (t : T) (v w : V) → (either P Q).IsText text v →
           (either P Q).IsText (text ++ t ∷ more) w → Or (Or M1 M2) (Or (When N1 F2) (When N2 F1)) t

@@ -4,8 +4,8 @@
 --     value_grows, value_front      more digits write no smaller number
 --     IsNumberText n digits      digits without a leading zero that write the number
 --     number_text, plain      these are written
-use Rattle.std.proofs.Common.{◌≡◌, ℕ, zero, ◌+◌, ◌-◌, ◌*◌, ◌/◌, ◌%◌, ◌^◌, ◌<◌, ◌≤◌, true, List, [], ◌∷◌, ◌++◌, length}
-use Rattle.std.proofs.Common.{get_or, take, drop, refl, ap, subst, ◌∙◌, arith, length-append, rules, take-append-drop}
+use Rattle.std.proofs.Common.{◌≡◌, ℕ, ◌+◌, ◌-◌, ◌*◌, ◌/◌, ◌%◌, ◌^◌, ◌<◌, ◌≤◌, true, List, [], ◌∷◌, ◌++◌, length}
+use Rattle.std.proofs.Common.{get_or, take, drop, refl, ap, ◌∙◌, arith, length-append, rules, take-append-drop}
 use Rattle.std.specs.Prelude.{decimal}
 use Rattle.std.specs.Char.{is_ascii_digit}
 use Rattle.std.specs.List.{All}
@@ -42,8 +42,7 @@ pub value_grows : (a b : List ℕ) → decimal_value a ≤ decimal_value (a ++ b
 value_grows a b = search (rules, map-append, number_after_append, number_after_ge)
 
 pub value_front : (ds : List ℕ) (i : ℕ) → decimal_value (take i ds) ≤ decimal_value ds
-value_front ds i = subst
-    (λ xs. decimal_value (take i ds) ≤ decimal_value xs) (take-append-drop i ds) (value_grows (take i ds) (drop i ds))
+value_front ds i = grind (arith, take-append-drop i ds, value_grows (take i ds) (drop i ds))
 
 -- ## Numbers that are written
 
@@ -71,14 +70,7 @@ number_text n small = decimal_by_steps IsNumberText one further n small
     further n ds l h =
         let d = 48 + n % 10 in
         let all = All-append IsDigit ds (d ∷ []) h.all (one_digit (n % 10) (omega arith)) in
-        record {
-          some = omega (arith, length-append ds (d ∷ []));
-          all = all;
-          pass = digits_pass (ds ++ d ∷ []) all;
-          value = omega (arith, value_pushed ds d, h.value);
-          lead = λ some z. h.lead (omega (arith, l)) (begins_more ds (d ∷ []) h.some z);
-          short = λ s. absurd (omega (arith, s, l));
-        }
+        grind (arith, length-append, digits_pass, value_pushed, begins_more)
 
 pub plain : (n : ℕ) → n < 2 ^ 64 → IsPlainNumber (decimal n)
 plain n small = search (rules, number_text)

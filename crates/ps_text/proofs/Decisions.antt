@@ -6,7 +6,7 @@
 --     judge_none, judge_cause, judge_one, judge_as      no cause; one cause, if a fact holds; of two sets of causes; a
 --               set of the same causes
 --     judge_if, judge_also      of what a sign has, where it has it; of causes that stand where a fact holds
-use Rattle.std.proofs.Common.{◌≡◌, ℕ, zero, suc, ◌≤◌, ◌⊎◌, Bool, true, List, [], ◌∷◌, length, get_or, refl, sym}
+use Rattle.std.proofs.Common.{◌≡◌, ℕ, suc, ◌≤◌, ◌⊎◌, Bool, true, List, [], ◌∷◌, length, get_or, refl, sym}
 use Rattle.std.proofs.Common.{inl, rules, inr, Option, None, Some, arith}
 use Rattle.std.specs.Prelude.{IfSome}
 use Rattle.std.specs.List.{Contains}
@@ -43,8 +43,7 @@ decide_in [] n = inr (λ c. omega (arith, c.1))
 decide_in (x ∷ xs) n = go (cases_eq x n) (decide_in xs n)
   where
     behind : ¬ (x ≡ n) → (k : ℕ) → suc k ≤ length (x ∷ xs) → get_or (x ∷ xs) k n ≡ n → Contains xs n
-    behind other zero l e = absurd (other e)
-    behind other (suc k) l e = (k, omega (arith, l), e)
+    behind other k l e = grind arith
 
     go : (x ≡ n) ⊎ ¬ (x ≡ n) → Decided (Contains xs n) → Decided (Contains (x ∷ xs) n)
     go (inl e) d = inl (0, omega arith, e)

@@ -18,11 +18,11 @@
 --     then_meets      a last call whose result is returned as it is
 --     carries_start, carries_then, carries_reads, carries_stops      the invariant of a loop: before it, behind a call,
 --               and at its exits
-use Rattle.std.proofs.Common.{◌≡◌, ◌≤◌, List, [], ◌∷◌, ◌++◌, Option, None, Some, Result, Ok, Err, IsErrAnd, refl, sym}
-use Rattle.std.proofs.Common.{ap, subst, ◌∙◌, append_assoc, rules}
+use Rattle.std.proofs.Common.{arith, ◌≡◌, ◌≤◌, List, [], ◌∷◌, ◌++◌, Option, None, Some, Result, Ok, Err, IsErrAnd, refl}
+use Rattle.std.proofs.Common.{sym, ap, ◌∙◌, append_assoc, rules}
 use Rattle.std.proofs.lemmas.Result.{err_from_is_err_and}
 use Rattle.ps_text.specs.Answers.{Piece, Stream, Found, first_of, next_of, signs, offset_of}
-use Rattle.ps_text.specs.Parts.{Part, Causes, IsRead, IsFault, give, one, then_by, mapped}
+use Rattle.ps_text.specs.Parts.{Part, Causes, IsFault, give, one, then_by, mapped}
 use Rattle.ps_text.specs.Readers.{refusal_at, tail, tail_of, IsSuffix, StopsWith, Stops, Reads, Meets, Carries}
 use Rattle.ps_text.proofs.Laws.{Joint}
 use Rattle.ps_text.proofs.Joined.{read_then, fault_left, fault_right}
@@ -33,11 +33,7 @@ pub suffix_refl : {T : Type 0} (s : Stream T) → IsSuffix s s
 suffix_refl s = record { taken = []; split = refl; end = refl }
 
 pub suffix_trans : {T : Type 0} (a b c : Stream T) → IsSuffix a b → IsSuffix b c → IsSuffix a c
-suffix_trans a b c x y = record {
-  taken = x.taken ++ y.taken;
-  split = x.split ∙ ap (λ z. x.taken ++ z) y.split ∙ sym (append_assoc x.taken y.taken c.pieces);
-  end = y.end ∙ x.end;
-}
+suffix_trans a b c x y = grind (arith, append_assoc x.taken y.taken c.pieces)
 
 -- the next piece
 pub piece_next : {T : Type 0} (s : Stream T) (t : T) → next_of s ≡ Some t →
@@ -88,8 +84,7 @@ reads_next {T} take Bad old new t v n z k good =
     go : (p : Piece T) → old.pieces ≡ p ∷ new.pieces → new.end ≡ old.end → p.sign ≡ t → Reads (one take Bad) old v new
     go p e l x = (
       record { taken = p ∷ []; split = e; end = l },
-      subst (λ ps. IsRead (one take Bad) (signs ps) v (signs new.pieces)) (sym e)
-          (read_one take Bad (ap take x ∙ k) (λ f b. good f (subst (λ u. Bad u f) x b))),
+      grind (arith, read_one),
     )
 
 -- ## A fault was found
@@ -121,8 +116,7 @@ module _ {T F : Type 0} (causes : Causes T F) where
     pub stops_refusal : (s : T) (w : V) → take s ≡ Some w → ((t : T) → next_of old ≡ Some t → take t ≡ None) →
         ((t : T) (f : F) → next_of old ≡ Some t → Bad t f → ⊥) →
         (o : Option (Found F)) → o ≡ Some (refusal_at causes old) → Stops causes (one take Bad) old o
-    stops_refusal s w y none good o k =
-        rw k (stops_there _ (refused_one take Bad causes s w y (signs old.pieces) none good))
+    stops_refusal s w y none good o k = rw k (search (rules, stops_there, refused_one))
 
 -- ## Results
 

@@ -1,7 +1,7 @@
 -- The laws of two parts, one behind the other, by sets that are smaller than those of `laws_then`.
 --     laws_next      neither part is empty
 --     laws_tight      the first one is not empty, and goes on with no sign
-use Rattle.std.proofs.Common.{inl, inr}
+use Rattle.std.proofs.Common.{arith}
 use Rattle.ps_text.specs.Parts.{Part, then_by}
 use Rattle.ps_text.proofs.Laws.{Laws, Nothing, Or, When, Apart, weaker}
 use Rattle.ps_text.proofs.Simple.{laws_then}
@@ -13,21 +13,17 @@ module _ {T A B F : Type 0} {odd : T → Type 0} {P : Part T A F} {Q : A → Par
   laws_next {More} l r apart = weaker (laws_then l r apart) first next (λ n. n.0)
     where
       first : (t : T) → Or First (When ⊥ First') t → First t
-      first t (inl x) = x
-      first t (inr x) = absurd x.0
+      first t h = grind arith
 
       next : (t : T) → Or More' (When ⊥ More) t → More' t
-      next t (inl x) = x
-      next t (inr x) = absurd x.0
+      next t h = grind arith
 
   pub laws_tight : {Null : Type 0} → Laws odd P First Nothing ⊥ → ((a : A) → Laws odd (Q a) First' More' Null) →
       Laws odd (then_by P Q) First More' ⊥
   laws_tight {Null} l r = weaker (laws_then l r (λ t x y. x)) first next (λ n. n.0)
     where
       first : (t : T) → Or First (When ⊥ First') t → First t
-      first t (inl x) = x
-      first t (inr x) = absurd x.0
+      first t h = grind arith
 
       next : (t : T) → Or More' (When Null Nothing) t → More' t
-      next t (inl x) = x
-      next t (inr x) = absurd x.1
+      next t h = grind arith

@@ -7,12 +7,12 @@
 --     read_as, fault_as      what is read or is a fault of P is one of Q
 --     after P left      what of P stands behind these signs
 --     read_after, fault_after      what is read or is a fault there is one of P, which is clean up to there
-use Rattle.std.proofs.Common.{◌≡◌, ℕ, ◌+◌, ◌⊎◌, List, [], ◌∷◌, ◌++◌, length, Option, Some, refl, sym, ap, subst}
+use Rattle.std.proofs.Common.{◌≡◌, ℕ, ◌+◌, ◌⊎◌, List, [], ◌∷◌, ◌++◌, length, Option, Some, refl, ap, subst}
 use Rattle.std.proofs.Common.{inl, ◌∙◌, append_assoc, arith, length-append, rules}
 use Rattle.ps_text.specs.Answers.{Begins, first_of}
 use Rattle.ps_text.specs.Parts.{Part, Causes, IsRead, IsBroken, IsFault, IsFaultAt, is_cause, is_refusal, CleanUpTo}
 use Rattle.ps_text.specs.Parts.{StopsAt, NoCauseAt}
-use Rattle.ps_text.proofs.Splits.{Placed, inside, behind, placed, length_more, head_of}
+use Rattle.ps_text.proofs.Splits.{inside, behind, placed, length_more, head_of}
 
 module _ {T V F : Type 0} (P : Part T V F) (front : List T) where
   pub stops_by : (there : Option T) → ((t : T) → there ≡ Some t → Begins P.IsText (front ++ t ∷ []) → ⊥) →
@@ -47,8 +47,7 @@ pub fault_from : {T A B F : Type 0} (P : Part T A F) (R : Part T B F) {causes : 
     P p.front (first_of rest) → (t : T) → first_of rest ≡ Some t → Begins R.IsText (p.front ++ t ∷ []) → ⊥) → ((t : T) →
     P.IsCause p.front t f → R.IsCause p.front t f) → ((t : T) (g : F) → first_of rest ≡ Some t → P.IsCause p.front t f
     ⊎ IsBroken P p.front (first_of rest) → R.IsCause p.front t g → P.IsCause p.front t g) → IsFault causes R all f rest
-fault_from {T} {A} {B} {F} P R {causes} {all} {rest} {f} p clean begins no_text stops cause back = record
-    { front = p.front; split = p.split; clean = clean; fault = go p.fault }
+fault_from {T} {A} {B} {F} P R {causes} {all} {rest} {f} p clean begins no_text stops cause back = search (rules, go)
   where
     go : IsFaultAt causes P p.front (first_of rest) f → IsFaultAt causes R p.front (first_of rest) f
     go (is_cause t e c least) = is_cause t e (cause t c) (λ g k. least g (back t g e (inl c) k))
@@ -80,12 +79,10 @@ module _ {T V F : Type 0} (P Q : Part T V F) where
 
   pub fault_as : {causes : Causes T F} {all rest : List T} {f : F} → Covers (first_of all) P Q → (IsBroken P []
       (first_of all) → (v : V) → Q.IsText [] v → ⊥) → IsFault causes P all f rest → IsFault causes Q all f rest
-  fault_as {all = all} {rest = rest} {f = f} c starts p = fault_from P Q p
-      (λ front r t g e l k. p.clean front r t g e l (c.cause_back front t g (sign_of front (t ∷ r) e refl) k))
-      (λ b. record { more = b.more; value = b.value; is_text = c.text (p.front ++ b.more) b.value b.is_text })
-      (no_text p.front p.split)
-      (λ b t e k. stops_at P p.front e b.stops (begins_as p.front t c (sign_of p.front rest p.split e) k))
-      (λ t d. c.cause p.front t f d)
+  fault_as {all = all} {rest = rest} {f = f} c starts p = fault_from P Q p (λ front r t g e l k. p.clean front r t g e l
+      (c.cause_back front t g (grind (arith, sign_of front (t ∷ r) e refl)) k))
+      (λ b. record { more = b.more; value = b.value; is_text = grind arith }) (no_text p.front p.split)
+      (λ b t e k. grind (arith, stops_at, begins_as, sign_of)) (λ t d. c.cause p.front t f d)
       (λ t g e _ k. c.cause_back p.front t g (sign_of p.front rest p.split e) k)
     where
       no_text : (front : List T) → all ≡ front ++ rest → IsBroken P front (first_of rest) → (v : V) →
@@ -102,17 +99,11 @@ after P left =
 module _ {T V F : Type 0} (P : Part T V F) (left : List T) where
   stops_after : (front : List T) (there : Option T) → StopsAt (after P left) front there →
       StopsAt P (left ++ front) there
-  stops_after front there s = stops_by P (left ++ front) there (λ t e b. stops_at (after P left) front e s
-      (record { more = b.more; value = b.value; is_text = simp append_assoc (simp append_assoc at b.is_text) }))
+  stops_after front there s = grind (arith, stops_by, stops_at, append_assoc)
 
   clean_after : {all : List T} (mid : List T) (n : ℕ) → all ≡ left ++ mid →
       CleanUpTo P all (length left) → CleanUpTo (after P left) mid n → CleanUpTo P all (length left + n)
-  clean_after mid n split p q front r t f e l c = go (placed left mid front r t (sym split ∙ e))
-    where
-      go : Placed left mid front r t → ⊥
-      go (inside m x) = p front r t f e (omega (arith, length_more front m t, ap length x)) c
-      go (behind y x d) = q y r t f d (omega (arith, l, length-append left y, ap length x))
-          (subst (λ z. P.IsCause z t f) x c)
+  clean_after mid n split p q front r t f e l c = grind (arith, placed, inside, length_more, behind, length-append)
 
   pub read_after : {all mid rest : List T} {v : V} →
       all ≡ left ++ mid → CleanUpTo P all (length left) → IsRead (after P left) mid v rest → IsRead P all v rest
@@ -137,9 +128,4 @@ module _ {T V F : Type 0} (P : Part T V F) (left : List T) where
       go : IsFaultAt causes (after P left) p.front (first_of rest) f →
           IsFaultAt causes P (left ++ p.front) (first_of rest) f
       go (is_cause t e d least) = is_cause t e d least
-      go (is_refusal b e) = is_refusal (record {
-        before = record { more = b.before.more; value = b.before.value; is_text = rw append_assoc b.before.is_text };
-        no_text = b.no_text;
-        stops = stops_after p.front (first_of rest) b.stops;
-        no_cause = b.no_cause;
-      }) e
+      go (is_refusal b e) = grind (arith, append_assoc, stops_after)

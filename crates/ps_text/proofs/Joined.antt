@@ -3,11 +3,10 @@
 --     text_behind, cause_behind      behind a text of P, what the two have is of Q, unless P goes on there
 --     begins_left, begins_right      what begins P begins the two, and so does what begins Q, behind a text of P
 --     read_then, fault_left, fault_right      for IsRead and IsFault
-use Rattle.std.proofs.Common.{◌≡◌, ◌+◌, ◌≤◌, ◌⊎◌, List, [], ◌∷◌, ◌++◌, length, Option, None, Some, refl, sym, ap, subst}
-use Rattle.std.proofs.Common.{inl, inr, ◌∙◌, append_assoc, append-nil, arith, rules}
+use Rattle.std.proofs.Common.{◌≡◌, ◌⊎◌, List, [], ◌∷◌, ◌++◌, length, Option, Some, refl, ap, subst}
+use Rattle.std.proofs.Common.{inl, inr, append_assoc, append-nil, arith, rules}
 use Rattle.ps_text.specs.Answers.{Begins, first_of}
-use Rattle.ps_text.specs.Parts.{Part, Causes, IsRead, IsBroken, IsFault, is_cause, CleanUpTo, StopsAt, IsBehind}
-use Rattle.ps_text.specs.Parts.{then_by}
+use Rattle.ps_text.specs.Parts.{Part, Causes, IsRead, IsBroken, IsFault, CleanUpTo, StopsAt, IsBehind, then_by}
 use Rattle.ps_text.proofs.Splits.{Compared, shorter, same, longer, compared, inside_of}
 use Rattle.ps_text.proofs.Laws.{Laws, Joint, Apart}
 use Rattle.ps_text.proofs.InPlace.{stops_at, quiet_at, read_quiet, fault_begins, fault_from, Covers, read_as, fault_as}
@@ -30,19 +29,7 @@ GoesOn {T} P front there = (t : T) × (there ≡ Some t) × Begins P.IsText (fro
 -- the laws of two parts make them a joint
 pub joint : {T A B F : Type 0} {odd : T → Type 0} {P : Part T A F} {Q : A → Part T B F} {F1 M1 F2 M2 : T → Type 0}
     {N1 N2 : Type 0} → Laws odd P F1 M1 N1 → ((a : A) → Laws odd (Q a) F2 M2 N2) → Apart M1 F2 → Joint P Q
-joint {T} {A} {P = P} {M1 = M1} l r apart = record {
-  one_value = l.one_value;
-  behind_left = l.behind;
-  behind_right = λ a. (r a).behind;
-  some_right = λ a. (r a).some;
-  text_apart = λ left more text t a h b c. apart t
-      (goes left more t a h b) ((r a).first_text t (text ++ c.more) c.value c.is_text);
-  cause_apart = λ left more t a f h b c. apart t (goes left more t a h b) ((r a).first_cause t f c);
-  causes_apart = λ left t a f g h b c. apart t (l.more_cause left t a f h b) ((r a).first_cause t g c);
-}
-  where
-    goes : (left more : List T) (t : T) (a : A) → P.IsText left a → Begins P.IsText (left ++ t ∷ more) → M1 t
-    goes left more t a h b = l.more_text left (more ++ b.more) t a b.value h (rw append_assoc at b.is_text)
+joint {T} {A} {P = P} {M1 = M1} l r apart = grind (arith, append_assoc)
 
 module _ {T A B F : Type 0} {P : Part T A F} {Q : A → Part T B F} (j : Joint P Q) where
   -- nothing of Q begins inside a beginning of P
@@ -57,8 +44,7 @@ module _ {T A B F : Type 0} {P : Part T A F} {Q : A → Part T B F} (j : Joint P
     where
       go : Compared left y k.left k.right → (Q a).IsText y b ⊎ GoesOn P left (first_of y)
       go (same e f) = inl (rw (f, j.one_value left a k.value h (rw (← e) at k.is_left)) k.is_right)
-      go (shorter t m e f) =
-          inr (t, ap first_of f, begins_on P.IsText left m t (rw e at (text_begins P.IsText k.is_left)))
+      go (shorter t m e f) = grind (arith, begins_on P.IsText left m t (rw e at (text_begins P.IsText k.is_left)))
       go (longer t m e f) = search (rules, not_inside, text_begins)
 
   -- and so is a cause, unless P goes on, or it is one of P right there
@@ -71,11 +57,7 @@ module _ {T A B F : Type 0} {P : Part T A F} {Q : A → Part T B F} (j : Joint P
       go : Compared left y k.left k.right →
           (Q a).IsCause y t f ⊎ (GoesOn P left (first_of (y ++ t ∷ [])) ⊎ ((y ≡ []) × P.IsCause left t f))
       go (same e g) = inl (rw (g, j.one_value left a k.value h (rw (← e) at k.is_left)) k.is_cause)
-      go (shorter u m e g) = inr (inl (
-        u,
-        ap (λ z. first_of (z ++ t ∷ [])) g,
-        begins_on P.IsText left m u (rw e at (text_begins P.IsText k.is_left)),
-      ))
+      go (shorter u m e g) = grind (arith, begins_on P.IsText left m u (rw e at (text_begins P.IsText k.is_left)))
       go (longer u m e g) = absurd
           (not_inside m k.is_left (text_begins P.IsText h) e (j.behind_right k.value k.right t f k.is_cause) g)
 
@@ -102,8 +84,7 @@ module _ {T A B F : Type 0} {P : Part T A F} {Q : A → Part T B F} (j : Joint P
   -- nor inside a beginning of P
   no_inner : (front m : List T) (t : T) (f : F) → IsBehind P.IsText (λ a. (Q a).IsCause) front t f →
       Begins P.IsText (front ++ t ∷ m) → ⊥
-  no_inner front m t f k b = go k.right k.is_cause
-      (subst (Begins P.IsText) (ap (λ z. z ++ t ∷ m) k.split ∙ append_assoc k.left k.right (t ∷ m)) b)
+  no_inner front m t f k b = grind (arith, go, append_assoc)
     where
       go : (right : List T) → (Q k.value).IsCause right t f → Begins P.IsText (k.left ++ (right ++ t ∷ m)) → ⊥
       go [] c b = j.cause_apart k.left m t k.value f k.is_left b c
@@ -114,30 +95,12 @@ module _ {T A B F : Type 0} {P : Part T A F} {Q : A → Part T B F} (j : Joint P
   begins_left front b = let c = j.some_right b.value in record {
     more = b.more ++ c.more;
     value = c.value;
-    is_text = record {
-      left = front ++ b.more;
-      right = c.more;
-      value = b.value;
-      split = sym (append_assoc front b.more c.more);
-      is_left = b.is_text;
-      is_right = c.is_text;
-    };
+    is_text = grind (arith, append_assoc);
   }
 
   pub begins_right : (left right : List T) (a : A) → P.IsText left a → Begins (Q a).IsText right →
       Begins (then_by P Q).IsText (left ++ right)
-  begins_right left right a h b = record {
-    more = b.more;
-    value = b.value;
-    is_text = record {
-      left = left;
-      right = right ++ b.more;
-      value = a;
-      split = append_assoc left right b.more;
-      is_left = h;
-      is_right = b.is_text;
-    };
-  }
+  begins_right left right a h b = grind (arith, append_assoc)
 
   -- the two are clean up to where P has begun and is clean
   clean_left : {all front : List T} (rest : List T) → all ≡ front ++ rest → Begins P.IsText front →
@@ -149,23 +112,19 @@ module _ {T A B F : Type 0} {P : Part T A F} {Q : A → Part T B F} (j : Joint P
   -- behind a text of P that stops there without a cause, the two are read as Q
   module _ {all mid : List T} {a : A} (p : IsRead P all a mid) where
     clean_text : CleanUpTo (then_by P Q) all (length p.text)
-    clean_text = clean_left mid p.split (text_begins P.IsText p.is_text)
-        (λ front r t f e l. p.clean front r t f e (omega (arith, l)))
+    clean_text = clean_left mid p.split (text_begins P.IsText p.is_text) (λ front r t f e l. grind arith)
 
     covers_behind : Covers (first_of mid) (Q a) (after (then_by P Q) p.text)
     covers_behind = search (rules, text_of, text_behind, cause_of, cause_behind)
       where
         text_of : (t : T) (text : List T) (v : B) → first_of mid ≡ Some t →
             (Q a).IsText (t ∷ text) v ⊎ GoesOn P p.text (Some t) → (Q a).IsText (t ∷ text) v
-        text_of t text v e (inl h) = h
-        text_of t text v e (inr g) = absurd (stops_at P p.text (e ∙ g.1) p.stops g.2)
+        text_of t text v e h = grind (arith, stops_at)
 
         cause_of : (front : List T) (t : T) (f : F) → first_of mid ≡ first_of (front ++ t ∷ []) →
             (Q a).IsCause front t f ⊎ (GoesOn P p.text (first_of (front ++ t ∷ [])) ⊎
             ((front ≡ []) × P.IsCause p.text t f)) → (Q a).IsCause front t f
-        cause_of front t f e (inl c) = c
-        cause_of front t f e (inr (inl g)) = absurd (stops_at P p.text (e ∙ g.1) p.stops g.2)
-        cause_of front t f e (inr (inr c)) = search (rules, quiet_at, read_quiet, c.0, c.1)
+        cause_of front t f e h = grind (arith, quiet_at, read_quiet)
 
     pub read_then : {rest : List T} {b : B} → IsRead (Q a) mid b rest → IsRead (then_by P Q) all b rest
     read_then q = read_after (then_by P Q) p.text p.split clean_text (read_as (Q a) _ covers_behind q)
@@ -175,20 +134,14 @@ module _ {T A B F : Type 0} {P : Part T A F} {Q : A → Part T B F} (j : Joint P
     fault_right q = fault_after (then_by P Q) p.text p.split clean_text (fault_as (Q a) _ covers_behind starts q)
       where
         starts : IsBroken (Q a) [] (first_of mid) → (v : B) → (then_by P Q).IsText (p.text ++ []) v → ⊥
-        starts b v k = go (text_behind p.text [] a v p.is_text k)
-          where
-            go : (Q a).IsText [] v ⊎ GoesOn P p.text None → ⊥
-            go (inl h) = b.no_text v h
-            go (inr g) = let e : None ≡ Some g.0 = g.1 in cc
+        starts b v k = grind (arith, text_behind p.text [] a v p.is_text k)
 
   pub fault_left : {causes : Causes T F} {all rest : List T} {f : F} → IsFault causes P all f rest →
       IsFault causes (then_by P Q) all f rest
   fault_left {causes} {all} {rest} {f} p = fault_from P (then_by P Q) p (clean_left rest p.split begun p.clean)
-      (begins_left p.front)
-      (λ b v k. no_text_on p.front [] v b.before b.no_text tt (rw append-nil k))
-      (λ b t e k. no_text_on p.front (t ∷ k.more) k.value b.before b.no_text
-      (subst (StopsAt P p.front) e b.stops) (rw append_assoc at k.is_text))
-      (λ t c. inl c) (λ t g e. back t g)
+      (begins_left p.front) (λ b v k. no_text_on p.front [] v b.before b.no_text tt (rw append-nil k))
+      (λ b t e k. no_text_on p.front (t ∷ k.more) k.value b.before b.no_text (subst (StopsAt P p.front) e b.stops)
+      (rw append_assoc at k.is_text)) (λ t c. inl c) (λ t g e. back t g)
     where
       begun : Begins P.IsText p.front
       begun = fault_begins j.behind_left p

@@ -19,7 +19,7 @@ module _ {T F E : Type 0} (found : E → Option (Found F)) (causes : Causes T F)
 
   pub meets_mapped : {A B X : Type 0} (view : X → A) (h : A → B) (P : Part T A F) (old new : Stream T) (r
       : Result X E) → Meets found causes view P old r new → Meets found causes (λ x. h (view x)) (mapped h P) old r new
-  meets_mapped h1 h2 = search (rules, reads_mapped, stops_mapped)
+  meets_mapped view h = search (rules, reads_mapped, stops_mapped)
 
   pub then_meets : {A B X Y : Type 0} {P : Part T A F} {Q : A → Part T B F} (j : Joint P Q) (see : X → A)
       (view : Y → B) (old mid new : Stream T) (x : X) (r : Result Y E) → Meets found causes see P old (Ok x) mid →

@@ -1,6 +1,5 @@
 -- Any two answers to one text are one.
-use Rattle.std.proofs.Common.{◌≡◌, ℕ, ◌<◌, ◌≤◌, ◌⊎◌, List, ◌++◌, length, Option, Ok, Err, sym, ap, ap₂, ◌∙◌}
-use Rattle.std.proofs.Common.{rules}
+use Rattle.std.proofs.Common.{◌≡◌, ℕ, ◌<◌, ◌≤◌, ◌⊎◌, List, ◌++◌, length, Option, Ok, Err, sym, ap, ap₂, ◌∙◌, rules}
 use Rattle.std.proofs.lemmas.List.{map-append, length-map}
 use Rattle.ps_text.specs.Answers.{Piece, Stream, Found, signs, offset_of, IsClean, IsFirstAt, HasOneMeaning}
 use Rattle.ps_text.specs.Answers.{AreNumbered, HasOneAnswer}

@@ -29,8 +29,7 @@ module _ {T : Type 0} (IsBlank : ℕ → Type 0) (IsToken : List ℕ → T → L
   only_from before bytes [] [] a b = refl
   only_from before bytes [] (q ∷ qs) a b = absurd (not_done before bytes q b.0 a)
   only_from before bytes (p ∷ ps) [] a b = absurd (not_done before bytes p a.0 b)
-  only_from before bytes (p ∷ ps) (q ∷ qs) a b =
-      go (only_from (before ++ n.blanks ++ n.text) n.rest ps qs a.1)
+  only_from before bytes (p ∷ ps) (q ∷ qs) a b = go (only_from (before ++ n.blanks ++ n.text) n.rest ps qs a.1)
       (compared n.blanks (n.text ++ n.rest) m.blanks (m.text ++ m.rest) (sym n.split ∙ m.split))
     where
       n : NextToken IsBlank IsToken before bytes p

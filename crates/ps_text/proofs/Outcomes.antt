@@ -106,8 +106,7 @@ module _ {T F : Type 0} (causes : Causes T F) where
     pub entered_or_broken : (Null → ⊥) → (all : List T) → Outcome causes P all →
         Enters P (first_of all) ⊎ IsBroken P [] (first_of all)
     entered_or_broken n all (was_read v rest r) = inl (enters_read P all rest v (λ w h. n (l.null w h)) r)
-    entered_or_broken n all (has_fault f rest r) = entered r.front rest (first_of all) f (ap first_of (sym r.split))
-        r.fault
+    entered_or_broken n all (has_fault f rest r) = entered r.front rest (first_of all) f (grind arith) r.fault
 
   avoids : {V : Type 0} (P : Part T V F) (there : Option T) → IsBroken P [] there →
       Avoids (λ t. Enters P (Some t)) there
@@ -121,8 +120,7 @@ module _ {T F : Type 0} (causes : Causes T F) where
     where
       go : (all : List T) → Enters P (first_of all) ⊎ IsBroken P [] (first_of all) → Outcome causes (either P Q) all
       go all (inl e) = as_well P (either P Q) all (left_entered l r (first_of all) apart e) (p.outcome all)
-      go all (inr b) = as_well Q (either P Q) all
-          (right_otherwise (exact l) r (first_of all) (avoids P (first_of all) b) (λ n. n)) (q.outcome all)
+      go all (inr b) = as_well Q (either P Q) all (search (rules, right_otherwise, exact, avoids)) (q.outcome all)
 
   module _ {C : Type 0} {odd : T → Type 0} (item : C → Part T C F) {First More : T → Type 0}
       (l : (c : C) → Laws odd (item c) First More ⊥) (apart : Apart More First)
@@ -231,15 +229,4 @@ module _ {T V F : Type 0} {causes : Causes T F} {part : Part T V F} where
   some_answer_of one o h = some_answer laws h
     where
       laws : Laws (Own causes) part (λ _. Unit {0}) (λ _. Unit {0}) (Unit {0})
-      laws = record {
-        some = some_text (h.outcome []);
-        one_value = one;
-        first_text = λ t text v k. tt;
-        first_cause = λ t f k. tt;
-        more_text = λ text more t v w i k. tt;
-        more_cause = λ text t v f i k. tt;
-        null = λ v k. tt;
-        behind = o.behind;
-        plain_text = λ front rest t v k x. o.in_no_text front rest t v x.0 k x.1;
-        plain_cause = λ front t f k x. o.no_cause front t f x.0 k x.1;
-      }
+      laws = grind (arith, some_text (h.outcome []))

@@ -85,8 +85,7 @@ module _ {T C F : Type 0} {odd : T → Type 0} (item : C → Part T C F) {First 
   -- an item, and behind it what begins with an item or is empty
   laws_more : {R : C → Part T C F} → ((d : C) → Laws odd (R d) First (Or More First) (Unit {0})) → (c : C) →
       Laws odd (then_by (item c) R) First (Or More First) ⊥
-  laws_more r c = weaker (laws_then (l c) r apart) (λ t. ⊎_elim (λ h. h) (λ h. absurd h.0))
-      (λ t. ⊎_elim (λ h. h) (λ h. inl h.1)) (λ h. h.0)
+  laws_more r c = weaker (laws_then (l c) r apart) (λ t. grind arith) (λ t. ⊎_elim (λ h. h) (λ h. inl h.1)) (λ h. h.0)
 
   pub laws_times : (n : ℕ) (c : C) → Laws odd (times n item c) First (Or More First) (Unit {0})
   laws_times zero c = weaker (laws_give odd c) (λ t h. absurd h) (λ t h. absurd h) (λ h. tt)
@@ -99,10 +98,7 @@ module _ {T C F : Type 0} {odd : T → Type 0} (item : C → Part T C F) {First 
       (λ t. ⊎_elim (λ h. absurd h) (λ h. h)) more (λ h. tt)
     where
       more : (t : T) → Or (Or Nothing (Or More First)) (Or (When (Unit {0}) First) (When ⊥ Nothing)) t → Or More First t
-      more t (inl (inl h)) = absurd h
-      more t (inl (inr h)) = h
-      more t (inr (inl h)) = inr h.1
-      more t (inr (inr h)) = absurd h.0
+      more t h = grind arith
 
   pub laws_many : (c : C) → Laws odd (many item c) First (Or More First) (Unit {0})
   laws_many c = record {

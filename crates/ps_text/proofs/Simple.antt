@@ -5,7 +5,7 @@
 --     taken_byte      a sign that is taken for one byte is that byte
 --     read_one, bad_one, refused_one      one sign is taken; it is bad; it can't stand there, or there is none
 --     read_mapped, fault_mapped
-use Rattle.std.proofs.Common.{◌≡◌, ◌+◌, ◌≤◌, List, [], ◌∷◌, ◌++◌, Option, None, Some, refl, sym, ap, subst, inl, inr}
+use Rattle.std.proofs.Common.{◌≡◌, ◌≤◌, List, [], ◌∷◌, ◌++◌, Option, None, Some, refl, sym, ap, subst, inl, inr}
 use Rattle.std.proofs.Common.{◌⊎◌, ◌∙◌, ℕ, append_assoc, arith, rules}
 use Rattle.std.specs.Prelude.{◌==◌, if◌then◌else◌}
 use Rattle.std.proofs.lemmas.Bool.{eqb-true}
@@ -105,12 +105,10 @@ module _ {T V F : Type 0} (take : T → Option V) (Bad : T → F → Type 0) whe
   pub refused_one : (causes : Causes T F) (s : T) (w : V) → take s ≡ Some w → (all : List T) →
       ((t : T) → first_of all ≡ Some t → take t ≡ None) → ((t : T) (f : F) → first_of all ≡ Some t → Bad t f → ⊥) →
       IsFault causes (one take Bad) all (refusal_of causes (first_of all)) all
-  refused_one causes s w x all none good =
-      refused (laws_one Nothing s w x (λ t h o. o) (λ t h o. o)) causes all avoided
+  refused_one causes s w x all none good = refused (laws_one Nothing s w x (λ t h o. o) (λ t h o. o)) causes all avoided
     where
       avoided : (t : T) → first_of all ≡ Some t → Or (Taken take) (BadSign Bad) t → ⊥
-      avoided t e (inl h) = none_is_some h.0 (sym (none t e) ∙ h.1)
-      avoided t e (inr h) = good t h.0 e h.1
+      avoided t e h = grind (arith, none_is_some)
 
 -- ## mapped
 
@@ -139,8 +137,7 @@ module _ {T A B F : Type 0} {odd : T → Type 0} {P : Part T A F} {Q : A → Par
     {N1 N2 : Type 0}
     (l : Laws odd P F1 M1 N1) (r : (a : A) → Laws odd (Q a) F2 M2 N2) (apart : Apart M1 F2) where
   goes : (left : List T) (t : T) (a : A) → P.IsText left a → GoesOn P left (Some t) → M1 t
-  goes left t a h g = let b = g.2 in subst M1 (sym (same_some t g.0 g.1))
-      (l.more_text left b.more g.0 a b.value h (rw append_assoc at b.is_text))
+  goes left t a h g = grind (arith, same_some, append_assoc)
 
   -- P does not go on with the first sign of a text of Q
   halts : (left right : List T) (a : A) (x : B) → P.IsText left a → (Q a).IsText right x →
@@ -148,12 +145,10 @@ module _ {T A B F : Type 0} {odd : T → Type 0} {P : Part T A F} {Q : A → Par
   halts left right a x h k g = search (rules, none_is_some, goes)
 
   values_then : (text : List T) (x y : B) → (then_by P Q).IsText text x → (then_by P Q).IsText text y → x ≡ y
-  values_then text x y i k = go (text_behind (joint l r apart) i.left i.right i.value y i.is_left
-      (subst (λ z. (then_by P Q).IsText z y) i.split k))
+  values_then text x y i k = go (text_behind (joint l r apart) i.left i.right i.value y i.is_left (grind arith))
     where
       go : (Q i.value).IsText i.right y ⊎ GoesOn P i.left (first_of i.right) → x ≡ y
-      go (inl q) = (r i.value).one_value i.right x y i.is_right q
-      go (inr g) = absurd (halts i.left i.right i.value x i.is_left i.is_right g)
+      go h = search (rules, halts)
 
   first_then : (left right text : List T) (t : T) (a : A) (b : B) → t ∷ text ≡ left ++ right → P.IsText left a →
       (Q a).IsText right b → Or F1 (When N1 F2) t
@@ -172,8 +167,7 @@ module _ {T A B F : Type 0} {odd : T → Type 0} {P : Part T A F} {Q : A → Par
   more_then : (text more : List T) (t : T) (x y : B) → (then_by P Q).IsText text x →
       (then_by P Q).IsText (text ++ t ∷ more) y → Or M2 (When N2 M1) t
   more_then text more t x y i k = go (text_behind (joint l r apart) i.left (i.right ++ t ∷ more) i.value y i.is_left
-      (subst (λ z. (then_by P Q).IsText z y)
-      (ap (λ z. z ++ t ∷ more) i.split ∙ append_assoc i.left i.right (t ∷ more)) k))
+      (grind (arith, append_assoc)))
     where
       go : (Q i.value).IsText (i.right ++ t ∷ more) y ⊎ GoesOn P i.left (first_of (i.right ++ t ∷ more)) →
           Or M2 (When N2 M1) t

@@ -4,7 +4,7 @@
 --     trailing      the part was read, and a sign stands behind it: the refusal of this sign is the first cause
 --     answers_ok, answers_fault, answers_trailing      the same from `Meets`
 -- The laws of the part are wanted with `Own causes` for odd: the signs that are a cause by themselves.
-use Rattle.std.proofs.Common.{rules, ◌≡◌, ◌+◌, ◌<◌, ◌≤◌, ◌⊎◌, List, [], ◌∷◌, ◌++◌, length, Option, None, Some, Ok, Err}
+use Rattle.std.proofs.Common.{rules, ◌≡◌, ◌<◌, ◌≤◌, ◌⊎◌, List, [], ◌∷◌, ◌++◌, length, Option, None, Some, Ok, Err}
 use Rattle.std.proofs.Common.{refl, sym, ap, subst, inl, inr, ◌∙◌, append_assoc, append-nil, arith, length-append, drop}
 use Rattle.std.proofs.lemmas.List.{append_cancel_right}
 use Rattle.ps_text.specs.Answers.{Begins, Piece, Stream, Found, IsRefused, IsClean, IsFirst, first_of, offset_of, signs}
@@ -57,15 +57,7 @@ module _ {T V F : Type 0} {causes : Causes T F} {part : Part T V F} {First More 
           (λ front rest t f e l. p.clean front rest t f e (omega (arith, l))) w)
         where
           go : (length p.text < length front) ⊎ ((p.text ≡ front) × ([] ≡ rest)) → ⊥
-          go (inl lt) = omega (
-            arith,
-            lt,
-            ap length e,
-            length-append front rest,
-            ap length p.split,
-            length-append p.text [],
-          )
-          go (inr x) = search (rules, none_wrong)
+          go h = search (rules, length-append, none_wrong)
 
   -- f is the first cause if it is the least of those behind what begins a text of the part and is clean
   first_at : {all front rest : List T} {f : F} → all ≡ front ++ rest → Begins part.IsText front → CleanUpTo part all
@@ -96,13 +88,11 @@ module _ {T V F : Type 0} {causes : Causes T F} {part : Part T V F} {First More 
 
   pub first_fault : {all rest : List T} {f : F} → (p : IsFault causes part all f rest) →
       IsFirst causes.number (IsWrong causes part) p.front rest f
-  first_fault {all} {rest} {f} p =
-      first_at p.split (fault_begins l.behind p) p.clean (stands p.fault) (λ g. least g p.fault)
+  first_fault {all} {rest} {f} p = search (rules, first_at, fault_begins, stands, least)
     where
       stands : IsFaultAt causes part p.front (first_of rest) f → IsWrong causes part p.front (first_of rest) f
       stands (is_cause t e c m) = by_part t e c
-      stands (is_refusal b e) =
-          rw e (refusal_stands (first_of rest) p.front (broken_refused p.front (first_of rest) b) b.no_cause)
+      stands (is_refusal b e) = rw e (search (rules, refusal_stands, broken_refused))
 
       least : (g : F) → IsFaultAt causes part p.front (first_of rest) f →
           IsWrong causes part p.front (first_of rest) g → causes.number f ≤ causes.number g
@@ -114,12 +104,11 @@ module _ {T V F : Type 0} {causes : Causes T F} {part : Part T V F} {First More 
 
   pub trailing : {all rest : List T} {u : T} {v : V} → (p : IsRead part all v (u ∷ rest)) →
       IsFirst causes.number (IsWrong causes part) p.text (u ∷ rest) (refusal_of causes (Some u))
-  trailing {u = u} p =
-      first_at p.split (text_begins part.IsText p.is_text) (λ front rest t f e l. search (rules, p.clean))
-      (refusal_stands (Some u) p.text (record {
-        before = text_begins part.IsText p.is_text;
-        none = p.stops;
-      }) (read_quiet p)) (λ g w. refusal_least (Some u) p.text g (read_quiet p) w)
+  trailing {u = u} p = first_at p.split (text_begins part.IsText p.is_text) (λ front rest t f e l. search (
+    rules,
+    p.clean,
+  )) (refusal_stands (Some u) p.text (search (rules, text_begins)) (read_quiet p))
+      (λ g w. refusal_least (Some u) p.text g (read_quiet p) w)
 
   -- ## With offsets
 
@@ -127,14 +116,8 @@ module _ {T V F : Type 0} {causes : Causes T F} {part : Part T V F} {First More 
   at_pieces : (old : Stream T) (found : Found F) {text : List T} (front rest : List (Piece T)) →
       old.pieces ≡ front ++ rest → signs old.pieces ≡ text ++ signs rest → IsFirst causes.number (IsWrong causes part)
       text (signs rest) found.cause → found.offset ≡ offset_of rest old.end → PartAnswers causes part old (Err found)
-  at_pieces old found {text} front rest e f first offset = record {
-    front = front;
-    rest = rest;
-    split = e;
-    first = subst (λ z. IsFirst causes.number (IsWrong causes part) z (signs rest) found.cause)
-        (append_cancel_right text (signs front) (signs rest) (sym f ∙ signs_split old.pieces front rest e)) first;
-    offset = offset;
-  }
+  at_pieces old found {text} front rest e f first offset =
+      grind (arith, append_cancel_right text (signs front) (signs rest) (sym f ∙ signs_split old.pieces front rest e))
 
   pub answers_ok : (old : Stream T) (v : V) → IsRead part (signs old.pieces) v [] → PartAnswers causes part old (Ok v)
   answers_ok old v p = no_fault (signs old.pieces) v p

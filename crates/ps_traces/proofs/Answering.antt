@@ -24,8 +24,7 @@ other_role : (player : ℕ) → player ≢ 0 → role_of player ≡ Environment
 other_role player differ = ap (λ (b : Bool). if b then Controller else Environment) (ne_eqb player 0 differ)
 
 pub is_answer : (order : Order) (file : FileData) (m : Behaviour) (c : CircuitData) → HasOneValues c → IsMachine m →
-    IsMachineFor order (role_of m.player) file m → Encodes m c → LassosWon file m
-    → IsWitness order file m.player c
+    IsMachineFor order (role_of m.player) file m → Encodes m c → LassosWon file m → IsWitness order file m.player c
 is_answer order file m c one is is_for encodes won =
     let names : AreNames file.names = subst AreNames is_for.names is.are_names in
     let shape = has_shape order (role_of m.player) file m c is is_for encodes in

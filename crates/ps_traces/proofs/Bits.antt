@@ -22,10 +22,8 @@ same_letter a b same = search (rules, same_from_bits, same_bit, bit_at-lt)
 pub few_bits : (n x : ℕ) → ((p : ℕ) → n ≤ p → is_in p x ≡ false) → x < 2 ^ n
 few_bits n x off =
     let bit : ℕ → Bool = λ p. is_in p x in
-    let same : letter_of n bit ≡ x = same_letter (letter_of n bit) x (λ p. elim (cases_lt p n) [
-      | inl lt ↦ letter_is n bit p lt
-      | inr le ↦ no_bit n (letter_of n bit) p (letter_lt n bit) le ∙ sym (off p le)
-    ]) in
+    let same : letter_of n bit ≡ x =
+    same_letter (letter_of n bit) x (λ p. grind (arith, cases_lt, letter_is, no_bit, letter_lt)) in
     subst (λ y. y < 2 ^ n) same (letter_lt n bit)
 
 -- ## Sums
@@ -41,18 +39,9 @@ rest_apart : (x y : ℕ) → AreApart x y → AreApart (x / 2) (y / 2)
 rest_apart x y h = record { apart = λ p. omega (arith, bit_at-suc x p, bit_at-suc y p, h.apart (suc p)) }
 
 bit_of_sum : (p x y : ℕ) → AreApart x y → bit_at (x + y) p ≡ bit_at x p + bit_at y p
-bit_of_sum zero x y h =
-    omega (arith, bit_at_lowest (x + y), low_apart x y h, bit_at_lowest x, bit_at_lowest y)
+bit_of_sum zero x y h = omega (arith, bit_at_lowest (x + y), low_apart x y h, bit_at_lowest x, bit_at_lowest y)
 bit_of_sum (suc p) x y h =
-    let halves : (x + y) / 2 ≡ x / 2 + y / 2 = omega (arith, low_apart x y h) in
-    omega (
-      arith,
-      bit_at-suc (x + y) p,
-      ap (λ n. bit_at n p) halves,
-      bit_of_sum p (x / 2) (y / 2) (rest_apart x y h),
-      bit_at-suc x p,
-      bit_at-suc y p,
-    )
+    search (rules, low_apart, bit_at-suc, rest_apart, bit_of_sum p (x / 2) (y / 2) (rest_apart x y h))
 
 -- a proposition that is not in the one is in the sum where it is in the other
 pub in_sum_left : (p x y : ℕ) → AreApart x y → is_in p y ≡ false → is_in p (x + y) ≡ is_in p x
@@ -104,11 +93,7 @@ in_letter_over q (p ∷ ps) (bit ∷ bits) h =
     let later : (r : ℕ) → is_in r rest ≡ bit_with r ps bits = λ r. in_letter_over r ps bits rises.rising in
     let off_here : is_in p rest ≡ false = later p ∙ lower_off p p ps bits (omega arith) rises in
     let off_there : (r : ℕ) → (r ≡ p → ⊥) → is_in r power ≡ false = search (rules, power_in, ne_eqb) in
-    let apart =
-    are_apart power rest (λ r. elim (cases_eq r p) [
-      | inl same ↦ inr (ap (λ k. is_in k rest) same ∙ off_here)
-      | inr other ↦ inl (off_there r other)
-    ]) in
+    let apart = are_apart power rest (λ r. grind (arith, cases_eq)) in
     elim (cases_eq q p) [
       | inl same ↦ search (rules, in_sum_left, power_in, eq-eqb)
       | inr other ↦ search (rules, in_sum_right, ne_eqb)
@@ -121,7 +106,6 @@ bit_with_at (p ∷ ps) [] k h lt = refl
 bit_with_at (p ∷ ps) (bit ∷ bits) zero h lt = grind arith
 bit_with_at (p ∷ ps) (bit ∷ bits) (suc k) h lt =
     let rises = rises_from p ps h in
-    let more : p < get_or ps k 0 = rises.above k 0 (omega (arith, lt)) in
     grind (arith, bit_with_at ps bits k rises.rising)
 
 pub bit_with_none : (q : ℕ) (ps : List ℕ) (bits : List Bool) → is_among q ps ≡ false → bit_with q ps bits ≡ false

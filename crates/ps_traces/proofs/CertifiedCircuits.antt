@@ -1,6 +1,5 @@
 -- The circuit of a certificate's machine.
-use Rattle.std.proofs.Common.{rules}
-use Rattle.std.proofs.Common.{◌≡◌, ℕ, ◌<◌, ◌==◌, ◌∙◌, arith}
+use Rattle.std.proofs.Common.{rules, ◌≡◌, ℕ, ◌<◌, ◌==◌, arith}
 use Rattle.ps_hoa.specs.Files.{FileData}
 use Rattle.ps_automaton.specs.Automata.{AutomatonData, IsBuiltFrom}
 use Rattle.ps_automaton.specs.Chains.{Chain}

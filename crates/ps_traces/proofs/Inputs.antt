@@ -1,6 +1,5 @@
 -- A stem and laps come back to their latches.
-use Rattle.std.proofs.Common.{◌≡◌, ℕ, zero, suc, ◌+◌, ◌-◌, ◌^◌, ◌<◌, Bool, List, [], ◌++◌, length, refl, ap₂, sym}
-use Rattle.std.proofs.Common.{◌∙◌, arith, rules}
+use Rattle.std.proofs.Common.{◌≡◌, ℕ, zero, suc, ◌^◌, ◌<◌, Bool, List, [], ◌++◌, length, refl, arith, rules}
 use Rattle.std.proofs.Math.Nat.{mul-le-mul_right}
 use Rattle.std.proofs.lemmas.List.{length-map, map-append}
 use Rattle.ps_circuit.specs.Circuits.{CircuitData}
@@ -42,15 +41,13 @@ module _ (c : CircuitData) (one : HasOneValues c) (stem lap : List (List Bool)) 
 
   laps_read : (from count : ℕ) → inputs_of (laps from count) ≡ laps_of lap count
   laps_read from zero = refl
-  laps_read from (suc count) = map-append (λ (m : Moment). m.inputs) (laps from count) (lap_moments (from + count))
-      ∙ ap₂ (λ (xs ys : List (List Bool)). xs ++ ys) (laps_read from count) (lap_run (behind (from + count))).reads
+  laps_read from (suc count) = search (rules, map-append, lap_run, laps_read from count)
 
   pub in_lasso : GoesOnInLasso c stem lap
   in_lasso =
-      let b = come_back (GoesOn c) (λ s. refl) (GoesOn-append c) latches_at lap_moments
-      (λ t. (lap_run (behind t)).goes_on) (λ t. code (latches_at t)) (2 ^ length c.latches)
-      (λ t. rw (← (behind t).held) (code_lt (latches_at t)))
-      (λ i j e. code_same (latches_at i) (latches_at j) ((behind i).held ∙ sym (behind j).held) e) in
+      let b = come_back (GoesOn c) (λ s. refl) (GoesOn-append c) latches_at lap_moments (λ t. grind (arith, lap_run))
+      (λ t. code (latches_at t)) (2 ^ length c.latches) (λ t. rw (← (behind t).held) (code_lt (latches_at t)))
+      (λ i j e. grind (arith, code_same)) in
       let size = length_trace [] lap (laps b.from b.count) b.count (laps_read b.from b.count) in
       let many = mul-le-mul_right {m = 1} {n = b.count} (length lap) (omega (arith, b.some)) in
       record {

@@ -1,5 +1,5 @@
 -- Each moment has one letter.
-use Rattle.std.proofs.Common.{◌≡◌, ℕ, ◌<◌, ◌≤◌, ◌⊎◌, inl, inr, Bool, false, List, [], ◌∷◌, length, get_or, Option, refl}
+use Rattle.std.proofs.Common.{◌≡◌, ℕ, inl, inr, Bool, false, List, [], ◌∷◌, length, get_or, Option, refl}
 use Rattle.std.proofs.Common.{ap, sym, ◌∙◌, arith, rules}
 use Rattle.std.proofs.lemmas.Bool.{cases_lt}
 use Rattle.ps_diagram.specs.Letters.{letter_of}
@@ -8,7 +8,7 @@ use Rattle.ps_hoa.specs.Files.{is_among}
 use Rattle.ps_hoa.specs.Sound.{AreNames}
 use Rattle.ps_circuit.specs.Circuits.{CircuitData}
 use Rattle.ps_circuit.specs.Values.{Moment}
-use Rattle.ps_simulate.specs.Symbols.{IsSymbol, AreNamesOnce, HasSymbols, reads_controllable, sets_controllable}
+use Rattle.ps_simulate.specs.Symbols.{IsSymbol, AreNamesOnce, HasSymbols, sets_controllable}
 use Rattle.ps_simulate.specs.Lassos.{IsLetterOf, AreLetters}
 use Rattle.ps_simulate.specs.declared.role.Role.{Role}
 use Rattle.ps_simulate.proofs.NamingLemmas.{names_differ, role_apart, some_same, within}
@@ -22,10 +22,7 @@ module _ {role : Role} {names : List (List ℕ)} {controllable : List ℕ} {c : 
       AreNamesOnce names controllable wanted symbols → IsSymbol names symbols k p → is_among p controllable ≡ wanted
   of_side wanted symbols k p once s =
       let found = once.some k (within symbols k (get_or names p []) s.is) in
-      let named : get_or names found.0 [] ≡ get_or names p [] =
-      some_same (get_or names found.0 []) (get_or names p []) (sym found.1.is ∙ s.is) in
-      let same : found.0 ≡ p = names_differ names are_names found.0 p found.1.within s.within named in
-      ap (λ q. is_among q controllable) (sym same) ∙ found.2
+      grind (arith, some_same, names_differ)
 
   -- a bit for each proposition, that of its input or output
   bit_of : (m : Moment) (p : ℕ) → (bit : Bool) ×
@@ -36,13 +33,11 @@ module _ {role : Role} {names : List (List ℕ)} {controllable : List ℕ} {c : 
       | inl input ↦ (let at = has.inputs.each p lt input in (
         get_or m.inputs at.0 false,
         λ k s. ap (λ j. get_or m.inputs j false) (has.inputs.once at.0 k p at.1 s),
-        λ k s. absurd (role_apart role (sym input
-            ∙ of_side (sets_controllable role) c.output_names k p has.outputs s)),
+        λ k s. absurd (role_apart role (sym input ∙ of_side (sets_controllable role) c.output_names k p has.outputs s)),
       ))
       | inr output ↦ (let at = has.outputs.each p lt output in (
         get_or m.outputs at.0 false,
-        λ k s. absurd (role_apart role (sym (of_side (reads_controllable role) c.input_names k p has.inputs s)
-            ∙ output)),
+        search (rules, role_apart, of_side),
         λ k s. ap (λ j. get_or m.outputs j false) (has.outputs.once at.0 k p at.1 s),
       ))
     ]
@@ -62,8 +57,4 @@ module _ {role : Role} {names : List (List ℕ)} {controllable : List ℕ} {c : 
 
   pub has_letters : (ms : List Moment) → HasLetters names c ms
   has_letters ms = let found = letters ms in
-      record {
-        letters = found.0;
-        are_letters = found.1;
-        no_others = λ others a. one_letters has ms found.0 others found.1 a;
-      }
+      grind (arith, letters, one_letters)

@@ -1,6 +1,6 @@
 -- The meeting of a circuit with a finite-state controller: it goes on, in one way, and comes back.
-use Rattle.std.proofs.Common.{◌≡◌, ℕ, zero, suc, ◌+◌, ◌-◌, ◌*◌, ◌^◌, ◌<◌, Bool, false, List, [], ◌∷◌, length, refl}
-use Rattle.std.proofs.Common.{ap, sym, ◌∙◌, arith, rules}
+use Rattle.std.proofs.Common.{◌≡◌, ℕ, zero, suc, ◌+◌, ◌*◌, ◌^◌, ◌<◌, Bool, false, List, [], ◌∷◌, length, refl, sym, ◌∙◌}
+use Rattle.std.proofs.Common.{arith, rules, ◌++◌, length-append}
 use Rattle.std.specs.Prelude.{replicate}
 use Rattle.std.proofs.lemmas.List.{length-map, length-replicate}
 use Rattle.std.proofs.lemmas.Nat.{mul-add-lt, same_from_place}
@@ -16,7 +16,6 @@ use Rattle.ps_simulate.proofs.CountLemmas.{code, code_lt, code_same}
 use Rattle.ps_simulate.proofs.LassoLemmas.{GoesOn-append}
 use Rattle.ps_traces.proofs.Returns.{come_back, legs, legs_go}
 use Rattle.ps_traces.proofs.Runs.{step}
-use Rattle.std.proofs.Common.{◌++◌, length-append}
 
 -- a step at which the controller's letter is its answer
 pub record JointStep (c : CircuitData) (k : FiniteController) (latches : List Bool) (memory : ℕ) : Type 0 where
@@ -38,15 +37,7 @@ joint_mealy c k one in_time is latches memory held within =
     let inputs = k.plays memory before.outputs in
     let now = step c one latches inputs held (is.plays_wide memory before.outputs within before.outputs_wide) in
     let same : before.outputs ≡ now.outputs = search rules in
-    record {
-      inputs = inputs;
-      outputs = now.outputs;
-      next = now.next;
-      steps = now.steps;
-      answers = ap (k.plays memory) same;
-      outputs_wide = now.outputs_wide;
-      next_wide = now.next_wide;
-    }
+    grind arith
 
 -- outputs before inputs: the controller's letter is the same whatever is read
 joint_moore : (c : CircuitData) (k : FiniteController) → HasOneValues c → IsController Moore c k →
@@ -56,17 +47,7 @@ joint_moore c k one is latches memory held within =
     let any = replicate (length c.outputs) false in
     let any_wide : IsRead c any = length-replicate (length c.outputs) false in
     let inputs = k.plays memory any in
-    let now = step c one latches inputs held (is.plays_wide memory any within any_wide) in
-    record {
-      inputs = inputs;
-      outputs = now.outputs;
-      next = now.next;
-      steps = now.steps;
-      answers = is.timely memory any now.outputs within any_wide now.outputs_wide;
-      outputs_wide =
-          now.outputs_wide;
-      next_wide = now.next_wide;
-    }
+    grind (arith, step c one latches inputs held (is.plays_wide memory any within any_wide))
 
 pub joint_step : (order : Order) (c : CircuitData) (k : FiniteController) → HasOneValues c →
     IsInTime order Environment c → IsController order c k → (latches : List Bool) (memory : ℕ)
@@ -156,23 +137,7 @@ module _ (order : Order) (c : CircuitData) (k : FiniteController) (one : HasOneV
       width (small i) (small j) e in
       let latches = code_same (place i).latches (place j).latches ((place i).held ∙ sym (place j).held) both.1 in
       λ x. (latches x, both.0 x)) in
-      record {
-        stem = moments 0 b.to;
-        lap = moments b.from b.count;
-        some = omega (arith, many b.from b.count, b.some);
-        latches = (place b.to).latches;
-        memory = (place b.to).memory;
-        goes_there = b.goes_there;
-        comes_back = b.comes_back;
-      }
+      grind (arith, many)
 
   pub meeting_of : (count : ℕ) → (moments : List Moment) × (length moments ≡ count) × IsMeeting c k moments
-  meeting_of count = (
-    moments 0 count,
-    many 0 count,
-    record {
-      latches = (place (0 + count)).latches;
-      memory = (place (0 + count)).memory;
-      goes = legs_go Goes stay join at moment goes 0 count;
-    },
-  )
+  meeting_of count = grind (arith, many 0 count, legs_go Goes stay join at moment goes 0 count)

@@ -1,6 +1,5 @@
 -- The meeting goes on in one way.
-use Rattle.std.proofs.Common.{◌≡◌, ℕ, ◌<◌, Bool, List, [], ◌∷◌, ◌++◌, length, refl, ap, sym, ◌∙◌}
-use Rattle.std.proofs.Common.{arith, rules}
+use Rattle.std.proofs.Common.{◌≡◌, ℕ, ◌<◌, Bool, List, [], ◌∷◌, length, refl, ap, sym, ◌∙◌, arith, rules}
 use Rattle.std.proofs.lemmas.List.{length-map}
 use Rattle.ps_circuit.specs.Circuits.{CircuitData, IsCircuit}
 use Rattle.ps_circuit.specs.Values.{Moment, GoesOn, HasOneValues, Steps, bit_of}
@@ -22,17 +21,15 @@ module _ (c : CircuitData) (is_circuit : IsCircuit c) (one : HasOneValues c) whe
       (memory : ℕ) {latches inputs outputs next inputs' outputs' next' : List Bool} → memory < k.size →
       Steps c latches inputs outputs next → Steps c latches inputs' outputs' next' →
       inputs ≡ k.plays memory outputs → inputs' ≡ k.plays memory outputs' → inputs ≡ inputs'
-  same_inputs Mealy k in_time is memory {latches} {inputs} {outputs} {next} {inputs'} {outputs'} {next'} within a b
-      f g =
-      f ∙ ap (k.plays memory) (in_time refl latches inputs inputs' outputs outputs' next next' a b) ∙ sym g
+  same_inputs Mealy k in_time is memory {latches} {inputs} {outputs} {next} {inputs'} {outputs'} {next'} within a b f g
+      = f ∙ ap (k.plays memory) (in_time refl latches inputs inputs' outputs outputs' next next' a b) ∙ sym g
   same_inputs Moore k in_time is memory {latches} {inputs} {outputs} {next} {inputs'} {outputs'} within a b f g =
       f ∙ is.timely memory outputs outputs' within (outputs_wide a) (outputs_wide b) ∙ sym g
 
   module _ (order : Order) (k : FiniteController) (in_time : IsInTime order Environment c) (is : IsController order c k)
     where
       one_way : (latches to to' : List Bool) (memory last last' : ℕ) (ms ns : List Moment) → memory < k.size →
-          length ms ≡ length ns
-          → GoesOn c latches ms to → AnswersMoments k memory ms last → GoesOn c latches ns to' →
+          length ms ≡ length ns → GoesOn c latches ms to → AnswersMoments k memory ms last → GoesOn c latches ns to' →
           AnswersMoments k memory ns last' → ms ≡ ns
       one_way latches to to' memory last last' [] [] within size a f b g = refl
       one_way latches to to' memory last last' [] (n ∷ ns) within size a f b g = absurd (omega (arith, size))
@@ -41,20 +38,12 @@ module _ (c : CircuitData) (is_circuit : IsCircuit c) (one : HasOneValues c) whe
           (next', at', steps', rest') g =
           let inputs = same_inputs order k in_time is memory within steps steps' f.0 g.0 in
           let first = firsts_agree c is_circuit one latches next next' m n at at' steps steps' inputs in
-          let others = one_way next to to' (k.next memory m.outputs) last last' ms ns
-          (is.next_within memory m.outputs within (outputs_wide steps))
+          let others = one_way next to to' (k.next memory m.outputs) last last' ms ns (search (rules, outputs_wide))
           (omega (arith, size)) rest f.1 (rw first.1 rest') (rw (first.0) g.1) in
           cc (first.0, others)
 
       pub one_meeting : (count : ℕ) → IsOneMeeting c k count
-      one_meeting count =
-          let found = meeting_of order c k one in_time is count in
-          record {
-            moments = found.0;
-            many = found.1;
-            meeting = found.2;
-            no_other = search (rules, one_way);
-          }
+      one_meeting count = grind (arith, meeting_of order c k one in_time is count, one_way)
 
 pub meeting_is_one : (order : Order) (c : CircuitData) (k : FiniteController) (count : ℕ) → IsCircuit c →
     HasOneValues c → IsInTime order Environment c → IsController order c k → IsOneMeeting c k count

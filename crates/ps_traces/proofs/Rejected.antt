@@ -1,4 +1,5 @@
 -- The meeting is rejected where no lasso trace is accepted.
+use Rattle.std.proofs.Common.{rules}
 use Rattle.ps_hoa.specs.Files.{FileData}
 use Rattle.ps_hoa.specs.Sound.{AreNames}
 use Rattle.ps_circuit.specs.Circuits.{CircuitData}
@@ -7,7 +8,7 @@ use Rattle.ps_machine.specs.declared.key.Order.{Order}
 use Rattle.ps_simulate.specs.declared.role.Role.TheVariants.{Environment}
 use Rattle.ps_traces.specs.Traces.{NoneAccepted}
 use Rattle.ps_traces.specs.Shapes.{HasShape}
-use Rattle.ps_traces.specs.Meetings.{FiniteController, IsController, IsRejected, lasso_of}
+use Rattle.ps_traces.specs.Meetings.{FiniteController, IsController, IsRejected}
 use Rattle.ps_traces.proofs.Letters.{has_letters}
 use Rattle.ps_traces.proofs.Meetings.{in_lasso}
 
@@ -24,11 +25,5 @@ meeting_is_rejected order file c k are_names one shape is none =
       lap_letters = lap.letters;
       stem_are = stem.are_letters;
       lap_are = lap.are_letters;
-      rejected = none stem.letters lap.letters (record {
-        stem_moments = meeting.stem;
-        lap_moments = meeting.lap;
-        trace = lasso_of c k meeting;
-        stem_letters = stem.are_letters;
-        lap_letters = lap.are_letters;
-      });
+      rejected = none stem.letters lap.letters (search rules);
     }

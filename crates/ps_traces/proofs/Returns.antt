@@ -2,7 +2,7 @@
 --     comes_again      of numbers below a bound
 --     legs, legs_go      the moments of some steps from a place on, and where they lead
 --     come_back      where numbers below a bound tell the places apart, moments lead to a place and back to it
-use Rattle.std.proofs.Common.{◌≡◌, ℕ, zero, suc, ◌+◌, ◌-◌, ◌<◌, List, [], ◌++◌, length, map, get_or, ap, ◌∙◌}
+use Rattle.std.proofs.Common.{◌≡◌, ℕ, zero, suc, ◌+◌, ◌-◌, ◌<◌, List, [], ◌++◌, length, map, get_or, ap}
 use Rattle.std.proofs.Common.{subst, arith, add-zero, rules}
 use Rattle.std.specs.List.{range_with_len}
 use Rattle.std.proofs.Math.Nat.{add-suc}
@@ -24,12 +24,7 @@ comes_again f bound below =
     λ k d lt. get_or-map-range_with_len f 0 (suc bound) k k d lt (omega arith) in
     let found =
     repeats bound values (λ k d lt. rw (at k d (omega (arith, lt, many))) (below k)) (omega (arith, many)) in
-    record {
-      one = found.0;
-      other = found.1;
-      rises = found.2.rises;
-      same = search rules;
-    }
+    grind arith
 
 -- moments lead from each place to the next
 module _ {S : Type 0} (Goes : S → List Moment → S → Type 0) (stay : (s : S) → Goes s [] s)
@@ -41,8 +36,7 @@ module _ {S : Type 0} (Goes : S → List Moment → S → Type 0) (stay : (s : S
 
   pub legs_go : (from count : ℕ) → Goes (place from) (legs from count) (place (from + count))
   legs_go from zero = rw (add-zero from) (stay (place from))
-  legs_go from (suc count) = rw (add-suc from count) (join (place from) (place (from + count))
-      (place (suc (from + count))) (legs from count) (leg (from + count)) (legs_go from count) (goes (from + count)))
+  legs_go from (suc count) = search (rules, add-suc, legs_go from count)
 
   pub record ComesBack : Type 0 where
     pub from : ℕ
@@ -67,8 +61,5 @@ module _ {S : Type 0} (Goes : S → List Moment → S → Type 0) (stay : (s : S
         some = omega (arith, found.rises);
         some_before = omega (arith, found.rises);
         goes_there = subst (Goes (place 0) (legs 0 found.other)) there (legs_go 0 found.other);
-        comes_back = subst (λ s. Goes s (legs found.one (found.other - found.one)) (place found.other))
-            (apart found.one found.other found.same)
-            (subst (Goes (place found.one) (legs found.one (found.other - found.one))) back
-            (legs_go found.one (found.other - found.one)));
+        comes_back = grind (arith, legs_go found.one (found.other - found.one));
       }

@@ -1,7 +1,6 @@
 -- The circuit of a machine has the shape of its player.
 use Rattle.std.proofs.Common.{◌≡◌, ℕ, ◌<◌, ◌⊎◌, inl, Bool, true, List, [], map, length, get_or, Option}
 use Rattle.std.proofs.Common.{None, Some, IsTrue, ap, sym, ◌∙◌, subst, arith, rules}
-use Rattle.std.specs.Prelude.{not}
 use Rattle.std.specs.List.{AllPairs}
 use Rattle.std.proofs.lemmas.Bool.{cases_lt, cases_order}
 use Rattle.std.proofs.lemmas.List.{length-map, get_or-map, get_or_past}
@@ -9,7 +8,7 @@ use Rattle.ps_hoa.specs.Files.{FileData, is_among}
 use Rattle.ps_hoa.specs.Sound.{AreNames}
 use Rattle.ps_circuit.specs.Circuits.{CircuitData}
 use Rattle.ps_aiger.specs.Timing.{SeesNoInput}
-use Rattle.ps_aiger.specs.Encoded.{Encodes, bits_over, letter_over, memory_of}
+use Rattle.ps_aiger.specs.Encoded.{Encodes, bits_over}
 use Rattle.ps_machine.specs.Behaviours.{Behaviour, IsMachine}
 use Rattle.ps_machine.specs.declared.key.Order.{Order}
 use Rattle.ps_simulate.specs.Symbols.{IsSymbol, AreNamesOnce, HasSymbols, reads_controllable, sets_controllable}
@@ -97,10 +96,7 @@ module _ (order : Order) (role : Role) (file : FileData) (m : Behaviour) (c : Ci
   sees_no_input first = λ latches inputs others outputs other_outputs next other_next a b.
       (let one = encodes.steps latches inputs outputs next a in
       let other = encodes.steps latches others other_outputs other_next b in
-      one.outputs_are
-      ∙ ap (bits_over m.outputs) (is.blind first (memory_of m latches) (letter_over m.inputs inputs)
-      (letter_over m.inputs others) (memory_below m is latches))
-      ∙ sym other.outputs_are)
+      one.outputs_are ∙ ap (bits_over m.outputs) (grind (arith, memory_below)) ∙ sym other.outputs_are)
 
   pub has_shape : HasShape order role file c
   has_shape = record { symbols = has_symbols; in_time = λ first. sees_no_input (is_for.turn ∙ first) }

@@ -1,8 +1,8 @@
 -- An automaton and a circuit with the symbols of its role have a verdict on each stem and lap: laps are read until
 -- latches come again, and the automaton's states come again under the letters of the laps between.
-use Rattle.std.proofs.Common.{◌≡◌, ◌∙◌, ℕ, zero, suc, ◌+◌, ◌-◌, ◌*◌, ◌^◌, ◌<◌, ◌≤◌, ◌⊎◌, ◌↔◌, inl, inr, Bool}
-use Rattle.std.proofs.Common.{List, [], ◌∷◌, ◌++◌, length, get_or, take, drop, IsTrue, Some, refl, sym, ap}
-use Rattle.std.proofs.Common.{arith, length-drop, rules}
+use Rattle.std.proofs.Common.{◌≡◌, ◌∙◌, ℕ, zero, suc, ◌+◌, ◌-◌, ◌*◌, ◌^◌, ◌<◌, ◌≤◌, ◌⊎◌, ◌↔◌, inl, inr, Bool, List, []}
+use Rattle.std.proofs.Common.{◌∷◌, ◌++◌, length, get_or, take, drop, IsTrue, Some, refl, sym, ap, arith, length-drop}
+use Rattle.std.proofs.Common.{rules, ◌≢◌}
 use Rattle.std.specs.List.{All}
 use Rattle.std.proofs.lemmas.List.{length-map}
 use Rattle.std.proofs.lemmas.List.Elements.{All-head, All-tail, All-take, All-drop}
@@ -26,7 +26,6 @@ use Rattle.ps_traces.proofs.Returns.{comes_again}
 use Rattle.ps_traces.proofs.Runs.{run}
 use Rattle.std.proofs.lemmas.Bool.{cases_lt}
 use Rattle.ps_automaton.proofs.Deciding.{some_or_none}
-use Rattle.std.proofs.Common.{◌≢◌}
 
 -- ## What an automaton makes of a lasso
 
@@ -38,15 +37,13 @@ module _ (file : FileData) (chain : Chain) (a : Auto) (is_chain : chain_of file.
   behind_within : (q : ℕ) (letters : List ℕ) → q ≤ file.states → All IsLetter letters →
       state_behind a q letters ≤ file.states
   behind_within q [] le each = le
-  behind_within q (letter ∷ letters) le each =
-      behind_within (a.next q letter) letters (is_auto.within q letter le (All-head IsLetter letter letters each))
-      (All-tail IsLetter letter letters each)
+  behind_within q (letter ∷ letters) le each = behind_within (a.next q letter) letters
+      (is_auto.within q letter le (All-head IsLetter letter letters each)) (All-tail IsLetter letter letters each)
 
   after_within : (q : ℕ) (lap : List ℕ) (laps : ℕ) → q ≤ file.states → All IsLetter lap →
       state_after a q lap laps ≤ file.states
   after_within q lap zero le each = le
-  after_within q lap (suc laps) le each =
-      behind_within (state_after a q lap laps) lap (after_within q lap laps le each) each
+  after_within q lap (suc laps) le each = search (rules, behind_within, after_within q lap laps le each)
 
   accepted_or_not : (stem lap : List ℕ) → 0 < length lap → All IsLetter stem → All IsLetter lap →
       (accepted : Bool) × (IsTrue accepted ↔ IsAccepted file stem lap)
@@ -75,10 +72,8 @@ IsAt seen latches i = (i < length seen) × (get_or seen i [] ≡ latches)
 
 seen_or_not : (seen : List (List Bool)) (latches : List Bool) →
     ((i : ℕ) × IsAt seen latches i) ⊎ ((i : ℕ) × IsAt seen latches i → ⊥)
-seen_or_not seen latches = some_or_none (IsAt seen latches) (λ i. elim (cases_lt i (length seen)) [
-  | inr le ↦ inr (λ h. omega (arith, le, h.0))
-  | inl lt ↦ elim (bits_or_not (get_or seen i []) latches) [ inl e ↦ inl (lt, e) | inr n ↦ inr (λ h. n h.1) ]
-]) (length seen) (λ i h. h.0)
+seen_or_not seen latches = some_or_none (IsAt seen latches)
+    (λ i. grind (arith, cases_lt i (length seen), bits_or_not (get_or seen i []) latches)) (length seen) (λ i h. h.0)
 
 module _ (role : Role) (file : FileData) (c : CircuitData) (stem lap : List (List Bool))
     (are_names : AreNames file.names) (has : HasSymbols role file.names file.controllable c) (one : HasOneValues c)
@@ -124,8 +119,7 @@ module _ (role : Role) (file : FileData) (c : CircuitData) (stem lap : List (Lis
   repetition : HasRepetition
   repetition =
       let w = word_of (resets c) stem [] (length-map c.latches (λ l. l.reset)) wide.stem_is in
-      search_on (suc (2 ^ length c.latches)) [] w.new w.last
-      (HasRead-start lap refl refl w.reads) w.held (omega arith)
+      search_on (suc (2 ^ length c.latches)) [] w.new w.last (HasRead-start lap refl refl w.reads) w.held (omega arith)
 
   -- ## The verdict
 
@@ -137,10 +131,8 @@ module _ (role : Role) (file : FileData) (c : CircuitData) (stem lap : List (Lis
       let n = length stem + r.i * length lap in
       let each : All (λ letter. letter < 2 ^ length file.names) r.letters =
       few_letters file.names c h.trace r.letters h.are_letters in
-      let long : 0 < length (drop n r.letters) =
-      omega (arith, length-drop n r.letters, lap_within h, some) in
-      let told =
-      accepted_or_not file chain a is_chain is_auto (take n r.letters) (drop n r.letters) long
+      let long : 0 < length (drop n r.letters) = omega (arith, length-drop n r.letters, lap_within h, some) in
+      let told = accepted_or_not file chain a is_chain is_auto (take n r.letters) (drop n r.letters) long
       (All-take (λ letter. letter < 2 ^ length file.names) n r.letters each)
       (All-drop (λ letter. letter < 2 ^ length file.names) n r.letters each) in (
         record { accepted = told.0; stem = n; lap = (h.j - r.i) * length lap },

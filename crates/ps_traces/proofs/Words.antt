@@ -1,9 +1,8 @@
 -- The words of a circuit's lasso traces are those of the machine that it encodes.
-use Rattle.std.proofs.Common.{rules}
-use Rattle.std.proofs.Common.{◌≡◌, ◌≢◌, ℕ, zero, suc, ◌+◌, ◌<◌, ◌≤◌, ◌⊎◌, inl, inr, Bool, true, false, List, []}
+use Rattle.std.proofs.Common.{rules, ◌≡◌, ◌≢◌, ℕ, zero, suc, ◌+◌, ◌<◌, ◌≤◌, ◌⊎◌, inl, inr, Bool, true, false, List, []}
 use Rattle.std.proofs.Common.{◌∷◌, ◌++◌, length, get_or, Option, refl, ap, sym, ◌∙◌, subst, arith, add-one}
 use Rattle.std.specs.Prelude.{All}
-use Rattle.std.proofs.lemmas.Bool.{cases_lt}
+use Rattle.std.proofs.lemmas.Bool.{cases_lt, cases_Bool}
 use Rattle.std.proofs.lemmas.List.{get_or-map}
 use Rattle.std.proofs.lemmas.List.Elements.{All-head, All-tail}
 use Rattle.ps_label.specs.Truth.{is_in}
@@ -19,7 +18,6 @@ use Rattle.ps_simulate.proofs.LassoLemmas.{AreLetters-append, GoesOn-append, alo
 use Rattle.ps_traces.specs.Traces.{IsLassoWord, AllAccepted, NoneAccepted}
 use Rattle.ps_traces.proofs.Bits.{AreApart, are_apart, few_bits, bit_with, bit_with_at, bit_with_none, in_letter_over}
 use Rattle.ps_traces.proofs.Bits.{in_sum_left, in_sum_right, same_letter, stands_in}
-use Rattle.std.proofs.lemmas.Bool.{cases_Bool}
 
 -- ## Traces
 
@@ -103,10 +101,7 @@ module _ (m : Behaviour) (is : IsMachine m) where
       read_bit : (p : ℕ) → p < length m.names → is_among p m.inputs ≡ true → is_in p letter ≡ is_in p input
       read_bit p lt among =
           let at = stands_in p m.inputs among in
-          let symbol = symbol_at m.inputs encodes.input_names at.place at.within (rw at.is lt) in
-          ap (λ q. is_in q letter) (sym at.is) ∙ is_letter.inputs at.place (get_or m.inputs at.place 0) symbol
-          ∙ sym (bit_with_at m.inputs s.inputs at.place is.inputs_rise at.within)
-          ∙ ap (λ q. bit_with q m.inputs s.inputs) at.is ∙ sym (in_input p)
+          grind (arith, symbol_at, bit_with_at, in_input)
 
       -- a proposition that is played
       played_bit : (p : ℕ) → p < length m.names → is_among p m.outputs ≡ true → is_in p letter ≡ is_in p output
@@ -115,8 +110,7 @@ module _ (m : Behaviour) (is : IsMachine m) where
           let symbol = symbol_at m.outputs encodes.output_names at.place at.within (rw at.is lt) in
           ap (λ q. is_in q letter) (sym at.is) ∙ is_letter.outputs at.place (get_or m.outputs at.place 0) symbol
           ∙ ap (λ (bits : List Bool). get_or bits at.place false) as_machine.outputs_are
-          ∙ get_or-map (λ q. is_in q output) m.outputs at.place 0 false at.within
-          ∙ ap (λ q. is_in q output) at.is
+          ∙ get_or-map (λ q. is_in q output) m.outputs at.place 0 false at.within ∙ ap (λ q. is_in q output) at.is
 
       apart : AreApart input output
       apart = search (rules, are_apart, cases_Bool, input_off)
@@ -127,20 +121,18 @@ module _ (m : Behaviour) (is : IsMachine m) where
           | inl read ↦ read_bit p lt read ∙ sym (in_sum_left p input output apart (is_output.own p (is.apart p read)))
           | inr played ↦ search (rules, played_bit, in_sum_right, apart, input_off, not_both)
         ]
-        | inr le ↦ no_bit (length m.names) letter p is_letter.few le
-            ∙ sym (in_sum_left p input output apart (no_bit (length m.names) output p is_output.within le)
-            ∙ input_high p le)
+        | inr le ↦ no_bit (length m.names) letter p is_letter.few le ∙ sym
+            (in_sum_left p input output apart (no_bit (length m.names) output p is_output.within le) ∙ input_high p le)
       ])
 
       makes : Makes m memory letter (memory_of m next)
-      makes = record {
-        input = input;
-        is_input = record { within = few_bits (length m.names) input input_high; own = input_off };
-        joined = joined;
-        next_is =
-            code_is next (m.next memory input) as_machine.next_is (is.next_within memory input
-            (memory_below s.latches));
-      }
+      makes = grind (
+        arith,
+        few_bits (length m.names) input input_high,
+        input_off,
+        joined,
+        code_is next (m.next memory input) as_machine.next_is (is.next_within memory input (memory_below s.latches)),
+      )
 
     -- ## Lassos
 
@@ -172,8 +164,7 @@ module _ (m : Behaviour) (is : IsMachine m) where
           let here : get_or (latches_along moments word.trace.back) (length word.stem_moments) [] ≡ word.trace.back =
           along_more c word.stem_moments word.lap_moments word.trace.back word.trace.back (length word.stem_moments)
           word.trace.comes_back (omega arith) ∙ at_end word.stem_moments word.trace.back in
-          ap memory_at stem_size ∙ ap (memory_of m) (here ∙ sym (at_end moments word.trace.back))
-          ∙ ap memory_at (sym whole_size)
+          grind (arith, stem_size, at_end, whole_size)
 
       some : 0 < length lap
       some = search (rules, length_letters)
@@ -196,11 +187,9 @@ machine_words m c stem lap is encodes word = is_lasso m is c encodes stem lap wo
 pub all_accepted : (file : FileData) (m : Behaviour) (c : CircuitData) → IsMachine m → m.names ≡ file.names →
     Encodes m c → LassosWon file m → m.player ≡ 0 → AllAccepted file c
 all_accepted file m c is names encodes won player stem lap word =
-    won.accepted player stem lap (machine_words m c stem lap is encodes
-    (rw names word))
+    won.accepted player stem lap (machine_words m c stem lap is encodes (rw names word))
 
 pub none_accepted : (file : FileData) (m : Behaviour) (c : CircuitData) → IsMachine m → m.names ≡ file.names →
     Encodes m c → LassosWon file m → m.player ≢ 0 → NoneAccepted file c
 none_accepted file m c is names encodes won player stem lap word =
-    won.rejected player stem lap (machine_words m c stem lap is encodes
-    (rw names word))
+    won.rejected player stem lap (machine_words m c stem lap is encodes (rw names word))

@@ -1,6 +1,6 @@
 -- The last call that waits has its answer, or gets moves for it: nothing more is lost.
 use Rattle.std.proofs.Common.{◌≡◌, ◌≢◌, ℕ, ◌+◌, ◌-◌, ◌*◌, ◌<◌, ◌≤◌, ◌⊎◌, inl, inr, List, [], ◌∷◌, ◌++◌, true, length}
-use Rattle.std.proofs.Common.{get_or, refl, sym, ap, ◌∙◌, arith, rules}
+use Rattle.std.proofs.Common.{get_or, refl, sym, ap, arith, rules}
 use Rattle.std.specs.Prelude.{IsTrue}
 use Rattle.std.proofs.lemmas.Bool.{cases_eq, cases_lt, false≢true}
 use Rattle.ps_game.specs.Games.{ParityGame}
@@ -128,9 +128,8 @@ moved_nest {game} {old} {new} {winner} {order} frames frame {cursor} nest moved 
     let still = still_moves new.moves waits moved.moves in
     let solved = last_solved frames frame nest in
     let solved_now : Solved game (from old.level (a + 3)) (winner_of winner) (moves_of t) =
-    Progress-same (winner_of winner)
-    (moves_of t) (λ v inside decided. refl) (λ v inside decided.
-    still v (λ top. turned.left.outside v inside (turned.closed.holds v top))) solved in
+    Progress-same (winner_of winner) (moves_of t) (λ v inside decided. refl)
+    (λ v inside decided. still v (λ top. turned.left.outside v inside (turned.closed.holds v top))) solved in
     let depth : 2 * length (frames ++ frame ∷ []) + 1 ≡ a + 3 = omega (arith, frames_size frames frame) in
     let agrees : Agrees (a + 1) old t winner winner = search (rules, from_at) in
     let done = nest.done refl in

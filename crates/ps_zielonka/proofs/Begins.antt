@@ -33,22 +33,15 @@ module _ (b : Begun) where
   -- ## The attractor
 
   posed : IsPosed b.game b.aim b.mid (undecided b) (tops b)
-  posed =
-      record {
-        is_subgame = subgame_below (2 * b.depth + 2) (agrees b) (omega arith) b.searches.alive;
-        split = λ v inside. elim (b.placed.grown.each v) [
-          | inl same ↦ inl (same.level ∙ was_open b v inside ∙ sym b.free)
-          | inr placed ↦ inr (placed_tops b placed)
-        ];
-        frees = λ v is_vertex is_free. elim (b.placed.grown.each v) [
-          | inl same ↦ is_open b v (sym same.level ∙ is_free ∙ b.free)
-          | inr placed ↦ absurd (differ b (sym placed.level ∙ is_free))
-        ];
-        target_within = λ v top. (placed_from b b.mid v top).0;
-        target_placed = λ v top is_free. (let placed = tops_placed b v top in differ b (sym placed.level ∙ is_free));
-        target_stands = λ v top. stands_after (tops_placed b v top).stands (omega (arith, b.begin));
-        only_target = λ j after within. placed_tops b (b.placed.grown.behind j (omega arith) within);
-      }
+  posed = record {
+    is_subgame = subgame_below (2 * b.depth + 2) (agrees b) (omega arith) b.searches.alive;
+    split = grind (arith, was_open, placed_tops);
+    frees = grind (arith, is_open, differ);
+    target_within = λ v top. (placed_from b b.mid v top).0;
+    target_placed = λ v top is_free. (let placed = tops_placed b v top in differ b (sym placed.level ∙ is_free));
+    target_stands = λ v top. stands_after (tops_placed b v top).stands (omega (arith, b.begin));
+    only_target = λ j after within. placed_tops b (b.placed.grown.behind j (omega arith) within);
+  }
 
   taken : IsTaken b.aim b.new (undecided b) (pulled b)
   taken = record {
@@ -57,8 +50,7 @@ module _ (b : Begun) where
     all = λ v inside not_free. to_placed b b.new v inside (λ same. not_free (same ∙ sym b.free));
   }
 
-  turn : IsAttracted b.game (undecided b) b.aim.player (tops b) (pulled b) (moves_of b.new)
-      (rank_of b.aim b.new)
+  turn : IsAttracted b.game (undecided b) b.aim.player (tops b) (pulled b) (moves_of b.new) (rank_of b.aim b.new)
   turn = b.attracted (undecided b) (tops b) (pulled b) posed taken
 
   -- what is attracted was placed
@@ -66,8 +58,7 @@ module _ (b : Begun) where
   pulled_placed v there = search (rules, placed_from, still_or_placed)
 
   -- the rest: what is not placed, of any level above that of the attractor
-  rest_of_turn : (c : ℕ) → 2 * b.depth + 3 ≤ c → c ≤ UNPLACED →
-      IsWithout (undecided b) (pulled b) (from b.new.level c)
+  rest_of_turn : (c : ℕ) → 2 * b.depth + 3 ≤ c → c ≤ UNPLACED → IsWithout (undecided b) (pulled b) (from b.new.level c)
   rest_of_turn c above within =
       let into = λ (v : ℕ) (inside : IsTrue (from b.new.level c v)). (
       let high : c ≤ level_of b.new v = from_at b.new.level c v inside in
@@ -86,9 +77,8 @@ module _ (b : Begun) where
       let attracted = turn in
       let grown = grown_all b in
       let sizes : length b.new.level ≡ length b.old.level = b.fits.levels ∙ sym b.sound.fits.levels in
-      let size : size_from (2 * b.depth + 1) b.new.level ≡ size_from (2 * b.depth + 1) b.old.level =
-      size_from-same (2 * b.depth + 1) b.old.level b.new.level sizes
-      (agrees_at (2 * b.depth + 1) (agrees b) (omega arith)) in
+      let size : size_from (2 * b.depth + 1) b.new.level ≡ size_from (2 * b.depth + 1) b.old.level = size_from-same
+      (2 * b.depth + 1) b.old.level b.new.level sizes (agrees_at (2 * b.depth + 1) (agrees b) (omega arith)) in
       let room : 2 * b.depth + 2 * size_from (2 * b.depth + 1) b.old.level ≤ 2 * length b.old.level = b.searches.room in
       let prepared : IsTurned b.game (undecided b) (from b.new.level (2 * b.depth + 3)) b.aim.player
       (winner_of b.winner_now) (moves_of b.new) = record {
@@ -135,20 +125,14 @@ module _ (b : Begun) where
   still_high v high = search (rules, still_or_placed, to_from)
 
   first_vertex : get_or b.order b.cursor 0 < length b.old.level
-  first_vertex =
-      omega (arith, b.sound.is_order.vertices b.cursor b.within)
+  first_vertex = omega (arith, b.sound.is_order.vertices b.cursor b.within)
 
   -- fewer vertices are left to the next call
-  fewer : (c d : ℕ) → c ≤ 2 * b.depth + 2 → 2 * b.depth + 3 ≤ d →
-      size_from d b.new.level < size_from c b.old.level
+  fewer : (c d : ℕ) → c ≤ 2 * b.depth + 2 → 2 * b.depth + 3 ≤ d → size_from d b.new.level < size_from c b.old.level
   fewer c d less more =
       let u : ℕ = get_or b.order b.cursor 0 in
       let placed = later_placed (differ b) b.grown (tops_placed b u (first_top b)) in
-      size_from-lt c d b.old.level b.new.level u (b.fits.levels ∙ sym b.sound.fits.levels)
-      (λ v within high. (
-      let at : AgreesAt b.old.level b.new.level c v = agrees_at c (agrees b) less v in
-      at.back (omega arith)))
-      first_vertex (omega arith) (omega arith)
+      grind (arith, size_from-lt, agrees_at, agrees, first_vertex)
 
   -- the next call looks for its turn
   searches_next : (a : ℕ) → a ≡ 2 * b.depth + 2 → Searches b.game b.new b.winner_now b.order a b.behind
@@ -205,8 +189,7 @@ module _ (b : Begun) where
       Waits b.game b.old b.winner b.order a frame → Waits b.game b.new b.winner_now b.order a frame
   waits_later {a} {frame} below waits =
       let grown = grown_all b in
-      waits_below (length b.old.trail)
-      (agrees b) below grown.front grown.longer waits.end (segment_later below waits) waits
+      search (rules, waits_below, agrees, segment_later)
 
   sound_now : IsSoundBoard b.game b.new b.winner_now b.order
   sound_now = search (rules, sound_on, grown_all, low)
@@ -247,10 +230,8 @@ module _ (b : Begun) where
       steps_left b.new.level (length more) false < steps_left b.old.level (length frames) false
   begun_falls frames more is_depth size =
       let sizes : length b.new.level ≡ length b.old.level = b.fits.levels ∙ sym b.sound.fits.levels in
-      falls_begun b.old.level b.new.level (length frames) (length more) size
-      (λ i less. size_from-same (2 * i + 2) b.old.level b.new.level sizes
-      (agrees_at (2 * i + 2) (agrees b) (omega arith)))
-      (fewer (2 * length frames + 2) (2 * length more + 2) (omega arith) (omega arith))
+      falls_begun b.old.level b.new.level (length frames) (length more) size (λ i less. size_from-same (2 * i + 2)
+      b.old.level b.new.level sizes (agrees_at (2 * i + 2) (agrees b) (omega arith))) (grind (arith, fewer))
 
   -- what a set that is closed to the greatest priority leaves out, the first turn leaves to the next call
   pub begun_left : {set : ℕ → Bool} (v : ℕ) → b.depth ≡ 0 →
@@ -263,8 +244,7 @@ module _ (b : Begun) where
       let placed = b.placed.grown.behind stands.place stands.after stands.before in
       let there = b.placed.tops (get_or b.mid.trail stands.place 0) placed in
       let same : get_or b.mid.trail stands.place 0 ≡ u = sym (b.grown.front stands.place stands.before) ∙ stands.is in
-      let is : priority_of b.game u ≡ greatest b =
-      sym (ap (priority_of b.game) same) ∙ there.just (b.just first) in is) in
+      let is : priority_of b.game u ≡ greatest b = grind arith in is) in
       let (some, is_top, is) = waits.prepared.some_top in
       still_high v (from_at b.new.level (2 * b.depth + 3) v (left_out v
       (λ u below. is_open b u (unplaced u below)) (λ u inside. is_subgame.is_subgame.vertices u inside) waits.prepared

@@ -105,8 +105,7 @@ module _ (b : Begun) where
   is_open v was = search (rules, AgreesAt, agrees_at, agrees, to_from)
 
   -- an undecided vertex is not placed still, or is attracted now
-  pub still_or_placed : (v : ℕ) → IsTrue (undecided b v) →
-      (level_of b.new v ≡ UNPLACED) ⊎ IsPlaced b.aim b.old b.new v
+  pub still_or_placed : (v : ℕ) → IsTrue (undecided b v) → (level_of b.new v ≡ UNPLACED) ⊎ IsPlaced b.aim b.old b.new v
   still_or_placed v inside =
       let grown = grown_all in
       elim (grown.each v) [ inl same ↦ inl (same.level ∙ was_open v inside) | inr placed ↦ inr placed ]
@@ -114,8 +113,7 @@ module _ (b : Begun) where
   -- ## The tops
 
   -- what is undecided and has a level but the greatest
-  pub placed_from : (tables : TablesData) (v : ℕ) →
-      IsTrue (undecided b v && not (level_of tables v == UNPLACED)) →
+  pub placed_from : (tables : TablesData) (v : ℕ) → IsTrue (undecided b v && not (level_of tables v == UNPLACED)) →
       IsTrue (undecided b v) × (level_of tables v ≢ UNPLACED)
   placed_from tables v there = search (rules, and_parts, false≢true, not-true, eq-eqb)
 
@@ -137,13 +135,9 @@ module _ (b : Begun) where
   in_order : (v : ℕ) → IsTrue (undecided b v) → InOrder b v
   in_order v inside =
       let was : level_of b.old v ≡ UNPLACED = was_open v inside in
-      let is_vertex : v < vertex_count b.game =
-      b.searches.alive.vertices v (to_from b.old.level (2 * b.depth + 2) v (omega arith)) in
+      let is_vertex : v < vertex_count b.game = b.searches.alive.vertices v (grind (arith, to_from)) in
       let (j, before, is) = b.sound.is_order.all v is_vertex in
-      elim (cases_lt j b.cursor) [
-        | inl less ↦ absurd (b.first j less (ap (λ x. level_of b.old x) is ∙ was))
-        | inr more ↦ record { place = j; after = more; before = before; is = is }
-      ]
+      grind (arith, cases_lt)
 
   pub most : (v : ℕ) → IsTrue (undecided b v) → priority_of b.game v ≤ greatest b
   most v inside =
@@ -151,16 +145,14 @@ module _ (b : Begun) where
       omega (
         arith,
         ap (priority_of b.game) there.is,
-        b.sound.is_order.falls b.cursor there.place
-            there.after there.before,
+        b.sound.is_order.falls b.cursor there.place there.after there.before,
       )
 
   -- a free vertex that stands in the order before the place where the tops end was placed
   placed_before : {v : ℕ} (inside : IsTrue (undecided b v)) (there : InOrder b v) → there.place < b.behind →
       IsPlaced b.aim b.old b.mid v
   placed_before {v} inside there before =
-      let taken : level_of b.mid (get_or b.order there.place 0) ≢ UNPLACED =
-      λ is. b.placed.all there.place there.after before (is ∙ sym b.free) in
+      let taken : level_of b.mid (get_or b.order there.place 0) ≢ UNPLACED = grind arith in
       elim (b.placed.grown.each v) [
         | inl still ↦ absurd (taken (ap (λ x. level_of b.mid x) there.is ∙ still.level ∙ was_open v inside))
         | inr placed ↦ placed
@@ -169,8 +161,7 @@ module _ (b : Begun) where
   pub greatest_top : (v : ℕ) → IsTrue (undecided b v) → priority_of b.game v ≡ greatest b → IsTrue (tops b v)
   greatest_top v inside is =
       let there = in_order v inside in
-      let same : priority_of b.game (get_or b.order there.place 0) ≡ priority_of b.game v =
-      ap (priority_of b.game) there.is in
+      let same : priority_of b.game (get_or b.order there.place 0) ≡ priority_of b.game v = grind arith in
       placed_tops (placed_before inside there (elim (cases_lt there.place b.behind) [
         | inl less ↦ less
         | inr more ↦ (
@@ -192,14 +183,11 @@ module _ (b : Begun) where
       let placed = tops_placed v top in
       let is_top = b.placed.tops v placed in
       let there = in_order w inside in
-      let first : priority_of b.game (get_or b.order is_top.stands.place 0) ≡ priority_of b.game v =
-      ap (priority_of b.game) is_top.stands.is in
-      let second : priority_of b.game (get_or b.order there.place 0) ≡ priority_of b.game w =
-      ap (priority_of b.game) there.is in
+      let first : priority_of b.game (get_or b.order is_top.stands.place 0) ≡ priority_of b.game v = grind arith in
+      let second : priority_of b.game (get_or b.order there.place 0) ≡ priority_of b.game w = grind arith in
       elim (cases_lt there.place b.behind) [
         | inl less ↦ absurd (other (tops_parity (placed_before inside there less)))
         | inr more ↦ (
-            let differ : priority_of b.game w ≢ priority_of b.game v =
-            λ same. other (ap (λ n. n % 2) same ∙ tops_parity placed) in
+            let differ : priority_of b.game w ≢ priority_of b.game v = grind (arith, tops_parity) in
             omega (arith, b.sound.is_order.falls is_top.stands.place there.place (omega arith) there.before))
       ]

@@ -9,8 +9,7 @@ use Rattle.ps_game.specs.Attractors.{LeadsDown}
 use Rattle.ps_attractor.specs.Tables.{TablesData, FitsGame, level_of, moves_of}
 use Rattle.ps_zielonka.specs.declared.frame.Frame.{Frame}
 use Rattle.ps_zielonka.specs.Turns.{Progress, IsTurned}
-use Rattle.ps_zielonka.specs.Nests.{from, size_from, winner_of, IsCursor, IsSegment, StandsBetween, Waits}
-use Rattle.ps_zielonka.specs.Nests.{IsSoundBoard}
+use Rattle.ps_zielonka.specs.Nests.{from, size_from, winner_of, IsCursor, IsSegment, StandsBetween, Waits, IsSoundBoard}
 use Rattle.ps_zielonka.specs.declared.level.TheConstants.{UNPLACED}
 use Rattle.ps_zielonka.proofs.Holding.{some_more}
 use Rattle.ps_zielonka.proofs.Turning.{Progress-same}
@@ -53,8 +52,7 @@ progress_below {game} {c} a b {old} {new} {winner} {winner_now} agrees low high 
 
 pub subgame_below : {game : ParityGame} {c : ℕ} (b : ℕ) {old new : TablesData} {winner winner_now : List ℕ} →
     Agrees c old new winner winner_now → b ≤ c → IsSubgame game (from old.level b) → IsSubgame game (from new.level b)
-subgame_below {game} {c} b {old} {new} {winner} {winner_now} agrees less alive =
-    rw (agrees_from b agrees less) alive
+subgame_below {game} {c} b {old} {new} {winner} {winner_now} agrees less alive = rw (agrees_from b agrees less) alive
 
 -- the board is sound still where each level stays, or has its bounds
 pub sound_on : {game : ParityGame} {old : TablesData} {winner winner_now order : List ℕ} (new : TablesData) →

@@ -1,7 +1,7 @@
 -- The parts of a step: what is kept at the vertices of the greatest priority, and what is taken off the trail and put
 -- back.
 use Rattle.std.proofs.Common.{◌≡◌, ◌≢◌, ℕ, ◌+◌, ◌-◌, ◌<◌, ◌≤◌, ◌⊎◌, inl, inr, List, [], ◌∷◌, length, get_or, take}
-use Rattle.std.proofs.Common.{refl, sym, ap, ◌∙◌, arith, rules}
+use Rattle.std.proofs.Common.{refl, ◌∙◌, arith, rules}
 use Rattle.std.specs.Prelude.{slice_set}
 use Rattle.std.proofs.lemmas.Bool.{cases_eq, cases_lt}
 use Rattle.std.proofs.lemmas.List.{get_or_append_left, get_or_push, length_push, get_or-set_same, get_or-set_other}
@@ -37,11 +37,9 @@ kept_more {game} {old} {mid} {new} {winner} {level} {player} {other} place {u} a
     elim (cases_eq v u) [
       | inl same ↦ rw same here
       | inr differ ↦ (
-          let not_last : stands.place ≢ place =
-          λ same. differ (sym stands.is ∙ ap (λ j. get_or old.trail j 0) same ∙ at) in
+          let not_last : stands.place ≢ place = grind arith in
           let before : stands.place < place + 1 = stands.before in
-          kept_on u moved differ
-          (so_far v (record { place = stands.place; after = stands.after; before = omega arith; is = stands.is })))
+          kept_on u moved differ (grind arith))
     ]
 
 -- ## What is put back
@@ -76,10 +74,7 @@ reopened_more {winner = winner} {player = player} {turn = turn} {spare = spare} 
       lost = λ v off not_won. elim (cases_eq v u) [
         | inl same ↦ rw same (lost (rw same at not_won))
         | inr differ ↦
-            let (level, stands) = so_far.lost v (earlier v differ off) not_won in (
-              kept v differ ∙ level,
-              stands_longer longer front stands,
-            )
+            let (level, stands) = so_far.lost v (earlier v differ off) not_won in grind (arith, stands_longer)
       ];
       freed = search (rules, cases_eq);
       same = search (rules, cases_eq, one_longer);
@@ -105,13 +100,8 @@ reopened_lost {level = level} spare k u {mid = mid} new at_k within not_won now 
     let size = length_push mid.trail u in
     let last = get_or_push mid.trail u 0 (length mid.trail) refl in
     rw now (reopened_more at_k (λ v differ. get_or-set_other mid.level u v level 0 differ) (omega arith)
-    (λ j less. get_or_append_left mid.trail (u ∷ []) 0 j less)
-    (λ j more before. (get_or_push mid.trail u 0 j (omega arith), not_won))
-    (λ _. (
-      get_or-set_same mid.level u level 0 within,
-      record { place = length mid.trail; after = so_far.longer; within = omega arith; is = last },
-    ))
-    (λ won. absurd (not_won won)) refl (length-set mid.level u level) so_far)
+    (λ j less. get_or_append_left mid.trail (u ∷ []) 0 j less) (λ j more before. grind (arith, get_or_push))
+    (λ _. grind (arith, get_or-set_same)) (λ won. absurd (not_won won)) refl (length-set mid.level u level) so_far)
 
 -- all of the list is put back
 pub reopened_end : {winner : List ℕ} {player level turn : ℕ} (k : ℕ) {spare : List ℕ} (old : TablesData)
@@ -130,13 +120,4 @@ reopened_end {turn} k {spare} old {new} within levels moves trail off all reopen
     let back : turn + (stands.place - turn) ≡ stands.place = omega arith in
     let found : StandsBefore spare k v = search rules in
     found) in
-    record {
-      longer = reopened.longer;
-      front = search (rules, get_or-take);
-      behind = search rules;
-      lost = λ v stands. reopened.lost v (to_spare v stands);
-      freed = λ v stands. reopened.freed v (to_spare v stands);
-      same = search rules;
-      moves = reopened.moves ∙ moves;
-      sizes = reopened.sizes ∙ ap length levels;
-    }
+    grind (arith, get_or-take)

@@ -201,12 +201,4 @@ module _ {game : ParityGame} {a : ℕ} {frame : Frame} {old mid new : TablesData
       size_from (a + 2) new.level < size_from (a + 2) old.level
   going_fewer v size stands lost =
       let found = some_lost v stands lost in
-      let u = found.0 in
-      let agrees = going_agrees in
-      let there = going_lost u found.2 found.3 in
-      let level : level_of new u ≡ a + 1 = (lost_new u there.0).0 in
-      size_from-lt (a + 2) (a + 2) old.level new.level u agrees.sizes
-      (λ w below high. elim (cases_lt (level_of old w) (a + 2)) [
-        | inl low ↦ (absurd (omega (arith, (going_still w low).level)))
-        | inr more ↦ more
-      ]) (omega (arith, found.1)) found.2 (omega arith)
+      search (rules, going_agrees, going_lost, lost_new, size_from-lt, cases_lt, going_still)

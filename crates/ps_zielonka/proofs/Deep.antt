@@ -26,8 +26,7 @@ chain {game} tables winner order frames (suc j) {m} waits has_m =
     let more : HasPriorities game (from tables.level (2 * j + 2)) (m + 1) =
     HasPriorities-turned wait.prepared (rw level at has_m) in
     rw same at (chain tables winner order frames j (λ i less. waits i (omega arith))
-    (HasPriorities-larger (from tables.level (2 * j + 1))
-    wait.progress.within more))
+    (HasPriorities-larger (from tables.level (2 * j + 1)) wait.progress.within more))
 
 -- as many priorities as calls wait
 nest_priorities : {game : ParityGame} {tables : TablesData} {winner order : List ℕ} {frames : List Frame} {cursor : ℕ}
@@ -36,14 +35,10 @@ nest_priorities : {game : ParityGame} {tables : TablesData} {winner order : List
 nest_priorities {game} {tables} {winner} {order} {frames} k calls nest =
     let wait = nest.waits k (omega arith) in
     let (top, is_top, greatest) = wait.prepared.some_top in
-    let one = one_priority game (from tables.level (2 * k + 1)) top (wait.progress.within top
-    (wait.prepared.within top (wait.prepared.closed.holds top is_top))) in
+    let one = one_priority game (from tables.level (2 * k + 1)) top (grind arith) in
     let same : 1 + k ≡ k + 1 = omega arith in
     rw same at (HasPriorities-larger (is_vertex game)
-    (λ v inside. lt-ltb v (vertex_count game) (elim (cases_lt v (length tables.level)) [
-      | inl less ↦ omega arith
-      | inr past ↦ search (rules, get_or_past, from_at)
-    ]))
+    (λ v inside. grind (arith, lt-ltb, cases_lt, get_or_past, from_at))
     (chain tables winner order frames k (λ i less. nest.waits i (omega arith)) one))
 
 -- ## The depth so far
@@ -85,8 +80,7 @@ depth_known not_fresh not_second so_far = record {
 -- a call has its answer
 pub depth_solved : {game : ParityGame} {levels : List ℕ} {calls : ℕ} {solved : Bool} {depth : ℕ} → solved ≡ true →
     IsDepthSoFar game levels calls solved depth → IsDepth game depth
-depth_solved is_solved so_far =
-    depth_known (λ v is_vertex fresh. false≢true (sym fresh.unsolved ∙ is_solved))
+depth_solved is_solved so_far = depth_known (λ v is_vertex fresh. false≢true (sym fresh.unsolved ∙ is_solved))
     (λ v second. false≢true (sym second.unsolved ∙ is_solved)) so_far
 
 -- the last call that waited has its answer, or goes on
@@ -117,27 +111,25 @@ pub depth_begun : (b : Begun) {frames : List Frame} {cursor : ℕ} {solved : Boo
     length frames ≡ b.depth + 1 → solved ≡ false → deeper ≡ max depth (length frames) →
     IsNest b.game b.new b.winner_now b.order frames cursor solved →
     IsDepthSoFar b.game b.old.level b.depth solved depth → IsDepthSoFar b.game b.new.level (length frames) solved deeper
-depth_begun b {frames} {cursor} {solved} {depth} deeper calls unsolved greater nest so_far =
-    record {
-      most = elim (cases_lt depth (length frames)) [
-        | inl less ↦ (let same : b.depth + 1 ≡ deeper = omega arith in
-            rw same at (nest_priorities
-            b.depth calls nest))
-        | inr more ↦ (let same : depth ≡ deeper = omega arith in rw same at so_far.most)
-      ];
-      some = λ v is_vertex. inl (omega arith);
-      two = λ set closed v is_vertex outside. elim (cases_lt (length frames) 2) [
-        | inr many ↦ inl (omega arith)
-        | inl one ↦ elim (so_far.two set closed v is_vertex outside) [
-          | inl two ↦ inl (omega arith)
-          | inr early ↦ elim early [
-            | inl fresh ↦ inr (inr (record {
-              one = omega arith;
-              unsolved = unsolved;
-              unplaced = begun_left b v fresh.none fresh.unplaced closed is_vertex outside;
-            }))
-            | inr second ↦ absurd (omega arith)
-          ]
-        ]
-      ];
-    }
+depth_begun b {frames} {cursor} {solved} {depth} deeper calls unsolved greater nest so_far = record {
+  most = elim (cases_lt depth (length frames)) [
+    | inl less ↦ (let same : b.depth + 1 ≡ deeper = omega arith in
+        rw same at (nest_priorities b.depth calls nest))
+    | inr more ↦ (let same : depth ≡ deeper = omega arith in rw same at so_far.most)
+  ];
+  some = λ v is_vertex. inl (omega arith);
+  two = λ set closed v is_vertex outside. elim (cases_lt (length frames) 2) [
+    | inr many ↦ inl (omega arith)
+    | inl one ↦ elim (so_far.two set closed v is_vertex outside) [
+      | inl two ↦ inl (omega arith)
+      | inr early ↦ elim early [
+        | inl fresh ↦ inr (inr (record {
+          one = omega arith;
+          unsolved = unsolved;
+          unplaced = begun_left b v fresh.none fresh.unplaced closed is_vertex outside;
+        }))
+        | inr second ↦ absurd (omega arith)
+      ]
+    ]
+  ];
+}

@@ -22,8 +22,7 @@ length-drop_at : (xs : List ℕ) (k : ℕ) → k < length xs → length (drop_at
 unfolding drop_at
 length-drop_at [] k within = absurd (omega arith)
 length-drop_at (x ∷ xs) zero within = omega arith
-length-drop_at (x ∷ xs) (suc k) within =
-    omega (arith, length-drop_at xs k (omega arith))
+length-drop_at (x ∷ xs) (suc k) within = omega (arith, length-drop_at xs k (omega arith))
 
 Contains-drop_at : (xs : List ℕ) (k x j : ℕ) → j < length xs → get_or xs j x ≡ x → (get_or xs k x ≡ x → ⊥) →
     Contains (drop_at xs k) x
@@ -55,8 +54,7 @@ HasPriorities-more {game} larger {n} top within inside differ has_n = record {
       let d : ℕ = priority_of game top in
       let fewer : n ≤ length (drop_at list found.0) = has_n.many (drop_at list found.0) (λ v in_smaller.
       let here = all v (within v in_smaller) in
-      Contains-drop_at list found.0 (priority_of game v) here.0 here.1 here.2
-      (λ same. differ v in_smaller (sym same ∙ get_or_default list found.0 (priority_of game v) d found.1 ∙ found.2)))
+      Contains-drop_at list found.0 (priority_of game v) here.0 here.1 here.2 (λ same. grind (arith, get_or_default)))
       in
       omega (arith, length-drop_at list found.0 found.1));
 }
@@ -67,9 +65,7 @@ pub HasPriorities-turned : {game : ParityGame} {open_part rest : ℕ → Bool} {
     HasPriorities game open_part (n + 1)
 HasPriorities-turned {game} {open_part} {rest} {n} turned has_n =
     let (top, is_top, greatest) = turned.some_top in
-    HasPriorities-more open_part top turned.left.within (turned.within top (turned.closed.holds top is_top))
-    (λ v inside same. turned.left.outside v inside (turned.closed.holds v
-    (turned.all_top v (turned.left.within v inside) (same ∙ greatest)))) has_n
+    HasPriorities-more open_part top turned.left.within (grind arith) (λ v inside same. grind arith) has_n
 
 -- what such a set leaves out, a turn leaves to be solved whose tops are just the vertices of the greatest priority
 pub left_out : {game : ParityGame} {whole rest set : ℕ → Bool} {player : ℕ} {win : ℕ → ℕ} {table : ℕ → Option ℕ} (v : ℕ)
@@ -81,21 +77,17 @@ left_out {game} {whole} {set} {player} {table} v all only turned just tops below
     let (top, is_top, top_is) = turned.some_top in
     let top_inside : IsTrue (whole top) = turned.within top (turned.closed.holds top is_top) in
     let (great, great_vertex, great_is) = tops.is_greatest.stands in
-    let same : turned.greatest ≡ tops.greatest =
-    omega (arith, turned.most great (all great great_vertex), tops.is_greatest.bounds top (only top top_inside)) in
+    let same : turned.greatest ≡ tops.greatest = search rules in
     let parity : player ≡ tops.greatest % 2 = sym turned.parity ∙ ap (λ n. n % 2) same in
     let to_vertex = λ (u w : ℕ) (leads : LeadsInto game whole u w). (
-    let there : LeadsInto game (is_vertex game) u w =
-    record { edge = leads.edge; inside = lt-ltb w (vertex_count game) (only w leads.inside) } in there) in
+    let there : LeadsInto game (is_vertex game) u w = grind (arith, lt-ltb) in there) in
     let to_whole = λ (u w : ℕ) (leads : LeadsInto game (is_vertex game) u w). (
-    let there : LeadsInto game whole u w =
-    record { edge = leads.edge; inside = all w (ltb-true w (vertex_count game) leads.inside) } in there) in
+    let there : LeadsInto game whole u w = grind (arith, ltb-true) in there) in
     let closed : IsClosed game whole player turned.tops set = record {
       holds = search rules;
       own = search (rules, lt-ltb);
       other = λ u inside others leads. tops.closed.other u (lt-ltb u (vertex_count game) (only u inside))
           (λ owns. others (owns ∙ sym parity)) (λ w on. leads w (to_whole u w on));
     } in
-    let least : IsWithin turned.attracted set =
-    falls_least turned.within turned.falls set closed in
+    let least : IsWithin turned.attracted set = falls_least turned.within turned.falls set closed in
     turned.left.all v (all v below) (λ pulled. outside (least v pulled))

@@ -1,6 +1,5 @@
 -- The present call has its answer; and at the end the whole game has.
-use Rattle.std.proofs.Common.{◌≡◌, ◌≢◌, ℕ, ◌+◌, ◌*◌, ◌<◌, ◌≤◌, inl, inr, List, length, get_or, Bool, true, false, rules}
-use Rattle.std.proofs.Common.{sym, ap, ◌∙◌}
+use Rattle.std.proofs.Common.{◌≡◌, ◌≢◌, ℕ, ◌+◌, ◌*◌, ◌<◌, ◌≤◌, List, length, get_or, Bool, true, false, rules, sym}
 use Rattle.std.proofs.lemmas.Bool.{cases_lt, false≢true}
 use Rattle.ps_game.specs.Games.{ParityGame}
 use Rattle.ps_attractor.specs.Tables.{TablesData, level_of}
@@ -18,11 +17,7 @@ none_left : {game : ParityGame} {tables : TablesData} {winner order : List ℕ} 
     a + 2 ≤ level_of tables v → ⊥
 none_left {tables} {order} {a} {cursor} sound searches placed v high =
     let (j, within, is) = sound.is_order.all v (searches.alive.vertices v (to_from tables.level (a + 2) v high)) in
-    let same : level_of tables (get_or order j 0) ≡ level_of tables v = ap (λ x. level_of tables x) is in
-    elim (cases_lt j cursor) [
-      | inl less ↦ search rules
-      | inr more ↦ placed j more within (same ∙ searches.unplaced v high)
-    ]
+    search (rules, cases_lt)
 
 pub done_nest : {game : ParityGame} {tables : TablesData} {winner order : List ℕ} {frames : List Frame} {cursor : ℕ}
     {solved : Bool} → solved ≡ false → IsNest game tables winner order frames cursor solved →

@@ -1,8 +1,7 @@
 -- The end: from a game that is solved to the region and the strategies by which both players hold.
-use Rattle.std.proofs.Common.{◌≡◌, ◌≢◌, ℕ, ◌<◌, List, length, get_or, Option, Some, Bool, rules}
-use Rattle.std.proofs.Common.{arith}
+use Rattle.std.proofs.Common.{◌≡◌, ℕ, ◌<◌, List, length, get_or, Option, Some, Bool, rules, arith}
 use Rattle.std.specs.Prelude.{IsTrue, IsSome}
-use Rattle.std.proofs.lemmas.Bool.{cases_eq, cases_lt, false≢true, not-true, not_from_false, false_from_ne_true}
+use Rattle.std.proofs.lemmas.Bool.{cases_eq, cases_lt, false≢true, not-true}
 use Rattle.std.proofs.lemmas.List.{get_or_past}
 use Rattle.ps_game.specs.Games.{ParityGame, vertex_count}
 use Rattle.ps_game.specs.Plays.{Holds}
@@ -38,9 +37,7 @@ holds_won {game} {winner} {whole} {player} {strategy} is_solved is_player given 
     let won = IsWon-won_by whole win player in
     Holds-HoldsWithin game player whole (won_by whole win player) (move_at strategy) is_solved.all
     (HoldsWithin-same (won_by whole win player) (move_at strategy) (λ v inside. inside) (λ v inside. inside)
-    (λ v inside owns. given.given v (is_solved.only v (won.within v inside))
-    (record { wins = won.won v inside; owns = owns }))
-    (is_solved.solved.held player (won_by whole win player) is_player won))
+    (λ v inside owns. grind arith) (is_solved.solved.held player (won_by whole win player) is_player won))
 
 -- the tables that solve the whole game
 IsSolved-tables : {game : ParityGame} {tables : TablesData} {winner : List ℕ} → IsSolvedBy game tables winner →
@@ -75,10 +72,8 @@ module _ {game : ParityGame} {tables : TablesData} {winner read again : List ℕ
       let won = IsWon-won_by (from tables.level 1) (λ v. get_or winner v 0) player in
       let moves = rw same_again at given in
       record {
-        holds =
-            Holds-same set (λ v is_vertex inside. all v is_vertex (won.won v inside))
-            (λ v is_vertex inside. won.all v (is_solved.all v is_vertex) (λ h. false≢true h) (wins v is_vertex inside))
-            (holds_won is_solved is_player moves);
+        holds = Holds-same set (λ v is_vertex inside. all v is_vertex (won.won v inside))
+            (λ v is_vertex inside. grind arith) (holds_won is_solved is_player moves);
         moves = search (rules, move_is_given);
       }
 
@@ -90,15 +85,10 @@ module _ {game : ParityGame} {tables : TablesData} {winner read again : List ℕ
   -- player 1 plays in all other vertices
   pub played_second : {strategy : List (Option ℕ)} →
       AreMovesTo game tables.moves again 1 (vertex_count game) strategy → IsPlayed game 1 (others region) strategy
-  played_second given =
-      played (others region) (omega arith)
-      (λ v is_vertex inside.
-      let below : get_or winner v 0 < 2 =
-      solved_by.solved.winners v ((IsSolved-tables solved_by).all v is_vertex) (λ h. false≢true h) in
-      let not_first : get_or winner v 0 ≢ 0 =
-      λ first. not_in (has region) v (not-true (has region v) inside) (whole.all v is_vertex first) in
-      omega arith)
-      (λ v is_vertex wins.
-      not_from_false (has region v) (false_from_ne_true (has region v)
-      (λ in_region. omega (arith, whole.won v is_vertex in_region, wins))))
-      given
+  played_second given = played (others region) (omega arith) (λ v is_vertex inside. grind (
+    arith,
+    IsSolved-tables,
+    false≢true,
+    not_in,
+    not-true,
+  )) (λ v is_vertex wins. grind arith) given

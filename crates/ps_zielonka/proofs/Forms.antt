@@ -69,10 +69,6 @@ frame_goes_on {rest} {lost} {left} {player} {win} win_now {table_now} is_game al
           omega arith);
       all = λ v inside decided wins. is_lost v (turned.left.within v inside) (λ same. differ (sym wins ∙ same));
     } in
-    Progress-attracted is_game is_other
-    attracted within parted given
-    (HoldsWithin-same lost table_now (λ v there. there) (λ v there. there)
-    (λ v there owns. same_lost v there)
-    (lost_held is_game is_player is_other differ turned
-    is_won solved))
-    (Progress-same win_now table_now same_win same_table progress)
+    Progress-attracted is_game is_other attracted within parted given (HoldsWithin-same lost table_now
+    (λ v there. there) (λ v there. there) (λ v there owns. same_lost v there) (lost_held is_game is_player is_other
+    differ turned is_won solved)) (Progress-same win_now table_now same_win same_table progress)

@@ -1,7 +1,7 @@
 -- The stack of the calls that wait: its last one, those below it, and the stack on which no call waits yet.
-use Rattle.std.proofs.Common.{◌≡◌, ℕ, ◌+◌, ◌*◌, ◌<◌, ◌≤◌, ◌⊎◌, inl, inr, List, [], ◌∷◌, ◌++◌, Bool, true}
-use Rattle.std.proofs.Common.{false, length, get_or, replicate, cond, refl, subst, ap, ◌∙◌, arith, rules}
-use Rattle.std.specs.Prelude.{nat_le, IsTrue}
+use Rattle.std.proofs.Common.{◌≡◌, ℕ, ◌+◌, ◌*◌, ◌<◌, ◌≤◌, ◌⊎◌, List, [], ◌∷◌, ◌++◌, Bool, true}
+use Rattle.std.proofs.Common.{false, length, get_or, replicate, refl, subst, ap, ◌∙◌, arith, rules}
+use Rattle.std.specs.Prelude.{IsTrue}
 use Rattle.std.proofs.lemmas.Bool.{cases_lt, false≢true}
 use Rattle.std.proofs.lemmas.List.{get_or_append_left, get_or_push, length_push, get_or-replicate, get_or_past}
 use Rattle.std.proofs.lemmas.List.{length-replicate}
@@ -9,7 +9,7 @@ use Rattle.ps_game.specs.Games.{ParityGame, IsGame, vertex_count, successors_of}
 use Rattle.ps_game.proofs.SubgameFacts.{first_edge}
 use Rattle.ps_attractor.specs.Tables.{TablesData, level_of, moves_of}
 use Rattle.ps_attractor.specs.Aims.{StandsFrom}
-use Rattle.ps_attractor.proofs.Placing.{stands_after, stands_longer}
+use Rattle.ps_attractor.proofs.Placing.{stands_longer}
 use Rattle.ps_zielonka.specs.declared.level.TheConstants.{UNPLACED}
 use Rattle.ps_zielonka.specs.declared.frame.Frame.{Frame}
 use Rattle.ps_zielonka.specs.Turns.{Solved}
@@ -33,11 +33,7 @@ frames_size frames frame = length_push frames frame
 
 size_from-length : (c : ℕ) (levels : List ℕ) → size_from c levels ≤ length levels
 size_from-length c [] = omega arith
-size_from-length c (x ∷ xs) =
-    let behind : size_from c xs ≤ length xs = size_from-length c xs in
-    let one : cond {A = ℕ} (nat_le c x) 1 0 ≤ 1 =
-    elim (nat_le c x) as (λ b. cond {A = ℕ} b 1 0 ≤ 1) [ true ↦ omega arith | false ↦ omega arith ] in
-    omega arith
+size_from-length c (x ∷ xs) = grind (arith, size_from-length c xs)
 
 -- ## The last call
 
@@ -53,12 +49,7 @@ module _ {game : ParityGame} {tables : TablesData} {winner order : List ℕ} (fr
 
   last_rises : (i : ℕ) → i < length frames → (frame_at frames i).top ≤ frame.turn
   last_rises i below =
-      let rises = nest.rises i (length frames) below (omega (arith, frames_size frames frame)) in
-      omega (
-        arith,
-        ap (λ (f : Frame). f.top) (frame_before frames frame i below),
-        ap (λ (f : Frame). f.turn) (frame_last frames frame),
-      )
+      grind (arith, frames_size frames frame, frame_before frames frame i below, frame_last frames frame)
 
   -- the calls below the last one wait still
   pub below_wait : {new : TablesData} {winner_now : List ℕ} →
@@ -68,9 +59,8 @@ module _ {game : ParityGame} {tables : TablesData} {winner order : List ℕ} (fr
       i < length frames → Waits game new winner_now order (2 * i) (frame_at frames i)
   below_wait agrees within front segments i below =
       let waits = rw (frame_before frames frame i below) at (nest.waits i (omega (arith, frames_size frames frame))) in
-      waits_below frame.turn agrees (omega arith) front within (last_rises i below)
-      (segments (2 * i + 2) (frame_at frames i).turn (omega arith) (omega (arith, waits.some, last_rises i below))
-      waits.segment) waits
+      waits_below frame.turn agrees (omega arith) front within (last_rises i below) (segments (2 * i + 2)
+      (frame_at frames i).turn (omega arith) (omega (arith, waits.some, last_rises i below)) waits.segment) waits
 
   pub below_rise : (i j : ℕ) → i < j → j < length frames → (frame_at frames i).top ≤ (frame_at frames j).turn
   below_rise i j less below = search (rules, frames_size, frame_before)
@@ -88,14 +78,7 @@ pub segment_below : {b : ℕ} (c m : ℕ) {t : ℕ} {old : TablesData} (new : Ta
     ((j : ℕ) → m ≤ j → j < length new.trail → c ≤ level_of new (get_or new.trail j 0)) →
     ((v : ℕ) → ((level_of new v ≡ level_of old v) × (StandsFrom old m v → ⊥)) ⊎
     ((c ≤ level_of new v) × (level_of new v < UNPLACED → StandsFrom new m v))) → IsSegment old t b → IsSegment new t b
-segment_below {b} c m {old} new less before inside within front behind each segment = record {
-  within = omega arith;
-  above = search (rules, cases_lt);
-  stands = λ v high low. elim (each v) [
-    | inr changed ↦ stands_after (changed.1 low) before
-    | inl still ↦ search (rules, cases_lt)
-  ];
-}
+segment_below {b} c m {old} new less before inside within front behind each segment = grind (arith, cases_lt)
 
 -- a segment, where levels and trail stay
 pub segment_moved : {b t : ℕ} {old : TablesData} (new : TablesData) → new.level ≡ old.level → new.trail ≡ old.trail →
@@ -113,8 +96,7 @@ nest_start {game} tables winner is_game levels moves trail winners is_order high
     let at = λ (v : ℕ) (below : v < n). ap (λ xs. get_or xs v 0) levels ∙ get_or-replicate n v UNPLACED 0 below in
     let size : length tables.level ≡ n = ap length levels ∙ length-replicate n UNPLACED in
     let below : (v c : ℕ) → 0 < c → c ≤ level_of tables v → v < n = search (rules, cases_lt, get_or_past) in
-    let inside : (v c : ℕ) → c ≤ UNPLACED → v < n → IsTrue (from tables.level c v) =
-    λ v c low is_vertex. to_from tables.level c v (omega (arith, at v is_vertex)) in
+    let inside : (v c : ℕ) → c ≤ UNPLACED → v < n → IsTrue (from tables.level c v) = grind (arith, to_from) in
     record {
       sound = search (rules, length-replicate, cases_lt, get_or_past);
       waits = λ i there. absurd (omega arith);

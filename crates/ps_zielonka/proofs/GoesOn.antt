@@ -35,9 +35,8 @@ on_nest {game} {old} {mid} {new} {winner} {winner_now} {order} frames {frame} {c
           | inr free ↦ (omega (arith, nest.sound.high), omega arith)
         ])
       ]);
-      waits = below_wait frames frame nest agrees (omega arith) front (λ b t less before segment.
-          segment_below (a + 1) frame.turn new less before going.waits.segment.within (omega arith) front
-          (λ j after within. (
+      waits = below_wait frames frame nest agrees (omega arith) front (λ b t less before segment. segment_below (a + 1)
+          frame.turn new less before going.waits.segment.within (omega arith) front (λ j after within. (
           let stands : StandsFrom new frame.turn (get_or new.trail j 0) =
           record { place = j; after = after; within = within; is = refl } in
           let high = stands_open going stands in
@@ -54,8 +53,7 @@ on_nest {game} {old} {mid} {new} {winner} {winner_now} {order} frames {frame} {c
               | inl decided ↦ (let level : level_of new v ≡ a + 1 = decided.0 in (omega arith, λ below. decided.1))
               | inr free ↦ (omega arith, λ below. absurd (omega arith))
             ])
-          ])
-          segment);
+          ]) segment);
       rises = below_rise frames frame nest;
       searches = λ open_now. going_searches going;
       done = λ solved_now. absurd (false≢true solved_now);
@@ -116,8 +114,5 @@ pub on_falls : {game : ParityGame} {level v : ℕ} {old mid new : TablesData} {w
 on_falls {game} {v} {old} {new} {winner} frames {frame} nest same going stands lost =
     let k : ℕ = length frames in
     let agrees = going_agrees going in
-    falls_on old.level new.level k (k + 1) refl
-    (λ i below. size_from-same (2 * i + 2) old.level new.level agrees.sizes
-    (agrees_at (2 * i + 2) agrees (omega arith)))
-    (going_fewer going v nest.sound.fits.levels stands
-    (rw same at lost))
+    falls_on old.level new.level k (k + 1) refl (λ i below. size_from-same (2 * i + 2) old.level new.level agrees.sizes
+    (agrees_at (2 * i + 2) agrees (omega arith))) (going_fewer going v nest.sound.fits.levels stands (rw same at lost))

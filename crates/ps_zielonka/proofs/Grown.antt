@@ -1,5 +1,5 @@
 -- The tables that grow in two steps grow in one: what is placed in either is placed.
-use Rattle.std.proofs.Common.{◌≢◌, ℕ, ◌≤◌, ◌∙◌, rules}
+use Rattle.std.proofs.Common.{◌≢◌, ℕ, rules}
 use Rattle.std.proofs.lemmas.Bool.{cases_lt}
 use Rattle.ps_attractor.specs.declared.aim.Aim.{Aim}
 use Rattle.ps_attractor.specs.Tables.{TablesData}

@@ -9,7 +9,7 @@ use Rattle.ps_game.specs.Attractors.{LeadsDown, Falls}
 use Rattle.ps_zielonka.proofs.Walks.{no_descent, all_or_none, some_or_none}
 
 pub some_more : (P Q : ℕ → Type 0) (move : Option ℕ) → ((w : ℕ) → P w → Q w) → IsSomeAnd move P → IsSomeAnd move Q
-some_more P Q move h1 h2 = search rules
+some_more P Q move h k = search rules
 
 pub leads_more : (game : ParityGame) (set other : ℕ → Bool) (v : ℕ) → IsWithin set other → (move : Option ℕ) →
     IsSomeAnd move (LeadsInto game set v) → IsSomeAnd move (LeadsInto game other v)
@@ -46,9 +46,7 @@ pub round_beside : {game : ParityGame} {subgame : ℕ → Bool} {player : ℕ} {
     IsRound game player set table walk k → ((t : ℕ) → t < k → IsTrue (held (walk t))) ⊎
     ((t : ℕ) → t < k → held (walk t) ≡ false)
 round_beside {game} {subgame} {player} {set} {held} {table} {walk} {k} holds within round =
-    all_or_none held walk k round.closes (λ t less from.
-    held_step holds (walk t) (walk (t + 1)) (round.edges t less) (round.follows t less)
-    (within (walk (t + 1)) (round_inside round (t + 1) (omega arith))) from)
+    all_or_none held walk k round.closes (λ t less from. grind (arith, held_step, round_inside))
 
 -- a step of a round within the subgame, from outside the target, leads down in an attractor
 falls_step : {game : ParityGame} {subgame : ℕ → Bool} {player : ℕ} {target set other : ℕ → Bool}
@@ -59,10 +57,7 @@ falls_step {game = game} {player = player} {target = target} {walk = walk} withi
     let outside = not_in target (walk t) misses in
     elim (cases_eq (owner_of game (walk t)) player) [
       | inl owns ↦ rw (round.follows t less owns) at (falls.own (walk t) from outside owns)
-      | inr others ↦ falls.other (walk t) (walk (t + 1)) from outside others (record {
-        edge = round.edges t less;
-        inside = within (walk (t + 1)) (round_inside round (t + 1) (omega arith));
-      })
+      | inr others ↦ falls.other (walk t) (walk (t + 1)) from outside others (grind (arith, round_inside))
     ]
 
 -- in an attractor no round misses the target
@@ -70,9 +65,8 @@ pub no_round_falls : {game : ParityGame} {subgame : ℕ → Bool} {player : ℕ}
     {table : ℕ → Option ℕ} {rank walk : ℕ → ℕ} {k : ℕ} → IsWithin set subgame →
     Falls game subgame player target set table rank → IsRound game player set table walk k →
     ((t : ℕ) → t < k → target (walk t) ≡ false) → ⊥
-no_round_falls {rank = rank} {walk = walk} {k = k} within falls round misses =
-    no_descent rank walk k round.some round.closes
-    (λ t less. (falls_step within falls round t less (round.inside t less) (misses t less)).falls)
+no_round_falls {rank = rank} {walk = walk} {k = k} within falls round misses = no_descent rank walk k round.some
+    round.closes (λ t less. (falls_step within falls round t less (round.inside t less) (misses t less)).falls)
 
 -- ## What is held
 
@@ -85,13 +79,7 @@ HoldsWithin-same {game} {set} other {table} moves there back same holds = record
   within = λ v inside. holds.within v (back v inside);
   moves = search (rules, leads_more);
   stays = λ v w inside others leads. there w (holds.stays v w (back v inside) others leads);
-  wins = λ walk k top round is_top. holds.wins walk k top (record {
-    some = round.some;
-    closes = round.closes;
-    inside = λ t less. back (walk t) (round.inside t less);
-    edges = round.edges;
-    follows = search rules;
-  }) is_top;
+  wins = λ walk k top round is_top. holds.wins walk k top (search rules) is_top;
 }
 
 -- a larger subgame, in which the other player's edges lead nowhere else
@@ -123,11 +111,7 @@ HoldsWithin-beside {game} {larger} {player} {first} {second} set {table} less ha
       stays = search rules;
       wins = λ walk k top round is_top. elim (round_beside holds within round) [
         | inl all ↦ holds.wins walk k top (round_within first round all) is_top
-        | inr none ↦ also.wins walk k top (round_within second round
-            (λ t less. elim (split (walk t) (round.inside t less)) [
-              | inl one ↦ absurd (not_in first (walk t) (none t less) one)
-              | inr two ↦ two
-            ])) is_top
+        | inr none ↦ also.wins walk k top (grind arith) is_top
       ];
     }
 
@@ -168,11 +152,7 @@ HoldsWithin-all {game} {subgame} {player} {tops} {set} {rest} {table} {rank} abo
         | inr none ↦ elim (all_or_none set walk k round.closes
             (λ t less from. (falls_step (λ v inside. inside) falls round t less from (none t less)).inside)) [
               | inl all ↦ absurd (no_round_falls within falls (round_within set round all) none)
-              | inr out ↦ holds.wins walk k found (round_within rest round
-                  (λ t less. elim (split (walk t) (round.inside t less)) [
-                    | inl in_set ↦ absurd (not_in set (walk t) (out t less) in_set)
-                    | inr in_rest ↦ in_rest
-                  ])) is_top
+              | inr out ↦ holds.wins walk k found (grind arith) is_top
             ]
       ];
     }

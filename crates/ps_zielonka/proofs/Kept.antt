@@ -38,9 +38,8 @@ none_to_lost {game} {open_part} {rest} {lost} {win} {table} {player} {other} is_
       | inl pulled ↦ elim (cases_Bool (turned.tops v)) [
         | inl top ↦ top_edges v w top others edge there
         | inr below ↦ (
-            let down : LeadsDown game open_part turned.attracted turned.rank v w =
-            turned.falls.other v w pulled (not_in turned.tops v below) others
-            (record { edge = edge; inside = turned.left.within w in_rest }) in
+            let down : LeadsDown game open_part turned.attracted turned.rank v w = turned.falls.other v w pulled
+            (not_in turned.tops v below) others (record { edge = edge; inside = turned.left.within w in_rest }) in
             turned.left.outside w in_rest down.inside)
       ]
       | inr from ↦ (
@@ -60,12 +59,9 @@ pub Solved-kept : {game : ParityGame} {subgame open_part rest lost left : ℕ �
     Progress game subgame open_part win table → Solved game subgame win table
 Solved-kept {game} {subgame} {open_part} {rest} {lost} {left} {win} {table} {player} {other} is_game is_player is_other
     differ turned is_won solved parted top_moves top_edges progress =
-    let lost_left : Progress game subgame left win table = Progress-taken is_game is_other parted
-    (λ v inside. turned.left.within v (is_won.within v inside)) is_won.won
-    (none_to_lost is_player is_other differ turned is_won solved
-    parted top_edges)
-    (lost_held is_game is_player is_other differ turned is_won solved)
-    progress in
+    let lost_left : Progress game subgame left win table = Progress-taken is_game is_other parted (λ v
+    inside. turned.left.within v (is_won.within v inside)) is_won.won (none_to_lost is_player is_other differ turned
+    is_won solved parted top_edges) (lost_held is_game is_player is_other differ turned is_won solved) progress in
     let kept_won = IsWon-without game table player is_player is_other differ is_won solved in
     let pulled_left : IsWithin turned.attracted left = search rules in
     let split = λ (v : ℕ) (still : IsTrue (left v)). elim (in_part_or_rest turned.left v
@@ -77,22 +73,11 @@ Solved-kept {game} {subgame} {open_part} {rest} {lost} {left} {win} {table} {pla
       own = search (rules, some_more);
       other = λ v w pulled below others leads. (
           let down : LeadsDown game open_part turned.attracted turned.rank v w =
-          turned.falls.other v w pulled below others (record {
-            edge = leads.edge;
-            inside = parted.within w leads.inside;
-          }) in
+          turned.falls.other v w pulled below others (search rules) in
           record { leads = leads; inside = down.inside; falls = down.falls });
     } in
-    let all : HoldsWithin game left player left table = HoldsWithin-all
-    (λ v w top still. turned.above v w top (parted.within w still)) top_moves pulled_left falls split
-    (λ v kept. let from = kept_of rest lost v kept in parted.all v (turned.left.within v from.0) from.1)
-    (solved.held player (without rest lost) is_player kept_won) in
-    Progress-taken is_game is_player
-    (record {
-      within = λ v h. absurd (false≢true h);
-      outside = λ v h. absurd (false≢true h);
-      all = λ v inside out. absurd (out inside);
-    })
-    (λ v inside. inside)
-    (λ v still. elim (split v still) [ inl pulled ↦ turned.given v pulled | inr kept ↦ kept_won.won v kept ])
+    let all : HoldsWithin game left player left table =
+    HoldsWithin-all (λ v w top still. turned.above v w top (parted.within w still)) top_moves pulled_left falls split
+    (λ v kept. search (rules, kept_of)) (solved.held player (without rest lost) is_player kept_won) in
+    Progress-taken is_game is_player (search (rules, false≢true)) (λ v inside. inside) (λ v still. search rules)
     (λ v w h. absurd (false≢true h)) all lost_left

@@ -14,22 +14,21 @@ steps-le (suc z) zero less = absurd (omega arith)
 steps-le (suc z) (suc m) less = omega (arith, steps-le z m (omega arith))
 
 opened : (z m : ℕ) → z < m → rest_of m + steps z < steps m
-opened z m h1 = search (rules, steps-le)
+opened z m h = search (rules, steps-le)
 
 gone_on : (z m : ℕ) → z < m → steps z < rest_of m
-gone_on z m h1 = search (rules, steps-le)
+gone_on z m h = search (rules, steps-le)
 
 pub waiting_steps-suc : (levels : List ℕ) (k n : ℕ) → n ≡ k + 1 →
     waiting_steps levels n ≡ waiting_steps levels k + rest_of (size_from (2 * k + 2) levels)
-waiting_steps-suc levels k n h1 = search rules
+waiting_steps-suc levels k n h = search rules
 
 -- of calls whose sizes stay
 waiting_steps-same : (old new : List ℕ) (k : ℕ) → ((i : ℕ) → i < k →
     size_from (2 * i + 2) new ≡ size_from (2 * i + 2) old) → waiting_steps new k ≡ waiting_steps old k
 waiting_steps-same old new zero sizes = refl
 waiting_steps-same old new (suc k) sizes =
-    let before : waiting_steps new k ≡ waiting_steps old k =
-    waiting_steps-same old new k (λ i less. sizes i (omega arith)) in
+    let before : waiting_steps new k ≡ waiting_steps old k = waiting_steps-same old new k (λ i less. grind arith) in
     omega (arith, ap rest_of (sizes k (omega arith)))
 
 -- a turn begins: the next call is about fewer vertices
@@ -39,10 +38,7 @@ pub falls_begun : (old new : List ℕ) (k n : ℕ) → n ≡ k + 1 →
 falls_begun old new k n next sizes fewer =
     let waiting : waiting_steps new n ≡ waiting_steps new k + rest_of (size_from (2 * k + 2) new) =
     waiting_steps-suc new k n next in
-    let before : waiting_steps new k ≡ waiting_steps old k =
-    waiting_steps-same old new k (λ i less. sizes i (omega arith)) in
-    let less = opened (size_from (2 * n + 2) new) (size_from (2 * k + 2) old) fewer in
-    omega (arith, ap rest_of (sizes k (omega arith)))
+    grind (arith, waiting_steps-same, opened)
 
 -- nothing is left to the present call
 pub falls_done : (levels : List ℕ) (k : ℕ) → steps_left levels k true < steps_left levels k false

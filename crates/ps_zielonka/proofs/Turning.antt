@@ -1,5 +1,5 @@
 -- The turns: what is decided of a subgame, and how it grows until nothing is left to decide.
-use Rattle.std.proofs.Common.{◌≡◌, ◌≢◌, ℕ, ◌<◌, ◌⊎◌, inl, inr, Bool, false, not, ◌&&◌, ◌==◌, Option, ◌∙◌, rules}
+use Rattle.std.proofs.Common.{◌≡◌, ◌≢◌, ℕ, ◌<◌, ◌⊎◌, inl, inr, Bool, false, not, ◌&&◌, ◌==◌, Option, rules}
 use Rattle.std.specs.Prelude.{IsTrue}
 use Rattle.std.proofs.lemmas.Bool.{cases_eq, cases_Bool, false≢true, eqb-true, eq-eqb, and_parts, and_from, not-true}
 use Rattle.std.proofs.lemmas.Bool.{not_from_false, false_from_ne_true}
@@ -24,12 +24,7 @@ Solved-done progress none = record {
   within = λ v inside. absurd (false≢true inside);
   winners = λ v inside decided. progress.winners v inside (none v);
   away = λ v w from edge inside decided. absurd (false≢true from);
-  held = λ player set is_player is_won. progress.held player set is_player (record {
-    within = is_won.within;
-    decided = λ v inside. none v;
-    won = is_won.won;
-    all = λ v inside decided wins. is_won.all v inside (λ h. false≢true h) wins;
-  });
+  held = λ player set is_player is_won. progress.held player set is_player (search (rules, false≢true));
 }
 
 -- ## The same with other tables
@@ -44,13 +39,7 @@ Progress-same {win} other_win other_table same_win same_move progress = record {
   winners = search rules;
   away = search rules;
   held = λ player set is_player is_won. HoldsWithin-same set other_table (λ v inside. inside) (λ v inside. inside)
-      (λ v inside owns. same_move v (is_won.within v inside) (is_won.decided v inside))
-      (progress.held player set is_player (record {
-        within = is_won.within;
-        decided = is_won.decided;
-        won = search rules;
-        all = λ v inside decided wins. is_won.all v inside decided (same_win v inside decided ∙ wins);
-      }));
+      (λ v inside owns. search rules) (progress.held player set is_player (search rules));
 }
 
 -- ## A step
@@ -67,12 +56,7 @@ Progress-taken {game} {subgame} {open_part} {part} {left} {win} {table} {player}
       winners = search (rules, cases_Bool, not_in);
       away = search (rules, cases_Bool, not_in);
       held = λ holder set is_holder is_won. elim (cases_eq holder player) [
-        | inr other ↦ progress.held holder set is_holder (record {
-          within = is_won.within;
-          decided = search rules;
-          won = is_won.won;
-          all = λ v inside decided wins. is_won.all v inside (λ still. decided (without.within v still)) wins;
-        })
+        | inr other ↦ progress.held holder set is_holder (search rules)
         | inl same ↦ rw same (taken_held set (rw same at is_won))
       ];
     }
@@ -86,22 +70,11 @@ Progress-taken {game} {subgame} {open_part} {part} {left} {win} {table} {player}
         let from_before = λ (v : ℕ) (inside : IsTrue (before v)). and_parts (set v) (not (open_part v)) inside in
         let to_before = λ (v : ℕ) (inside : IsTrue (set v)) (outside : open_part v ≡ false).
         and_from (set v) (not (open_part v)) inside (not_from_false (open_part v) outside) in
-        let before_held : HoldsWithin game subgame player before table = progress.held player before is_player (record {
-          within = λ v inside. is_won.within v (from_before v inside).0;
-          decided = λ v inside. not_in open_part v (not-true (open_part v) (from_before v inside).1);
-          won = λ v inside. is_won.won v (from_before v inside).0;
-          all = search (rules, false_from_ne_true);
-        }) in
+        let before_held : HoldsWithin game subgame player before table =
+        progress.held player before is_player (search (rules, not_in, not-true, false_from_ne_true)) in
         HoldsWithin-beside {player = player} set progress.within (λ v inside. (from_before v inside).0)
-        (λ v inside. is_won.all v (progress.within v (part_within v inside)) (λ still. without.outside v still inside)
-        (given v inside)) (λ v inside. elim (cases_Bool (open_part v)) [
-          | inl was_open ↦ inr (taken v was_open (is_won.decided v inside))
-          | inr outside ↦ inl (to_before v inside outside)
-        ]) (λ v w inside others leads. elim (cases_Bool (open_part w)) [
-          | inl near ↦ inl near
-          | inr outside ↦ search (rules, not_in)
-        ])
-        before_held holds
+        (λ v inside. search rules) (λ v inside. search (rules, cases_Bool, taken))
+        (λ v w inside others leads. search (rules, cases_Bool, not_in)) before_held holds
 
 -- ## Turns
 
@@ -112,11 +85,7 @@ pub lost_held : {game : ParityGame} {open_part rest lost : ℕ → Bool} {win : 
     HoldsWithin game open_part other lost table
 lost_held {game} {open_part} {rest} {lost} {player} {other} is_game is_player is_other differ turned is_won solved =
     HoldsWithin-larger open_part {player = other} turned.left.within
-    (λ v w inside others leads. elim (in_part_or_rest turned.left w leads.inside) [
-      | inr near ↦ near
-      | inl there ↦ search rules
-    ])
-    (solved.held other lost is_other is_won)
+    (λ v w inside others leads. search (rules, in_part_or_rest)) (solved.held other lost is_other is_won)
 
 -- the attractor of the other player to what it holds goes to it
 pub Progress-attracted : {game : ParityGame} {subgame open_part target set left : ℕ → Bool} {win : ℕ → ℕ}
@@ -125,13 +94,8 @@ pub Progress-attracted : {game : ParityGame} {subgame open_part target set left 
     ((v : ℕ) → IsTrue (set v) → win v ≡ player) → HoldsWithin game open_part player target table →
     Progress game subgame open_part win table → Progress game subgame left win table
 Progress-attracted {game} {subgame} {open_part} {set} {left} {win} {table} {player} is_game is_player attracted within
-    without given holds progress =
-    Progress-taken is_game is_player without within given
-    (λ v w still owns edge there. without.outside v still (attracted.closed.own v w (without.within v still) owns
-    (record { edge = edge; inside = within w there }) there))
-    (HoldsWithin-attracted attracted.closed.holds within
-    attracted.falls holds)
-    progress
+    without given holds progress = Progress-taken is_game is_player without within given
+    (λ v w still owns edge there. search rules) (search (rules, HoldsWithin-attracted)) progress
 
 -- what an attractor leaves is a subgame
 pub IsSubgame-left : {game : ParityGame} {subgame target set left : ℕ → Bool} {table : ℕ → Option ℕ} {player : ℕ}

@@ -9,17 +9,13 @@ falling : (y : ℕ → ℕ) (k : ℕ) → ((t : ℕ) → t < k → y (t + 1) ≤
 falling y k steps t zero after within = let same : y t ≡ y 0 = ap y (omega arith) in omega arith
 falling y k steps t (suc j) after within = elim (cases_eq t (suc j)) [
   | inl is ↦ (let same : y t ≡ y (suc j) = ap y is in omega arith)
-  | inr other ↦ (
-      let next : y (j + 1) ≡ y (suc j) = ap y (omega arith) in
-      let step : y (j + 1) ≤ y j = steps j (omega arith) in
-      omega (arith, falling y k steps t j (omega arith) (omega arith)))
+  | inr other ↦ grind (arith, falling y k steps t j (omega arith) (omega arith))
 ]
 
 -- a number that never rises along the steps is the same at each place
 pub level : (y : ℕ → ℕ) (k : ℕ) → y k ≡ y 0 → ((t : ℕ) → t < k → y (t + 1) ≤ y t) → (t : ℕ) → t ≤ k → y t ≡ y 0
 level y k closes steps t within =
-    let down : y t ≤ y 0 = falling y k steps 0 t (omega arith) within in
-    omega (arith, falling y k steps t k within (omega arith))
+    grind (arith, falling y k steps 0 t (omega arith) within, falling y k steps t k within (omega arith))
 
 -- no number falls at each step
 pub no_descent : (rank : ℕ → ℕ) (walk : ℕ → ℕ) (k : ℕ) → 0 < k → walk k ≡ walk 0 →
@@ -34,10 +30,10 @@ abbrev distance : Bool → ℕ
 distance b = cond b 0 1
 
 distance-le : (a b : Bool) → (a ≡ true → b ≡ true) → distance b ≤ distance a
-distance-le a b h1 = search rules
+distance-le a b h = search rules
 
 distance-same : (a b : Bool) → distance a ≡ distance b → a ≡ b
-distance-same a b h1 = search rules
+distance-same a b h = search rules
 
 -- a set that no step leaves has all places or none
 pub all_or_none : (set : ℕ → Bool) (walk : ℕ → ℕ) (k : ℕ) → walk k ≡ walk 0 →
@@ -56,10 +52,4 @@ all_or_none set walk k closes steps =
 pub some_or_none : (set : ℕ → Bool) (walk : ℕ → ℕ) (k : ℕ) →
     ((t : ℕ) × (t < k) × IsTrue (set (walk t))) ⊎ ((t : ℕ) → t < k → set (walk t) ≡ false)
 some_or_none set walk zero = inr (λ t less. absurd (omega arith))
-some_or_none set walk (suc k) = elim (some_or_none set walk k) [
-  | inl found ↦ inl (found.0, omega (arith, found.1), found.2)
-  | inr none ↦ elim (cases_Bool (set (walk k))) [
-    | inl here ↦ inl (k, omega arith, here)
-    | inr not_here ↦ search (rules, cases_eq)
-  ]
-]
+some_or_none set walk (suc k) = grind (arith, cases_Bool (set (walk k)), cases_eq, some_or_none set walk k)

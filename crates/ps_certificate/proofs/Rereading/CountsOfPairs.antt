@@ -1,8 +1,7 @@
 -- The counts that the pairs of a line give for its priorities: those that the pairs were written of.
 --     after ps cs so_far      what is known of the counts behind the pairs of these
 --     after_counts      for each priority it is its count
-use Rattle.std.proofs.Common.{◌≡◌, ℕ, ◌<◌, Bool, true, false, cond, eqb, List, [], ◌∷◌, length, map, refl}
-use Rattle.std.proofs.Common.{◌∙◌, arith, rules}
+use Rattle.std.proofs.Common.{◌≡◌, ℕ, ◌<◌, Bool, cond, eqb, List, [], ◌∷◌, length, map, refl, arith, rules}
 use Rattle.std.specs.List.{All}
 use Rattle.std.proofs.lemmas.Bool.{eq-eqb, ne_eqb, eqb-true}
 use Rattle.std.proofs.lemmas.List.Elements.{All-head, All-tail}
@@ -28,8 +27,7 @@ after_other (p ∷ ps) (c ∷ cs) so_far q h = go (eqb c 0) (after_other ps cs s
     go : (b : Bool) → (after ps cs so_far).count q ≡ so_far.count q
         → (after ps cs (with_pair so_far p c)).count q ≡ cond (eqb q p) c (so_far.count q)
         → (cond b (after ps cs so_far) (after ps cs (with_pair so_far p c))).count q ≡ so_far.count q
-    go true x y = x
-    go false x y = search (rules, ne_eqb, All-head)
+    go b x y = grind (arith, ne_eqb, All-head)
 
 abbrev NoneYet : Pairs → List ℕ → Type 0
 NoneYet so_far ps = All (λ p. so_far.count p ≡ 0) ps
@@ -53,5 +51,4 @@ after_counts (p ∷ ps) (c ∷ cs) so_far r same none =
     go : (b : Bool) → eqb c 0 ≡ b → map (after ps cs so_far).count ps ≡ cs
         → map (after ps cs (with_pair so_far p c)).count ps ≡ cs
         → map (cond b (after ps cs so_far) (after ps cs (with_pair so_far p c))).count (p ∷ ps) ≡ c ∷ cs
-    go true e x y = search (rules, after_other, All-head, eqb-true)
-    go false e x y = search (rules, after_other, eq-eqb)
+    go b e x y = grind (arith, after_other, All-head, eqb-true, eq-eqb)

@@ -5,8 +5,8 @@
 --     read_byte, read_word, read_number, read_fields, read_version, read_winner, read_choice, read_counts, read_pairs,
 --     read_entry, read_entries, read_text      each part of the text
 --     reads_again      the whole text
-use Rattle.std.proofs.Common.{◌≡◌, ◌≢◌, ℕ, suc, ◌+◌, ◌^◌, ◌<◌, ◌⊎◌, Bool, true, false, cond, eqb, ltb, List, []}
-use Rattle.std.proofs.Common.{◌∷◌, ◌++◌, length, get_or, map, Option, Some, None, Ok, refl, sym, ap, subst, inl}
+use Rattle.std.proofs.Common.{◌≡◌, ◌≢◌, ℕ, suc, ◌+◌, ◌^◌, ◌<◌, ◌⊎◌, Bool, true, false, cond, eqb, List, []}
+use Rattle.std.proofs.Common.{◌∷◌, ◌++◌, length, get_or, Option, Some, None, Ok, refl, sym, ap, subst, inl}
 use Rattle.std.proofs.Common.{inr, ◌∙◌, append_assoc, add-zero, arith, rules}
 use Rattle.std.specs.Prelude.{decimal, IfSome}
 use Rattle.std.specs.List.{All, AllPairs, Contains}
@@ -34,10 +34,9 @@ use Rattle.ps_certificate.specs.Certificates.{EntryData, CertificateData, no_ent
 use Rattle.ps_certificate.specs.Certificates.{opposing, Fits}
 use Rattle.ps_certificate.specs.Words.{first_word, vertices_word, odd_word, even_word}
 use Rattle.ps_certificate.specs.Pairs.{Pairs, no_pairs, with_pair, DoesNotRise}
-use Rattle.ps_certificate.specs.Texts.{Seen, Field, stream_at, EndsField, Verdict, take_byte, byte, word}
-use Rattle.ps_certificate.specs.Texts.{judged, number, Never, NotNext, priority, IsMissing, priorities, version, winner}
-use Rattle.ps_certificate.specs.Texts.{vertex_of, choice, counts, pair, counts_in, lost_by, entry, entries, certificate}
-use Rattle.ps_certificate.specs.Texts.{ReadsCertificate as ReadsText}
+use Rattle.ps_certificate.specs.Texts.{Seen, Field, stream_at, EndsField, Verdict, byte, word, judged, number, Never}
+use Rattle.ps_certificate.specs.Texts.{NotNext, priority, priorities, version, winner, vertex_of, choice, counts, pair}
+use Rattle.ps_certificate.specs.Texts.{counts_in, lost_by, entry, entries, certificate, ReadsCertificate as ReadsText}
 use Rattle.ps_certificate.specs.Written.{fields, pairs, counts_text, move_text, entry_line, entry_lines, version_digit}
 use Rattle.ps_certificate.specs.Written.{head_text, IsWord, IsWritable, HasWords, text_in}
 use Rattle.ps_certificate.proofs.OneReading.{Rises, rises as rises_of}
@@ -82,7 +81,7 @@ read_version : (compact : Bool) {rest : List ℕ} → IsReadFrom version (versio
 read_version compact = search (rules, read_one)
 
 read_winner : (w : ℕ) {rest : List ℕ} → w < 2 → IsReadFrom winner ((48 + w) ∷ rest) w rest
-read_winner w h1 = search (rules, read_one)
+read_winner w h = search (rules, read_one)
 
 -- ## Numbers that are read
 
@@ -117,8 +116,7 @@ read_many (p ∷ ps) rest small =
 
 read_fields : (ps : List ℕ) {rest : List ℕ} → All IsWord ps →
     IsReadFrom (priorities ps) (fields ps ++ 10 ∷ rest) tt rest
-read_fields ps {rest} small = then (joint_priorities ps) (read_many ps rest small)
-    (record { read = read_one (take_byte 10) (IsMissing []) refl (λ f x. omega (arith, x.1)) })
+read_fields ps {rest} small = then (joint_priorities ps) (read_many ps rest small) (grind (arith, read_one))
 
 -- ## Moves and counts
 
@@ -140,15 +138,13 @@ read_choice ids (Some v) {rest} end known =
     let w = read_number (λ id. ¬ Contains ids id) known.0 end (λ none. none known.2) in
     record {
       read = read_as (chosen ids) (choice ids) (covers_right dash (chosen ids) laws_dash _
-          (no_dash (decimal id) rest t.some t.all)) (subst (λ o. IsRead (chosen ids) (seen (decimal id ++ rest)) o
-          (seen rest)) known.1 (read_mapped (vertex_of ids) (number (λ id. ¬ Contains ids id)) w.read));
+          (no_dash (decimal id) rest t.some t.all)) (grind arith);
     }
 
 read_counts : (cs : List ℕ) {rest : List ℕ} → All IsWord cs →
     IsReadFrom (counts (length cs)) (fields cs ++ 10 ∷ rest) cs rest
 read_counts [] small = with_value (λ _. []) (read_byte 10)
-read_counts (c ∷ cs) {rest} small = rw append_assoc
-    (then (joint_counts (length cs)) (read_byte 32)
+read_counts (c ∷ cs) {rest} small = rw append_assoc (then (joint_counts (length cs)) (read_byte 32)
     (then (joint_count (length cs)) (read_number Never (All-head IsWord c cs small) (fields_end cs rest) (λ w. w))
     (with_value (λ others. c ∷ others) (read_counts cs (All-tail IsWord c cs small)))))
 
@@ -157,12 +153,7 @@ read_counts (c ∷ cs) {rest} small = rw append_assoc
 pairs_end : (ps cs rest : List ℕ) → EndsField (pairs ps cs ++ 10 ∷ rest)
 pairs_end [] cs rest = inr (inl refl)
 pairs_end (p ∷ ps) [] rest = inr (inl refl)
-pairs_end (p ∷ ps) (c ∷ cs) rest = go (eqb c 0) (pairs_end ps cs rest)
-  where
-    go : (b : Bool) → EndsField (pairs ps cs ++ 10 ∷ rest)
-        → EndsField (cond b (pairs ps cs) (32 ∷ decimal p ++ 58 ∷ decimal c ++ pairs ps cs) ++ 10 ∷ rest)
-    go true h = h
-    go false h = inl refl
+pairs_end (p ∷ ps) (c ∷ cs) rest = grind (arith, pairs_end ps cs rest)
 
 counts_end : (compact : Bool) (ps cs rest : List ℕ) → EndsField (counts_text compact ps cs ++ 10 ∷ rest)
 counts_end compact ps cs rest = search (rules, fields_end, pairs_end)
@@ -171,14 +162,12 @@ read_pair : (ps : List ℕ) (so_far : Pairs) (p c : ℕ) {rest : List ℕ} → (
     IsWord p → 0 < c → IsWord c → EndsField rest →
     IsReadFrom (pair ps so_far) (32 ∷ (decimal p ++ 58 ∷ (decimal c ++ rest))) (with_pair so_far p c) rest
 read_pair ps so_far p c above there small some fits end = then (joint_pair ps so_far) (read_byte 32)
-    (then
-    (joint_priority ps so_far) (read_judged (settled_priority ps so_far) small (inr (inr refl)) (λ f w. right f w.1))
-    (then (joint_colon so_far p) (read_byte 58)
+    (then (joint_priority ps so_far) (read_judged (settled_priority ps so_far) small (inr (inr refl))
+    (λ f w. right f w.1)) (then (joint_colon so_far p) (read_byte 58)
     (with_value (λ m. with_pair so_far p m) (read_judged settled_zero fits end (λ f w. omega (arith, w.1, some))))))
   where
     right : (f : CertCause) → ((f ≡ Syntax) × DoesNotRise so_far p) ⊎ ((f ≡ OtherGame) × ¬ Contains ps p) → ⊥
-    right f (inl w) = above w.1
-    right f (inr w) = w.1 there
+    right f h = grind arith
 
 -- none of these is at most the last one, and each of these is one of those
 abbrev AllAbove : Pairs → List ℕ → Type 0
@@ -225,10 +214,9 @@ read_pairs all (p ∷ ps) (c ∷ cs) so_far rest there r above small fits =
 read_counts_in : (compact : Bool) (ps : List ℕ) {cs rest : List ℕ} → Rises ps → length cs ≡ length ps → All IsWord ps →
     All IsWord cs → IsReadFrom (counts_in compact ps) (counts_text compact ps cs ++ 10 ∷ rest) cs rest
 read_counts_in false ps r same small fits = rw (← same) (read_counts _ fits)
-read_counts_in true ps {cs} {rest} r same small fits =
-    subst (λ xs. IsReadFrom (counts_in true ps) (pairs ps cs ++ 10 ∷ rest) xs rest) (after_counts ps cs no_pairs r same
-    (λ k d lt. refl)) (then (joint_pairs ps) (read_pairs ps ps cs no_pairs rest (λ k d lt. Contains-get_or ps k d lt) r
-    (λ k d lt h. h) small fits) (with_value (λ _. map (after ps cs no_pairs).count ps) (read_byte 10)))
+read_counts_in true ps {cs} {rest} r same small fits = subst (λ xs. IsReadFrom (counts_in true ps) (pairs ps cs ++
+    10 ∷ rest) xs rest) (after_counts ps cs no_pairs r same (λ k d lt. refl)) (then (joint_pairs ps) (read_pairs ps ps
+    cs no_pairs rest (λ k d lt. Contains-get_or ps k d lt) r (λ k d lt h. h) small fits) (grind (arith, read_byte 10)))
 
 -- ## A certificate
 
@@ -286,14 +274,11 @@ module _ (compact : Bool) (ids odd even : List ℕ) (ids_small : All IsWord ids)
       (record { odd = odd; even = even; entries = es }) []
   read_text es small same readable = rw (head_groups first_word (version_digit compact ∷ vertices_word) (decimal (length
       ids)) odd_word (fields odd) (10 ∷ even_word) (fields even) (10 ∷ []) (entry_lines compact odd even ids 0 es))
-      (then (joint_first odd even ids) (read_word first_word)
-      (then (joint_version odd even ids) (read_version compact)
-      (then (joint_vertices odd even ids compact) (read_word vertices_word)
-      (then (joint_number odd even ids compact) (read_number _ small (inr (inl refl)) (λ other. other refl))
-      (then (joint_odd_word odd even ids compact) (read_word odd_word)
-      (then (joint_odd odd even ids compact) (read_fields odd odd_small)
-      (then (joint_even_word odd even ids compact) (read_word even_word)
-      (then (joint_even odd even ids compact)
+      (then (joint_first odd even ids) (read_word first_word) (then (joint_version odd even ids) (read_version compact)
+      (then (joint_vertices odd even ids compact) (read_word vertices_word) (then (joint_number odd even ids compact)
+      (read_number _ small (inr (inl refl)) (λ other. other refl)) (then (joint_odd_word odd even ids compact)
+      (read_word odd_word) (then (joint_odd odd even ids compact) (read_fields odd odd_small)
+      (then (joint_even_word odd even ids compact) (read_word even_word) (then (joint_even odd even ids compact)
       (read_fields even even_small) (with_value (λ es. record { odd = odd; even = even; entries = es })
       (read_entries ids es 0 (λ k lt. ap (λ n. get_or ids n 0) (omega arith)) ids_small same readable))))))))))
 
@@ -305,8 +290,7 @@ module _ (ids : List ℕ) (differ : AllPairs (λ x y. x ≢ y) ids) where
       let id = get_or ids v 0 in
       let e = position_or_len_is (λ other. eqb other id) ids v 0
       (omega (arith, within)) (λ k lt. ne_eqb (get_or ids k 0) id (differ k v 0 lt within)) (λ _. eq-eqb id id refl) in
-      ap (λ i. cond (ltb i (length ids)) (Some i) None) e
-      ∙ ap (λ (b : Bool). cond b (Some v) None) (lt-ltb v (length ids) within)
+      grind (arith, lt-ltb)
 
 -- each entry of a certificate that fits
 each_entry : (P : EntryData → Type 0) (entries : List EntryData)
@@ -316,9 +300,7 @@ each_entry P entries h k d lt = subst P (get_or_default entries k no_entry d lt)
 pub writable : (game : ParityGame) (c : CertificateData) → Fits game c
     → All (IsWritable (vertex_count game) c.odd c.even) c.entries
 unfolding winner_of choice_of counts_of opposing
-writable game c fits = each_entry (IsWritable (vertex_count game) c.odd c.even) c.entries (λ v lt.
-    let within : v < vertex_count game = omega (arith, lt, fits.entry_each) in
-    record { winner = fits.winners v within; choice = fits.choices v within; counts = fits.count_each v within })
+writable game c fits = each_entry (IsWritable (vertex_count game) c.odd c.even) c.entries (λ v lt. grind arith)
 
 module _ (compact : Bool) (game : NamedGameData) (c : CertificateData) (named : IsNamedGame game)
     (fits : Fits game.game c) (words : HasWords game.ids c) where
@@ -332,21 +314,12 @@ module _ (compact : Bool) (game : NamedGameData) (c : CertificateData) (named : 
       c.entries
   unfolding winner_of choice_of counts_of opposing
   readable = each_entry (IsReadable compact game.ids c.odd c.even words.ids odd_rises even_rises words.odd words.even)
-      c.entries (λ v lt.
-      let within : v < vertex_count game.game = omega (arith, lt, fits.entry_each) in
-      let e = get_or c.entries v no_entry in
-      record {
-        winner = fits.winners v within;
-        counts = fits.count_each v within;
-        small = words.counts v no_entry lt;
-        choice = known_choice e.choice (fits.choices v within);
-      })
+      c.entries (λ v lt. grind (arith, known_choice))
     where
       known_choice : (choice : Option ℕ) → IfSome choice (λ w. w < vertex_count game.game)
           → IfSome choice (λ v. IsWord (get_or game.ids v 0) ×
           (vertex_of game.ids (get_or game.ids v 0) ≡ Some v) × Contains game.ids (get_or game.ids v 0))
-      known_choice None h = tt
-      known_choice (Some v) h = search (rules, found_at, Contains-get_or)
+      known_choice choice h = search (rules, found_at, Contains-get_or)
 
   pub reads_again : ReadsText game (text_in compact game c) (Ok c)
   reads_again =
@@ -358,6 +331,5 @@ module _ (compact : Bool) (game : NamedGameData) (c : CertificateData) (named : 
         even = c.even;
         odd_listed = fits.odd_listed;
         even_listed = fits.even_listed;
-        answers = answers_ok (laws_certificate c.odd c.even game.ids) (stream_at 0 text) c
-            (subst (λ all. IsRead (certificate c.odd c.even game.ids) all c []) (sym (signs_seen 0 text)) w.read);
+        answers = answers_ok (laws_certificate c.odd c.even game.ids) (stream_at 0 text) c (search (rules, signs_seen));
       }

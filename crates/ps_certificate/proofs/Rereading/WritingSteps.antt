@@ -2,8 +2,8 @@
 --     all_taken, all_taken_all      of each element that was passed
 --     head_joined      what stands before the lines of the vertices
 --     pair_written, pair_skipped      one count further
-use Rattle.std.proofs.Common.{◌≡◌, ℕ, suc, ◌+◌, ◌<◌, ◌≤◌, cond, eqb, List, [], ◌∷◌, ◌++◌, length, get_or, drop}
-use Rattle.std.proofs.Common.{take, sym, ap, subst, ◌∙◌, append_assoc, arith, rules}
+use Rattle.std.proofs.Common.{◌≡◌, ℕ, ◌+◌, ◌<◌, ◌≤◌, cond, eqb, List, [], ◌∷◌, ◌++◌, length, get_or, drop}
+use Rattle.std.proofs.Common.{take, subst, append_assoc, arith, rules}
 use Rattle.std.specs.Prelude.{decimal}
 use Rattle.std.specs.List.{All}
 use Rattle.std.proofs.Math.Seq.{take-suc}
@@ -16,9 +16,7 @@ pub all_taken : {X : Type 0} (P : X → Type 0) (xs : List X) (v : ℕ) (d : X) 
     → P (get_or xs v d) → All P (take (v + 1) xs)
 all_taken P xs v d lt h p =
     let x = get_or xs v d in
-    let next : v + 1 ≡ suc v = omega arith in
-    subst (All P) (sym (ap (λ n. take n xs) next ∙ take-suc xs v d lt))
-    (All-append P (take v xs) (x ∷ []) h (All-cons P x [] p (All-nil P)))
+    grind (arith, take-suc xs v d lt, All-append P (take v xs) (x ∷ []) h (All-cons P x [] p (All-nil P)))
 
 pub all_taken_all : {X : Type 0} (P : X → Type 0) (xs : List X) (v : ℕ) → length xs ≤ v → All P (take v xs) → All P xs
 all_taken_all P xs v le h = subst (All P) (take_all v xs le) h
@@ -29,8 +27,7 @@ eight_joined o w a b c d e f g = simp (append_assoc)
 
 pub head_joined : (o w : List ℕ) (v : ℕ) (a b c d e f : List ℕ) → ((((((((o ++ w) ++ v ∷ []) ++ a) ++ b) ++ c) ++ d)
     ++ 10 ∷ e) ++ f) ++ 10 ∷ [] ≡ o ++ (((((((w ++ v ∷ a) ++ b) ++ c) ++ d) ++ 10 ∷ e) ++ f) ++ 10 ∷ [])
-head_joined o w v a b c d e f = ap (λ x. (((((x ++ b) ++ c) ++ d) ++ 10 ∷ e) ++ f) ++ 10 ∷ [])
-    (append_assoc (o ++ w) (v ∷ []) a) ∙ eight_joined o w (v ∷ a) b c d (10 ∷ e) f (10 ∷ [])
+head_joined o w v a b c d e f = grind (arith, append_assoc, eight_joined)
 
 -- one place further
 pairs_next : (ps cs : List ℕ) (i : ℕ) → i < length cs → length cs ≡ length ps

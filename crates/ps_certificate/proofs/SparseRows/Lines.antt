@@ -1,5 +1,5 @@
 -- Entries that are kept by winners, lines and one list of placed counts.
-use Rattle.std.proofs.Common.{◌≡◌, ℕ, ◌<◌, ◌≤◌, None, List, [], ◌∷◌, ◌++◌, length, get_or, take, drop, refl}
+use Rattle.std.proofs.Common.{◌≡◌, ℕ, ◌<◌, ◌≤◌, List, [], ◌∷◌, ◌++◌, length, get_or, take, drop, refl}
 use Rattle.std.proofs.Common.{ap, sym, subst, ◌∙◌, arith, rules}
 use Rattle.std.specs.List.{All, slice_range, zip}
 use Rattle.std.proofs.lemmas.Grind.{common_steps}
@@ -8,7 +8,7 @@ use Rattle.std.proofs.lemmas.List.Elements.{All-nil, All-cons, All-append, All-h
 use Rattle.std.proofs.lemmas.Slice.Zip.{length-zip, get_or-zip}
 use Rattle.ps_certificate.specs.Certificates.{EntryData, no_entry}
 use Rattle.ps_certificate.specs.Lines.{entry_in, entries_in, part_of, IsWithin, AreLines}
-use Rattle.ps_certificate.specs.Sparse.{row_of, IsRow}
+use Rattle.ps_certificate.specs.Sparse.{row_of}
 use Rattle.ps_certificate.specs.declared.entries.Line.{Line}
 use Rattle.ps_certificate.specs.declared.row.PlacedCount.{PlacedCount}
 
@@ -28,17 +28,11 @@ entries_kept : (ws : List ℕ) (ls : List Line) {cs : List PlacedCount} (more : 
     → entries_in ws ls (cs ++ more) ≡ entries_in ws ls cs
 entries_kept [] ls more h = refl
 entries_kept (a ∷ ws) [] more h = refl
-entries_kept (a ∷ ws) (b ∷ ls) {cs} more h = let same : part_of (cs ++ more) b ≡ part_of cs b =
-    range_kept cs more b.start b.end (All-head (IsWithin cs) b ls h).ends in ap (λ (part : List PlacedCount). record
-    { winner = a; choice = b.choice; counts = row_of b.width part } ∷ entries_in ws ls (cs ++ more)) same ∙ ap
-    (λ (rest : List EntryData). entry_in cs (a, b) ∷ rest) (entries_kept ws ls more (All-tail (IsWithin cs) b ls h))
+entries_kept (a ∷ ws) (b ∷ ls) {cs} more h =
+    search (rules, range_kept, All-head, All-tail, entries_kept ws ls more (All-tail (IsWithin cs) b ls h))
 
 within_kept : {cs : List PlacedCount} (more : List PlacedCount) {l : Line} → IsWithin cs l → IsWithin (cs ++ more) l
-within_kept {cs} more {l} h = record {
-  rises = h.rises;
-  ends = grind (arith, common_steps, h.ends);
-  row = subst (IsRow l.width) (sym (range_kept cs more l.start l.end h.ends)) h.row;
-}
+within_kept {cs} more {l} h = grind (arith, common_steps, range_kept)
 
 all_kept : (ls : List Line) {cs : List PlacedCount} (more : List PlacedCount) → All (IsWithin cs) ls →
     All (IsWithin (cs ++ more)) ls
@@ -59,8 +53,7 @@ module _ (ws : List ℕ) (ls : List Line) (cs new : List PlacedCount) (are : Are
   pub lines_same : AreLines ws ls new
   lines_same = record {
     each = are.each;
-    within = let more =
-        begins cs new kept in subst (λ all. All (IsWithin all) ls) (sym more.1) (all_kept ls more.0 are.within);
+    within = let more = begins cs new kept in grind (arith, all_kept ls more.0 are.within);
   }
 
   module _ (w : ℕ) (line : Line) where
@@ -70,11 +63,12 @@ module _ (ws : List ℕ) (ls : List Line) (cs new : List PlacedCount) (are : Are
 
     -- one line more, whose counts are there
     pub lines_push : IsWithin new line → AreLines (ws ++ w ∷ []) (ls ++ line ∷ []) new
-    lines_push is = record {
-      each = grind (arith, common_steps, are.each);
-      within = All-append (IsWithin new) ls (line ∷ []) lines_same.within
-          (All-cons (IsWithin new) line [] is (All-nil (IsWithin new)));
-    }
+    lines_push is = grind (
+      arith,
+      common_steps,
+      All-append (IsWithin new) ls (line ∷ []) lines_same.within
+          (All-cons (IsWithin new) line [] is (All-nil (IsWithin new))),
+    )
 
 pub length-entries : {ws : List ℕ} {ls : List Line} {cs : List PlacedCount} → AreLines ws ls cs
     → length (entries_in ws ls cs) ≡ length ls
@@ -89,16 +83,15 @@ module _ (ws : List ℕ) (ls : List Line) (cs : List PlacedCount) (v : ℕ) (are
   has_winner = omega (arith, length-entries are, are.each)
 
   at : (w : ℕ) (line : Line) → get_or (entries_in ws ls cs) v no_entry ≡ entry_in cs (get_or ws v w, get_or ls v line)
-  at w line = get_or-map (entry_in cs) (zip ws ls) v (w, line) no_entry (omega (
+  at w line = grind (
     arith,
-    length-zip ws ls,
-    has_winner,
-    has_line,
-  )) ∙ ap (entry_in cs) (get_or-zip ws ls v (w, line) has_winner has_line)
+    get_or-map (entry_in cs) (zip ws ls) v (w, line) no_entry
+        (omega (arith, length-zip ws ls, has_winner, has_line)),
+    get_or-zip ws ls v (w, line) has_winner has_line,
+  )
 
   pub winner_at : {w : ℕ} → w ≡ get_or ws v w → w ≡ (get_or (entries_in ws ls cs) v no_entry).winner
-  winner_at {w} is =
-      is ∙ sym (ap (λ (e : EntryData). e.winner) (at w (record { choice = None; width = 0; start = 0; end = 0 })))
+  winner_at {w} is = is ∙ sym (ap (λ (e : EntryData). e.winner) (at w (grind arith)))
 
   module _ (line : Line) (is : line ≡ get_or ls v line) where
     pub choice_at : line.choice ≡ (get_or (entries_in ws ls cs) v no_entry).choice

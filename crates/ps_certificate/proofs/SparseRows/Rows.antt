@@ -1,5 +1,5 @@
 -- How a row is compared with another one, and copied.
-use Rattle.std.proofs.Common.{◌≡◌, ℕ, ◌+◌, ◌-◌, ◌<◌, ◌≤◌, ◌∙◌, List, [], ◌∷◌, ◌++◌, length, replicate, ap, arith}
+use Rattle.std.proofs.Common.{◌≡◌, ℕ, ◌+◌, ◌-◌, ◌<◌, ◌≤◌, List, [], ◌∷◌, ◌++◌, length, replicate, ap, arith}
 use Rattle.std.proofs.Common.{take, inl, inr, rules}
 use Rattle.std.proofs.lemmas.Bool.{cases_order, cases_lt}
 use Rattle.std.proofs.lemmas.List.{length-append, length-replicate, take_all}
@@ -7,8 +7,7 @@ use Rattle.ps_certificate.specs.Sparse.{count_at, row_of, IsRow, place_at, AreRi
 use Rattle.ps_certificate.specs.Sparse.{IsFirstAbove}
 use Rattle.ps_certificate.specs.declared.row.PlacedCount.{PlacedCount}
 use Rattle.ps_certificate.proofs.SparseRows.Sparse.{number_at, count_missing, count_here, row_at, row_to, row_next}
-use Rattle.ps_certificate.proofs.SparseRows.Sparse.{place_within}
-use Rattle.ps_certificate.proofs.SparseRows.Sparse.{rising, length-counts_from}
+use Rattle.ps_certificate.proofs.SparseRows.Sparse.{place_within, rising, length-counts_from}
 
 -- ## Comparing
 
@@ -34,8 +33,7 @@ module _ (own other : List PlacedCount) (from number : ℕ) where
 
       pub above_here : (width : ℕ) → IsRow width own → count_at other (place_at own number) < number_at own number →
           IsFirstAbove (row_of width own) (row_of width other) from (place_at own number)
-      above_here width is_row above =
-          search (rules, place_within, number_at, count_here, length-counts_from, row_at, cases_order)
+      above_here width is_row above = grind (arith, place_within, count_here, length-counts_from, row_at, cases_order)
 
 -- ## Copying
 
@@ -62,9 +60,8 @@ module _ (width : ℕ) (placed : List PlacedCount) (list : List ℕ) (number : �
 
   zeros_next : IsRow width placed → number < length placed →
       list ++ replicate (place_at placed number - length list) 0 ≡ row_of (place_at placed number) placed
-  zeros_next is_row within =
-      up_to (place_at placed number) (so_far.behind number (omega arith) within) (λ i late i_within.
-      elim (cases_order i number) [
+  zeros_next is_row within = up_to (place_at placed number) (so_far.behind number (omega arith) within)
+      (λ i late i_within. elim (cases_order i number) [
         | inl at ↦ omega (arith, ap (place_at placed) at)
         | inr (inl less) ↦ absurd (omega (arith, less, late))
         | inr (inr more) ↦ omega (arith, rising 0 width placed is_row number i more i_within)
@@ -75,17 +72,12 @@ module _ (width : ℕ) (placed : List PlacedCount) (list : List ℕ) (number : �
   filled_next is_row within =
       let place = place_at placed number in
       let rises : AreRising placed = rising 0 width placed is_row in
-      let far : length list ≤ place = so_far.behind number (omega arith) within in
-      let below : place < width = (place_within 0 width placed number is_row within).1 in
-      let new : List ℕ = (list ++ replicate (place - length list) 0) ++ number_at placed number ∷ [] in
-      let long : length new ≡ place + 1 = search (rules, length-append, number_at, length-replicate) in
-      record {
-        list_is = search (rules, number_at, zeros_next, count_here, row_next);
-        long = omega (arith, long, below);
-        before = λ i less. early i less far long;
-        behind = λ i late i_within. omega (arith, long, rises number i (omega (arith, late)) i_within);
-      }
-    where
-      early : (i : ℕ) → i < number + 1 → length list ≤ place_at placed number → {n : ℕ} →
-          n ≡ place_at placed number + 1 → place_at placed i < n
-      early i less far long = search (rules, cases_lt)
+      grind (
+        arith,
+        place_within 0 width placed number is_row within,
+        length-append,
+        length-replicate,
+        zeros_next,
+        count_here,
+        row_next,
+      )

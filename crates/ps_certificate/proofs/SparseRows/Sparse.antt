@@ -1,6 +1,6 @@
 -- Lists of counts of which only those that are not 0 are kept.
 use Rattle.std.proofs.Common.{◌≡◌, ◌≢◌, ℕ, zero, suc, ◌+◌, ◌<◌, ◌≤◌, ◌∙◌, List, [], ◌∷◌, ◌++◌, length, get_or, refl}
-use Rattle.std.proofs.Common.{sym, ap, subst, arith, drop, replicate, cond, inl, inr, ◌-◌, take, rules}
+use Rattle.std.proofs.Common.{sym, ap, arith, drop, replicate, cond, inl, inr, ◌-◌, take, rules}
 use Rattle.std.proofs.Math.Seq.{drop-cons}
 use Rattle.std.proofs.lemmas.List.{take-append-drop, drop-drop}
 use Rattle.std.proofs.lemmas.Bool.{cases_order, cases_eq, eq-eqb, ne_eqb}
@@ -18,8 +18,7 @@ length-counts_from ps (suc n) k = ap suc (length-counts_from ps n (suc k))
 counts_from_at : (ps : List PlacedCount) (n k i : ℕ) → i < n → slice_index (counts_from ps n k) i ≡ count_at ps (k + i)
 counts_from_at ps zero k i h = absurd (omega (arith, h))
 counts_from_at ps (suc n) k zero h = let here : k ≡ k + 0 = omega arith in ap (count_at ps) here
-counts_from_at ps (suc n) k (suc i) h = let behind : suc k + i ≡ k + suc i =
-    omega arith in counts_from_at ps n (suc k) i (omega (arith, h)) ∙ ap (count_at ps) behind
+counts_from_at ps (suc n) k (suc i) h = grind (arith, counts_from_at ps n (suc k) i (omega (arith, h)))
 
 pub row_at : (ps : List PlacedCount) (n i : ℕ) → i < n → slice_index (row_of n ps) i ≡ count_at ps i
 row_at ps n i h = let same : 0 + i ≡ i = omega arith in counts_from_at ps n 0 i h ∙ ap (count_at ps) same
@@ -29,9 +28,7 @@ counts_from_more : (ps : List PlacedCount) (n m k : ℕ) →
 counts_from_more ps zero m k = search rules
 counts_from_more ps (suc n) m k =
     let many : suc n + m ≡ suc (n + m) = omega arith in
-    let behind : suc k + n ≡ k + suc n = omega arith in
-    ap (λ j. counts_from ps j k) many ∙ ap (λ rest. count_at ps k ∷ rest)
-    (counts_from_more ps n m (suc k) ∙ ap (λ j. counts_from ps n (suc k) ++ counts_from ps m j) behind)
+    grind (arith, counts_from_more ps n m (suc k))
 
 -- ## Places
 
@@ -91,17 +88,14 @@ row_next ps n = search (rules, counts_from_more)
 zeros_from : (ps : List PlacedCount) (n k : ℕ) → ((i : ℕ) → i < length ps → k ≤ place_at ps i → k + n ≤ place_at ps i) →
     counts_from ps n k ≡ replicate n 0
 zeros_from ps zero k h = refl
-zeros_from ps (suc n) k h = ap (λ c. c ∷ counts_from ps n (suc k))
-    (count_missing ps k (λ i within same. omega (arith, same, h i within (omega (arith, same)))))
+zeros_from ps (suc n) k h = ap (λ c. c ∷ counts_from ps n (suc k)) (grind (arith, count_missing))
     ∙ ap (λ rest. 0 ∷ rest) (zeros_from ps n (suc k) (λ i within late. omega (arith, h i within (omega (arith, late)))))
 
 -- zeros up to the next place
 pub row_to : (ps : List PlacedCount) (from to : ℕ) → from ≤ to → ((i : ℕ) → i < length ps →
     from ≤ place_at ps i → to ≤ place_at ps i) → row_of to ps ≡ row_of from ps ++ replicate (to - from) 0
 row_to ps from to h next = let long : to ≡ from + (to - from) = omega (arith, h) in
-    let start : 0 + from ≡ from = omega arith in ap (λ n. row_of n ps) long ∙ counts_from_more ps from
-    (to - from) 0 ∙ ap (λ k. row_of from ps ++ counts_from ps (to - from) k) start ∙ ap (λ rest. row_of from ps ++ rest)
-    (zeros_from ps (to - from) from (λ i within late. omega (arith, h, next i within late)))
+    grind (arith, counts_from_more, zeros_from)
 
 -- ## Counts that are gathered from a list
 
@@ -114,8 +108,7 @@ gathered_other k c cs h = search (rules, ne_eqb)
 
 pub gathered_zeros : (n k : ℕ) (cs : List ℕ) → gathered k (replicate n 0 ++ cs) ≡ gathered (k + n) cs
 gathered_zeros zero k cs = let same : k ≡ k + 0 = omega arith in ap (λ j. gathered j cs) same
-gathered_zeros (suc n) k cs = let behind : suc k + n ≡ k + suc n = omega arith in
-    gathered_zero k (replicate n 0 ++ cs) refl ∙ gathered_zeros n (suc k) cs ∙ ap (λ j. gathered j cs) behind
+gathered_zeros (suc n) k cs = search (rules, gathered_zero, replicate, gathered_zeros n (suc k) cs)
 
 -- the rest of a list, by its first number
 rest_at : (cs : List ℕ) (k : ℕ) → k < length cs → drop k cs ≡ get_or cs k 0 ∷ drop (k + 1) cs
@@ -123,14 +116,14 @@ rest_at cs k within = search (rules, drop-cons)
 
 pub gathered_run : (cs : List ℕ) (k n : ℕ) → k < length cs → get_or cs k 0 ≡ 0 →
     take n (drop (k + 1) cs) ≡ replicate n 0 → gathered k (drop k cs) ≡ gathered (k + n + 1) (drop (k + n + 1) cs)
-gathered_run cs k n within is_zero run =
-    let next : suc k + n ≡ k + n + 1 = omega arith in
-    let same : k + 1 + n ≡ k + n + 1 = omega arith in
-    let parts : drop (k + 1) cs ≡ replicate n 0 ++ drop (k + n + 1) cs =
-    sym (take-append-drop n (drop (k + 1) cs)) ∙ ap (λ front. front ++ drop n (drop (k + 1) cs)) run
-    ∙ ap (λ rest. replicate n 0 ++ rest) (drop-drop n (k + 1) cs ∙ ap (λ j. drop j cs) same) in
-    ap (gathered k) (rest_at cs k within) ∙ gathered_zero k (drop (k + 1) cs) is_zero ∙ ap (gathered (suc k)) parts
-    ∙ gathered_zeros n (suc k) (drop (k + n + 1) cs) ∙ ap (λ j. gathered j (drop (k + n + 1) cs)) next
+gathered_run cs k n within is_zero run = grind (
+  arith,
+  take-append-drop n (drop (k + 1) cs),
+  drop-drop n (k + 1) cs,
+  rest_at cs k within,
+  gathered_zero k (drop (k + 1) cs) is_zero,
+  gathered_zeros n (suc k) (drop (k + n + 1) cs),
+)
 
 pub gathered_one : (cs : List ℕ) (k : ℕ) → k < length cs → get_or cs k 0 ≢ 0 →
     gathered k (drop k cs) ≡ record { place = k; count = get_or cs k 0 } ∷ gathered (k + 1) (drop (k + 1) cs)
@@ -140,11 +133,7 @@ gathered_rises : (k : ℕ) {w : ℕ} (cs : List ℕ) → k + length cs ≤ w →
 gathered_rises k [] h = tt
 gathered_rises k {w} (c ∷ cs) h =
     let rest : Rises (suc k) w (gathered (suc k) cs) = gathered_rises (suc k) cs (omega (arith, h)) in
-    elim (cases_eq c 0) [
-      | inl zero_is ↦
-          subst (Rises k w) (sym (gathered_zero k cs zero_is)) (rises_earlier k w (gathered (suc k) cs) rest)
-      | inr other ↦ subst (Rises k w) (sym (gathered_other k c cs other)) (omega arith, omega (arith, h), rest)
-    ]
+    grind (arith, cases_eq, gathered_zero, rises_earlier, gathered_other)
   where
     rises_earlier : (k w : ℕ) (ps : List PlacedCount) → Rises (suc k) w ps → Rises k w ps
     rises_earlier k w [] h = tt
@@ -156,15 +145,12 @@ gathered_is_row cs = gathered_rises 0 cs (omega arith)
 counts_behind : (p : PlacedCount) (ps : List PlacedCount) (n k : ℕ) → p.place < k →
     counts_from (p ∷ ps) n k ≡ counts_from ps n k
 counts_behind p ps zero k h = refl
-counts_behind p ps (suc n) k h = ap (λ c. c ∷ counts_from (p ∷ ps) n (suc k)) (other_place p ps k (λ same. omega
-    (arith, h, same))) ∙ ap (λ rest. count_at ps k ∷ rest) (counts_behind p ps n (suc k) (omega (arith, h)))
+counts_behind p ps (suc n) k h = grind (arith, counts_behind p ps n (suc k) (omega (arith, h)))
 
 gathered_counts : (k : ℕ) (cs : List ℕ) → counts_from (gathered k cs) (length cs) k ≡ cs
 gathered_counts k [] = refl
 gathered_counts k (c ∷ cs) = elim (cases_eq c 0) [
-  | inl zero_is ↦ ap (λ ps. counts_from ps (suc (length cs)) k) (gathered_zero k cs zero_is)
-      ∙ ap (λ n. n ∷ counts_from (gathered (suc k) cs) (length cs) (suc k)) (none ∙ sym zero_is)
-      ∙ ap (λ rest. c ∷ rest) (gathered_counts (suc k) cs)
+  | inl zero_is ↦ search (rules, gathered_zero, none, gathered_counts (suc k) cs)
   | inr other ↦
       let p : PlacedCount = record { place = k; count = c } in
       ap (λ ps. counts_from ps (suc (length cs)) k) (gathered_other k c cs other)
@@ -174,11 +160,9 @@ gathered_counts k (c ∷ cs) = elim (cases_eq c 0) [
 ]
   where
     none : count_at (gathered (suc k) cs) k ≡ 0
-    none = count_missing (gathered (suc k) cs) k (λ i within same. omega (
+    none = count_missing (gathered (suc k) cs) k (λ i within same. grind (
       arith,
-      same,
-      (place_within (suc k) (suc k + length cs) (gathered (suc k) cs) i
-          (gathered_rises (suc k) cs (omega arith)) within).0,
+      place_within (suc k) (suc k + length cs) (gathered (suc k) cs) i (gathered_rises (suc k) cs (omega arith)) within,
     ))
 
 pub row_gathered : {cs : List ℕ} → row_of (length cs) (gathered 0 cs) ≡ cs

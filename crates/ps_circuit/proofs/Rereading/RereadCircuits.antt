@@ -3,7 +3,7 @@
 --               and read up to there is before and read, and what they define and read
 --     reread_section      the lines of one kind
 --     reread_inputs, reread_latches, reread_outputs, reread_gates      of each kind
-use Rattle.std.proofs.Common.{◌≡◌, ℕ, ◌+◌, ◌*◌, ◌/◌, ◌<◌, ◌≤◌, ◌⊎◌, List, [], ◌∷◌, ◌++◌, length, get_or, map, rules}
+use Rattle.std.proofs.Common.{◌≡◌, ℕ, ◌+◌, ◌*◌, ◌<◌, ◌≤◌, ◌⊎◌, List, [], ◌∷◌, ◌++◌, length, get_or, map, rules}
 use Rattle.std.proofs.Common.{flat_map, All, Contains, refl, sym, ap, subst, inl, inr, ◌∙◌, arith, append_assoc}
 use Rattle.std.proofs.Common.{append-nil, length-append}
 use Rattle.std.proofs.lemmas.List.{length-map, get_or-map, get_or-append-add, get_or_append_left}
@@ -31,8 +31,7 @@ use Rattle.ps_circuit.proofs.Rereading.RereadLines.{IsNew, reread_input, reread_
 -- own stands in the whole, behind front
 module _ (front own rest : List ℕ) {whole : List ℕ} (split : whole ≡ front ++ (own ++ rest)) where
   place_within : (k : ℕ) → k < length own → length front + k < length whole
-  place_within k lt =
-      omega (arith, ap length split, length-append front (own ++ rest), length-append own rest)
+  place_within k lt = omega (arith, ap length split, length-append front (own ++ rest), length-append own rest)
 
   at_place : (k d : ℕ) → k < length own → get_or whole (length front + k) d ≡ get_or own k d
   at_place k d lt = search (rules, get_or-append-add, get_or_append_left)
@@ -54,13 +53,10 @@ module _ {c : CircuitData} (draft : IsDraft c) where
       fresh (i, l, h) =
           let small : i < length front = omega (arith, l, length-map front variable) in
           draft.once i (length front + k) d (omega (arith, small)) (place_within front own rest split k lt)
-          (ap variable (ap (λ z. get_or z i d) split ∙ get_or_append_left front (own ++ rest) d i small)
-          ∙ sym (get_or-map variable front i d (variable (get_or own k d)) small) ∙ h
-          ∙ sym (ap variable (at_place front own rest split k d lt)))
+          (grind (arith, get_or_append_left, get_or-map, at_place))
 
       good : (f : AigCause) → WrongDefinition c.most defined (get_or own k d) f → ⊥
-      good f (inl w) = w.0 fits
-      good f (inr w) = fresh (subst (λ z. Contains z (variable (get_or own k d))) is w.0)
+      good f h = grind (arith, fits, fresh)
 
   readings_good : All (λ x. x ≤ 2 * c.most + 1) (readings c)
   readings_good k d lt = go (draft.known k d lt)
@@ -72,15 +68,11 @@ module _ {c : CircuitData} (draft : IsDraft c) where
       go (inl z) = omega (arith, z)
       go (inr (i, l, h)) =
           let small : i < length (definitions c) = omega (arith, l, length-map (definitions c) variable) in
-          let d = draft.defined i x small in
-          let same : get_or (definitions c) i x / 2 ≡ x / 2 =
-          sym (get_or-map variable (definitions c) i x (variable x) small) ∙ h in
-          omega (arith, d.2, d.0, same)
+          grind (arith, get_or-map variable (definitions c) i x (variable x) small)
 
 -- ## The lines of one kind
 
-pub record IsSection {X : Type 0} (kind : LineKind X) (all : List X) (before read : List ℕ)
-    (d : Lines X) : Type 0 where
+pub record IsSection {X : Type 0} (kind : LineKind X) (all : List X) (before read : List ℕ) (d : Lines X) : Type 0 where
   pub items : d.items ≡ all
   pub defined : d.defined ≡ map variable (before ++ kind.defines all)
   pub readings : values d.readings ≡ read ++ kind.reads all
@@ -96,9 +88,7 @@ module _ {c : CircuitData} (draft : IsDraft c) {X : Type 0} (kind : LineKind X) 
   middle : (of : List X → List ℕ) → ((xs ys : List X) → of (xs ++ ys) ≡ of xs ++ of ys) →
       (front back whole : List ℕ) → whole ≡ front ++ (of all ++ back) → (a xs : List X) (x : X) → a ++ x ∷ xs ≡ all →
       whole ≡ (front ++ of a) ++ (of (x ∷ []) ++ (of xs ++ back))
-  middle of both front back whole is a xs x e =
-      is ∙ ap (λ z. front ++ (z ++ back)) (sym (ap of e) ∙ both a (x ∷ xs) ∙ ap (λ z. of a ++ z) (both (x ∷ []) xs))
-      ∙ regroup front (of a) (of (x ∷ [])) (of xs) back
+  middle of both front back whole is a xs x e = grind (arith, regroup)
     where
       regroup : (f a o r b : List ℕ) → f ++ ((a ++ (o ++ r)) ++ b) ≡ (f ++ a) ++ (o ++ (r ++ b))
       regroup f a o r b = simp append_assoc
@@ -118,12 +108,9 @@ module _ {c : CircuitData} (draft : IsDraft c) {X : Type 0} (kind : LineKind X) 
   go : (xs : List X) (d : Lines X) → d.items ++ xs ≡ all → Added kind before read d → (rest : List ℕ) →
       Rereads (times (length xs) line d) (IsSection kind all before read) (texts xs ++ rest) rest
   go [] d e a rest = search (rules, reread_as, reread_give)
-  go (x ∷ xs) d e a rest =
-      reread_as (ap (λ z. z ++ rest) (some x xs) ∙ append_assoc (text x) (texts xs) rest)
-      (reread_then (chain_lines line laws (length xs) d) (reread (texts xs ++ rest)
-      (λ z. (z.items ++ xs ≡ all) × Added kind before read z) d x (is_new d x xs e a)
-      (λ z i. (ap (λ y. y ++ xs) i.items ∙ append_assoc d.items (x ∷ []) xs ∙ e, added_more a i)))
-      (λ z h. go xs z h.0 h.1 rest))
+  go (x ∷ xs) d e a rest = reread_as (grind (arith, append_assoc)) (reread_then (chain_lines line laws (length xs) d)
+      (reread (texts xs ++ rest) (λ z. (z.items ++ xs ≡ all) × Added kind before read z) d x (is_new d x xs e a)
+      (λ z i. grind (arith, append_assoc, added_more))) (λ z h. go xs z h.0 h.1 rest))
 
   pub reread_section : (d : Lines X) → d.items ≡ [] → d.defined ≡ map variable before → values d.readings ≡ read →
       {rest : List ℕ} → Rereads (times (length all) line d) (IsSection kind all before read) (texts all ++ rest) rest
@@ -174,16 +161,13 @@ module _ {c : CircuitData} (draft : IsDraft c) where
       (literal_lines c.outputs ++ rest) rest
   reread_outputs {l} h = reread_section draft output_kind c.outputs (c.inputs ++ latch_literals c) (gate_literals c)
       (nexts c) (sides c) refl (append_assoc (nexts c) c.outputs (sides c)) (output_line c.most)
-      (laws_output_line c.most) (λ x. line x []) literal_lines refl (λ x xs. refl)
-      (λ rest Good. reread_output c.most) (next_lines l) refl
-      h.defined h.readings
+      (laws_output_line c.most) (λ x. line x []) literal_lines refl (λ x xs. refl) (λ rest Good. reread_output c.most)
+      (next_lines l) refl h.defined h.readings
 
   pub reread_gates : {o : Lines ℕ} → OutputsRead c o → {rest : List ℕ} →
-      Rereads (times (length c.gates) (gate_line c.most) (next_lines o)) (GatesRead c)
-      (gate_lines c.gates ++ rest) rest
+      Rereads (times (length c.gates) (gate_line c.most) (next_lines o)) (GatesRead c) (gate_lines c.gates ++ rest) rest
   reread_gates {o} h = reread_section draft gate_kind c.gates (c.inputs ++ latch_literals c) [] (nexts c ++ c.outputs)
-      []
-      (ap (λ z. (c.inputs ++ latch_literals c) ++ z) (sym (append-nil (gate_literals c))))
+      [] (ap (λ z. (c.inputs ++ latch_literals c) ++ z) (sym (append-nil (gate_literals c))))
       (ap (λ z. (nexts c ++ c.outputs) ++ z) (sym (append-nil (sides c)))) (gate_line c.most) (laws_gate_line c.most)
       (λ x. line x.literal (x.first ∷ x.second ∷ [])) gate_lines refl (λ x xs. refl) (λ rest Good. reread_gate c.most)
       (next_lines o) refl (h.defined ∙ ap (map variable) (append-nil (c.inputs ++ latch_literals c))) h.readings

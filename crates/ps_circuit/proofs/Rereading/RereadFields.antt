@@ -67,8 +67,7 @@ pub reread_as : {V : Type 0} {P : Field V} {Good : V → Type 0} {text other res
 reread_as {P = P} {Good = Good} {rest = rest} same w = subst (λ t. Rereads P Good t rest) (sym same) w
 
 pub reread_branch : {V : Type 0} {P Q : Field V} {Good : V → Type 0} {text rest : List ℕ} →
-    ((at : ℕ) → Stands (first_of (signs (pieces_at at text))) P Q) → Rereads P Good text rest →
-    Rereads Q Good text rest
+    ((at : ℕ) → Stands (first_of (signs (pieces_at at text))) P Q) → Rereads P Good text rest → Rereads Q Good text rest
 reread_branch s w = record {
   there = λ e at.
       let a = w.there e at in
@@ -95,16 +94,8 @@ pub reread_run : {V : Type 0} (p : ℕ → Bool) (see : ℕ → List ℕ → V) 
     Rereads (run p see Bad) Good (text ++ rest) rest
 reread_run p see Bad text {rest} some all longest clean good = record {
   there = λ e at.
-      let passes : Passes p (from e at (text ++ rest)) (from e (at + length text) rest) text = record {
-        at = at;
-        rest = rest;
-        old_is = refl;
-        new_is = refl;
-        end = refl;
-        place = place_is e text rest some;
-        all = all;
-        longest = longest;
-      } in
+      let passes : Passes p (from e at (text ++ rest)) (from e (at + length text) rest) text =
+      grind (arith, place_is) in
       record {
         value = see at text;
         good = good at;
@@ -217,7 +208,6 @@ unfolding more
 reread_more n rest small =
     let t = number_text n small in
     reread_branch (λ at. right_otherwise laws_ends_here.laws chain_gap_more.whole.laws _
-    (avoids_at (At 10) 0 at 32 (decimal n ++ rest) (λ t x a. omega (arith, x, a))) (λ n. n))
-    (reread_then chain_gap_more (reread_space n rest small) (λ _ _. reread_branch (λ at.
-    right_otherwise laws_ends_here.laws (laws_give Odd true) _
+    (avoids_at (At 10) 0 at 32 (decimal n ++ rest) (λ t x a. omega (arith, x, a))) (λ n. n)) (reread_then chain_gap_more
+    (reread_space n rest small) (λ _ _. reread_branch (λ at. right_otherwise laws_ends_here.laws (laws_give Odd true) _
     (avoids_digits (At 10) 0 at (decimal n) rest t.some t.pass digit_newline) (λ n. n)) (reread_give true refl)))

@@ -4,7 +4,7 @@
 --     IsNew kind most d x      the item defines what may be defined behind d, and what it reads is no wrong literal
 --     reread_input, reread_latch, reread_output, reread_gate      a line of each kind
 use Rattle.std.proofs.Common.{◌≡◌, ℕ, ◌^◌, ◌<◌, ◌≤◌, Bool, true, false, if◌then◌else◌, List, [], ◌∷◌, ◌++◌, rules}
-use Rattle.std.proofs.Common.{length, refl, sym, ap, subst, inl, inr, ◌∙◌, arith, append_assoc}
+use Rattle.std.proofs.Common.{length, refl, sym, subst, arith, append_assoc}
 use Rattle.std.specs.Prelude.{codes, decimal, All}
 use Rattle.std.proofs.lemmas.Bool.{eq-eqb}
 use Rattle.ps_text.specs.Parts.{give}
@@ -27,9 +27,8 @@ use Rattle.ps_circuit.proofs.Adding.{adds_latch, adds_output, adds_gate}
 use Rattle.ps_circuit.proofs.NumberLemmas.{section}
 use Rattle.ps_circuit.proofs.LineLemmas.{reset_value}
 use Rattle.ps_circuit.proofs.Rereading.RereadFields.{Rereads, IsGood, reread_then, reread_mapped, reread_as}
-use Rattle.ps_circuit.proofs.Rereading.RereadFields.{reread_give}
-use Rattle.ps_circuit.proofs.Rereading.RereadFields.{reread_word, number_then, field_then, reread_end, reread_more}
-use Rattle.ps_circuit.proofs.Rereading.RereadFields.{reread_no_more}
+use Rattle.ps_circuit.proofs.Rereading.RereadFields.{reread_give, reread_word, number_then, field_then, reread_end}
+use Rattle.ps_circuit.proofs.Rereading.RereadFields.{reread_more, reread_no_more}
 
 -- ## The first line
 
@@ -45,14 +44,13 @@ pub record IsWritable (c : CircuitData) : Type 0 where
   pub gates : length c.gates < 2 ^ 64
 
 abbrev pub header_data : CircuitData → HeaderData
-header_data c =
-    record {
-      most = c.most;
-      inputs = length c.inputs;
-      latches = length c.latches;
-      outputs = length c.outputs;
-      gates = length c.gates;
-    }
+header_data c = record {
+  most = c.most;
+  inputs = length c.inputs;
+  latches = length c.latches;
+  outputs = length c.outputs;
+  gates = length c.gates;
+}
 
 reread_sections : {rest : List ℕ} → Rereads (sections 4) (λ u. u ≡ tt) (10 ∷ rest) rest
 unfolding sections
@@ -65,14 +63,12 @@ counted small = record { small = small; right = λ f x. x }
 pub reread_header : (c : CircuitData) → IsWritable c → (rest : List ℕ) →
     Rereads header (λ h. h ≡ header_data c) (header_line c ++ rest) rest
 unfolding header
-reread_header c w rest = reread_as regrouped
-    (reread_then chain_header (reread_word (codes "aag")) (λ _ _.
-    field_then judge_most chain_0 c.most (search (rules, w.draft.limit)) refl
-    (λ m gm. field_then judge_any (chain_1 m) (length c.inputs) (counted w.inputs) refl
-    (λ i gi. field_then judge_any (chain_2 m i) (length c.latches) (counted w.latches) refl
-    (λ l gl. field_then judge_any (chain_3 m i l) (length c.outputs) (counted w.outputs) refl
-    (λ o go. field_then judge_any (chain_4 m i l o) (length c.gates) (counted w.gates) refl
-    (λ a ga. reread_mapped (header_of m i l o a) reread_sections (λ u g. cc))))))))
+reread_header c w rest = reread_as regrouped (reread_then chain_header (reread_word (codes "aag"))
+    (λ _ _. field_then judge_most chain_0 c.most (search (rules, w.draft.limit)) refl
+    (λ m gm. field_then judge_any (chain_1 m) (length c.inputs) (counted w.inputs) refl (λ i gi. field_then judge_any
+    (chain_2 m i) (length c.latches) (counted w.latches) refl (λ l gl. field_then judge_any (chain_3 m i l)
+    (length c.outputs) (counted w.outputs) refl (λ o go. field_then judge_any (chain_4 m i l o) (length c.gates)
+    (counted w.gates) refl (λ a ga. reread_mapped (header_of m i l o a) reread_sections (λ u g. cc))))))))
   where
     regrouped : header_line c ++ rest ≡ codes "aag" ++ field_text c.most (field_text (length c.inputs) (field_text
         (length c.latches) (field_text (length c.outputs) (field_text (length c.gates) (10 ∷ rest)))))
@@ -87,12 +83,10 @@ fields_text (x ∷ xs) rest = field_text x (fields_text xs rest)
 
 fields_is : (xs rest : List ℕ) → fields xs ++ rest ≡ fields_text xs rest
 fields_is [] rest = refl
-fields_is (x ∷ xs) rest =
-    ap (λ z. 32 ∷ z) (append_assoc (decimal x) (fields xs) rest ∙ ap (λ z. decimal x ++ z) (fields_is xs rest))
+fields_is (x ∷ xs) rest = search (rules, append_assoc, fields_is xs rest)
 
 line_is : (x : ℕ) (xs rest : List ℕ) → line x xs ++ rest ≡ decimal x ++ fields_text xs (10 ∷ rest)
-line_is x xs rest = append_assoc (decimal x ++ fields xs) (10 ∷ []) rest
-    ∙ append_assoc (decimal x) (fields xs) (10 ∷ rest) ∙ ap (λ z. decimal x ++ z) (fields_is xs (10 ∷ rest))
+line_is x xs rest = grind (arith, append_assoc, fields_is)
 
 -- what stands behind the next literal of a latch
 abbrev reset_text : Bool → List ℕ → List ℕ
@@ -121,8 +115,7 @@ reread_reset true latch {rest} two = reread_then (chain_reset latch) (reread_mor
     (λ n g. reread_mapped (is_one n) reread_end (λ _ _. eq-eqb n.value 1 g))))
   where
     good : (f : AigCause) → WrongReset latch 1 f → ⊥
-    good f (inl x) = omega (arith, x.0)
-    good f (inr x) = omega (arith, x.0)
+    good f h = grind arith
 
 -- ## Lines
 
@@ -142,8 +135,7 @@ module _ (most : ℕ) {rest : List ℕ} where
   pub reread_output : {Good : Lines ℕ → Type 0} (d : Lines ℕ) (x : ℕ) → IsNew output_kind most d x →
       ((e : Lines ℕ) → AddsItem output_kind d e x → Good e) → Rereads (output_line most d) Good (line x [] ++ rest) rest
   unfolding output_line
-  reread_output d x n k = reread_as (line_is x [] rest)
-      (number_then (chain_output most d) x (n.literals 0 0 (omega arith)) refl
+  reread_output d x n k = reread_as (line_is x [] rest) (number_then (chain_output most d) x (grind arith) refl
       (λ l g. reread_mapped (λ _. add_output d l) reread_end (λ _ _. k (add_output d l) (adds_output d l g))))
 
   pub reread_latch : {Good : Lines Latch → Type 0} (d : Lines Latch) (x : Latch) → IsNew latch_kind most d x →
@@ -151,10 +143,9 @@ module _ (most : ℕ) {rest : List ℕ} where
       Rereads (latch_line most d) Good (latch_line_of x ++ rest) rest
   unfolding latch_line
   reread_latch {Good} d x n k = let own = n.definitions 0 0 (omega arith) in
-      reread_as (latch_line_is x rest) (number_then (chain_latch most d) x.literal own.1 refl (λ l g.
-      field_then (judge_literal most) (chain_next most d l) x.next (n.literals 0 0 (omega arith))
-      (reset_stops x.reset rest) (λ m h.
-      reread_mapped (λ b. add_latch d l m b) (reread_reset x.reset l.value (omega (arith, g, own.0)))
+      reread_as (latch_line_is x rest) (number_then (chain_latch most d) x.literal own.1 refl (λ l g. field_then
+      (judge_literal most) (chain_next most d l) x.next (n.literals 0 0 (omega arith)) (reset_stops x.reset rest)
+      (λ m h. reread_mapped (λ b. add_latch d l m b) (reread_reset x.reset l.value (omega (arith, g, own.0)))
       (λ b i. subst (λ r. Good (add_latch d l m r)) (sym i) (k (add_latch d l m x.reset) (adds_latch d l m g h))))))
 
   pub reread_gate : {Good : Lines Gate → Type 0} (d : Lines Gate) (x : Gate) → IsNew gate_kind most d x →

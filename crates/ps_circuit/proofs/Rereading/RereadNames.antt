@@ -1,10 +1,9 @@
 -- How the names of a circuit that is written are read again.
 --     reread_names      the lines of the names of one kind, and what stands behind them
 --     reread_no_names, reread_no_comment      the end of the text, where no name and no comment comes
-use Rattle.std.proofs.Common.{◌≡◌, ◌≢◌, ℕ, ◌+◌, ◌^◌, ◌<◌, Bool, true, false, eqb, not, List, [], ◌∷◌, ◌++◌, length}
-use Rattle.std.proofs.Common.{Option, None, Some, All, slice_get, refl, sym, ap, subst, ◌∙◌, arith, append_assoc, rules}
-use Rattle.std.proofs.Common.{length-append}
-use Rattle.std.specs.Prelude.{decimal, slice_set}
+use Rattle.std.proofs.Common.{◌≡◌, ◌≢◌, ℕ, ◌+◌, ◌^◌, ◌<◌, true, List, [], ◌∷◌, ◌++◌, length, Option, None, Some, All}
+use Rattle.std.proofs.Common.{slice_get, refl, sym, subst, arith, append_assoc, rules, length-append}
+use Rattle.std.specs.Prelude.{decimal}
 use Rattle.std.proofs.Math.Seq.{set-append_seam}
 use Rattle.std.proofs.lemmas.Bool.{eqb-true}
 use Rattle.std.proofs.lemmas.List.Elements.{All-head, All-tail}
@@ -27,9 +26,8 @@ use Rattle.ps_circuit.proofs.TextLaws.{letter, symbol_number, chain_letter, chai
 use Rattle.ps_circuit.proofs.TextLaws.{laws_symbol_line, chain_c_line}
 use Rattle.ps_circuit.proofs.SignLaws.{AtKind}
 use Rattle.ps_circuit.proofs.Rereading.RereadFields.{from, Reread, Rereads, reread_then, reread_mapped, reread_as}
-use Rattle.ps_circuit.proofs.Rereading.RereadFields.{reread_branch}
-use Rattle.ps_circuit.proofs.Rereading.RereadFields.{reread_give, reread_run, number_then, AnyValue, reread_byte}
-use Rattle.ps_circuit.proofs.Rereading.RereadFields.{reread_newline}
+use Rattle.ps_circuit.proofs.Rereading.RereadFields.{reread_branch, reread_give, reread_run, number_then, AnyValue}
+use Rattle.ps_circuit.proofs.Rereading.RereadFields.{reread_byte, reread_newline}
 
 abbrev pub letter_of : Kind → ℕ
 letter_of OfInput = 105
@@ -45,11 +43,7 @@ name_inner [] h = tt
 name_inner (b ∷ name) h = (inner b (All-head (λ b. b ≢ 10) b name h), name_inner name (All-tail (λ b. b ≢ 10) b name h))
   where
     inner : (b : ℕ) → b ≢ 10 → is_inner b ≡ true
-    inner b n = go (eqb b 10) refl
-      where
-        go : (x : Bool) → eqb b 10 ≡ x → not x ≡ true
-        go true e = absurd (n (eqb-true b 10 e))
-        go false e = refl
+    inner b n = grind (arith, eqb-true)
 
 -- ## One name
 
@@ -69,13 +63,11 @@ module _ (names : NamesData) (kind : Kind) (k : ℕ) (small : k < 2 ^ 64)
           good = refl;
           to = at + 1;
           reads = reads_next take_kind (IsBadSymbol names) (from e at (letter_of kind ∷ behind_letter))
-              (from e (at + 1) behind_letter) s kind refl refl (kind_taken kind at behind_letter) (λ f b.
-              (bad_symbol (kind_taken kind at behind_letter) (record {
-                rest = 32 ∷ (name ++ 10 ∷ rest);
-                split = refl;
-                all = t.pass;
-                longest = refl;
-              }) b).1 (rw t.value free));
+              (from e (at + 1) behind_letter) s kind refl refl (kind_taken kind at behind_letter) (λ f b. grind (
+                arith,
+                bad_symbol (kind_taken kind at behind_letter)
+                    (record { rest = 32 ∷ (name ++ 10 ∷ rest); split = refl; all = t.pass; longest = refl }) b,
+              ));
         };
   }
 
@@ -86,20 +78,17 @@ module _ (names : NamesData) (kind : Kind) (k : ℕ) (small : k < 2 ^ 64)
   reread_symbol : Rereads (symbol_line names) (λ d. d ≡ add_name names kind k name) (letter_of kind ∷ behind_letter)
       rest
   unfolding symbol_line
-  reread_symbol = reread_then (chain_letter names) reread_letter (λ v h.
-      subst (λ z. Rereads (symbol_number names z) (λ d. d ≡ add_name names kind k name) behind_letter rest) (sym h)
-      (number_then (chain_number names kind) k (record { small = small; right = λ f x. x }) refl (λ n g.
-      reread_then (chain_space names kind n) (reread_byte 32) (λ _ _.
-      reread_then (chain_name names kind n) reread_name (λ m i.
-      reread_mapped (λ _. add_name names kind n.value m) reread_newline
-      (λ _ _. ap (λ z. add_name names kind z m) g ∙ ap (λ z. add_name names kind k z) i))))))
+  reread_symbol = reread_then (chain_letter names) reread_letter
+      (λ v h. subst (λ z. Rereads (symbol_number names z) (λ d. d ≡ add_name names kind k name) behind_letter rest)
+      (sym h) (number_then (chain_number names kind) k (grind arith) refl
+      (λ n g. reread_then (chain_space names kind n) (reread_byte 32) (λ _ _. reread_then (chain_name names kind n)
+      reread_name (λ m i. reread_mapped (λ _. add_name names kind n.value m) reread_newline (λ _ _. grind arith))))))
 
 -- ## Names of one kind
 
 symbol_is : (kind : Kind) (k : ℕ) (name rest : List ℕ) → written.symbol_line (letter_of kind) k (Some name) ++
     rest ≡ letter_of kind ∷ (decimal k ++ 32 ∷ (name ++ 10 ∷ rest))
-symbol_is kind k name rest = append_assoc ((letter_of kind ∷ decimal k) ++ (32 ∷ name)) (10 ∷ []) rest
-    ∙ append_assoc (letter_of kind ∷ decimal k) (32 ∷ name) (10 ∷ rest)
+symbol_is kind k name rest = grind (arith, append_assoc)
 
 symbol_laws : (names : NamesData) → Laws Odd (symbol_line names) AtKind Nothing ⊥
 symbol_laws names = (laws_symbol_line names).laws
@@ -125,7 +114,7 @@ seam_get (x ∷ xs) ys {y} = seam_get xs ys
 
 put_same : {names : NamesData} (kind : Kind) {list : List (Option (List ℕ))} → names_of names kind ≡ list →
     put_names names kind list ≡ names
-put_same kind h1 = search rules
+put_same kind h = search rules
 
 put_again : (names : NamesData) (kind : Kind) (one two : List (Option (List ℕ))) →
     put_names (put_names names kind one) kind two ≡ put_names names kind two
@@ -140,30 +129,21 @@ pub reread_names : (kind : Kind) (Good : NamesData → Type 0) (text rest : List
     k + length ns < 2 ^ 64 → Rereads (many symbol_line (put_names names kind (before ++ ns))) Good text rest →
     Rereads (many symbol_line names) Good (symbol_lines (letter_of kind) k ns ++ text) rest
 reread_names kind Good text rest [] before k names free size named small next = search (rules, Rereads, put_same)
-reread_names kind Good text rest (None ∷ ns) before k names free size named small next =
-    reread_names kind Good text rest ns (before ++ None ∷ []) (k + 1) names
-    (free ∙ sym (append_assoc before (None ∷ []) (no_names ns))) (omega (arith, size, length-append before (None ∷ [])))
-    (All-tail IsName None ns named) (omega arith)
-    (subst (λ z. Rereads (many symbol_line (put_names names kind z)) Good text rest)
-    (sym (append_assoc before (None ∷ []) ns)) next)
+reread_names kind Good text rest (None ∷ ns) before k names free size named small next = reread_names kind Good text
+    rest ns (before ++ None ∷ []) (k + 1) names (grind (arith, append_assoc before (None ∷ []) (no_names ns)))
+    (omega (arith, size, length-append before (None ∷ []))) (grind (arith, All-tail IsName None ns named)) (omega arith)
+    (grind (arith, append_assoc))
 reread_names kind Good text rest (Some name ∷ ns) before k names free size named small next =
     let is_name : IsName (Some name) = All-head IsName (Some name) ns named in
-    let there : slice_get (names_of names kind) k ≡ Some None = ap (λ z. slice_get z k) free
-    ∙ ap (slice_get (before ++ None ∷ no_names ns)) (sym size) ∙ seam_get before (no_names ns) in
+    let there : slice_get (names_of names kind) k ≡ Some None = grind (arith, seam_get) in
     let put : names_of (add_name names kind k name) kind ≡ (before ++ Some name ∷ []) ++ no_names ns =
-    put_there names kind ∙ ap (λ z. slice_set z k (Some name)) free
-    ∙ ap (λ z. slice_set (before ++ None ∷ no_names ns) z (Some name)) (sym size)
-    ∙ set-append_seam before None (no_names ns) (Some name) ∙ sym
-    (append_assoc before (Some name ∷ []) (no_names ns)) in
+    grind (arith, put_there, set-append_seam, append_assoc) in
     let behind : List ℕ = symbol_lines (letter_of kind) (k + 1) ns in
-    reread_as (append_assoc (written.symbol_line (letter_of kind) k (Some name)) behind text
-    ∙ symbol_is kind k name (behind ++ text))
+    reread_as (grind (arith, append_assoc, symbol_is))
     (reread_many (reread_symbol names kind k (omega arith) there name is_name.0 is_name.1 (behind ++ text))
     (reread_names kind Good text rest ns (before ++ Some name ∷ []) (k + 1) (add_name names kind k name) put
     (omega (arith, size, length-append before (Some name ∷ []))) (All-tail IsName (Some name) ns named) (omega arith)
-    (subst (λ z. Rereads (many symbol_line z) Good text rest)
-    (sym (put_again names kind (slice_set (names_of names kind) k (Some name)) ((before ++ Some name ∷ []) ++ ns)
-    ∙ ap (put_names names kind) (append_assoc before (Some name ∷ []) ns))) next)))
+    (subst (λ z. Rereads (many symbol_line z) Good text rest) (grind (arith, put_again, append_assoc)) next)))
 
 -- ## The end
 

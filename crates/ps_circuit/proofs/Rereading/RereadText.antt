@@ -2,7 +2,7 @@
 --     reread_text      the text is read as a draft of the circuit, and nothing is left
 --     text_ends      its last byte is a newline
 --     reads_again      so its answer is the circuit
-use Rattle.std.proofs.Common.{◌≡◌, ℕ, ◌+◌, ◌^◌, ◌<◌, ◌⊎◌, Bool, true, false, if◌then◌else◌, List, [], ◌∷◌, ◌++◌, length}
+use Rattle.std.proofs.Common.{◌≡◌, ℕ, ◌+◌, ◌^◌, ◌<◌, ◌⊎◌, Bool, true, if◌then◌else◌, List, [], ◌∷◌, ◌++◌, length}
 use Rattle.std.proofs.Common.{get_or, map, Option, None, Some, All, Contains, Ok, refl, sym, ap, subst, inl, inr, rules}
 use Rattle.std.proofs.Common.{◌∙◌, arith, append_assoc, append-nil}
 use Rattle.std.specs.Prelude.{decimal}
@@ -18,7 +18,7 @@ use Rattle.ps_circuit.specs.Literals.{variable}
 use Rattle.ps_circuit.specs.Signs.{stream_of, ends_line, closed, aig_causes, pieces_at}
 use Rattle.ps_circuit.specs.Texts.{Lines, no_lines, OfInput, OfLatch, OfOutput, NamesData, no_names, symbol_line}
 use Rattle.ps_circuit.specs.Texts.{DraftData, draft_of, symbols, body, circuit_text, IsDefined, ReadsCircuit, meaning}
-use Rattle.ps_circuit.specs.Written.{fields, line, latch_line as latch_line_of, symbol_line as symbol_line_of}
+use Rattle.ps_circuit.specs.Written.{line, symbol_line as symbol_line_of}
 use Rattle.ps_circuit.specs.Written.{header_line, literal_lines, latch_lines, gate_lines, symbol_lines, text_of}
 use Rattle.ps_circuit.proofs.TextLaws.{laws_text, first_names, chain_text, chain_inputs, chain_latches, chain_outputs}
 use Rattle.ps_circuit.proofs.TextLaws.{chain_gates, chain_symbols}
@@ -46,9 +46,8 @@ module _ {c : CircuitData} (w : IsWritable c) where
   all_names = record { inputs = c.input_names; latches = c.latch_names; outputs = c.output_names }
 
   abbrev names_text : List ℕ
-  names_text =
-      symbol_lines 105 0 c.input_names ++ (symbol_lines 108 0 c.latch_names ++
-      (symbol_lines 111 0 c.output_names ++ []))
+  names_text = symbol_lines 105 0 c.input_names
+      ++ (symbol_lines 108 0 c.latch_names ++ (symbol_lines 111 0 c.output_names ++ []))
 
   abbrev no_circuit_names : NamesData
   no_circuit_names =
@@ -77,33 +76,26 @@ module _ {c : CircuitData} (w : IsWritable c) where
     unfolding symbols
     reread_symbols = reread_then (chain_symbols c.most i l o a)
         (subst (λ z. Rereads (many symbol_line z) (λ d. d ≡ all_names) names_text []) (sym first_names_are)
-        reread_all_names)
-        (λ names h. reread_mapped (λ _. draft_of c.most i l o a names) reread_no_comment (λ _ _. draft_is h))
+        reread_all_names) (λ names h. grind (arith, reread_mapped, reread_no_comment, draft_is))
 
   abbrev body_text : List ℕ
-  body_text =
-      literal_lines c.inputs ++ (latch_lines c.latches ++ (literal_lines c.outputs ++
-      (gate_lines c.gates ++ names_text)))
+  body_text = literal_lines c.inputs
+      ++ (latch_lines c.latches ++ (literal_lines c.outputs ++ (gate_lines c.gates ++ names_text)))
 
   reread_body : Rereads (body (header_data c)) (IsDraftOf c) body_text []
   unfolding body
-  reread_body =
-      reread_then (chain_inputs (header_data c) no_lines) (reread_inputs w.draft) (λ i ih.
-      reread_then (chain_latches (header_data c) i) (reread_latches w.draft ih) (λ l lh.
-      reread_then (chain_outputs (header_data c) i l) (reread_outputs w.draft lh) (λ o oh.
-      reread_then (chain_gates (header_data c) i l o) (reread_gates w.draft oh) (λ a ah. reread_symbols ih lh oh ah))))
+  reread_body = reread_then (chain_inputs (header_data c) no_lines) (reread_inputs w.draft)
+      (λ i ih. reread_then (chain_latches (header_data c) i) (reread_latches w.draft ih)
+      (λ l lh. reread_then (chain_outputs (header_data c) i l) (reread_outputs w.draft lh) (λ o oh. reread_then
+      (chain_gates (header_data c) i l o) (reread_gates w.draft oh) (λ a ah. reread_symbols ih lh oh ah))))
 
   reread_text : Rereads circuit_text (IsDraftOf c) (text_of c) []
   unfolding circuit_text
-  reread_text =
-      reread_as text_is (reread_then chain_text (reread_header c w body_text)
-      (λ h g. search (rules, Rereads, reread_body)))
+  reread_text = reread_as text_is
+      (reread_then chain_text (reread_header c w body_text) (λ h g. search (rules, Rereads, reread_body)))
     where
       text_is : text_of c ≡ header_line c ++ body_text
-      text_is =
-          regroup (header_line c) (literal_lines c.inputs) (latch_lines c.latches) (literal_lines c.outputs)
-          (gate_lines c.gates) (symbol_lines 105 0 c.input_names) (symbol_lines 108 0 c.latch_names)
-          (symbol_lines 111 0 c.output_names)
+      text_is = grind (arith, regroup)
         where
           regroup : (h a b c d e f g : List ℕ) → ((((((h ++ a) ++ b) ++ c) ++ d) ++ e) ++ f) ++ g ≡ h ++
               (a ++ (b ++ (c ++ (d ++ (e ++ (f ++ (g ++ [])))))))
@@ -127,7 +119,7 @@ abbrev AreLines : List ℕ → Type 0
 AreLines xs = (xs ≡ []) ⊎ (ends_line xs ≡ true)
 
 ends_more : (xs : List ℕ) {ys : List ℕ} → ends_line xs ≡ true → AreLines ys → ends_line (xs ++ ys) ≡ true
-ends_more xs h1 h2 = search (rules, ends_behind)
+ends_more xs h k = search (rules, ends_behind)
 
 literal_lines_end : (xs : List ℕ) → AreLines (literal_lines xs)
 literal_lines_end [] = inl refl
@@ -135,23 +127,16 @@ literal_lines_end (x ∷ xs) = inr (ends_more (line x []) (ends_newline (decimal
 
 latch_lines_end : (xs : List Latch) → AreLines (latch_lines xs)
 latch_lines_end [] = inl refl
-latch_lines_end (x ∷ xs) = inr (ends_more (latch_line_of x) (one x.reset) (latch_lines_end xs))
-  where
-    one : (r : Bool) → ends_line (if r then line x.literal (x.next ∷ 1 ∷ []) else line x.literal (x.next ∷ [])) ≡ true
-    one true = ends_newline (decimal x.literal ++ fields (x.next ∷ 1 ∷ []))
-    one false = ends_newline (decimal x.literal ++ fields (x.next ∷ []))
+latch_lines_end (x ∷ xs) = search (rules, ends_more, ends_newline, latch_lines_end xs)
 
 gate_lines_end : (xs : List Gate) → AreLines (gate_lines xs)
 gate_lines_end [] = inl refl
-gate_lines_end (x ∷ xs) =
-    inr (ends_more (line x.literal (x.first ∷ x.second ∷ []))
-    (ends_newline (decimal x.literal ++ fields (x.first ∷ x.second ∷ []))) (gate_lines_end xs))
+gate_lines_end (x ∷ xs) = search (rules, ends_more, ends_newline, gate_lines_end xs)
 
 symbol_lines_end : (letter k : ℕ) (ns : List (Option (List ℕ))) → AreLines (symbol_lines letter k ns)
 symbol_lines_end letter k [] = inl refl
 symbol_lines_end letter k (None ∷ ns) = symbol_lines_end letter (k + 1) ns
-symbol_lines_end letter k (Some name ∷ ns) =
-    inr (ends_more (symbol_line_of letter k (Some name))
+symbol_lines_end letter k (Some name ∷ ns) = inr (ends_more (symbol_line_of letter k (Some name))
     (ends_newline ((letter ∷ decimal k) ++ (32 ∷ name))) (symbol_lines_end letter (k + 1) ns))
 
 three_end : (x : List ℕ) {a b c : List ℕ} → ends_line x ≡ true → AreLines a → AreLines b → AreLines c →
@@ -159,31 +144,27 @@ three_end : (x : List ℕ) {a b c : List ℕ} → ends_line x ≡ true → AreLi
 three_end x {a} {b} h i j k = ends_more ((x ++ a) ++ b) (ends_more (x ++ a) (ends_more x h i) j) k
 
 text_ends : (c : CircuitData) → ends_line (text_of c) ≡ true
-text_ends c =
-    search (
-      rules,
-      three_end,
-      symbol_lines_end,
-      ends_newline,
-      ends_more,
-      literal_lines_end,
-      latch_lines_end,
-      gate_lines_end,
-    )
+text_ends c = search (
+  rules,
+  three_end,
+  symbol_lines_end,
+  ends_newline,
+  ends_more,
+  literal_lines_end,
+  latch_lines_end,
+  gate_lines_end,
+)
 
 -- ## The circuit is read again
 
 known_numbers : (defined : List ℕ) {literals : List ℕ} (numbers : List Number) → values numbers ≡ literals →
     All (λ x. (variable x ≡ 0) ⊎ Contains defined (variable x)) literals → All (IsDefined defined) numbers
-known_numbers defined numbers e h k d l =
-    subst (λ x. (variable x ≡ 0) ⊎ Contains defined (variable x))
-    (ap (λ z. get_or z k d.value) (sym e) ∙ get_or-map (λ n. n.value) numbers k d d.value l)
-    (h k d.value (subst (λ z. k < length z) e (omega (arith, l, length-map numbers (λ n. n.value)))))
+known_numbers defined numbers e h k d l = subst (λ x. (variable x ≡ 0) ⊎ Contains defined (variable x))
+    (ap (λ z. get_or z k d.value) (sym e) ∙ get_or-map (λ n. n.value) numbers k d d.value l) (grind (arith, length-map))
 
 pub reads_again : {c : CircuitData} → IsCircuit c → length c.inputs < 2 ^ 64 → length c.latches < 2 ^ 64 →
     length c.outputs < 2 ^ 64 → length c.gates < 2 ^ 64 → ReadsCircuit (text_of c) (Ok c)
-reads_again {c} circuit i l o a =
-    meaning d answers known (search (rules, circuit.acyclic)) (ap Ok (sym is.circuit))
+reads_again {c} circuit i l o a = meaning d answers known (search (rules, circuit.acyclic)) (ap Ok (sym is.circuit))
   where
     again : Reread circuit_text (IsDraftOf c) (text_of c) [] (length (text_of c)) 0
     again = (reread_text (record { draft = circuit.draft; inputs = i; latches = l; outputs = o; gates = a })).there
@@ -199,8 +180,7 @@ reads_again {c} circuit i l o a =
     closes = ap (λ (b : Bool). if b then text_of c else text_of c ++ 10 ∷ []) (text_ends c)
 
     answers : PartAnswers aig_causes circuit_text (stream_of (text_of c)) (Ok d)
-    answers =
-        answers_ok laws_text.laws (stream_of (text_of c)) d
+    answers = answers_ok laws_text.laws (stream_of (text_of c)) d
         (subst (λ z. IsRead circuit_text (signs (pieces_at 0 z)) d []) (sym closes) again.reads.1)
 
     known : All (IsDefined d.defined) d.readings

@@ -6,7 +6,7 @@
 --     joint_bracket, joint_label      `[`, a label and `]`
 --     joint_edge_label, joint_edge_target, joint_edge_marks, joint_plain_marks      the parts of an edge, from the
 --               front
-use Rattle.std.proofs.Common.{ℕ, Bool, List, [], Option, None, refl, ap}
+use Rattle.std.proofs.Common.{arith, ℕ, Bool, List, [], Option, None, refl, ap}
 use Rattle.ps_label.specs.Expression.{Expression}
 use Rattle.ps_text.specs.Parts.{Part, give, one, then_by, many, mapped, barred}
 use Rattle.ps_text.proofs.Following.{laws_next, laws_tight}
@@ -31,7 +31,7 @@ use Rattle.ps_hoa.specs.declared.tokens.Kind.TheVariants.{Int, LeftBracket, Righ
 use Rattle.ps_hoa.proofs.Grammar.ConditionLaws.{is_int}
 use Rattle.ps_hoa.proofs.Grammar.KindSets.{union, within, within_both, apart, laws_sign, laws_value, laws_mark}
 use Rattle.ps_hoa.proofs.Grammar.OperandLaws.{Odd, Of, Known, Tight}
-use Rattle.ps_hoa.proofs.Grammar.LabelLaws.{is_start, is_connective, laws_label}
+use Rattle.ps_hoa.proofs.Grammar.LabelLaws.{is_start, laws_label}
 use Rattle.ps_hoa.proofs.Grammar.SignLaws.{laws_alternating}
 
 -- the signs with which an edge goes on
@@ -83,12 +83,10 @@ laws_no_label = laws_give Odd None
 
 module _ (h : HeaderData) where
   pub joint_label : Joint (label (body_scope h) nesting_limit) (λ e. mapped (some_label e) (mark is_right_bracket))
-  joint_label = joint (laws_label (body_scope h) nesting_limit) laws_after_label
-      (apart is_connective is_right_bracket refl)
+  joint_label = joint (laws_label (body_scope h) nesting_limit) laws_after_label (grind (arith, apart))
 
   pub laws_label_in_brackets : Tight (label_in_brackets h) is_start
-  laws_label_in_brackets = laws_next (laws_label (body_scope h) nesting_limit) laws_after_label
-      (apart is_connective is_right_bracket refl)
+  laws_label_in_brackets = laws_next (laws_label (body_scope h) nesting_limit) laws_after_label (grind (arith, apart))
 
   pub joint_bracket : Joint (mark is_left_bracket) (λ _. label_in_brackets h)
   joint_bracket = joint_tight (laws_mark is_left_bracket LeftBracket refl (λ _. refl)) (λ _. laws_label_in_brackets)
@@ -117,11 +115,9 @@ module _ (h : HeaderData) (row : RowData) (label : Option Expression) (Bad : ℕ
       (apart is_and is_left_brace refl)
 
   laws_from_target : Known from_target is_int lengthens_edge ⊥
-  laws_from_target = weaker (laws_then (laws_alternating (laws_target_number Bad))
-      (λ n. laws_mapped _ _ (laws_marks h)) (apart is_and is_left_brace refl))
-      (both_within (λ t k. k) (λ t k. absurd k.0))
-      (both_within (within is_left_brace lengthens_edge refl) (λ t k. within is_and lengthens_edge refl t k.1))
-      (λ n. n.0)
+  laws_from_target = weaker (laws_then (laws_alternating (laws_target_number Bad)) (λ n. laws_mapped _ _ (laws_marks h))
+      (apart is_and is_left_brace refl)) (grind arith)
+      (both_within (grind (arith, within)) (λ t k. grind (arith, within))) (λ n. n.0)
 
 module _ (h : HeaderData) (before : ℕ) (row : RowData) where
   abbrev pub from_edge_label : Part Sign RowData HoaCause
@@ -158,8 +154,7 @@ module _ (h : HeaderData) (before : ℕ) (row : RowData) where
   bracket_int = apart is_left_bracket is_int refl
 
   pub laws_edge : Known (edge h before row) begins_edge lengthens_edge ⊥
-  laws_edge = wider_first (laws_forms laws_labelled_edge laws_plain_edge bracket_int)
-      (within_both is_left_bracket is_int begins_edge refl refl)
+  laws_edge = wider_first (laws_forms laws_labelled_edge laws_plain_edge bracket_int) (grind (arith, within_both))
 
 pub edge_apart : Apart (Of lengthens_edge) (Of begins_edge)
 edge_apart = apart lengthens_edge begins_edge refl

@@ -1,21 +1,18 @@
 -- The laws of acceptance conditions, and which form of an operand stands by its first sign.
-use Rattle.std.proofs.Common.{◌≡◌, ℕ, zero, suc, Bool, true, false, cond, List, [], codes, None, Some, refl, subst, inl}
-use Rattle.std.proofs.Common.{inr, arith}
-use Rattle.std.specs.Str.{bytes_eq}
+use Rattle.std.proofs.Common.{rules, ◌≡◌, ℕ, zero, suc, Bool, true, false, List, [], codes, refl, arith}
 use Rattle.std.proofs.lemmas.Slice.Eq.{bytes_eq-Decides}
 use Rattle.ps_text.specs.Parts.{Part, one, then_by}
 use Rattle.ps_text.proofs.Following.{laws_tight}
 use Rattle.ps_text.proofs.Laws.{Laws, Joint, Nothing, Or, Within, Apart}
-use Rattle.ps_text.proofs.Combined.{both_within, wider_first, laws_first, laws_forms, joint_tight}
+use Rattle.ps_text.proofs.Combined.{wider_first, laws_first, laws_forms, joint_tight}
 use Rattle.ps_text.proofs.Simple.{Taken, BadSign, none_is_some, laws_one, laws_mapped}
 use Rattle.ps_hoa.specs.Tokens.{Sign}
 use Rattle.ps_hoa.specs.Operands.{is_not, is_left, mark}
-use Rattle.ps_hoa.specs.Conditions.{Condition, constant_of, constant_value, constant_in, often_value, often_in}
-use Rattle.ps_hoa.specs.Conditions.{IsBadSet, set, any_set, closed_set, often_or_not, visit, IsBadStart, BadStart, atom}
-use Rattle.ps_hoa.specs.Conditions.{together, operand, condition}
+use Rattle.ps_hoa.specs.Conditions.{Condition, constant_in, often_in, IsBadSet, set, any_set, closed_set, often_or_not}
+use Rattle.ps_hoa.specs.Conditions.{visit, IsBadStart, BadStart, atom, together, operand, condition}
 use Rattle.ps_hoa.specs.declared.fault.HoaCause.{HoaCause}
 use Rattle.ps_hoa.specs.declared.tokens.Kind.{Kind}
-use Rattle.ps_hoa.specs.declared.tokens.Kind.TheVariants.{Word, Int, LeftParen}
+use Rattle.ps_hoa.specs.declared.tokens.Kind.TheVariants.{Word, Int}
 use Rattle.ps_hoa.proofs.Grammar.KindSets.{taken, within, within_both, apart, plain, laws_sign}
 use Rattle.ps_hoa.proofs.Grammar.OperandLaws.{Odd, Of, laws_behind, Tight}
 use Rattle.ps_hoa.proofs.Grammar.LabelLaws.{is_start, laws_not, laws_left, laws_right, AndOrMore, laws_rows}
@@ -36,16 +33,13 @@ word_often : Within (Taken often_in) (Of is_word)
 word_often = taken is_word often_in (λ _. refl)
 
 int_bad : (kind : Kind) (text : List ℕ) (f : HoaCause) → IsBadSet kind text f → is_int kind ≡ true
-int_bad Int text f h = refl
-int_bad kind text f h = absurd h
+int_bad kind text f h = grind arith
 
 left_bad : (room : ℕ) (kind : Kind) (f : HoaCause) → IsBadStart room kind f → is_left kind ≡ true
-left_bad room LeftParen f h = refl
-left_bad room kind f h = absurd h
+left_bad room kind f h = grind arith
 
 none_bad : (room : ℕ) (kind : Kind) (f : HoaCause) → IsBadStart (suc room) kind f → ⊥
-none_bad room LeftParen f h = omega (arith, h.0)
-none_bad room kind f h = h
+none_bad room kind f h = grind arith
 
 -- ## Sets
 
@@ -90,38 +84,21 @@ laws_visit = laws_tight laws_often laws_behind_often
 
 -- `t` and `f` are neither `Inf` nor `Fin`
 pub constant_often : Apart (Taken constant_in) (Taken often_in)
-constant_often t h k = go t.kind t.text h.0 k.0 h.1 k.1
-  where
-    words : (text : List ℕ) (c : Condition) (b : Bool) (is_t is_f : Bool) → bytes_eq text (codes "t") ≡ is_t →
-        bytes_eq text (codes "f") ≡ is_f →
-        constant_of (cond is_t (Some true) (cond is_f (Some false) None)) ≡ Some c → often_value Word text ≡ Some b → ⊥
-    words text c b true is_f p q h k =
-        none_is_some b (subst (λ z. often_value Word z ≡ Some b) ((bytes_eq-Decides text (codes "t")).0 p) k)
-    words text c b false true p q h k =
-        none_is_some b (subst (λ z. often_value Word z ≡ Some b) ((bytes_eq-Decides text (codes "f")).0 q) k)
-    words text c b false false p q h k = none_is_some c h
-
-    go : (kind : Kind) (text : List ℕ) (c : Condition) (b : Bool) → constant_value kind text ≡ Some c →
-        often_value kind text ≡ Some b → ⊥
-    go Word text c b h k = words text c b (bytes_eq text (codes "t")) (bytes_eq text (codes "f")) refl refl h k
-    go kind text c b h k = none_is_some c h
+constant_often t h k = grind (arith, codes, none_is_some, bytes_eq-Decides)
 
 abbrev pub FirstAtom : ℕ → Sign → Type 0
 FirstAtom room = Or (Taken constant_in) (BadSign (BadStart room))
 
 pub laws_constant : (room : ℕ) → Laws Odd (one constant_in (BadStart room)) (FirstAtom room) Nothing ⊥
 laws_constant room = laws_one constant_in (BadStart room) Odd (record { kind = Word; text = codes "t" }) _ refl
-    (λ t h. plain is_word (λ _. refl) t (word_constant t h))
-    (λ t h. plain is_left (λ _. refl) t (left_bad room t.kind h.0 h.1))
+    (λ t h. grind (arith, word_constant t h)) (λ t h. grind (arith, plain, left_bad))
 
 pub atom_often : (room : ℕ) → Apart (FirstAtom room) (Taken often_in)
-atom_often room t (inl h) k = constant_often t h k
-atom_often room t (inr h) k = apart is_left is_word refl t (left_bad room t.kind h.0 h.1) (word_often t k)
+atom_often room t h3 k = search (rules, constant_often, apart, left_bad, word_often)
 
 laws_atom : (room : ℕ) (test : Kind → Bool) → Within (Of is_word) (Of test) →
     Within (BadSign (BadStart room)) (Of test) → Tight (atom room) test
-laws_atom room test word bad = wider_first (laws_forms (laws_constant room) laws_visit (atom_often room))
-    (both_within (both_within (λ t h. word t (word_constant t h)) bad) (λ t h. word t (word_often t h)))
+laws_atom room test word bad = grind (arith, laws_forms (laws_constant room) laws_visit (atom_often room))
 
 pub laws_word : (room : ℕ) → Tight (atom (suc room)) is_word
 laws_word room = laws_atom (suc room) is_word (λ t h. h) (λ t h. absurd (none_bad room t.kind h.0 h.1))
@@ -131,11 +108,12 @@ word_left = apart is_word is_left refl
 
 pub laws_operand : (room : ℕ) → Tight (operand room) is_start
 unfolding operand
-laws_operand zero = laws_atom 0 is_start (within is_word is_start refl)
-    (λ t h. within is_left is_start refl t (left_bad 0 t.kind h.0 h.1))
-laws_operand (suc room) = wider_first
-    (laws_forms (laws_word room) (laws_nested (operand room) together (laws_operand room)) word_left)
-    (within_both is_word is_left is_start refl refl)
+laws_operand zero = laws_atom 0 is_start (within is_word is_start refl) (λ t h. grind (arith, within, left_bad))
+laws_operand (suc room) = wider_first (laws_forms (laws_word room) (grind (
+  arith,
+  laws_nested (operand room) together (laws_operand room),
+  laws_operand room,
+)) word_left) (within_both is_word is_left is_start refl refl)
 
 pub laws_condition : (room : ℕ) → Laws Odd (condition room) (Of is_start) AndOrMore ⊥
 laws_condition room = laws_rows (operand room) together (laws_operand room)

@@ -2,7 +2,7 @@
 --     laws_counted_names, .., laws_strings      the laws, where an item has more than one part behind its name
 --     joint_states, .., joint_other      the parts of an item, from the front
 -- proofs/Grammar/WholeHeader goes on with any item and the header.
-use Rattle.std.proofs.Common.{◌≡◌, ℕ, false, List, [], codes, refl}
+use Rattle.std.proofs.Common.{arith, ◌≡◌, ℕ, false, List, [], codes, refl}
 use Rattle.ps_text.specs.Parts.{Part, NoBad, give, one, times, many, mapped, barred}
 use Rattle.ps_text.proofs.Following.{laws_tight}
 use Rattle.ps_text.proofs.Laws.{Laws, Joint, Nothing}
@@ -43,8 +43,7 @@ laws_other_name = laws_first (record { kind = Header; text = codes "a:" }) tt re
     (λ t h. h.1) (λ t h. absurd h.1)
 
 pub laws_read_over : (h : HeaderData) → Tight (read_over h) is_value
-laws_read_over h = laws_sign is_value Word [] h refl (λ _. refl)
-    (λ t b. within is_int is_value refl t ((laws_int number_limit).first_cause t b.0 (refl, b.1)))
+laws_read_over h = laws_sign is_value Word [] h refl (λ _. refl) (λ t b. grind (arith, within, laws_int))
 
 module _ (h : HeaderData) where
   -- `States:`
@@ -57,8 +56,7 @@ module _ (h : HeaderData) where
 
   pub laws_start_name : Laws Odd start_name (Named (codes "Start:")) Nothing ⊥
   laws_start_name = laws_first (record { kind = Header; text = codes "Start:" }) tt refl
-      (plain_named (codes "Start:") refl) (λ t k. k.1)
-      (λ t k. some_there (name_value (codes "Start:") t.kind t.text) k.1.0)
+      (plain_named (codes "Start:") refl) (λ t k. k.1) (λ t k. grind (arith, some_there, codes))
 
   pub joint_start : Joint start_name (λ _. mapped (with_start h) (barred (int number_limit) IsAlternating))
   joint_start = joint_tight laws_start_name (λ _. laws_mapped _ _ (laws_alternating (laws_int number_limit)))

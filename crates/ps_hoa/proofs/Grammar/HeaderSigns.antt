@@ -3,9 +3,8 @@
 --     signs_mark, .., signs_body      some sign is taken, and the end of the text is neither taken nor bad
 --     takes_refused, takes_bad      what is answered to a sign that can't stand, and to one that is bad
 use Rattle.std.proofs.Common.{◌≡◌, ℕ, ◌≤◌, Bool, cond, List, [], codes, Option, None, Some, Result, Err}
-use Rattle.std.proofs.Common.{refl, sym, ap, subst, inl, inr, arith}
+use Rattle.std.proofs.Common.{refl, sym, ap, inl, inr, arith}
 use Rattle.ps_hoa.proofs.Grammar.SignLaws.{same_name}
-use Rattle.std.proofs.lemmas.Bool.{false_from_ne_true}
 use Rattle.ps_text.specs.Answers.{Piece, Stream}
 use Rattle.ps_text.specs.Parts.{one, NoBad, refusal_of}
 use Rattle.ps_text.specs.Readers.{Meets}
@@ -28,21 +27,18 @@ pub reads_token : {V X : Type 0} (view : X → V) {take : Sign → Option V} {Ba
     IsOfSigns take Bad → (piece : Piece Sign) (old new : Stream Sign) (r : Result X HoaFault) →
     Takes view take Bad piece r → piece ≡ next_of old → new ≡ behind_next old →
     Meets found_of hoa_causes view (one take Bad) old r new
-reads_token view {take} {Bad} o piece old new r t e n =
-    reads_one view o old new r (subst (λ p. Takes view take Bad p r) e t) n
+reads_token view {take} {Bad} o piece old new r t e n = grind (arith, reads_one)
 
 -- a sign of another kind
 pub mark_none : (test : Kind → Bool) (kind : Kind) (sign : Sign) → IsTestOf test kind → (sign.kind ≡ kind → ⊥) →
     mark_in test sign ≡ None
-mark_none test kind sign is differs = ap (λ (b : Bool). cond b (Some tt) None)
-    (false_from_ne_true (test sign.kind) (λ e. differs (is.1 sign.kind e)))
+mark_none test kind sign is differs = grind arith
 
 -- some sign that is taken, by its kind, its text and its value
 signs : {V : Type 0} {take : Sign → Option V} {Bad : Sign → HoaCause → Type 0} (kind : Kind) (text : List ℕ) (v : V) →
     take (record { kind = kind; text = text }) ≡ Some v → take (record { kind = Finish; text = [] }) ≡ None →
     ((f : HoaCause) → Bad (record { kind = Finish; text = [] }) f → ⊥) → IsOfSigns take Bad
-signs kind text v e n g =
-    record { sign = record { kind = kind; text = text }; value = v; taken = e; end = n; good = g }
+signs kind text v e n g = record { sign = record { kind = kind; text = text }; value = v; taken = e; end = n; good = g }
 
 -- the end of the text does not pass the test of another kind
 pub signs_mark : (test : Kind → Bool) (kind : Kind) → IsTestOf test kind → (kind ≡ Finish → ⊥) →

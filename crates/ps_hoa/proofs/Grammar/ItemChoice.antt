@@ -1,7 +1,7 @@
 -- Which item stands at the next sign.
 --     stands_next      that item is read in place of any item
 --     enters_next, avoids_next      an item is entered, or none begins
-use Rattle.std.proofs.Common.{◌≡◌, ℕ, List, None, Some, Result, Ok, sym, ap, subst, ◌∙◌}
+use Rattle.std.proofs.Common.{arith, ◌≡◌, ℕ, List, None, Some, Result, Ok, sym, ap, subst, ◌∙◌}
 use Rattle.ps_text.specs.Answers.{Stream, next_of as next_sign}
 use Rattle.ps_text.specs.Parts.{Part, then_by}
 use Rattle.ps_text.proofs.Laws.{Joint}
@@ -15,7 +15,6 @@ use Rattle.ps_hoa.specs.Inner.Items.{item_at}
 use Rattle.ps_hoa.specs.Scan.{next_of, behind_next}
 use Rattle.ps_hoa.specs.Tokens.{Sign}
 use Rattle.ps_hoa.specs.declared.fault.HoaCause.{HoaCause}
-use Rattle.ps_hoa.specs.declared.tokens.Kind.TheVariants.{Header, Finish}
 use Rattle.ps_hoa.proofs.Grammar.HeaderLaws.{other_name}
 use Rattle.ps_hoa.proofs.Grammar.WholeHeader.{form, laws_form, ItemFirst, first_header}
 use Rattle.ps_hoa.proofs.Grammar.ItemNames.{StartsWith, begun}
@@ -30,8 +29,7 @@ use Rattle.ps_hoa.proofs.Reading.HeaderExits.{behind_first}
 module _ (s : Stream Sign) where
   -- an item is never the end of the text
   item_there : (name : ItemName) → item_at (next_of s).sign ≡ Some name → next_sign s ≡ Some (next_of s).sign
-  item_there name e =
-      next_there s (λ f. let x : Header ≡ Finish = sym (first_header (next_of s).sign (name, e)) ∙ f in cc)
+  item_there name e = next_there s (λ f. grind (arith, first_header))
 
   pub stands_next : (h : HeaderData) (name : ItemName) → item_at (next_of s).sign ≡ Some name →
       Stands (next_sign s) (form_of h name) (item h)
@@ -55,9 +53,12 @@ module _ (s : Stream Sign) where
 
   pub enters_next : (h : HeaderData) (name : ItemName) → item_at (next_of s).sign ≡ Some name →
       Enters (item h) (next_sign s)
-  enters_next h name e = subst (Enters (item h)) (sym (item_there name e))
-      (enters_form (form_of h) item_at (laws_form h) name (Some (next_of s).sign)
-      ((form h name).enters (next_of s).sign (begun name (next_of s).sign e)))
+  enters_next h name e = grind (
+    arith,
+    item_there name e,
+    enters_form (form_of h) item_at (laws_form h) name
+        (Some (next_of s).sign) ((form h name).enters (next_of s).sign (begun name (next_of s).sign e)),
+  )
 
   pub avoids_next : item_at (next_of s).sign ≡ None → Avoids ItemFirst (next_sign s)
   avoids_next e t x k = none_is_some k.0 (sym e ∙ ap item_at (next_same s t x) ∙ k.1)

@@ -1,8 +1,8 @@
 -- Which item begins with a sign, by the table of names.
 --     StartsWith item t      the sign is that item's name
 --     begins, begun      so it is exactly where the table tells that item
-use Rattle.std.proofs.Common.{◌⊎◌, inl, inr, ◌≡◌, ℕ, cond, List, [], ◌∷◌, codes, Option, None, Some, is_some, refl, ap}
-use Rattle.std.proofs.Common.{subst, ◌∙◌}
+use Rattle.std.proofs.Common.{rules, arith, ◌⊎◌, inl, inr, ◌≡◌, ℕ, cond, List, [], ◌∷◌, codes, Option, None, Some}
+use Rattle.std.proofs.Common.{is_some, refl, ap, subst, ◌∙◌}
 use Rattle.ps_text.proofs.Simple.{none_is_some, same_some}
 use Rattle.ps_hoa.specs.Header.{name_value, other_value}
 use Rattle.ps_hoa.specs.ItemNames as items
@@ -32,8 +32,7 @@ StartsWith item t = Named (name_of item) t
 
 named_told : (name : List ℕ) (item : ItemName) → item_among item_names Header name ≡ Some item → (t : Sign) →
     Named name t → item_at t ≡ Some item
-named_told name item e t h = let p = named_text name t.kind t.text h in
-    ap (λ kind. item_among item_names kind t.text) p.0 ∙ ap (λ text. item_among item_names Header text) p.1 ∙ e
+named_told name item e t h = grind (arith, named_text)
 
 abbrev NoneIsOther : List (List ℕ × ItemName) → Type 0
 NoneIsOther [] = Unit {0}
@@ -51,8 +50,7 @@ other_told (row ∷ rows) n t h = go (name_value row.0 t.kind t.text) (λ x. oth
     go (Some u) x = absurd (x refl)
 
 pub begins : (item : ItemName) (t : Sign) → StartsWith item t → item_at t ≡ Some item
-begins items.other t h = other_told item_names (assumption) t h
-begins item t h = named_told (name_of item) item refl t h
+begins item t h = search (rules, other_told, named_told)
 
 -- ## And no other one
 
@@ -62,15 +60,11 @@ AreRows (row ∷ rows) = ((t : Sign) → Named row.0 t → StartsWith row.1 t) �
 
 row_or_rest : (o : Option (Unit {0})) (row item : ItemName) (rest : Option ItemName) →
     cond (is_some o) (Some row) rest ≡ Some item → ((o ≡ Some tt) × (row ≡ item)) ⊎ (rest ≡ Some item)
-row_or_rest None row item rest e = inr e
-row_or_rest (Some u) row item rest e = inl (refl, same_some row item e)
+row_or_rest o row item rest e = search (rules, same_some)
 
 told : (rows : List (List ℕ × ItemName)) → AreRows rows → (t : Sign) (item : ItemName) →
     item_among rows t.kind t.text ≡ Some item → StartsWith item t
-told [] r t item e = elim (row_or_rest (other_value t.kind t.text) items.other item None e) [
-  | inl h ↦ subst (λ i. StartsWith i t) h.1 h.0
-  | inr h ↦ absurd (none_is_some item h)
-]
+told [] r t item e = search (rules, row_or_rest, none_is_some)
 told (row ∷ rows) r t item e =
     elim (row_or_rest (name_value row.0 t.kind t.text) row.1 item (item_among rows t.kind t.text) e) [
       | inl h ↦ subst (λ i. StartsWith i t) h.1 (r.0 t h.0)

@@ -5,8 +5,8 @@
 --     laws_sign, laws_value, laws_mark      the laws of a sign whose kind is of a set: of any, of one that is bad only
 --               where it has a value, of one without a value
 --     laws_behind_option      a part behind one that may be empty
-use Rattle.std.proofs.Common.{◌≡◌, ℕ, zero, suc, ◌<◌, Bool, true, false, not, cond, List, [], ◌∷◌, length, get_or}
-use Rattle.std.proofs.Common.{Option, None, Some, is_some, refl, sym, ap, subst, ◌∙◌, arith, ◌&&◌, ◌||◌}
+use Rattle.std.proofs.Common.{rules, ◌≡◌, ℕ, zero, suc, ◌<◌, Bool, true, not, cond, List, [], ◌∷◌, length, get_or}
+use Rattle.std.proofs.Common.{Option, None, Some, is_some, sym, ap, subst, ◌∙◌, arith, ◌&&◌, ◌||◌}
 use Rattle.std.proofs.lemmas.Bool.{and_parts, or_left, or_right}
 use denote.Enum.Bare.{sameb, same_true}
 use denote.Enum.Declared.{tag_of}
@@ -40,8 +40,7 @@ abbrev pub Each : (Kind → Bool) → Type 0
 Each p = all p kinds ≡ true
 
 chosen : (b c d : Bool) → cond b c d ≡ true → b ≡ true → c ≡ true
-chosen true c d e h = e
-chosen false c d e h = absurd (false_true h)
+chosen b c d e h = grind (arith, false_true)
 
 at : (p : Kind → Bool) (ks : List Kind) (n : ℕ) → n < length ks → all p ks ≡ true → p (get_or ks n Finish) ≡ true
 at p [] n l e = absurd (omega (arith, l))
@@ -50,8 +49,7 @@ at p (k ∷ ks) (suc n) l e = at p ks n (omega (arith, l)) (and_parts (p k) (all
 
 -- each kind stands in the list, at its tag
 place : (k : Kind) → (tag_of the_type k < length kinds) × (get_or kinds (tag_of the_type k) Finish ≡ k)
-place Header = (omega arith, refl)
-place k = (omega arith, refl)
+place k = grind arith
 
 each : (p : Kind → Bool) → Each p → (k : Kind) → p k ≡ true
 each p e k = subst (λ x. p x ≡ true) (place k).1 (at p kinds (tag_of the_type k) (place k).0 e)
@@ -92,8 +90,7 @@ AreSigns p take = (text : List ℕ) → Each (λ k. cond (p k) (not (is_some (ow
     (not (is_some (take (record { kind = k; text = text })))))
 
 no_some : {V : Type 0} (o : Option V) (v : V) → not (is_some o) ≡ true → o ≡ Some v → ⊥
-no_some None v e h = none_is_some v h
-no_some (Some w) v e h = false_true e
+no_some o v e h = grind (arith, none_is_some, false_true)
 
 pub plain : (p : Kind → Bool) → ((text : List ℕ) → Each (inside p (λ k. not (is_some (own_cause k text))))) →
     Apart (Of p) Odd
@@ -106,12 +103,7 @@ module _ {V : Type 0} (p : Kind → Bool) (take : Sign → Option V) (are : AreS
       (not (is_some (take (record { kind = k; text = t.text }))))) (are t.text) t.kind
 
   has_kind : (take t ≡ None → ⊥) → Of p t
-  has_kind h = go (p t.kind) (not (is_some (own_cause t.kind t.text))) (take t) tried h
-    where
-      go : (b c : Bool) (o : Option V) → cond b c (not (is_some o)) ≡ true → (o ≡ None → ⊥) → b ≡ true
-      go true c o e h = refl
-      go false c None e h = absurd (h refl)
-      go false c (Some w) e h = absurd (false_true e)
+  has_kind h = grind (arith, is_some, tried, false_true)
 
   pub taken : Taken take t → Of p t
   taken h = has_kind (λ n. none_is_some h.0 (sym n ∙ h.1))
@@ -122,8 +114,7 @@ module _ {V : Type 0} (p : Kind → Bool) (take : Sign → Option V) (are : AreS
 module _ {V : Type 0} {take : Sign → Option V} {Bad : Sign → HoaCause → Type 0} (p : Kind → Bool) (kind : Kind)
     (text : List ℕ) (v : V) (e : take (record { kind = kind; text = text }) ≡ Some v) (are : AreSigns p take) where
   pub laws_sign : Within (BadSign Bad) (Of p) → Tight (one take Bad) p
-  laws_sign bad = laws_first (record { kind = kind; text = text }) v e (is_right_by_itself p take are)
-      (taken p take are) bad
+  laws_sign bad = search (rules, laws_first, is_right_by_itself, taken)
 
   pub laws_value : ((t : Sign) (f : HoaCause) → Bad t f → take t ≡ None → ⊥) → Tight (one take Bad) p
   laws_value bad = laws_sign (λ t h. has_kind p take are t (bad t h.0 h.1))
@@ -132,10 +123,8 @@ module _ {V : Type 0} {take : Sign → Option V} {Bad : Sign → HoaCause → Ty
 pub laws_behind_option : {A V : Type 0} {P : Part Sign A HoaCause} {Q : A → Part Sign V HoaCause} {Null : Type 0}
     (p q m : Kind → Bool) → Known P p p (Unit {0}) → ((a : A) → Known (Q a) q m Null) → Each (beside p q) →
     Each (inside p m) → Known (then_by P Q) (union p q) m Null
-laws_behind_option p q m l r e f = weaker (laws_then l r (apart p q e))
-    (both_within (λ t h. or_left (p t.kind) (q t.kind) h) (λ t h. or_right (p t.kind) (q t.kind) h.1))
+laws_behind_option p q m l r e f = weaker (laws_then l r (apart p q e)) (grind (arith, both_within, or_left, or_right))
     (both_within (λ t h. h) (λ t h. within p m f t h.1)) (λ n. n.1)
 
-pub laws_mark : (p : Kind → Bool) (kind : Kind) → p kind ≡ true → AreSigns p (mark_in p) →
-    Tight (mark p) p
+pub laws_mark : (p : Kind → Bool) (kind : Kind) → p kind ≡ true → AreSigns p (mark_in p) → Tight (mark p) p
 laws_mark p kind e are = laws_sign p kind [] tt (ap (λ (b : Bool). cond b (Some tt) None) e) are (λ t h. absurd h.1)

@@ -1,5 +1,5 @@
 -- The laws of labels, and which form of an operand stands by its first sign.
-use Rattle.std.proofs.Common.{◌≡◌, ℕ, zero, suc, Bool, true, false, List, [], refl, arith}
+use Rattle.std.proofs.Common.{rules, ◌≡◌, ℕ, zero, suc, Bool, true, false, List, [], refl, arith}
 use Rattle.ps_label.specs.Expression.{Expression}
 use Rattle.ps_text.specs.Parts.{Part, either}
 use Rattle.ps_text.proofs.Laws.{Laws, Nothing, Or, Apart}
@@ -51,23 +51,14 @@ laws_right = laws_mark is_right RightParen refl (λ _. refl)
 
 start_bad : (scope : ScopeData) (room : ℕ) (kind : Kind) (text : List ℕ) (f : HoaCause) →
     IsBadLeaf scope room kind text f → is_start kind ≡ true
-start_bad scope room Int text f h = refl
-start_bad scope room AliasName text f h = refl
-start_bad scope room Not text f h = refl
-start_bad scope room LeftParen text f h = refl
-start_bad scope room kind text f h = absurd h
+start_bad scope room kind text f h = grind arith
 
 single_bad : (scope : ScopeData) (room : ℕ) (kind : Kind) (text : List ℕ) (f : HoaCause) →
     IsBadLeaf scope (suc room) kind text f → is_single kind ≡ true
-single_bad scope room Int text f h = refl
-single_bad scope room AliasName text f h = refl
-single_bad scope room Not text f h = absurd (omega (arith, h.0))
-single_bad scope room LeftParen text f h = absurd (omega (arith, h.0))
-single_bad scope room kind text f h = absurd h
+single_bad scope room kind text f h = grind arith
 
 pub laws_single : (scope : ScopeData) (room : ℕ) → Tight (leaf scope (suc room)) is_single
-laws_single scope room = laws_sign is_single Int [] _ refl (λ _. refl)
-    (λ t h. single_bad scope room t.kind t.text h.0 h.1)
+laws_single scope room = laws_sign is_single Int [] _ refl (λ _. refl) (λ t h. grind (arith, single_bad))
 
 pub not_left : Apart (Of is_not) (Of is_left)
 not_left = apart is_not is_left refl
@@ -91,8 +82,7 @@ apart_right = apart is_connective is_right refl
 module _ {V : Type 0} {F : Sign → Type 0} (P : Part Sign V HoaCause) (together : Connective → List V → V)
     (l : Laws Odd P F Nothing ⊥) where
   pub laws_both : Laws Odd (rows together connectives.And P) F AndMore ⊥
-  laws_both = wider_more (laws_row is_and P laws_and l (nothing_apart (Of is_and)) (together connectives.And))
-      (both_within (λ t h. absurd h) (λ t h. h))
+  laws_both = wider_more (search (rules, laws_row, laws_and, nothing_apart)) (both_within (λ t h. absurd h) (λ t h. h))
 
   pub laws_rows : Laws Odd (rows together connectives.Or P) F AndOrMore ⊥
   laws_rows = wider_more (laws_row is_or (rows together connectives.And P) laws_or laws_both apart_or
@@ -112,8 +102,7 @@ module _ {F : Sign → Type 0} (P : Part Sign Expression HoaCause) (l : Laws Odd
 
 pub laws_operand : (scope : ScopeData) (room : ℕ) → Tight (operand scope room) is_start
 unfolding operand
-laws_operand scope zero = laws_sign is_start Int [] _ refl (λ _. refl)
-    (λ t h. start_bad scope 0 t.kind t.text h.0 h.1)
+laws_operand scope zero = laws_sign is_start Int [] _ refl (λ _. refl) (λ t h. start_bad scope 0 t.kind t.text h.0 h.1)
 laws_operand scope (suc room) = wider_first
     (laws_forms (laws_single scope room) (laws_deep (operand scope room) (laws_operand scope room)) single_nested)
     (both_within (within is_single is_start refl) (within_both is_not is_left is_start refl refl))

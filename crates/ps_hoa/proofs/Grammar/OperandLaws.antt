@@ -6,7 +6,7 @@
 --               behind the first
 --     row_fails, row_alone, row_begins, row_goes_on, row_stops, row_ends      the exits of a row and the invariant of
 --               its loop
-use Rattle.std.proofs.Common.{◌≡◌, Bool, true, false, cond, List, Option, None, Some, refl, inl}
+use Rattle.std.proofs.Common.{arith, ◌≡◌, Bool, true, false, cond, List, Option, None, Some, inl}
 use Rattle.ps_text.specs.Answers.{Stream, Found, next_of, signs}
 use Rattle.ps_text.specs.Parts.{Part, then_by, many, mapped}
 use Rattle.ps_text.specs.Readers.{Stops, Reads, Carries}
@@ -46,8 +46,7 @@ pub false_true : false ≡ true → ⊥
 false_true e = let x : false ≡ true = e in cc
 
 pub was_true : (b : Bool) (v : Unit {0}) → cond b (Some tt) None ≡ Some v → b ≡ true
-was_true true v e = refl
-was_true false v e = absurd (none_is_some v e)
+was_true b v e = grind (arith, none_is_some)
 
 pub taken_mark : (test : Kind → Bool) (sign : Sign) (v : Unit {0}) → mark_in test sign ≡ Some v → Of test sign
 taken_mark test sign v e = was_true (test sign.kind) v e
@@ -91,8 +90,7 @@ module _ {V : Type 0} (sign : Kind → Bool) (operand : Part Sign V HoaCause) {F
   -- the first operand fails
   pub row_fails : (join : List V → V) (old : Stream Sign) (o : Option (Found HoaCause)) →
       Stops hoa_causes operand old o → Stops hoa_causes (row sign join operand) old o
-  row_fails join old o s = stops_mapped hoa_causes (joined join) (operands sign operand) old o
-      (stops_first hoa_causes joint_operands old o (stops_mapped hoa_causes single operand old o s))
+  row_fails join old o s = grind (arith, stops_mapped, stops_first, joint_operands)
 
   -- no further one stands behind it
   pub row_alone : (join : List V → V) {old new : Stream Sign} {v : V} → Reads operand old v new →
@@ -121,9 +119,8 @@ module _ {V : Type 0} (sign : Kind → Bool) (operand : Part Sign V HoaCause) {F
       InRow old vs now → Reads (mark sign) now tt mid → Stops hoa_causes operand mid o →
       Stops hoa_causes (row sign join operand) old o
   row_stops join {old} {now} {mid} {vs} o k r s = stops_mapped hoa_causes (joined join) (operands sign operand) old o
-      (carries_stops hoa_causes (operands sign operand) (many item vs) old now o k
-      (many_fails item laws_item apart hoa_causes vs now o
-      (enters_then (mark sign) (λ _. mapped (with_last vs) operand) (joint_item vs) (next_of now)
+      (carries_stops hoa_causes (operands sign operand) (many item vs) old now o k (many_fails item laws_item apart
+      hoa_causes vs now o (enters_then (mark sign) (λ _. mapped (with_last vs) operand) (joint_item vs) (next_of now)
       (enters_read (mark sign) (signs now.pieces) (signs mid.pieces) tt (λ w h. m.null w h) r.1))
       (stops_behind hoa_causes (joint_item vs) r o (stops_mapped hoa_causes (with_last vs) operand mid o s))))
 

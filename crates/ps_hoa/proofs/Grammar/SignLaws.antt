@@ -3,8 +3,7 @@
 --     laws_name, laws_int, laws_string, laws_proposition_name, laws_new_alias      the laws
 --     laws_alternating      a sign that `&` may not follow
 --     other_apart      a name that has a meaning is not read over
-use Rattle.std.proofs.Common.{◌≡◌, ℕ, ◌||◌, Bool, true, false, cond, List, [], Option, None, Some, refl, sym, ap, ◌∙◌}
-use Rattle.std.specs.Str.{bytes_eq}
+use Rattle.std.proofs.Common.{arith, ◌≡◌, ℕ, Bool, true, false, cond, List, [], Option, None, Some, refl, sym, ap, ◌∙◌}
 use Rattle.std.proofs.lemmas.Slice.Eq.{bytes_eq-Decides}
 use Rattle.ps_text.specs.Parts.{Part, one, barred}
 use Rattle.ps_text.proofs.Laws.{Laws, Nothing, Apart, weaker}
@@ -12,15 +11,14 @@ use Rattle.ps_text.proofs.Combined.{both_within, laws_first}
 use Rattle.ps_text.proofs.Simple.{none_is_some, laws_mapped}
 use Rattle.ps_text.proofs.Barred.{laws_barred}
 use Rattle.ps_hoa.specs.Tokens.{Sign}
-use Rattle.ps_hoa.specs.Causes.{begins_capital, is_spelled, is_unknown_capital, own_cause}
+use Rattle.ps_hoa.specs.Causes.{begins_capital, is_spelled, is_unknown_capital}
 use Rattle.ps_hoa.specs.Operands.{is_and}
 use Rattle.ps_hoa.specs.Header.{HeaderData, name_value, item_name, int, IsAlternating, string, proposition_name}
 use Rattle.ps_hoa.specs.Header.{alias_value, IsBadAlias, other_value}
 use Rattle.ps_hoa.specs.declared.fault.HoaCause.{HoaCause}
-use Rattle.ps_hoa.specs.declared.fault.HoaCause.TheVariants.{UnknownHeader}
 use Rattle.ps_hoa.specs.declared.tokens.Kind.{Kind}
 use Rattle.ps_hoa.specs.declared.tokens.Kind.TheVariants.{Header, Int, Text, AliasName, Body}
-use Rattle.ps_hoa.proofs.Grammar.OperandLaws.{was_true, false_true, Odd, Of, Tight}
+use Rattle.ps_hoa.proofs.Grammar.OperandLaws.{false_true, Odd, Of, Tight}
 use Rattle.ps_hoa.proofs.Grammar.KindSets.{plain, laws_value}
 use Rattle.ps_hoa.proofs.Grammar.ConditionLaws.{is_int}
 
@@ -49,8 +47,7 @@ Other sign = other_value sign.kind sign.text ≡ Some tt
 
 pub named_text : (name : List ℕ) (kind : Kind) (text : List ℕ) → name_value name kind text ≡ Some tt →
     (kind ≡ Header) × (text ≡ name)
-named_text name Header text e = (refl, (bytes_eq-Decides text name).0 (was_true (bytes_eq text name) tt e))
-named_text name kind text e = absurd (none_is_some tt e)
+named_text name kind text e = grind (arith, bytes_eq-Decides text name)
 
 -- a name is of no set of other kinds
 pub header_apart : (test : Kind → Bool) → test Header ≡ false → (t : Sign) → t.kind ≡ Header → Of test t → ⊥
@@ -58,8 +55,7 @@ header_apart test e t h k = false_true (sym e ∙ ap test (sym h) ∙ k)
 
 -- a name that is there is that name
 pub some_there : (o : Option (Unit {0})) → (o ≡ None → ⊥) → o ≡ Some tt
-some_there None h = absurd (h refl)
-some_there (Some v) h = refl
+some_there o h = grind arith
 
 -- a name that begins with a capital and that the grammar does not spell, as the specification has it
 abbrev pub is_unknown : List ℕ → Bool
@@ -67,25 +63,13 @@ is_unknown name = cond (is_spelled name) false (begins_capital name)
 
 plain_header : (t : Sign) → t.kind ≡ Header → is_unknown t.text ≡ false → Odd t → ⊥
 unfolding is_unknown_capital
-plain_header t k u o = none_is_some o.0 (ap (λ (b : Bool). cond b (Some UnknownHeader) None) (sym u)
-    ∙ ap (λ kind. own_cause kind t.text) (sym k) ∙ o.1)
+plain_header t k u o = grind arith
 
 pub plain_named : (name : List ℕ) → is_unknown name ≡ false → Apart (Named name) Odd
 plain_named name e t h = let p = named_text name t.kind t.text h in plain_header t p.0 (ap is_unknown p.1 ∙ e)
 
 pub plain_other : Apart Other Odd
-plain_other t h = let p = known t.kind t.text h in plain_header t p.0 p.1
-  where
-    go : (spelled capital : Bool) (o : Option (Unit {0})) → cond (spelled || capital) None o ≡ Some tt →
-        cond spelled false capital ≡ false
-    go true capital o e = refl
-    go false true o e = absurd (none_is_some tt e)
-    go false false o e = refl
-
-    known : (kind : Kind) (text : List ℕ) → other_value kind text ≡ Some tt →
-        (kind ≡ Header) × (is_unknown text ≡ false)
-    known Header text e = (refl, go (is_spelled text) (begins_capital text) _ e)
-    known kind text e = absurd (none_is_some tt e)
+plain_other t h = grind (arith, plain_header, none_is_some)
 
 pub same_name : (name : List ℕ) → name_value name Header name ≡ Some tt
 same_name name = ap (λ (b : Bool). cond b (Some tt) None) ((bytes_eq-Decides name name).1 refl)
@@ -96,8 +80,7 @@ laws_name name e = laws_first (record { kind = Header; text = name }) tt (same_n
 
 -- a name that is read over is none that has a meaning
 pub other_apart : (name : List ℕ) → other_value Header name ≡ None → Apart (Named name) Other
-other_apart name e t h k = let p = named_text name t.kind t.text h in
-    none_is_some tt (sym e ∙ ap (λ z. other_value Header z) (sym p.1) ∙ ap (λ z. other_value z t.text) (sym p.0) ∙ k)
+other_apart name e t h k = grind (arith, named_text, none_is_some)
 
 -- ## Numbers, strings and aliases
 

@@ -2,7 +2,7 @@
 --     laws_state, laws_states, laws_ended, laws_body      the laws
 --     joint_state, joint_state_label, joint_number, joint_name, joint_marks      the parts of a state, from the front
 --     joint_body      the states and `--END--`
-use Rattle.std.proofs.Common.{◌≡◌, ℕ, Bool, List, [], codes, Option, Some, refl}
+use Rattle.std.proofs.Common.{rules, arith, ◌≡◌, ℕ, Bool, List, [], codes, Option, Some, refl}
 use Rattle.ps_label.specs.Expression.{Expression}
 use Rattle.ps_text.specs.Parts.{Part, give, then_by, many, mapped}
 use Rattle.ps_text.proofs.Following.{laws_tight}
@@ -73,23 +73,20 @@ module _ (h : HeaderData) (b : BodyData) where
     from_name = then_by state_name (λ _. from_marks)
 
     laws_from_edges : (ns : List ℕ) → Known (from_edges ns) begins_edge lengthens_state (Unit {0})
-    laws_from_edges ns = laws_mapped _ _ (wider_more
-        (laws_many (edge h b.edges) (laws_edge h b.edges) edge_apart (empty_row n label ns))
-        (within_both lengthens_edge begins_edge lengthens_state refl refl))
+    laws_from_edges ns = laws_mapped _ _ (wider_more (laws_many (edge h b.edges) (laws_edge h b.edges) edge_apart
+        (empty_row n label ns)) (within_both lengthens_edge begins_edge lengthens_state refl refl))
 
     pub joint_marks : Joint (marks h) from_edges
     joint_marks = joint (laws_marks h) laws_from_edges (apart is_left_brace begins_edge refl)
 
     laws_from_marks : Known from_marks begins_marks lengthens_state (Unit {0})
-    laws_from_marks =
-        laws_behind_option is_left_brace begins_edge lengthens_state (laws_marks h) laws_from_edges refl refl
+    laws_from_marks = search (rules, laws_behind_option, laws_marks, laws_from_edges)
 
     pub joint_name : Joint state_name (λ _. from_marks)
     joint_name = joint laws_state_name (λ _. laws_from_marks) (apart is_string begins_marks refl)
 
     laws_from_name : Known from_name begins_name lengthens_state (Unit {0})
-    laws_from_name =
-        laws_behind_option is_string begins_marks lengthens_state laws_state_name (λ _. laws_from_marks) refl refl
+    laws_from_name = search (rules, laws_behind_option, laws_state_name, laws_from_marks)
 
   abbrev from_number : Option Expression → Part Sign BodyData HoaCause
   from_number label = then_by (state_number h b) (from_name label)
@@ -107,8 +104,7 @@ module _ (h : HeaderData) (b : BodyData) where
   joint_state_label = joint (laws_state_label h) laws_from_number (apart is_left_bracket is_int refl)
 
   laws_from_label : Known from_label (union is_left_bracket is_int) lengthens_state ⊥
-  laws_from_label =
-      laws_behind_option is_left_bracket is_int lengthens_state (laws_state_label h) laws_from_number refl refl
+  laws_from_label = search (rules, laws_behind_option, laws_state_label, laws_from_number)
 
   pub joint_state : Joint (state_begins h b) (λ _. from_label)
   joint_state = joint_tight laws_state_begins (λ _. laws_from_label)
@@ -122,8 +118,7 @@ pub state_apart : Apart (Of lengthens_state) IsState
 state_apart t h k = header_apart lengthens_state refl t (text_of_state t.kind t.text k.0 k.1).0 h
 
 end_apart : Apart (Or (Of lengthens_state) IsState) (Of is_end)
-end_apart = both_within (apart lengthens_state is_end refl)
-    (λ t h. header_apart is_end refl t (text_of_state t.kind t.text h.0 h.1).0)
+end_apart = grind (arith, both_within, apart, header_apart, text_of_state)
 
 module _ (h : HeaderData) where
   laws_states : Laws Odd (many (state h) no_rows) IsState (Or (Of lengthens_state) IsState) (Unit {0})

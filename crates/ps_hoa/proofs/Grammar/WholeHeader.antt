@@ -3,7 +3,7 @@
 --     laws_form, laws_item, laws_items, laws_header      the laws
 --     joint_header      the items and `--BODY--`
 -- proofs/Grammar/ItemChoice goes on with which item stands.
-use Rattle.std.proofs.Common.{◌≡◌, ℕ, Bool, List, [], codes, Option, Some, inl, refl, ap}
+use Rattle.std.proofs.Common.{arith, ◌≡◌, Bool, [], codes, Option, Some, inl, refl, ap}
 use Rattle.ps_text.specs.Parts.{Part, one, then_by, many}
 use Rattle.ps_text.proofs.Following.{laws_tight}
 use Rattle.ps_text.proofs.Laws.{Laws, Joint, Nothing, Or, Within, Apart}
@@ -18,7 +18,7 @@ use Rattle.ps_hoa.specs.Operands.{is_and, number_limit}
 use Rattle.ps_hoa.specs.Header.{HeaderData, state_limit, index, read_over, no_items, form_of, item, body_mark, header}
 use Rattle.ps_hoa.specs.ItemNames as items
 use Rattle.ps_hoa.specs.ItemNames.{ItemName}
-use Rattle.ps_hoa.specs.Inner.Items.{item_names, item_among, item_at, is_value}
+use Rattle.ps_hoa.specs.Inner.Items.{item_at, is_value}
 use Rattle.ps_hoa.specs.declared.fault.HoaCause.{HoaCause}
 use Rattle.ps_hoa.specs.declared.tokens.Kind.{Kind}
 use Rattle.ps_hoa.specs.declared.tokens.Kind.TheVariants.{Header, Body}
@@ -59,8 +59,7 @@ behind {take = take} {Bad = Bad} {Q = Q} m l w = record {
 pub form : (h : HeaderData) (name : ItemName) → IsForm (form_of h name) (StartsWith name)
 form h items.states =
     behind (laws_name (codes "States:") refl) (laws_mapped _ _ (laws_int state_limit)) (λ t k. absurd k)
-form h items.start =
-    behind (laws_start_name h) (laws_mapped _ _ (laws_alternating (laws_int number_limit)))
+form h items.start = behind (laws_start_name h) (laws_mapped _ _ (laws_alternating (laws_int number_limit)))
     (within is_and is_argument refl)
 form h items.propositions =
     behind (laws_name (codes "AP:") refl) (laws_counted_names h) (within is_string is_argument refl)
@@ -68,13 +67,11 @@ form h items.alias =
     behind (laws_name (codes "Alias:") refl) (laws_named_label h) (within is_connective is_argument refl)
 form h items.acceptance =
     behind (laws_name (codes "Acceptance:") refl) (laws_counted_condition h) (within is_connective is_argument refl)
-form h items.controllable =
-    behind (laws_name (codes "controllable-AP:") refl) (laws_mapped _ _ (laws_all index laws_index []))
-    (within is_int is_argument refl)
+form h items.controllable = behind (laws_name (codes "controllable-AP:") refl)
+    (laws_mapped _ _ (laws_all index laws_index [])) (within is_int is_argument refl)
 form h items.tool = behind (laws_name (codes "tool:") refl) (laws_strings h) (within is_string is_argument refl)
 form h items.name = behind (laws_name (codes "name:") refl) (laws_read_string h) (λ t k. absurd k)
-form h items.other =
-    behind laws_other_name (laws_all read_over laws_read_over h) (within is_value is_argument refl)
+form h items.other = behind laws_other_name (laws_all read_over laws_read_over h) (within is_value is_argument refl)
 
 pub laws_form : (h : HeaderData) (name : ItemName) → Laws Odd (form_of h name) (Begins item_at name) ItemMore ⊥
 laws_form h name = wider_first (form h name).laws (begins name)
@@ -90,11 +87,7 @@ laws_item h = laws_choice (form_of h) item_at (laws_form h) items.other
 
 -- an item begins with a name
 pub first_header : (t : Sign) → ItemFirst t → t.kind ≡ Header
-first_header t h = go t.kind t.text h.0 h.1
-  where
-    go : (kind : Kind) (text : List ℕ) (name : ItemName) → item_among item_names kind text ≡ Some name → kind ≡ Header
-    go Header text name e = refl
-    go kind text name e = absurd (none_is_some name e)
+first_header t h = grind (arith, none_is_some)
 
 pub item_apart : Apart ItemMore ItemFirst
 item_apart t h k = header_apart is_argument refl t (first_header t k) h

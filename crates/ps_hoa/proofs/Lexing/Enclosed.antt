@@ -68,7 +68,7 @@ close_case b c bs t ih (suc depth) n is =
     rw e (closes both.0 both.1 inner.0, omega arith)
 
 ends_length : {depth : ℕ} {bs : List ℕ} → Ends depth bs → 0 < length bs
-ends_length h1 = search rules
+ends_length h = search rules
 
 pub comment_sound : (fuel : ℕ) (bs : List ℕ) (depth n : ℕ) → length bs ≤ fuel → comment_len bs false depth ≡ Some n →
     Closed depth bs n
@@ -91,14 +91,12 @@ comment_sound (suc fuel) (b ∷ c ∷ bs) depth n short is =
             rw e (opens both.0 both.1 inner.0, omega arith)
         | inr u ↦
             let m = some_more _ n (sym (comment_plain b c bs depth t u) ∙ is) in
-            let inner = comment_sound fuel (c ∷ bs) depth m.0 less' m.1 in
-            rw m.2 (on b c bs m.0 depth (not_both b 42 c 47 t) (not_both b 47 c 42 u) inner.0 m.1, omega arith)
+            search (rules, on, not_both, comment_sound fuel (c ∷ bs) depth m.0 less' m.1)
       ])
     ])
   where
-    on : (b c : ℕ) (bs : List ℕ) (m depth : ℕ) → ((b ≡ 42) × (c ≡ 47) → ⊥) → ((b ≡ 47) × (c ≡ 42) → ⊥) →
-        Ends depth (take m (c ∷ bs)) → comment_len (c ∷ bs) false depth ≡ Some m →
-        Ends depth (take (suc m) (b ∷ c ∷ bs))
+    on : (b c : ℕ) (bs : List ℕ) (m depth : ℕ) → ((b ≡ 42) × (c ≡ 47) → ⊥) → ((b ≡ 47) × (c ≡ 42) → ⊥) → Ends depth
+        (take m (c ∷ bs)) → comment_len (c ∷ bs) false depth ≡ Some m → Ends depth (take (suc m) (b ∷ c ∷ bs))
     on b c bs zero depth p q e is = absurd (let some = ends_length e in omega arith)
     on b c bs (suc m) depth p q e is = goes_on p q e
 
@@ -138,15 +136,11 @@ quoted_sound (suc fuel) (b ∷ bs) n short is =
     (elim (eqb_tells b 34) [
       | inl p ↦ (let one : n ≡ 1 = (let e = sym (quoted_end b bs p.1) ∙ is in cc) in
           rw one (let none : List ℕ = [] in none, nothing, ap (λ (x : ℕ). x ∷ []) p.1, omega arith))
-      | inr p ↦
-          (elim (eqb_tells b 92) [
-            | inl q ↦
-                (let m = some_more (quoted_len bs true) n (search (rules, quoted_more)) in
-                rw m.2 (pair_case b bs q.1 (λ c cs k e f. quoted_sound fuel cs k (let l = ap length e in omega arith) f)
-                m.0 m.1))
-            | inr q ↦
-                (let m = some_more (quoted_len bs false) n (search (rules, quoted_more)) in
-                let inner = quoted_sound fuel bs m.0 less m.1 in
-                rw m.2 (b ∷ inner.0, plain p.1 q.1 inner.1, ap (λ (xs : List ℕ). b ∷ xs) inner.2, omega arith))
-          ])
+      | inr p ↦ (elim (eqb_tells b 92) [
+        | inl q ↦ (let m = some_more (quoted_len bs true) n (search (rules, quoted_more)) in
+            rw m.2 (pair_case b bs q.1 (λ c cs k e f. quoted_sound fuel cs k (grind arith) f) m.0 m.1))
+        | inr q ↦ (let m = some_more (quoted_len bs false) n (search (rules, quoted_more)) in
+            let inner = quoted_sound fuel bs m.0 less m.1 in
+            rw m.2 (b ∷ inner.0, plain p.1 q.1 inner.1, ap (λ (xs : List ℕ). b ∷ xs) inner.2, omega arith))
+      ])
     ])

@@ -36,9 +36,8 @@ token_is Odd text rest i = rw i.text_is (go (step_of (i.byte ∷ rest)) (sound i
     bytes = i.byte ∷ rest
 
     no_comment : (n : ℕ) (more : List ℕ) → take n bytes ≡ 47 ∷ 42 ∷ more → ⊥
-    no_comment n more e =
-        i.no_comment (more ++ drop n bytes) (ap (λ (xs : List ℕ). xs ++ rest) i.text_is ∙ whole n bytes
-        ∙ ap (λ (xs : List ℕ). xs ++ drop n bytes) e)
+    no_comment n more e = i.no_comment (more ++ drop n bytes) (ap (λ (xs : List ℕ). xs ++ rest) i.text_is
+        ∙ whole n bytes ∙ ap (λ (xs : List ℕ). xs ++ drop n bytes) e)
 
     no_token : (kind : Kind) (n : ℕ) → Stands kind (take n bytes) (drop n bytes) → ⊥
     no_token kind n stands =
@@ -46,20 +45,16 @@ token_is Odd text rest i = rw i.text_is (go (step_of (i.byte ∷ rest)) (sound i
         stands
 
     blank_first : (n c : ℕ) → 0 < n → take n bytes ≡ c ∷ [] → class_of c ≡ Blank → ⊥
-    blank_first zero c some e h = omega arith
-    blank_first (suc n) c some e h = i.no_blank (let same : i.byte ≡ c = cc in ap class_of same ∙ h)
+    blank_first n c some e h = grind arith
 
     found : (kind : Kind) (n : ℕ) → n ≤ length bytes → IsToken kind (take n bytes) (drop n bytes) →
         Found kind n ≡ Found Odd 1
-    found Odd n within odd = let l : length (take n bytes) ≡ 1 = ap length odd.text_is in
-        let m : length (take n bytes) ≡ n = length-take-le n bytes within in ap (λ (k : ℕ). Found Odd k) (sym m ∙ l)
+    found Odd n within odd = grind (arith, length-take-le n bytes within)
     found OpenComment n within open' = absurd (no_comment n [] open'.begins)
     found kind n within stands = absurd (no_token kind n stands)
 
     go : (s : Step) → Sound bytes s → s ≡ Found Odd 1
-    go (Skip n) (inl b, within, some) = absurd (blank_first n b.0 some b.1 b.2)
-    go (Skip n) (inr c, within, some) = absurd (no_comment n c.0 c.1)
-    go (Found kind n) (token, within, some) = found kind n within token
+    go s h = grind (arith, blank_first, no_comment, found)
 token_is OpenComment text rest i =
     rw i.begins (by_class 47 (42 ∷ rest) Slash class_47 ∙ go (comment_len rest false 0) refl, omega arith)
   where
@@ -73,23 +68,21 @@ token_is kind text rest stands = stand_step kind text rest stands
 pub part_is : (part more : List ℕ) → IsBlankPart part → (step_of (part ++ more) ≡ Skip (length part)) ×
     (0 < length part)
 part_is part more (inl b) = rw b.1 (by_class b.0 more Blank b.2, omega arith)
-part_is part more (inr c) = rw c.1 (
-  by_class 47 (42 ∷ c.0 ++ more) Slash class_47 ∙ ap comment_by (comment_found more c.2)
-      ∙ (let e : 2 + length c.0 ≡ suc (suc (length c.0)) = omega arith in ap (λ (n : ℕ). Skip n) e),
-  omega arith,
-)
+part_is part more (inr c) = grind (arith, by_class 47 (42 ∷ c.0 ++ more) Slash class_47, comment_found more c.2)
 
 blank_lex : {blanks : List ℕ} → IsBlankRun blanks → (at : ℕ) (more : List ℕ) →
     lex at (blanks ++ more) ≡ lex (at + length blanks) more
 blank_lex no_blank at more = let e : at ≡ at + 0 = omega arith in ap (λ (k : ℕ). lex k more) e
 blank_lex (blank {part} {rest} is run all split) at more =
     let s = part_is part (rest ++ more) is in
-    let e : all ++ more ≡ part ++ (rest ++ more) = ap (λ (xs : List ℕ). xs ++ more) split
-    ∙ append_assoc part rest more in
-    let len : (at + length part) + length rest ≡ at + length all = rw (split, length-append) (omega arith) in
-    ap (λ (xs : List ℕ). lex at xs) e ∙ lex_skip (part ++ (rest ++ more)) (length part) at s.0 s.1
-    ∙ ap (λ (xs : List ℕ). lex (at + length part) xs) (drop-append_seam part (rest ++ more))
-    ∙ blank_lex run (at + length part) more ∙ ap (λ (k : ℕ). lex k more) len
+    grind (
+      arith,
+      append_assoc part rest more,
+      length-append,
+      lex_skip (part ++ (rest ++ more)) (length part) at s.0 s.1,
+      drop-append_seam part (rest ++ more),
+      blank_lex run (at + length part) more,
+    )
 
 next_lex : (at : ℕ) (bytes : List ℕ) (p : Piece Sign) (rest : List ℕ) → IsNext at bytes p rest →
     lex at bytes ≡ p ∷ lex (p.start + length p.sign.text) rest
@@ -97,12 +90,10 @@ next_lex at bytes p rest next = search (rules, token_is, blank_lex, lex_token, t
 
 pub only_lex : (at : ℕ) (bytes : List ℕ) (pieces : List (Piece Sign)) → AreTokens at bytes pieces →
     pieces ≡ lex at bytes
-only_lex at bytes [] run =
-    sym (ap (λ (xs : List ℕ). lex at xs) (sym (append-nil bytes)) ∙ blank_lex run at (let none : List ℕ = [] in none)
-    ∙ lex_nothing (at + length bytes))
-only_lex at bytes (p ∷ ps) (rest, next, more) =
-    sym (next_lex at bytes p rest next ∙ ap (λ (qs : List (Piece Sign)). p ∷ qs)
-    (sym (only_lex (p.start + length p.sign.text) rest ps more)))
+only_lex at bytes [] run = sym (ap (λ (xs : List ℕ). lex at xs) (sym (append-nil bytes))
+    ∙ blank_lex run at (let none : List ℕ = [] in none) ∙ lex_nothing (at + length bytes))
+only_lex at bytes (p ∷ ps) (rest, next, more) = sym (next_lex at bytes p rest next
+    ∙ ap (λ (qs : List (Piece Sign)). p ∷ qs) (sym (only_lex (p.start + length p.sign.text) rest ps more)))
 
 -- ## There is one
 
@@ -116,9 +107,7 @@ behind_blank at part rest is (p ∷ ps) (rest', next, more) = (
     split = ap (λ (xs : List ℕ). part ++ xs) next.split ∙ sym (append_assoc part next.blanks _);
     are_blanks = blank is next.are_blanks (part ++ next.blanks) refl;
     is_token = next.is_token;
-    start =
-        next.start ∙ (let e : (at + length part) + length next.blanks ≡ at + length (part ++ next.blanks) = rw
-        length-append (omega arith) in e);
+    start = grind (arith, length-append);
   },
   more,
 )
@@ -138,11 +127,8 @@ some_tokens (suc fuel) at (b ∷ bs) short =
     go : ((at' n : ℕ) → length (drop n (b ∷ bs)) ≤ fuel → SomeTokens at' (drop n (b ∷ bs))) → (s : Step) →
         Sound (b ∷ bs) s → SomeTokens at (b ∷ bs)
     go ih (Skip n) (part, within, some) =
-        let r = ih (at + length (take n (b ∷ bs))) n (less n some) in (
-          r.0,
-          subst (λ (xs : List ℕ). AreTokens at xs r.0) (take-append-drop n (b ∷ bs))
-              (behind_blank at (take n (b ∷ bs)) (drop n (b ∷ bs)) part r.0 r.1),
-        )
+        let r = ih (at + length (take n (b ∷ bs))) n (less n some) in
+        grind (arith, take-append-drop n (b ∷ bs), behind_blank at (take n (b ∷ bs)) (drop n (b ∷ bs)) part r.0 r.1)
     go ih (Found kind n) (token, within, some) =
         let r = ih (at + length (take n (b ∷ bs))) n (less n some) in (
           record { sign = record { kind = kind; text = take n (b ∷ bs) }; start = at } ∷ r.0,
@@ -167,13 +153,11 @@ skip_sound (b ∷ bs) n is = subst (λ (s : Step). Sound (b ∷ bs) s) is (sound
 
 run_append : {run : List ℕ} (part : List ℕ) → IsBlankRun run → IsBlankPart part → IsBlankRun (run ++ part)
 run_append part no_blank is = blank is no_blank part (sym (append-nil part))
-run_append part (blank {part = first} {rest} here run all split) is =
-    blank here (run_append part run is) (all ++ part) (ap (λ (xs : List ℕ). xs ++ part) split
-    ∙ append_assoc first rest part)
+run_append part (blank {part = first} {rest} here run all split) is = blank here (run_append part run is) (all ++ part)
+    (ap (λ (xs : List ℕ). xs ++ part) split ∙ append_assoc first rest part)
 
 pub no_blanks : (source : List ℕ) (from : ℕ) → AreBlanks source from from
-no_blanks source from =
-    record { blanks = []; run = no_blank; split = refl; end = (let e : from ≡ from + 0 = omega arith in e) }
+no_blanks source from = record { blanks = []; run = no_blank; split = refl; end = grind arith }
 
 pub more_blanks : (source : List ℕ) (from at n : ℕ) → AreBlanks source from at → step_of (drop at source) ≡ Skip n →
     AreBlanks source from (at + n)
@@ -182,8 +166,7 @@ more_blanks source from at n before is =
     let part = skip_sound bytes n is in
     let len : length (take n bytes) ≡ n = length-take-le n bytes part.1 in
     let rest : drop n bytes ≡ drop (at + n) source = drop-drop n at source in
-    let total : at + n ≡ from + length (before.blanks ++ take n bytes) =
-    rw (length-append, len) (let e = before.end in omega arith) in
+    let total : at + n ≡ from + length (before.blanks ++ take n bytes) = rw (length-append, len) (grind arith) in
     record {
       blanks = before.blanks ++ take n bytes;
       run = run_append (take n bytes) before.run part.0;

@@ -74,9 +74,14 @@ pub comment_opens : (bs : List ℕ) (at depth : ℕ) → at < length bs → is_p
     is_pair bs at 47 42 ≡ true →
     plus at (comment_len (drop at bs) false depth) ≡ plus (at + 1) (comment_len (drop (at + 1) bs) true (depth + 1))
 unfolding comment_len
-comment_opens bs at depth h close begin =
-    rw (drop-cons bs at 0 h, next-is bs at, close, begin, add-one at, add-one depth)
-    (rw add-one at (plus-one_more at (comment_len (drop (suc at) bs) true (suc depth))))
+comment_opens bs at depth h close begin = grind (
+  arith,
+  drop-cons bs at 0 h,
+  next-is bs at,
+  add-one at,
+  add-one depth,
+  plus-one_more at (comment_len (drop (suc at) bs) true (suc depth)),
+)
 
 pub comment_on : (bs : List ℕ) (at depth : ℕ) → at < length bs → is_pair bs at 42 47 ≡ false →
     is_pair bs at 47 42 ≡ false →
@@ -97,8 +102,7 @@ unfolding lex_behind
 lex_skips [] zero at = refl
 lex_skips [] (suc n) at = refl
 lex_skips (b ∷ bs) zero at = let e : at ≡ at + 0 = omega arith in ap (λ (k : ℕ). lex_behind (b ∷ bs) 0 k) e
-lex_skips (b ∷ bs) (suc n) at = let e : (at + 1) + n ≡ at + suc n = omega arith in lex_skips bs n (at + 1)
-    ∙ ap (λ (k : ℕ). lex_behind (drop n bs) 0 k) e
+lex_skips (b ∷ bs) (suc n) at = grind (arith, lex_skips bs n (at + 1))
 
 -- the list by what begins at the front
 abbrev lex_by : ℕ → List ℕ → ℕ → Step → List (Piece Sign)
@@ -122,17 +126,15 @@ lex_nothing at = refl
 
 -- what is skipped changes no token
 pub lex_skip : (bytes : List ℕ) (n at : ℕ) → step_of bytes ≡ Skip n → 0 < n → lex at bytes ≡ lex (at + n) (drop n bytes)
-lex_skip bytes n at h1 h2 = search (rules, nothing_begins, lex_is, lex_skips)
+lex_skip bytes n at h k = search (rules, nothing_begins, lex_is, lex_skips)
 
 pub lex_token : (bytes : List ℕ) (kind : Kind) (n at : ℕ) → 0 < length bytes → step_of bytes ≡ Found kind n → 0 < n →
     lex at bytes ≡ record { sign = record { kind = kind; text = take n bytes }; start = at } ∷ lex
     (at + n) (drop n bytes)
-lex_token bytes kind n at h1 h2 h3 = search (rules, lex_is, lex_skips)
+lex_token bytes kind n at h k m = search (rules, lex_is, lex_skips)
 
 -- one turn of a loop over blanks
 pub lex_step : (source : List ℕ) (from at n : ℕ) → step_of (drop at source) ≡ Skip n → 0 < n →
     lex at (drop at source) ≡ lex from (drop from source) → lex (at + n) (drop (at + n) source) ≡ lex from
     (drop from source)
-lex_step source from at n is some so_far =
-    let e : drop n (drop at source) ≡ drop (at + n) source = drop-drop n at source in
-    ap (λ (bytes : List ℕ). lex (at + n) bytes) (sym e) ∙ sym (lex_skip (drop at source) n at is some) ∙ so_far
+lex_step source from at n is some so_far = grind (arith, drop-drop n at source, lex_skip (drop at source) n at is some)

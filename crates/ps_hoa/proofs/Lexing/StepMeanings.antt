@@ -1,19 +1,19 @@
 -- What a step over the bytes says of them: a blank part, or a token that is the longest one.
 --     sound      of the step at any bytes
 --     begins_is      of a word with which bytes begin
-use Rattle.std.proofs.Common.{◌≡◌, ◌≢◌, ℕ, suc, zero, ◌+◌, ◌<◌, ◌≤◌, ◌&&◌, Bool, true, false, cond, List, [], ◌∷◌, ◌++◌}
-use Rattle.std.proofs.Common.{length, take, drop, subst, min, length-take, refl, ap, sym, ◌∙◌, arith, inl, inr, rules}
-use Rattle.std.specs.Prelude.{Option, None, Some, codes, nat_eq, nat_lt}
+use Rattle.std.proofs.Common.{◌≡◌, ℕ, suc, zero, ◌+◌, ◌<◌, ◌≤◌, ◌&&◌, Bool, true, false, cond, List, [], ◌∷◌, ◌++◌}
+use Rattle.std.proofs.Common.{length, take, drop, subst, length-take, refl, ap, sym, ◌∙◌, arith, inl, inr, rules}
+use Rattle.std.specs.Prelude.{Option, None, Some, codes, nat_eq}
 use Rattle.std.specs.List.{prefix_len}
-use Rattle.std.proofs.lemmas.Bool.{eqb-true, eq-eqb, ltb-true}
+use Rattle.std.proofs.lemmas.Bool.{eqb-true, ltb-true}
 use Rattle.std.proofs.lemmas.Slice.Eq.{bytes_eq-Decides}
 use Rattle.std.proofs.lemmas.List.Folds.{length-prefix_len}
-use Rattle.ps_hoa.specs.Bytes.{class_of, is_digit, is_name_byte, digits}
+use Rattle.ps_hoa.specs.Bytes.{class_of, is_digit, is_name_byte}
 use Rattle.ps_hoa.specs.Tokens.{IsBlankPart, lengthens, StopsBefore, IsToken}
 use Rattle.ps_hoa.specs.Scan.{comment_len, quoted_len, head_or_zero, step_of, class_step, name_step, text_by}
 use Rattle.ps_hoa.specs.Scan.{comment_by, mark_step, begins_with, comment_step, alias_step, text_step}
 use Rattle.ps_hoa.specs.declared.tokens.Kind.{Kind}
-use Rattle.ps_hoa.specs.declared.tokens.Kind.TheVariants.{Header, Word, Text, Not, And, Or, LeftParen, RightParen}
+use Rattle.ps_hoa.specs.declared.tokens.Kind.TheVariants.{Header, Word, Not, And, Or, LeftParen, RightParen}
 use Rattle.ps_hoa.specs.declared.tokens.Kind.TheVariants.{LeftBracket, RightBracket, LeftBrace, RightBrace, Body, End}
 use Rattle.ps_hoa.specs.declared.tokens.Kind.TheVariants.{Abort, Odd}
 use Rattle.ps_hoa.specs.declared.tokens.Class.{Class}
@@ -47,7 +47,7 @@ Tells b (SignOf kind) = is_sign kind ≡ true
 Tells b class = Unit {0}
 
 chosen : (b : ℕ) (t : Bool) (x y : Class) → (t ≡ true → Tells b x) → Tells b y → Tells b (cond t x y)
-chosen b t x y h1 h2 = search rules
+chosen b t x y h k = search rules
 
 class_tells : (b : ℕ) → Tells b (class_of b)
 unfolding class_of
@@ -76,45 +76,24 @@ odd_here b bs is = (
     not_skip n e = cc
 
     not_comment : (o : Option ℕ) → comment_by o ≡ Found Odd 1 → ⊥
-    not_comment None e = cc
-    not_comment (Some n) e = cc
+    not_comment o e = grind arith
 
 -- the test by which a step is chosen
 cond_sound : (bytes : List ℕ) (t : Bool) (x y : Step) → (t ≡ true → Sound bytes x) → (t ≡ false → Sound bytes y) →
     Sound bytes (cond t x y)
-cond_sound bytes t x y h1 h2 = search rules
+cond_sound bytes t x y h k = search rules
 
 and_true : (p q : Bool) → (p && q) ≡ true → (p ≡ true) × (q ≡ true)
-and_true p q h1 = search rules
+and_true p q h = search rules
 
 stops_never : (kind : Kind) → ((b : ℕ) → lengthens kind b ≡ false) → (rest : List ℕ) → StopsBefore (lengthens kind) rest
-stops_never kind h1 rest = search rules
+stops_never kind h rest = search rules
 
 number_sound : (b : ℕ) (bs : List ℕ) → class_of b ≡ Digit → Sound (b ∷ bs) (class_step Digit b bs)
 number_sound b bs e =
     let k = prefix_len is_digit bs in
     let r = run_sound is_digit bs in
-    let len : length (take k bs) ≡ k = length-prefix_len is_digit bs in
-    let one : 1 + k ≡ suc k = omega arith in
-    let digit : is_digit b ≡ true = ap digits e in
-    cond_sound (b ∷ bs) (nat_eq b 48 && nat_lt 0 k) _ _
-    (λ t. let h = and_true (nat_eq b 48) (nat_lt 0 k) t in let some : 0 < k = ltb-true 0 k h.1 in
-    rw one (
-      record {
-        form = search (rules, eqb-true);
-        longest = r.1;
-      },
-      omega arith,
-      omega arith,
-    ))
-    (λ t. rw one (
-      record {
-        form = search rules;
-        longest = r.1;
-      },
-      omega arith,
-      omega arith,
-    ))
+    search (rules, length-prefix_len, cond_sound, and_true, ltb-true, eqb-true)
 
 -- a byte that stands behind a front
 take_head : (k : ℕ) (bs : List ℕ) (c : ℕ) → 0 < c → head_or_zero (drop k bs) ≡ c →
@@ -122,12 +101,11 @@ take_head : (k : ℕ) (bs : List ℕ) (c : ℕ) → 0 < c → head_or_zero (drop
 take_head zero [] c some e = absurd (omega arith)
 take_head zero (b ∷ bs) c some e = (ap (λ (x : ℕ). x ∷ []) e, omega arith)
 take_head (suc k) [] c some e = absurd (omega arith)
-take_head (suc k) (b ∷ bs) c some e =
-    let r = take_head k bs c some e in let l = r.1 in (ap (λ (xs : List ℕ). b ∷ xs) r.0, omega arith)
+take_head (suc k) (b ∷ bs) c some e = grind (arith, take_head k bs c some e)
 
 word_stops : (rest : List ℕ) → StopsBefore is_name_byte rest → nat_eq (head_or_zero rest) 58 ≡ false →
     StopsBefore (lengthens Word) rest
-word_stops rest h1 h2 = search rules
+word_stops rest h k = search rules
 
 name_sound : (b : ℕ) (bs : List ℕ) → class_of b ≡ Letter → Sound (b ∷ bs) (name_step bs)
 name_sound b bs e =
@@ -144,8 +122,7 @@ name_sound b bs e =
       },
       omega arith,
       omega arith,
-    ))
-    (λ t. rw one (record { form = (e, r.0); longest = word_stops (drop k bs) r.1 t }, omega arith, omega arith))
+    )) (λ t. rw one (record { form = (e, r.0); longest = word_stops (drop k bs) r.1 t }, omega arith, omega arith))
 
 tells_of : (b : ℕ) (c : Class) → class_of b ≡ c → Tells b c
 tells_of b c e = subst (λ (k : Class). Tells b k) e (class_tells b)
@@ -157,60 +134,25 @@ alias_sound b bs e =
     let len : length (take k bs) ≡ k = length-prefix_len is_name_byte bs in
     let one : 1 + k ≡ suc k = omega arith in
     let at : b ≡ 64 = tells_of b At e in
-    cond_sound (b ∷ bs) (nat_eq k 0) _ _ (λ t. odd_here b bs (by_class b bs At e ∙ rw t refl))
-    (λ t. let some : k ≢ 0 = λ z. wrong (sym (eq-eqb k 0 z) ∙ t) in
-    rw one (
-      record {
-        form = search rules;
-        longest = r.1;
-      },
-      omega arith,
-      omega arith,
-    ))
-  where
-    wrong : true ≡ false → ⊥
-    wrong e = cc
+    cond_sound (b ∷ bs) (nat_eq k 0) _ _ (λ t. odd_here b bs (by_class b bs At e ∙ rw t refl)) (λ t. grind arith)
 
 text_sound : (b : ℕ) (bs : List ℕ) → class_of b ≡ Quote → Sound (b ∷ bs) (text_step bs)
 text_sound b bs e = go (quoted_len bs false) refl
   where
     go : (o : Option ℕ) → quoted_len bs false ≡ o → Sound (b ∷ bs) (text_by o)
     go None is = odd_here b bs (by_class b bs Quote e ∙ ap text_by is)
-    go (Some n) is =
-        let q = quoted_sound (length bs) bs n (omega arith) is in
-        let one : 1 + n ≡ suc n = omega arith in
-        let quote : b ≡ 34 = tells_of b Quote e in
-        rw one (
-          record {
-            form = (q.0, q.1, (λ i. quote i ∷ q.2 i));
-            longest = stops_never Text (λ c. refl) (drop n bs);
-          },
-          omega arith,
-          omega arith,
-        )
+    go (Some n) is = grind (arith, quoted_sound (length bs) bs n (omega arith) is, tells_of b Quote e)
 
 pub begins_is : (bs word : List ℕ) → begins_with bs word ≡ true →
     (take (length word) bs ≡ word) × (length word ≤ length bs)
-begins_is bs word t =
-    let e = (bytes_eq-Decides (take (length word) bs) word).0 t in (
-      e,
-      (let l : min (length word) (length bs) ≡ length word = sym (length-take (length word) bs)
-          ∙ ap length e in omega arith),
-    )
+begins_is bs word t = grind (arith, bytes_eq-Decides, length-take)
 
 mark_sound : (b : ℕ) (bs : List ℕ) → class_of b ≡ Dash → Sound (b ∷ bs) (mark_step bs)
 mark_sound b bs e = let dash : b ≡ 45 = tells_of b Dash e in
-    cond_sound (b ∷ bs) (begins_with bs (codes "-BODY--")) _ _
-    (λ t. let w = begins_is bs (codes "-BODY--") t in let l = w.1 in
-    (record { form = (λ i. dash i ∷ w.0 i); longest = stops_never Body (λ c. refl) _ }, omega arith, omega arith))
-    (λ t1. cond_sound (b ∷ bs) (begins_with bs (codes "-END--")) _ _
-    (λ t. let w = begins_is bs (codes "-END--") t in let l = w.1 in
-    (record { form = (λ i. dash i ∷ w.0 i); longest = stops_never End (λ c. refl) _ }, omega arith, omega arith))
-    (λ t2. cond_sound (b ∷ bs) (begins_with bs (codes "-ABORT--")) _ _
-    (λ t. let w = begins_is bs (codes "-ABORT--") t in let l = w.1 in
-    (record { form = (λ i. dash i ∷ w.0 i); longest = stops_never Abort (λ c. refl) _ }, omega arith, omega arith))
-    (λ t3. odd_here b bs (by_class b bs Dash e ∙ tested (begins_with bs (codes "-BODY--"))
-    (begins_with bs (codes "-END--")) (begins_with bs (codes "-ABORT--")) t1 t2 t3))))
+    cond_sound (b ∷ bs) (begins_with bs (codes "-BODY--")) _ _ (λ t. let w = begins_is bs (codes "-BODY--") t in
+    grind arith) (λ t1. cond_sound (b ∷ bs) (begins_with bs (codes "-END--")) _ _ (λ t. let w = begins_is bs
+    (codes "-END--") t in grind arith) (λ t2. cond_sound (b ∷ bs) (begins_with bs (codes "-ABORT--")) _ _
+    (λ t. let w = begins_is bs (codes "-ABORT--") t in grind arith) (λ t3. grind (arith, odd_here, by_class, tested))))
   where
     tested : (p q r : Bool) → p ≡ false → q ≡ false → r ≡ false →
         cond p (Found Body 8) (cond q (Found End 7) (cond r (Found Abort 9) (Found Odd 1))) ≡ Found Odd 1
@@ -219,22 +161,14 @@ mark_sound b bs e = let dash : b ≡ 45 = tells_of b Dash e in
 slash_sound : (b : ℕ) (bs : List ℕ) → class_of b ≡ Slash → Sound (b ∷ bs) (comment_step bs)
 slash_sound b [] e = odd_here b [] (by_class b [] Slash e)
 slash_sound b (c ∷ cs) e = cond_sound (b ∷ c ∷ cs) (nat_eq c 42) _ _
-    (λ t. go (eqb-true c 42 t) (comment_len cs false 0) refl)
-    (λ t. odd_here b (c ∷ cs) (by_class b (c ∷ cs) Slash e ∙ ap
-    (λ (p : Bool). cond p (comment_by (comment_len cs false 0)) (Found Odd 1)) t))
+    (λ t. go (eqb-true c 42 t) (comment_len cs false 0) refl) (λ t. odd_here b (c ∷ cs) (by_class b (c ∷ cs) Slash e
+    ∙ ap (λ (p : Bool). cond p (comment_by (comment_len cs false 0)) (Found Odd 1)) t))
   where
     slash : b ≡ 47
     slash = tells_of b Slash e
 
     go : c ≡ 42 → (o : Option ℕ) → comment_len cs false 0 ≡ o → Sound (b ∷ c ∷ cs) (comment_by o)
-    go star None is = (
-      record {
-        begins = (λ i. slash i ∷ star i ∷ []);
-        unclosed = search (rules, comment_found);
-      },
-      omega arith,
-      omega arith,
-    )
+    go star None is = grind (arith, slash, comment_found)
     go star (Some n) is =
         let s = comment_sound (length cs) cs 0 n (omega arith) is in
         let two : 2 + n ≡ suc (suc n) = omega arith in
@@ -242,7 +176,7 @@ slash_sound b (c ∷ cs) e = cond_sound (b ∷ c ∷ cs) (nat_eq c 42) _ _
 
 sign_sound : (kind : Kind) (b : ℕ) (bs : List ℕ) → class_of b ≡ SignOf kind → is_sign kind ≡ true →
     Sound (b ∷ bs) (Found kind 1)
-sign_sound kind b bs h1 h2 = search (rules, stops_never)
+sign_sound kind b bs h k = search (rules, stops_never)
 
 other_sound : (b : ℕ) (bs : List ℕ) → class_of b ≡ Other → Sound (b ∷ bs) (Found Odd 1)
 other_sound b bs e = odd_here b bs (by_class b bs Other e)

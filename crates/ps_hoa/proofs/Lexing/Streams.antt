@@ -1,6 +1,6 @@
 -- The pieces still to come, and one token further.
-use Rattle.std.proofs.Common.{◌≡◌, ℕ, ◌+◌, ◌-◌, ◌<◌, ◌≤◌, ◌↔◌, Bool, false, cond, List, [], ◌∷◌, rules, length, take}
-use Rattle.std.proofs.Common.{drop, refl, ap, sym, ◌∙◌, arith, length-drop}
+use Rattle.std.proofs.Common.{◌≡◌, ℕ, ◌-◌, ◌<◌, ◌≤◌, ◌↔◌, Bool, false, cond, List, [], ◌∷◌, rules, length, take}
+use Rattle.std.proofs.Common.{drop, refl, ap, ◌∙◌, arith, length-drop}
 use Rattle.std.specs.List.{slice_range}
 use Rattle.std.proofs.lemmas.List.{drop_all, drop-drop}
 use Rattle.std.proofs.Math.Decide.{dec_lt}
@@ -81,11 +81,11 @@ no_piece : (p : Piece Sign) (ps : List (Piece Sign)) → p ∷ ps ≡ [] → ⊥
 no_piece p ps e = cc
 
 other : (a : Bool) (kind : Kind) → is_finish kind ≡ false → cond a Behind kind ≡ Finish → ⊥
-other a kind h1 h2 = search rules
+other a kind h k = search rules
 
 -- a token is never the end of the text
 never : (m : Marks) (kind : Kind) (text : List ℕ) → is_finish kind ≡ false → kind_here m kind text ≡ Finish → ⊥
-never m kind text h1 h2 = search (rules, other)
+never m kind text h k = search (rules, other)
 
 module _ (source : List ℕ) (l : Lexeme) (marks : Marks) (h : IsLexeme source l) where
   -- a token stands here
@@ -93,18 +93,7 @@ module _ (source : List ℕ) (l : Lexeme) (marks : Marks) (h : IsLexeme source l
       (stream_of (before source l marks)).pieces ≡ token_piece source l marks ∷ marked (marks_behind source l marks)
       (lex l.stop (drop l.stop source))
   unfolding stream_of
-  found some =
-      let stop = h.some some in
-      let long : 0 < length (drop l.start source) = rw length-drop (omega arith) in
-      let more : 0 < l.stop - l.start = omega arith in
-      let there : l.start + (l.stop - l.start) ≡ l.stop = omega arith in
-      let rest : drop (l.stop - l.start) (drop l.start source) ≡ drop l.stop source =
-      drop-drop (l.stop - l.start) l.start source ∙ ap (λ (k : ℕ). drop k source) there in
-      ap (λ (ps : List (Piece Sign)). marked marks ps)
-      (lex_token (drop l.start source) l.kind (l.stop - l.start) l.start long h.token more)
-      ∙ ap (λ (ps : List (Piece Sign)). token_piece source l marks ∷ marked (marks_behind source l marks) ps)
-      (ap (λ (k : ℕ). lex k (drop (l.stop - l.start) (drop l.start source))) there
-      ∙ ap (λ (bytes : List ℕ). lex l.stop bytes) rest)
+  found some = grind (arith, length-drop, drop-drop, lex_token)
 
   pub next_is : next_of (stream_of (before source l marks)) ≡ token_piece source l marks
   next_is = let r = before source l marks in
@@ -113,10 +102,7 @@ module _ (source : List ℕ) (l : Lexeme) (marks : Marks) (h : IsLexeme source l
         | no none ↦
             let done : length source ≤ l.start = omega arith in
             let f = finish_here r l.kind (l.stop - l.start) done h.token in
-            let e : length source ≡ l.start = omega (arith, h.rises, h.within) in
-            let text : slice_range source l.start l.stop ≡ [] =
-            rw (drop_all l.start source done) (take_nothing (l.stop - l.start)) in
-            next_at_end (stream_of r) (pieces_none r done) ∙ rw (end_is r, e, text, f.0) refl
+            grind (arith, drop_all, take_nothing, next_at_end, pieces_none, end_is)
       ])
 
   pub rest_is : (at : ℕ) → l.stop ≤ at → lex at (drop at source) ≡ lex l.stop (drop l.stop source) →
@@ -131,11 +117,8 @@ module _ (source : List ℕ) (l : Lexeme) (marks : Marks) (h : IsLexeme source l
       ((stream_of r).pieces ≡ [])) [
         | yes some ↦ search (rules, never, no_piece, found)
         | no none ↦
-            let done : length source ≤ l.start = omega arith in (
-              λ _. pieces_none r done,
-              λ _. ap (λ (k : Kind). kind_here marks k (slice_range source l.start l.stop))
-                  (finish_here r l.kind (l.stop - l.start) done h.token).0,
-            )
+            let done : length source ≤ l.start = omega arith in
+            grind (arith, pieces_none r done, finish_here r l.kind (l.stop - l.start) done h.token)
       ])
 
 -- what the kept token says of a reader
@@ -146,13 +129,10 @@ module _ {source : List ℕ} {marks : Marks} {kind : Kind} {token : Token} (k : 
     here = k.here ∙ ap (kind_here marks kind) k.text
 
     pub kept_next : piece_of token ≡ next_of (stream_of r)
-    kept_next = (λ i. record { sign = record { kind = here i; text = k.text i }; start = token.start })
-        ∙ sym (next_is source _ marks k.lexeme) ∙ ap (λ (s : Reading). next_of (stream_of s)) at
+    kept_next = grind (arith, next_is source _ marks k.lexeme)
 
     pub kept_finish : (token.kind ≡ Finish) ↔ ((stream_of r).pieces ≡ [])
-    kept_finish = let w = finish_iff source _ marks k.lexeme in
-        let same = ap (λ (s : Reading). (stream_of s).pieces) at in
-        (λ e. sym same ∙ w.0 (sym here ∙ e), λ e. here ∙ w.1 (same ∙ e))
+    kept_finish = grind (arith, finish_iff source _ marks k.lexeme, here)
 
     pub kept_span : IsSpan r.source token
     kept_span = search rules
@@ -160,14 +140,11 @@ module _ {source : List ℕ} {marks : Marks} {kind : Kind} {token : Token} (k : 
     pub kept_rest : {start next : ℕ} {behind : Marks} → start ≡ next → behind ≡ marks_after marks kind token.text.now →
         token.stop ≤ next → lex next (drop next source) ≡ lex token.stop (drop token.stop source) →
         stream_of (record { source = source; at = start; marks = behind }) ≡ behind_next (stream_of r)
-    kept_rest {next = next} e f on same =
-        (λ i. stream_of (record { source = source; at = e i; marks = (f ∙ ap (marks_after marks kind) k.text) i }))
-        ∙ rest_is source _ marks k.lexeme next on same ∙ ap (λ (s : Reading). behind_next (stream_of s)) at
+    kept_rest {next = next} e f on same = grind (arith, rest_is source _ marks k.lexeme next on same)
 
 -- the pieces from a place on, by their relation to the bytes
-pub pieces_new : (source : List ℕ) (from at start : ℕ) (marks : Marks) (pieces : List (Piece Sign)) →
-    marks ≡ fresh → start ≡ at → lex at (drop at source) ≡ lex from (drop from source) →
-    lex from (drop from source) ≡ pieces →
+pub pieces_new : (source : List ℕ) (from at start : ℕ) (marks : Marks) (pieces : List (Piece Sign)) → marks ≡ fresh →
+    start ≡ at → lex at (drop at source) ≡ lex from (drop from source) → lex from (drop from source) ≡ pieces →
     (stream_of (record { source = source; at = start; marks = marks })).pieces ≡ marked fresh pieces
 unfolding stream_of
 pieces_new source from at start marks pieces e f same is = search rules

@@ -11,7 +11,7 @@ use Rattle.std.proofs.Math.Seq.{drop-append_seam}
 use Rattle.ps_hoa.specs.Bytes.{class_of, is_digit, is_name_byte, goes_on as names}
 use Rattle.ps_hoa.specs.Tokens.{Ends, closes_last, closes, opens, goes_on, AllBytes, IsName, IsQuoted, nothing, plain}
 use Rattle.ps_hoa.specs.Tokens.{escaped, lengthens, StopsBefore, Stands}
-use Rattle.ps_hoa.specs.Scan.{one_more, comment_len, quoted_len, step_of, class_step, text_by}
+use Rattle.ps_hoa.specs.Scan.{one_more, comment_len, quoted_len, step_of, class_step}
 use Rattle.ps_hoa.specs.declared.tokens.Kind.{Kind}
 use Rattle.ps_hoa.specs.declared.tokens.Kind.TheVariants.{Header, HeaderAgain, Word, AliasName, Int, ZeroRun, Text}
 use Rattle.ps_hoa.specs.declared.tokens.Kind.TheVariants.{Body, End, Abort, OpenComment, Odd, Behind, Finish}
@@ -58,8 +58,7 @@ pub run_len : (p : ℕ → Bool) (run rest : List ℕ) → AllBytes p run → St
     prefix_len p (run ++ rest) ≡ length run
 run_len p [] [] all stops = refl
 run_len p [] (b ∷ bs) all stops = rw stops refl
-run_len p (b ∷ bs) rest all stops =
-    rw (all.0, run_len p bs rest all.1 stops) (let e : 1 + length bs ≡ suc (length bs) = omega arith in e)
+run_len p (b ∷ bs) rest all stops = grind (arith, run_len p bs rest all.1 stops)
 
 pub run_sound : (p : ℕ → Bool) (bs : List ℕ) → AllBytes p (take (prefix_len p bs) bs) ×
     StopsBefore p (drop (prefix_len p bs) bs) × (prefix_len p bs ≤ length bs)
@@ -69,15 +68,13 @@ run_sound p (b ∷ bs) = go (run_sound p bs) (p b) refl
     go : AllBytes p (take (prefix_len p bs) bs) × StopsBefore p (drop (prefix_len p bs) bs) ×
         (prefix_len p bs ≤ length bs) → (t : Bool) → p b ≡ t → AllBytes p (take (prefix_len p (b ∷ bs)) (b ∷ bs)) ×
         StopsBefore p (drop (prefix_len p (b ∷ bs)) (b ∷ bs)) × (prefix_len p (b ∷ bs) ≤ length (b ∷ bs))
-    go r true e = let same : 1 + prefix_len p bs ≡ suc (prefix_len p bs) = omega arith in let short = r.2 in
-        rw (e, same) ((e, r.0), r.1, omega arith)
-    go r false e = rw e (tt, e, omega arith)
+    go r t e = grind arith
 
 -- ## Comments and strings
 
 -- what one more tells
 pub some_more : (o : Option ℕ) (n : ℕ) → one_more o ≡ Some n → (m : ℕ) × (o ≡ Some m) × (n ≡ suc m)
-some_more o n h1 = search rules
+some_more o n h = search rules
 
 pub differ : (a b : ℕ) → a ≢ b → nat_eq a b ≡ false
 differ a b h = grind arith
@@ -108,7 +105,7 @@ no_number n e = omega arith
 
 text_of_name : (name : List ℕ) → IsName name → (b : ℕ) × (bs : List ℕ) × (name ≡ b ∷ bs) × (class_of b ≡ Letter) ×
     AllBytes is_name_byte bs
-text_of_name name h1 = search rules
+text_of_name name h = search rules
 
 name_58 : is_name_byte 58 ≡ false
 name_58 = ap names class_58
@@ -119,57 +116,49 @@ header_step b bs rest e all =
     let split : (bs ++ 58 ∷ []) ++ rest ≡ bs ++ 58 ∷ rest = append_assoc bs (58 ∷ []) rest in
     let n : prefix_len is_name_byte (bs ++ 58 ∷ rest) ≡ length bs = run_len is_name_byte bs (58 ∷ rest) all name_58 in
     let len : 2 + length bs ≡ suc (length (bs ++ 58 ∷ [])) = rw length-append (omega arith) in
-    by_class b ((bs ++ 58 ∷ []) ++ rest) Letter e ∙ rw (split, n, drop-append_seam bs (58 ∷ rest))
-    (ap (λ (k : ℕ). Found Header k) len)
+    grind (arith, by_class b ((bs ++ 58 ∷ []) ++ rest) Letter e, drop-append_seam bs (58 ∷ rest))
 
 word_step : (b : ℕ) (bs rest : List ℕ) → class_of b ≡ Letter → AllBytes is_name_byte bs →
     StopsBefore (lengthens Word) rest → step_of ((b ∷ bs) ++ rest) ≡ Found Word (length (b ∷ bs))
 word_step b bs [] e all stops =
     let n : prefix_len is_name_byte (bs ++ []) ≡ length bs = run_len is_name_byte bs [] all tt in
     let len : 1 + length bs ≡ suc (length bs) = omega arith in
-    by_class b (bs ++ []) Letter e ∙ rw (n, drop-append_seam bs (let none : List ℕ = [] in none))
-    (ap (λ (k : ℕ). Found Word k) len)
+    by_class b (bs ++ []) Letter e ∙ rw (n, drop-append_seam bs (let none : List ℕ = [] in none)) (grind arith)
 word_step b bs (c ∷ rest) e all stops =
     let both = neither (is_name_byte c) (nat_eq c 58) stops in
-    let n : prefix_len is_name_byte (bs ++ c ∷ rest) ≡ length bs = run_len is_name_byte bs (c ∷ rest) all both.0 in
-    let len : 1 + length bs ≡ suc (length bs) = omega arith in
-    by_class b (bs ++ c ∷ rest) Letter e ∙ rw (n, drop-append_seam bs (c ∷ rest), both.1)
-    (ap (λ (k : ℕ). Found Word k) len)
+    grind (
+      arith,
+      run_len is_name_byte bs (c ∷ rest) all both.0,
+      by_class b (bs ++ c ∷ rest) Letter e,
+      drop-append_seam bs (c ∷ rest),
+    )
   where
     neither : (p q : Bool) → (p || q) ≡ false → (p ≡ false) × (q ≡ false)
-    neither true q h = cc
-    neither false true h = cc
-    neither false false h = (refl, refl)
+    neither p q h = grind arith
 
 alias_found : (bs rest : List ℕ) → 0 < length bs → AllBytes is_name_byte bs → StopsBefore is_name_byte rest →
     step_of ((64 ∷ bs) ++ rest) ≡ Found AliasName (length (let all : List ℕ = 64 ∷ bs in all))
 alias_found bs rest some all stops =
-    let n : prefix_len is_name_byte (bs ++ rest) ≡ length bs = run_len is_name_byte bs rest all stops in
-    let len : 1 + length bs ≡ suc (length bs) = omega arith in
-    let no : nat_eq (length bs) 0 ≡ false = differ (length bs) 0 (λ e. omega arith) in
-    by_class 64 (bs ++ rest) At class_64 ∙ rw (n, no) (ap (λ (k : ℕ). Found AliasName k) len)
+    grind (arith, run_len is_name_byte bs rest all stops, by_class 64 (bs ++ rest) At class_64)
 
 number_found : (t : Bool) (b : ℕ) (bs rest : List ℕ) → AllBytes is_digit (b ∷ bs) → StopsBefore is_digit rest →
     (nat_eq b 48 && nat_lt 0 (length bs)) ≡ t → step_of ((b ∷ bs) ++ rest) ≡ cond t (Found ZeroRun (length (b ∷ bs)))
     (Found Int (length (b ∷ bs)))
 number_found t b bs rest all stops is =
-    let n : prefix_len is_digit (bs ++ rest) ≡ length bs = run_len is_digit bs rest all.1 stops in
-    let len : 1 + length bs ≡ suc (length bs) = omega arith in
-    by_class b (bs ++ rest) Digit (digit_class b all.0) ∙ rw (n, is, len) refl
+    grind (arith, run_len is_digit bs rest all.1 stops, by_class b (bs ++ rest) Digit (digit_class b all.0))
 
 text_found : (inside rest : List ℕ) → IsQuoted inside → step_of ((34 ∷ inside ++ 34 ∷ []) ++ rest) ≡ Found Text
     (length (34 ∷ inside ++ 34 ∷ []))
 text_found inside rest q =
     let split : (inside ++ 34 ∷ []) ++ rest ≡ inside ++ 34 ∷ rest = append_assoc inside (34 ∷ []) rest in
     let len : 1 + suc (length inside) ≡ suc (length (inside ++ 34 ∷ [])) = rw length-append (omega arith) in
-    by_class 34 ((inside ++ 34 ∷ []) ++ rest) Quote class_34 ∙ ap (λ (bs : List ℕ). text_by (quoted_len bs false)) split
-    ∙ ap text_by (quoted_found rest q) ∙ ap (λ (k : ℕ). Found Text k) len
+    grind (arith, by_class 34 ((inside ++ 34 ∷ []) ++ rest) Quote class_34, quoted_found rest q)
 
 plain_test : (b n : ℕ) → (1 < suc n → b ≡ 48 → ⊥) → (nat_eq b 48 && nat_lt 0 n) ≡ false
-plain_test b n h1 = search (rules, eqb_tells)
+plain_test b n h = search (rules, eqb_tells)
 
 pub zero_test : (b n : ℕ) → b ≡ 48 → 1 < suc n → (nat_eq b 48 && nat_lt 0 n) ≡ true
-zero_test b n h1 h2 = search rules
+zero_test b n h k = search rules
 
 pub stand_step : (kind : Kind) (text rest : List ℕ) → Stands kind text rest →
     (step_of (text ++ rest) ≡ Found kind (length text)) × (0 < length text)

@@ -6,14 +6,13 @@ use Rattle.ps_label.specs.Expression.{Expression}
 use Rattle.ps_text.specs.Parts.{one, mapped, barred}
 use Rattle.ps_text.proofs.Outcomes.{has_give, has_mapped, has_then, has_either, has_barred}
 use Rattle.ps_hoa.specs.Causes.{hoa_causes}
-use Rattle.ps_hoa.specs.Operands.{nesting_limit, mark_in, mark}
+use Rattle.ps_hoa.specs.Operands.{mark_in, mark}
 use Rattle.ps_hoa.specs.Labels.{label}
 use Rattle.ps_hoa.specs.Files.{RowData}
 use Rattle.ps_hoa.specs.Header.{HeaderData, int_in, IsAlternating}
-use Rattle.ps_hoa.specs.Body.{BodyData, no_rows, IsBadState, BadIn, sets_of, is_right_brace, set_number, marks}
-use Rattle.ps_hoa.specs.Body.{is_right_bracket, body_scope, some_label, label_in_brackets, state_label, with_edge, edge}
+use Rattle.ps_hoa.specs.Body.{BodyData, no_rows, BadIn, sets_of, is_right_brace, set_number, marks}
+use Rattle.ps_hoa.specs.Body.{label_in_brackets, state_label, with_edge, edge}
 use Rattle.ps_hoa.specs.Body.{edges, IsBadRow, state_name, empty_row, with_row, state, is_end, IsBadClose, body}
-use Rattle.ps_hoa.specs.Body.{IsBadPlainTarget}
 use Rattle.ps_hoa.specs.Texts.{file_of, file}
 use Rattle.ps_hoa.specs.declared.fault.HoaCause.{HoaCause}
 use Rattle.ps_hoa.proofs.Grammar.BodyLaws.{joint_sets, joint_braces, laws_sets, laws_no_sets, joint_label}
@@ -42,16 +41,14 @@ has_set_number count ns = search (rules, has_mapped, has_number, judge_mark)
 
 has_marks : (h : HeaderData) → Has (marks h)
 has_marks h = has_either hoa_causes (laws_sets (sets_of h)) laws_no_sets (λ t a b. b)
-    (has_then hoa_causes (joint_braces (sets_of h)) (has_mark tests_left_brace) (λ _.
-    has_then hoa_causes (joint_sets (sets_of h)) (has_loop (set_loop (sets_of h)) (has_set_number (sets_of h)) [])
-    (λ ns. has_mapped hoa_causes (λ _. ns) (mark is_right_brace) (has_mark tests_right_brace))))
-    (has_give hoa_causes [])
+    (has_then hoa_causes (joint_braces (sets_of h)) (has_mark tests_left_brace) (λ _. has_then hoa_causes
+    (joint_sets (sets_of h)) (has_loop (set_loop (sets_of h)) (has_set_number (sets_of h)) []) (λ ns. has_mapped
+    hoa_causes (λ _. ns) (mark is_right_brace) (has_mark tests_right_brace)))) (has_give hoa_causes [])
 
 -- ## Labels between brackets
 
 has_in_brackets : (h : HeaderData) → Has (label_in_brackets h)
-has_in_brackets h = has_then hoa_causes (joint_label h) (has_label (body_scope h) nesting_limit) (λ e.
-    has_mapped hoa_causes (some_label e) (mark is_right_bracket) (has_mark tests_right_bracket))
+has_in_brackets h = search (rules, has_then, joint_label, has_label, has_mapped, has_mark, tests_right_bracket)
 
 has_state_label : (h : HeaderData) → Has (state_label h)
 has_state_label h = has_either hoa_causes (laws_bracketed h) laws_no_label (λ t a b. b)
@@ -70,14 +67,11 @@ module _ (h : HeaderData) (before : ℕ) (row : RowData) where
   has_marked label n = has_mapped hoa_causes (with_edge row label n) (marks h) (has_marks h)
 
   has_edge : Has (edge h before row)
-  has_edge = has_either hoa_causes (laws_labelled_edge h before row) (laws_plain_edge h before row)
-      (bracket_int h before row) (has_then hoa_causes (joint_edge_label h before row)
-      (has_signs (bracket_signs before row) (judge_bracket before row)) (λ _.
-      has_then hoa_causes (joint_edge_target h before row) (has_in_brackets h) (λ label.
-      has_then hoa_causes (joint_edge_marks h before row label)
-      (has_target (IsBadState h.states) (judge_state h.states)) (has_marked label))))
-      (has_then hoa_causes (joint_plain_marks h before row)
-      (has_target (IsBadPlainTarget h.states before row) (judge_plain h.states before row)) (has_marked None))
+  has_edge = has_either hoa_causes (laws_labelled_edge h before row) (laws_plain_edge h before row) (bracket_int h
+      before row) (has_then hoa_causes (joint_edge_label h before row) (has_signs (bracket_signs before row)
+      (judge_bracket before row)) (λ _. has_then hoa_causes (joint_edge_target h before row) (has_in_brackets h)
+      (λ label. has_then hoa_causes (joint_edge_marks h before row label) (search (rules, has_target, judge_state))
+      (has_marked label)))) (search (rules, has_then, joint_plain_marks, has_target, judge_plain, has_marked))
 
 -- ## States
 
@@ -85,16 +79,14 @@ has_state_name : Has state_name
 has_state_name = search (rules, has_either, laws_named, laws_no_name, has_mapped, has_string, has_give)
 
 has_state : (h : HeaderData) (b : BodyData) → Has (state h b)
-has_state h b = has_then hoa_causes (joint_state h b) (has_signs (next_signs h b) (judge_next h b)) (λ _.
-    has_then hoa_causes (joint_state_label h b) (has_state_label h) (λ label.
-    has_then hoa_causes (joint_number h b label) (has_number (IsBadRow h b) (judge_row h b)) (λ n.
-    has_then hoa_causes (joint_name h b label n) has_state_name (λ _.
-    has_then hoa_causes (joint_marks h b label n) (has_marks h) (λ ns.
-    has_mapped hoa_causes (with_row b) (edges h b.edges (empty_row n label ns))
-    (has_loop (edge_loop h b.edges) (has_edge h b.edges) (empty_row n label ns)))))))
+has_state h b = has_then hoa_causes (joint_state h b) (has_signs (next_signs h b) (judge_next h b))
+    (λ _. has_then hoa_causes (joint_state_label h b) (has_state_label h)
+    (λ label. has_then hoa_causes (joint_number h b label) (has_number (IsBadRow h b) (judge_row h b)) (λ n. has_then
+    hoa_causes (joint_name h b label n) has_state_name (λ _. has_then hoa_causes (joint_marks h b label n) (has_marks h)
+    (λ ns. has_mapped hoa_causes (with_row b) (edges h b.edges (empty_row n label ns))
+    (has_loop (edge_loop h b.edges) (search (rules, has_edge)) (empty_row n label ns)))))))
 
 pub has_file : Has file
 has_file = has_then hoa_causes joint_file has_header (λ h. has_mapped hoa_causes (file_of h) (body h)
-    (has_then hoa_causes (joint_body h) (has_loop (state_loop h) (has_state h) no_rows) (λ b.
-    has_mapped hoa_causes (λ _. b) (one (mark_in is_end) (IsBadClose h b))
-    (has_signs (end_signs h b) (judge_close h b)))))
+    (has_then hoa_causes (joint_body h) (has_loop (state_loop h) (has_state h) no_rows) (λ b. has_mapped hoa_causes
+    (λ _. b) (one (mark_in is_end) (IsBadClose h b)) (has_signs (end_signs h b) (judge_close h b)))))

@@ -1,7 +1,7 @@
 -- What is wrong with a header where `--BODY--` stands: the flaw of the least number, or none.
 --     judge_header      of a header
 --     judge_body_mark      of the sign
-use Rattle.std.proofs.Common.{◌≡◌, ℕ, List, [], ◌∷◌, Option, None, Some, refl, inl, inr, rules}
+use Rattle.std.proofs.Common.{◌≡◌, ℕ, List, [], ◌∷◌, Option, None, Some, inl, inr, rules}
 use Rattle.ps_label.specs.Expression.{Expression, constant, proposition, alias, not_of, all_of, any_of, Operands, last}
 use Rattle.ps_label.specs.Expression.{more}
 use Rattle.ps_text.proofs.Outcomes.{Judged, bad, good}
@@ -14,9 +14,7 @@ use Rattle.ps_hoa.specs.Header.{AcceptanceData, HeaderData, SpeaksBeyond, SomeSp
 use Rattle.ps_hoa.specs.Header.{NamesSetBeyond, SomeNamesSetBeyond, AnIndexBeyond, IsStartBeyond, IsStartTooLarge}
 use Rattle.ps_hoa.specs.Header.{IsConditionBeyond, IsControlBeyond, IsRangeBroken, IsBadHeader, IsBadBody}
 use Rattle.ps_hoa.specs.declared.fault.HoaCause.{HoaCause}
-use Rattle.ps_hoa.specs.declared.tokens.Kind.TheVariants.{Body}
 use Rattle.ps_hoa.proofs.Grammar.KindSets.{test_of}
-use Rattle.ps_hoa.proofs.Grammar.SignLaws.{is_body}
 use Rattle.ps_hoa.proofs.Outcomes.Judging.{JudgesAll, decide_kind}
 use Rattle.ps_hoa.proofs.Outcomes.LeastFlaws.{no_acceptance_least, too_large_least, no_start_least, range_least}
 use Rattle.ps_hoa.proofs.Outcomes.LeastFlaws.{no_controllable_least, none_is_sound}
@@ -92,5 +90,4 @@ module _ (h : HeaderData) where
   judge_header = search (rules, by_flaw, decide_none, start_large, range_broken)
 
 pub judge_body_mark : (h : HeaderData) → JudgesAll (IsBadBody h)
-judge_body_mark h t = judge_also cause_number (decide_kind is_body Body (test_of is_body Body refl refl)
-    t.kind) (judge_header h)
+judge_body_mark h t = judge_also cause_number (search (rules, decide_kind, test_of)) (judge_header h)

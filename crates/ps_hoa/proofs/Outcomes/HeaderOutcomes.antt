@@ -1,16 +1,16 @@
 -- The header has an outcome from each list of signs: it is read, or has a first fault.
 --     has_string      a string between quotes
 --     has_header      the outcome
-use Rattle.std.proofs.Common.{ℕ, List, []}
+use Rattle.std.proofs.Common.{rules, ℕ, List, []}
 use Rattle.std.specs.Prelude.{codes}
-use Rattle.ps_text.specs.Parts.{one, times, many, mapped, barred}
+use Rattle.ps_text.specs.Parts.{times, many, mapped, barred}
 use Rattle.ps_text.proofs.Outcomes.{has_give, has_mapped, has_then, has_either, has_times, has_barred}
 use Rattle.ps_text.proofs.ChoiceOutcomes.{has_choice}
 use Rattle.ps_hoa.specs.Causes.{hoa_causes}
 use Rattle.ps_hoa.specs.Operands.{number_limit, nesting_limit}
 use Rattle.ps_hoa.specs.Labels.{label}
-use Rattle.ps_hoa.specs.Header.{HeaderData, no_items, proposition_limit, item_name, int, string, string_in}
-use Rattle.ps_hoa.specs.Header.{IsAlternating, with_start, IsBadName, with_name, proposition_name, with_names}
+use Rattle.ps_hoa.specs.Header.{HeaderData, no_items, proposition_limit, item_name, int, string}
+use Rattle.ps_hoa.specs.Header.{IsAlternating, with_start, proposition_name, with_names}
 use Rattle.ps_hoa.specs.Header.{header_scope, with_alias, kept, index, with_controllable, unchanged, form_of, item}
 use Rattle.ps_hoa.specs.Header.{header, state_limit, set_limit, with_states, with_acceptance}
 use Rattle.ps_hoa.specs.ItemNames as items
@@ -47,8 +47,7 @@ has_string = has_signs signs_string no_bad
 -- ## Items
 
 has_proposition : (names : List (List ℕ)) → Has (proposition_name names)
-has_proposition names = has_mapped hoa_causes (with_name names) (one string_in (IsBadName names))
-    (has_signs (signs_new_name names) (judge_name names))
+has_proposition names = search (rules, has_mapped, has_signs, signs_new_name, judge_name)
 
 has_index : (ns : List ℕ) → Has (index ns)
 has_index ns = has_mapped hoa_causes (kept ns) (int number_limit) (has_int number_limit)
@@ -59,27 +58,24 @@ has_read_string h = has_mapped hoa_causes (unchanged h) string has_string
 has_form : (h : HeaderData) (name : ItemName) → Has (form_of h name)
 has_form h items.states = has_then hoa_causes (joint_states h) (has_name (codes "States:")) (λ _.
     has_mapped hoa_causes (with_states h) (int state_limit) (has_int state_limit))
-has_form h items.start = has_then hoa_causes (joint_start h) (has_signs (signs_start h) (judge_second h)) (λ _.
-    has_mapped hoa_causes (with_start h) (barred (int number_limit) IsAlternating)
-    (has_barred hoa_causes IsAlternating (laws_int number_limit) number_barred judge_alternating
-    (has_int number_limit)))
+has_form h items.start = has_then hoa_causes (joint_start h) (has_signs (signs_start h) (judge_second h))
+    (λ _. has_mapped hoa_causes (with_start h) (barred (int number_limit) IsAlternating) (has_barred hoa_causes
+    IsAlternating (laws_int number_limit) number_barred judge_alternating (has_int number_limit)))
 has_form h items.propositions = has_then hoa_causes (joint_names h) (has_name (codes "AP:")) (λ _.
     has_then hoa_causes (joint_counted_names h) (has_int proposition_limit) (λ n.
     has_mapped hoa_causes (with_names h) (times n proposition_name [])
     (has_times hoa_causes proposition_name laws_proposition_name (nothing_apart (Of is_string)) has_proposition n [])))
-has_form h items.alias = has_then hoa_causes (joint_alias h) (has_name (codes "Alias:")) (λ _.
-    has_then hoa_causes (joint_named_label h) (has_signs (signs_alias h.alias_names) (judge_alias h.alias_names))
-    (λ name. has_mapped hoa_causes (with_alias h name) (label (header_scope h) nesting_limit)
-    (has_label (header_scope h) nesting_limit)))
+has_form h items.alias = has_then hoa_causes (joint_alias h) (has_name (codes "Alias:")) (λ _. has_then hoa_causes
+    (joint_named_label h) (has_signs (signs_alias h.alias_names) (judge_alias h.alias_names)) (λ name. has_mapped
+    hoa_causes (with_alias h name) (label (header_scope h) nesting_limit) (has_label (header_scope h) nesting_limit)))
 has_form h items.acceptance = has_then hoa_causes (joint_acceptance h) (has_name (codes "Acceptance:")) (λ _.
     has_then hoa_causes (joint_counted_condition h) (has_int set_limit) (λ n.
     has_mapped hoa_causes (with_acceptance h n) (condition nesting_limit) (has_condition nesting_limit)))
 has_form h items.controllable = has_then hoa_causes (joint_controllable h) (has_name (codes "controllable-AP:")) (λ _.
     has_mapped hoa_causes (with_controllable h) (many index []) (has_loop index_loop has_index []))
-has_form h items.tool = has_then hoa_causes (joint_tool h) (has_name (codes "tool:")) (λ _.
-    has_then hoa_causes (joint_strings h) has_string (λ _.
-    has_either hoa_causes (laws_read_string h) (laws_no_string h) (λ t a b. b) (has_read_string h)
-    (has_give hoa_causes h)))
+has_form h items.tool = has_then hoa_causes (joint_tool h) (has_name (codes "tool:"))
+    (λ _. has_then hoa_causes (joint_strings h) has_string (λ _. has_either hoa_causes (laws_read_string h)
+    (laws_no_string h) (λ t a b. b) (has_read_string h) (has_give hoa_causes h)))
 has_form h items.name = has_then hoa_causes (joint_name_item h) (has_name (codes "name:")) (λ _. has_read_string h)
 has_form h items.other = has_then hoa_causes (joint_other h) (has_signs signs_other no_bad) (λ _.
     has_loop read_over_loop (λ g. has_signs (signs_read_over g) (judge_above number_limit)) h)

@@ -12,7 +12,7 @@ use Rattle.ps_text.proofs.Decisions.{Decided, decide_true, decide_none, decide_n
 use Rattle.ps_text.proofs.Decisions.{decide_below, judge_none, judge_cause, judge_one, judge_as, judge_if, judge_also}
 use Rattle.ps_text.proofs.Simple.{none_is_some, same_some}
 use Rattle.ps_hoa.specs.Causes.{cause_number}
-use Rattle.ps_hoa.specs.Operands.{number_limit, is_and}
+use Rattle.ps_hoa.specs.Operands.{number_limit}
 use Rattle.ps_hoa.specs.Labels.{ScopeData, alias_number, IsBeyond, IsBadLeaf, BadLeaf}
 use Rattle.ps_hoa.specs.Conditions as conditions
 use Rattle.ps_hoa.specs.Conditions.{IsBadStart, BadStart}
@@ -20,17 +20,16 @@ use Rattle.ps_hoa.specs.Files.{RowData}
 use Rattle.ps_hoa.specs.Header.{HeaderData, state_limit, name_value, int_in, IsAbove, IsSecondStart, IsAlternating}
 use Rattle.ps_hoa.specs.Header.{IsBadName, IsBadAlias}
 use Rattle.ps_hoa.specs.Body.{BodyData, edge_limit, IsBadState, IsBadSet, BadIn, labelling, MayHaveNoLabel}
-use Rattle.ps_hoa.specs.Body.{MayHaveLabel, IsBadBracket, IsBadPlainTarget, IsWrongCount, last_row, IsBadEnd, has_row}
-use Rattle.ps_hoa.specs.Body.{IsBadRow, state_value, IsBadNext, is_end, IsBadClose, is_left_bracket}
+use Rattle.ps_hoa.specs.Body.{MayHaveLabel, IsBadBracket, IsBadPlainTarget, IsWrongCount, last_row, IsBadEnd}
+use Rattle.ps_hoa.specs.Body.{IsBadRow, state_value, IsBadNext, is_end, IsBadClose}
 use Rattle.ps_hoa.specs.declared.edges.Labelling.{Labelling}
 use Rattle.ps_hoa.specs.declared.edges.Labelling.TheVariants.{ByPlace}
 use Rattle.ps_hoa.specs.declared.fault.HoaCause.{HoaCause}
 use Rattle.ps_hoa.specs.declared.fault.HoaCause.TheVariants as causes
 use Rattle.ps_hoa.specs.declared.tokens.Kind.{Kind}
-use Rattle.ps_hoa.specs.declared.tokens.Kind.TheVariants.{And, AliasName, Int, LeftBracket, LeftParen, Not}
+use Rattle.ps_hoa.specs.declared.tokens.Kind.TheVariants.{AliasName, Int, LeftParen, Not}
 use Rattle.ps_hoa.specs.Inner.Signs.{IsTestOf}
 use Rattle.ps_hoa.proofs.Grammar.KindSets.{test_of}
-use Rattle.ps_hoa.proofs.Reading.MarkReading.{tests_left_bracket}
 
 abbrev pub JudgesAll : {A : Type 0} → (A → HoaCause → Type 0) → Type 0
 JudgesAll {A} Bad = (a : A) → Judged cause_number (Bad a)
@@ -95,8 +94,7 @@ judge_second h t = judge_as cause_number (λ f b. (b.0.0, b.0.1, b.1)) (λ f b. 
     (decide_not (decide_none h.start))))
 
 pub judge_alternating : (state : ℕ) → JudgesAll (IsAlternating state)
-judge_alternating state t = judge_cause cause_number causes.Alternating
-    (decide_kind is_and And (test_of is_and And refl refl) t.kind)
+judge_alternating state t = judge_cause cause_number causes.Alternating (search (rules, decide_kind, test_of))
 
 pub judge_name : (names : List (List ℕ)) → JudgesAll (IsBadName names)
 judge_name names t = search (rules, judge_if, judge_cause, decide_true)
@@ -128,15 +126,12 @@ full : (before : ℕ) (row : RowData) →
 full before row = judge_cause cause_number causes.Limit (decide_below edge_limit (before + length row.edges))
 
 pub judge_bracket : (before : ℕ) (row : RowData) → JudgesAll (IsBadBracket before row)
-judge_bracket before row t =
-    judge_also cause_number (decide_kind is_left_bracket LeftBracket tests_left_bracket.is t.kind)
-    (judge_one cause_number (full before row)
-    (judge_cause cause_number causes.Labels (decide_not (may_have_label (labelling row)))))
+judge_bracket before row t = judge_also cause_number (search (rules, decide_kind))
+    (judge_one cause_number (full before row) (search (rules, judge_cause, decide_not, may_have_label)))
 
 pub judge_plain : (states : Option ℕ) (before : ℕ) (row : RowData) → JudgesAll (IsBadPlainTarget states before row)
-judge_plain states before row n = judge_one cause_number (judge_state states n)
-    (judge_one cause_number (full before row)
-    (judge_cause cause_number causes.Labels (decide_not (may_have_no_label (labelling row)))))
+judge_plain states before row n = judge_one cause_number (judge_state states n) (judge_one cause_number
+    (full before row) (judge_cause cause_number causes.Labels (decide_not (may_have_no_label (labelling row)))))
 
 by_place : (l : Labelling) → Decided (l ≡ ByPlace)
 by_place l = search rules
@@ -150,12 +145,10 @@ judge_end h body = judge_cause cause_number causes.Labels (go (last_row body) re
     go : (o : Option RowData) → last_row body ≡ o →
         Decided ((row : RowData) × (last_row body ≡ Some row) × IsWrongCount h row)
     go None e = inr (λ b. none_is_some b.0 (sym e ∙ b.1))
-    go (Some row) e = decide_as (λ w. (row, e, w))
-        (λ b. subst (IsWrongCount h) (same_some b.0 row (sym b.1 ∙ e)) b.2) (wrong_count h row)
+    go (Some row) e = decide_as (λ w. (row, e, w)) (λ b. search (rules, same_some)) (wrong_count h row)
 
 pub judge_row : (h : HeaderData) (body : BodyData) → JudgesAll (IsBadRow h body)
-judge_row h body n = judge_one cause_number (judge_state h.states n)
-    (judge_cause cause_number causes.StateTwice (decide_true (has_row n body.rows)))
+judge_row h body n = judge_one cause_number (judge_state h.states n) (search (rules, judge_cause, decide_true))
 
 pub judge_next : (h : HeaderData) (body : BodyData) → JudgesAll (IsBadNext h body)
 judge_next h body t = judge_also cause_number (decide_not (decide_none (state_value t))) (judge_end h body)

@@ -1,7 +1,7 @@
 -- Labels and acceptance conditions have an outcome from each list of signs: they are read, or have a first fault.
 --     has_signs, has_mark, has_loop      a part of one sign, a sign of a kind by itself, and a loop
 --     has_label, has_condition      the outcomes
-use Rattle.std.proofs.Common.{Option, ℕ, zero, suc, Bool, true, false, List}
+use Rattle.std.proofs.Common.{rules, arith, Option, ℕ, zero, suc, Bool, true, false, List}
 use Rattle.ps_label.specs.Expression.{not_of}
 use Rattle.ps_text.specs.Parts.{Part, one, many}
 use Rattle.ps_text.specs.Outcomes.{HasOutcomes}
@@ -20,7 +20,6 @@ use Rattle.ps_hoa.specs.declared.connective.Connective.{Connective}
 use Rattle.ps_hoa.specs.declared.connective.Connective.TheVariants as connectives
 use Rattle.ps_hoa.specs.declared.fault.HoaCause.{HoaCause}
 use Rattle.ps_hoa.specs.declared.tokens.Kind.{Kind}
-use Rattle.ps_hoa.specs.declared.tokens.Kind.TheVariants.{And, Or}
 use Rattle.ps_hoa.proofs.Grammar.OperandLaws.{Odd, Of, nothing_apart, laws_behind, joint_mark, joint_closed}
 use Rattle.ps_hoa.proofs.Grammar.OperandLaws.{joint_operands, laws_held}
 use Rattle.ps_hoa.proofs.Grammar.LabelLaws.{laws_not, laws_and, laws_or, laws_left, laws_right, not_left, single_nested}
@@ -73,15 +72,13 @@ module _ {V : Type 0} {F : Sign → Type 0} (P : Part Sign V HoaCause) (together
     (l : Laws Odd P F Nothing ⊥) (p : Has P) where
   has_rows : Has (rows together connectives.Or P)
   has_rows = has_row is_or (rows together connectives.And P) laws_or (laws_both P together l) apart_or
-      (has_mark tests_or)
-      (has_row is_and P laws_and l (nothing_apart (Of is_and)) (has_mark tests_and) p (together connectives.And))
-      (together connectives.Or)
+      (has_mark tests_or) (has_row is_and P laws_and l (grind (arith, nothing_apart (Of is_and))) (has_mark tests_and) p
+      (together connectives.And)) (together connectives.Or)
 
   has_nested : Has (inner (rows together connectives.Or P))
-  has_nested = has_then hoa_causes
-      (joint_mark is_left laws_left (laws_held laws_right (laws_rows P together l) apart_right)) (has_mark tests_left)
-      (λ _. has_then hoa_causes (joint_closed laws_right (laws_rows P together l) apart_right) has_rows
-      (λ v. has_closed v))
+  has_nested = has_then hoa_causes (joint_mark is_left laws_left
+      (laws_held laws_right (laws_rows P together l) apart_right)) (has_mark tests_left) (λ _. has_then hoa_causes
+      (joint_closed laws_right (laws_rows P together l) apart_right) has_rows (λ v. has_closed v))
 
 -- ## Labels
 
@@ -92,9 +89,12 @@ has_operand scope (suc room) =
     let P = labels.operand scope room in
     let l = laws_operand scope room in
     let p = has_operand scope room in
-    has_either hoa_causes (laws_single scope room) (laws_deep P l) single_nested
-    (has_signs (leaf_signs scope (suc room)) (judge_leaf scope (suc room)))
-    (has_either hoa_causes (laws_negation P l) (laws_nested P labels.together l) not_left
+    has_either hoa_causes (laws_single scope room) (laws_deep P l) single_nested (search (
+      rules,
+      has_signs,
+      leaf_signs,
+      judge_leaf,
+    )) (has_either hoa_causes (laws_negation P l) (laws_nested P labels.together l) not_left
     (has_then hoa_causes (joint_mark is_not laws_not (laws_mapped not_of P l)) (has_mark tests_not)
     (λ _. has_mapped hoa_causes not_of P p)) (has_nested P labels.together l p))
 

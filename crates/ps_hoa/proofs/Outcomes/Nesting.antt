@@ -1,6 +1,6 @@
 -- Labels and acceptance conditions with room for so many `!` and `(` are those of the grammar without a limit, up to
 -- that nesting.
---     within_room, of_room      for a grammar whose operands with more room are those with less in one more form
+--     to_operand, of_operand      for a grammar whose operands with more room are those with less in one more form
 use Rattle.std.proofs.Common.{◌≡◌, ◌↔◌, ◌⊎◌, ℕ, zero, suc, ◌≤◌, max, true, List, [], ◌∷◌, ◌++◌, refl, sym, ap, subst}
 use Rattle.std.proofs.Common.{inl, inr, ◌∙◌, arith, rules}
 use Rattle.ps_label.specs.Expression.{Expression}
@@ -111,8 +111,7 @@ module _ {V : Type 0} (g : Grammar V) (part : ℕ → Part Sign V HoaCause) (is 
   -- of which the operands are, so are the rows of them
   of_rows : (room : ℕ) → ((text : List Sign) (v : V) → (part room).IsText text v → Within room (IsOperand g) text v) →
       (text : List Sign) (v : V) → (rows g.together Or (part room)).IsText text v → Within room (IsRow g Or) text v
-  of_rows room h =
-      of_row room Or (λ text v i. let r = of_row room And (λ text v i. let q = h text v i in
+  of_rows room h = of_row room Or (λ text v i. let r = of_row room And (λ text v i. let q = h text v i in
       (q.0, q.1, operand_part q.0 text v q.2)) text v i in (r.0, r.1, conjunction r.0 text v r.2))
 
   of_form : (room : ℕ) → ((text : List Sign) (v : V) → (part room).IsText text v → Within room (IsOperand g) text v) →
@@ -129,8 +128,7 @@ module _ {V : Type 0} (g : Grammar V) (part : ℕ → Part Sign V HoaCause) (is 
       let q = of_rows room h m.left m.value m.is_left in
       let l = i.is_left.0 in
       let r = m.is_right.1.0 in
-      subst (λ z. Within (suc room) (IsOperand g) z v) (sym (i.split ∙ ap (λ z. z ++ i.right) i.is_left.1
-      ∙ ap (λ z. l ∷ z) (m.split ∙ ap (λ z. m.left ++ z) m.is_right.1.1)))
+      subst (λ z. Within (suc room) (IsOperand g) z v) (grind arith)
       (subst (λ z. Within (suc room) (IsOperand g) (l ∷ m.left ++ r ∷ []) z) (sym m.is_right.2) (
         suc q.0,
         omega (arith, q.1),
@@ -150,23 +148,20 @@ module _ {V : Type 0} (g : Grammar V) (part : ℕ → Part Sign V HoaCause) (is 
 
 label_operands : (scope : ScopeData) → Operands (label_grammar scope.names) (label_operand scope)
 unfolding label_operand
-label_operands scope =
-    record {
-      atoms = atoms;
-      negations = negations;
-      parentheses = λ room text v i. inr (inr i);
-      none = λ text v i. i;
-      some = some;
-    }
+label_operands scope = record {
+  atoms = atoms;
+  negations = negations;
+  parentheses = λ room text v i. inr (inr i);
+  none = λ text v i. i;
+  some = some;
+}
   where
     atoms : (room : ℕ) (text : List Sign) (v : Expression) → (label_grammar scope.names).IsAtom text v →
         (label_operand scope room).IsText text v
-    atoms zero text v a = a
-    atoms (suc room) text v a = inl a
+    atoms room text v a = grind arith
 
-    negations : (room : ℕ) (text : List Sign) (v : Expression) →
-        Negation (label_grammar scope.names) (label_operand scope room) text v →
-        (label_operand scope (suc room)).IsText text v
+    negations : (room : ℕ) (text : List Sign) (v : Expression) → Negation (label_grammar scope.names)
+        (label_operand scope room) text v → (label_operand scope (suc room)).IsText text v
     negations room text v (t, rest, w, e, n, k, o) = inr (inl (record {
       left = t ∷ [];
       right = rest;
@@ -178,9 +173,7 @@ label_operands scope =
 
     some : (room : ℕ) (text : List Sign) (v : Expression) → (label_operand scope (suc room)).IsText text v →
         Form (label_grammar scope.names) (label_operand scope room) text v
-    some room text v (inl a) = inl a
-    some room text v (inr (inl i)) = search (rules, taken_mark)
-    some room text v (inr (inr i)) = inr (inr i)
+    some room text v h = grind (arith, taken_mark)
 
 pub label_nesting : (scope : ScopeData) (room : ℕ) (text : List Sign) (v : Expression) →
     (label scope room).IsText text v ↔ Within room (IsLabel scope.names) text v

@@ -58,16 +58,12 @@ one_part p q more rest h k e = same_split p more q rest e (same_skip (length p) 
 pub one_behind : {a b : List ℕ} → IsBlankRun a → IsBlankRun b → (x y : List ℕ) → a ++ x ≡ b ++ y → NoBlankBegins x →
     NoBlankBegins y → (a ≡ b) × (x ≡ y)
 one_behind no_blank no_blank x y e h k = (refl, e)
-one_behind no_blank (blank {part} {rest} is run all split) x y e h k =
-    absurd (h part (rest ++ y) (e ∙ ap (λ z. z ++ y) split ∙ append_assoc part rest y) is)
-one_behind (blank {part} {rest} is run all split) no_blank x y e h k =
-    absurd (k part (rest ++ x) (sym e ∙ ap (λ z. z ++ x) split ∙ append_assoc part rest x) is)
+one_behind no_blank (blank {part} {rest} is run all split) x y e h k = grind (arith, append_assoc)
+one_behind (blank {part} {rest} is run all split) no_blank x y e h k = grind (arith, append_assoc)
 one_behind (blank {part = p} {rest = r} is run all split) (blank {part = q} {rest = s} is' run' all' split') x y e h k =
-    let f : p ++ (r ++ x) ≡ q ++ (s ++ y) = sym (append_assoc p r x) ∙ ap (λ z. z ++ x) (sym split) ∙ e
-    ∙ ap (λ z. z ++ y) split' ∙ append_assoc q s y in
+    let f : p ++ (r ++ x) ≡ q ++ (s ++ y) = grind (arith, append_assoc) in
     let o = one_part p q (r ++ x) (s ++ y) is is' f in
-    let m = one_behind run run' x y o.1 h k in
-    (split ∙ ap₂ (λ u v. u ++ v) o.0 m.0 ∙ sym split', m.1)
+    grind (arith, one_behind run run' x y o.1 h k)
 
 same_blanks : (bytes a b x y : List ℕ) → IsBehindBlanks bytes a x → IsBehindBlanks bytes b y → (a ≡ b) × (x ≡ y)
 same_blanks bytes a b x y h k = one_behind h.are_blanks k.are_blanks x y (sym h.split ∙ k.split) h.all k.all
@@ -90,10 +86,8 @@ Answer = Result FileData (Found HoaCause)
 same_meaning : (end : ℕ) (ps qs : List (Piece Sign)) (a b : Answer) → ps ≡ qs →
     PartAnswers hoa_causes file (record { pieces = marked fresh ps; end = end }) a →
     PartAnswers hoa_causes file (record { pieces = marked fresh qs; end = end }) b → a ≡ b
-same_meaning end ps qs a b e h k =
-    has_one_answer file.IsText (IsWrong hoa_causes file) cause_number laws_file.one_value numbered
-    (record { pieces = marked fresh qs; end = end }) a b
-    (subst (λ z. PartAnswers hoa_causes file (record { pieces = marked fresh z; end = end }) a) e h) k
+same_meaning end ps qs a b e h k = has_one_answer file.IsText (IsWrong hoa_causes file) cause_number laws_file.one_value
+    numbered (record { pieces = marked fresh qs; end = end }) a b (grind arith) k
 
 -- what stands behind the version, and how long what is before it is
 place : (bytes a b m n f g x y t u v w : List ℕ) → IsBehindBlanks bytes a (codes "HOA:" ++ m) →

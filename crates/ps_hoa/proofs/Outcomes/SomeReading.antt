@@ -35,12 +35,7 @@ module _ (text : List ℕ) where
 
   -- by recursion over how many bytes are left
   past_blanks : (fuel from at : ℕ) → length text ≤ at + fuel → AreBlanks text from at → PastBlanks from
-  past_blanks zero from at left before = go (step_of (drop at text)) refl
-    where
-      go : (s : Step) → step_of (drop at text) ≡ s → PastBlanks from
-      go (Skip n) e = let part = skip_sound (drop at text) n e in
-          absurd (omega (arith, part.1, part.2, left, length-drop at text))
-      go (FoundToken kind n) e = record { at = at; blanks = before; end = subst IsNoBlank (sym e) tt }
+  past_blanks zero from at left before = grind (arith, skip_sound, length-drop)
   past_blanks (suc fuel) from at left before =
       go (λ n some more. past_blanks fuel from (at + n) (omega (arith, some, left)) more) (step_of (drop at text)) refl
     where
@@ -71,19 +66,9 @@ module _ (text : List ℕ) where
 
     by_word : (first : PastBlanks 0) (there : Bool) → begins_with (drop first.at text) (codes "HOA:") ≡ there →
         SomeAnswer text
-    by_word first false e = (
-      at_offset causes.NotHoa first.at,
-      without_hoa text first.at short first.blanks first.end e,
-    )
+    by_word first false e = grind (arith, without_hoa text first.at short first.blanks first.end e)
     by_word first true e = let second = blanks_from (first.at + 4) in
-        by_version first.at second.at (record {
-          short = short;
-          before = first.blanks;
-          first_end = first.end;
-          word = e;
-          further = second.blanks;
-          second_end = second.end;
-        }) _ refl
+        by_version first.at second.at (grind arith) _ refl
 
 pub some_reading : (text : List ℕ) → SomeAnswer text
 some_reading text = go (cases_lt text_limit (length text))

@@ -28,7 +28,7 @@ module _ {X : Type 0} (view : X → FileData) (text : List ℕ) where
   exit e r h i = let y = err_from_is_err_and r i in subst (IsFileAnswer view text) (sym (y.1 ∙ ap Err y.2)) h
 
   is_fault : (e : HoaFault) → IsRefusedAs text e → IsFaultOf text e
-  is_fault e h1 = search rules
+  is_fault e h = search rules
 
   pub refused_answers : (e : HoaFault) (r : Result X HoaFault) → IsRefusedAs text e → IsErrAnd r (λ y. y ≡ e) →
       IsFileAnswer view text r
@@ -47,8 +47,7 @@ module _ {X : Type 0} (view : X → FileData) (text : List ℕ) where
     module _ (h : HeaderData) (mid : Stream Sign) (m : PartReads header stream h mid) where
       pub body_fails : (e : HoaFault) (r : Result X HoaFault) → Stops hoa_causes (body h) mid (found_of e) →
           IsErrAnd r (λ y. y ≡ e) → IsFileAnswer view text r
-      body_fails e r s i = exit e r (stopped e (stops_behind hoa_causes joint_file m (found_of e)
-          (stops_mapped hoa_causes (file_of h) (body h) mid (found_of e) s))) i
+      body_fails e r s i = exit e r (search (rules, stopped, stops_behind, joint_file, stops_mapped)) i
 
       module _ (b : BodyData) (new : Stream Sign) (n : PartReads (body h) mid b new) where
         whole : PartReads file stream (file_of h b) new

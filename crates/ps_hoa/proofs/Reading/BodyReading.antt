@@ -18,8 +18,7 @@ use Rattle.ps_text.proofs.Barred.{reads_barred, stops_barred, stops_bar}
 use Rattle.ps_hoa.specs.Tokens.{Sign}
 use Rattle.ps_hoa.specs.Causes.{HoaFault, hoa_causes, found_of}
 use Rattle.ps_hoa.specs.Header.{HeaderData, int_in, int_value, IsAlternating}
-use Rattle.ps_hoa.specs.Body.{BadIn, IsBadBracket, is_bracket, sets_of, sets, marks, IsBadPlainTarget, labelled_edge}
-use Rattle.ps_hoa.specs.Body.{plain_edge, edge}
+use Rattle.ps_hoa.specs.Body.{BadIn, IsBadBracket, is_bracket, sets_of, sets, marks, labelled_edge, plain_edge, edge}
 use Rattle.ps_hoa.specs.Files.{RowData}
 use Rattle.ps_hoa.specs.Inner.Ahead.{begins_edge, StandsAlone}
 use Rattle.ps_hoa.specs.Inner.Reads.{Takes}
@@ -66,35 +65,30 @@ module _ (Bad : ℕ → HoaCause → Type 0) (old : Stream Sign) {piece : Piece 
     pub target_reads : StandsAlone (next_of mid) (Ok tt) →
         Reads (barred (one int_in (BadIn Bad)) IsAlternating) old v mid
     target_reads a = reads_barred IsAlternating (laws_target_number Bad) number_barred
-        (λ u f e b. a (ap (λ (s : Sign). s.kind) (next_same mid u e) ∙ b.0))
-        (reads_token (λ m. m) (int_signs Bad) piece old mid (Ok v) t p n)
+        (λ u f e b. search (rules, next_same)) (reads_token (λ m. m) (int_signs Bad) piece old mid (Ok v) t p n)
 
     pub target_alternates : (e : HoaFault) → StandsAlone (next_of mid) (Err e) →
         Stops hoa_causes (barred (one int_in (BadIn Bad)) IsAlternating) old (found_of e)
     target_alternates e a = stops_bar IsAlternating (laws_target_number Bad) number_barred hoa_causes
-        (reads_token (λ m. m) (int_signs Bad) piece old mid (Ok v) t p n)
-        (next_of mid).sign Alternating (found_of e) (next_there mid (λ f. tests_and.proper (sym a.0 ∙ f))) (a.0, refl)
-        (λ g b. least_same Alternating g b.1)
+        (reads_token (λ m. m) (int_signs Bad) piece old mid (Ok v) t p n) (next_of mid).sign Alternating (found_of e)
+        (next_there mid (λ f. tests_and.proper (sym a.0 ∙ f))) (a.0, refl) (λ g b. least_same Alternating g b.1)
         (ap found_of a.1 ∙ ap (λ z. Some (record { cause = Alternating; offset = z })) (start_there mid))
 
 -- ## Edges
 
 target_begins : (Bad : ℕ → HoaCause → Type 0) (there : Option Sign) → Enters (one int_in (BadIn Bad)) there →
     Enters (barred (one int_in (BadIn Bad)) IsAlternating) there
-target_begins Bad there h1 = search rules
+target_begins Bad there h = search rules
 
 bracket_or_int : (kind : Kind) → begins_edge kind ≡ true → (kind ≡ LeftBracket) ⊎ (kind ≡ Int)
-bracket_or_int kind h1 = search (rules, false_true)
+bracket_or_int kind h = search (rules, false_true)
 
 module _ (h : HeaderData) (before : ℕ) (row : RowData) (s : Stream Sign) where
   pub edge_begins : begins_edge (next_of s).sign.kind ≡ true → Enters (edge h before row) (there_of s)
   edge_begins e = (elim (bracket_or_int (next_of s).sign.kind e) [
     | inl k ↦ enters_left (labelled_edge h before row) (plain_edge h before row) (there_of s)
-        (entered (joint_edge_label h before row) s (sign_begins is_bracket (IsBadBracket before row) s
-        (λ f. tests_left_bracket.proper (sym k ∙ f)) (taken_there tests_left_bracket (next_of s).sign k)))
-    | inr k ↦ enters_right (labelled_edge h before row) (plain_edge h before row) (there_of s)
-        (entered (joint_plain_marks h before row) s (target_begins (IsBadPlainTarget h.states before row) (there_of s)
-        (int_begins (IsBadPlainTarget h.states before row) s k)))
+        (entered (joint_edge_label h before row) s (search (rules, sign_begins, taken_there, tests_left_bracket)))
+    | inr k ↦ search (rules, enters_right, entered, joint_plain_marks, target_begins, int_begins)
   ])
 
   pub bracket_serves : (next_of s).sign.kind ≡ LeftBracket → Serves s (labelled_edge h before row) (edge h before row)

@@ -4,16 +4,14 @@
 --     visit_unopened, visit_fails, visit_stays_open, visit_reads      the exits behind `Inf` or `Fin`
 --     constant_serves      an operand without them
 --     complement_meets, set_serves      a set behind `!`, or without
-use Rattle.std.proofs.Common.{◌≡◌, ℕ, zero, suc, ◌<◌, Bool, true, false, [], codes, None, Some, Result, Ok, refl, sym}
-use Rattle.std.proofs.Common.{◌∙◌, ap, arith}
+use Rattle.std.proofs.Common.{◌≡◌, ℕ, zero, suc, ◌<◌, Bool, true, false, [], codes, None, Some, Result, Ok, refl, arith}
 use Rattle.ps_text.specs.Answers.{Stream, signs, next_of as there_of}
 use Rattle.ps_text.specs.Parts.{NoBad, one, then_by}
 use Rattle.ps_text.specs.Readers.{Reads, Meets}
 use Rattle.ps_text.proofs.Laws.{Laws, Joint, Nothing}
-use Rattle.ps_text.proofs.Simple.{none_is_some}
 use Rattle.ps_text.proofs.Covered.{enters_read}
 use Rattle.ps_text.proofs.Exits.{reads_then, reads_mapped, then_meets}
-use Rattle.ps_text.proofs.Branches.{left_entered, right_entered, left_otherwise, right_otherwise}
+use Rattle.ps_text.proofs.Branches.{left_entered, right_entered, left_otherwise}
 use Rattle.ps_hoa.specs.Causes.{HoaFault, hoa_causes, found_of}
 use Rattle.ps_hoa.specs.Conditions.{SetData, constant_in, often_in, visits, set_in, BadSet, set, any_set, closed_set}
 use Rattle.ps_hoa.specs.Conditions.{often_or_not, visit, BadStart, atom, together, operand}
@@ -30,7 +28,6 @@ use Rattle.ps_hoa.proofs.Grammar.ConditionLaws.{joint_closed_set, joint_visit, l
 use Rattle.ps_hoa.proofs.Grammar.ConditionLaws.{laws_word, word_left, laws_operand}
 use Rattle.ps_hoa.proofs.Reading.Exits.{Serves, serves_as, itself, serves_meets, Leads, first, behind, under, instead}
 use Rattle.ps_hoa.proofs.Reading.Exits.{entered}
-use Rattle.ps_hoa.proofs.Reading.NextSign.{next_same}
 use Rattle.ps_hoa.proofs.Reading.SingleSigns.{IsOfSigns, signs_of, reads_one}
 use Rattle.ps_hoa.proofs.Reading.MarkReading.{tests_not, tests_left, mark_read, mark_begins, mark_elsewhere}
 use Rattle.ps_hoa.proofs.Reading.MarkReading.{inner_begins}
@@ -66,8 +63,7 @@ pub atom_serves : (room : ℕ) (old : Stream Sign) → (0 < room → (next_of ol
 unfolding operand
 atom_serves zero old no_left = itself
 atom_serves (suc room) old no_left = let some : 0 < suc room = omega arith in
-    serves_as old (left_otherwise (laws_word room) (laws_held room) (there_of old)
-    (mark_elsewhere tests_left old (no_left some)) (λ h. h))
+    serves_as old (grind (arith, left_otherwise, laws_word, laws_held, mark_elsewhere, tests_left))
 
 -- ## `Inf` and `Fin`
 
@@ -105,8 +101,7 @@ module _ (room : ℕ) {old mid : Stream Sign} {often : Bool} (e : often_in (next
 -- neither stands there
 pub constant_serves : (room : ℕ) (old : Stream Sign) → often_in (next_of old).sign ≡ None →
     Serves old (one constant_in (BadStart room)) (atom room)
-constant_serves room old e = serves_as old (left_otherwise (laws_constant room) laws_visit (there_of old)
-    (λ t x h. none_is_some h.0 (sym e ∙ ap often_in (next_same old t x) ∙ h.1)) (λ h. h))
+constant_serves room old e = serves_as old (grind (arith, laws_constant room))
 
 -- ## Sets
 
@@ -116,11 +111,9 @@ joint_not = joint_mark is_not laws_not (laws_set true)
 pub complement_meets : {X : Type 0} (view : X → SetData) (old : Stream Sign) {mid : Stream Sign} (new : Stream Sign)
     (result : Result X HoaFault) → (next_of old).sign.kind ≡ Not → mid ≡ behind_next old →
     Meets found_of hoa_causes view (set true) mid result new → Meets found_of hoa_causes view any_set old result new
-complement_meets view old new result e n m = serves_meets view new result (serves_as old
-    (left_entered laws_complement (laws_set false) (there_of old) not_int
-    (entered joint_not old (mark_begins tests_not old e))))
+complement_meets view old new result e n m = serves_meets view new result (serves_as old (left_entered laws_complement
+    (laws_set false) (there_of old) not_int (entered joint_not old (mark_begins tests_not old e))))
     (then_meets found_of hoa_causes view new result joint_not (mark_read tests_not e n) m)
 
 pub set_serves : (old : Stream Sign) → ((next_of old).sign.kind ≡ Not → ⊥) → Serves old (set false) any_set
-set_serves old differs = serves_as old (right_otherwise laws_complement (laws_set false) (there_of old)
-    (mark_elsewhere tests_not old differs) (λ h. h))
+set_serves old differs = serves_as old (grind (arith, laws_set false, mark_elsewhere tests_not old differs))

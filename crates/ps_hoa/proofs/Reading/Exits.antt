@@ -11,9 +11,9 @@
 --     Loop item      the laws of the items of a loop
 --     loop_more, loop_fails, loop_ends, loop_shrinks      behind one more item, at one that fails, at the end, and that
 --               the loop ends
-use Rattle.std.proofs.Common.{◌≡◌, ◌<◌, length, Option, Result, Ok, Err, IsErrAnd, subst}
-use Rattle.ps_text.specs.Answers.{Stream, Found, signs, next_of as there_of}
-use Rattle.ps_text.specs.Parts.{Part, IsRead, then_by, mapped, many}
+use Rattle.std.proofs.Common.{arith, ◌≡◌, ◌<◌, length, Option, Result, IsErrAnd}
+use Rattle.ps_text.specs.Answers.{Stream, Found, next_of as there_of}
+use Rattle.ps_text.specs.Parts.{Part, then_by, mapped, many}
 use Rattle.ps_text.specs.Readers.{Stops, Reads, Meets, Carries}
 use Rattle.ps_text.proofs.Laws.{Laws, Joint, Apart}
 use Rattle.ps_text.proofs.Covered.{Enters, Avoids, enters_then}
@@ -44,8 +44,7 @@ serves_both w k = record { reads = λ v new m. k.reads v new (w.reads v new m); 
 pub serves_meets : {V X : Type 0} (view : X → V) {old : Stream Sign} (new : Stream Sign) {P Q : Part Sign V HoaCause}
     (r : Result X HoaFault) → Serves old P Q → Meets found_of hoa_causes view P old r new →
     Meets found_of hoa_causes view Q old r new
-serves_meets view new (Ok x) w m = w.reads (view x) new m
-serves_meets view new (Err e) w m = w.stops (found_of e) m
+serves_meets view new r w m = grind arith
 
 -- ## Faults
 
@@ -85,8 +84,7 @@ entered {P = P} {Q = Q} j s e = enters_then P Q j (there_of s) e
 
 pub value_is : {V : Type 0} {P : Part Sign V HoaCause} {old new : Stream Sign} {v w : V} → v ≡ w → Reads P old v new →
     Reads P old w new
-value_is {P = P} {old = old} {new = new} e m =
-    (m.0, subst (λ x. IsRead P (signs old.pieces) x (signs new.pieces)) e m.1)
+value_is {P = P} {old = old} {new = new} e m = grind arith
 
 -- ## Loops
 
@@ -103,11 +101,10 @@ module _ {C : Type 0} {item : C → Part Sign C HoaCause} {First : Sign → Type
 
   pub loop_fails : {whole : Part Sign C HoaCause} {start now : Stream Sign} {c : C} →
       Carries hoa_causes whole start (many item c) now → Enters (item c) (there_of now) → Leads whole start (item c) now
-  loop_fails {whole} {start} {now} {c} k e =
-      record {
-        stops = λ o s. carries_stops hoa_causes whole (many item c) start now o k
-            (many_fails item w.laws w.apart hoa_causes c now o e s);
-      }
+  loop_fails {whole} {start} {now} {c} k e = record {
+    stops = λ o s. carries_stops hoa_causes whole (many item c) start now o k
+        (many_fails item w.laws w.apart hoa_causes c now o e s);
+  }
 
   pub loop_ends : {whole : Part Sign C HoaCause} {start now : Stream Sign} {c : C} →
       Carries hoa_causes whole start (many item c) now → Avoids First (there_of now) → Reads whole start c now

@@ -28,7 +28,7 @@ pub index_begins : (ns : List ℕ) (s : Stream Sign) → (next_of s).sign.kind �
 index_begins ns s e = enters_mapped (kept ns) (int number_limit) (there_of s) (int_begins _ s e)
 
 value_taken : (h : HeaderData) (kind : Kind) → is_value kind ≡ true → read_over_value h kind ≡ Some h
-value_taken h kind h1 = search (rules, false_true)
+value_taken h kind k = search (rules, false_true)
 
 pub read_over_begins : (h : HeaderData) (s : Stream Sign) → is_value (next_of s).sign.kind ≡ true →
     Enters (read_over h) (there_of s)

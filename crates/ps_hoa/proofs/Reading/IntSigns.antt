@@ -17,7 +17,7 @@ use Rattle.ps_hoa.specs.declared.fault.HoaCause.{HoaCause}
 
 -- what holds of the number that is there
 there : (o : Option ℕ) (P : ℕ → Type 0) → IfSome o P → (o ≡ None → ⊥) → (n : ℕ) × (o ≡ Some n) × P n
-there o P h1 h2 = search rules
+there o P h k = search rules
 
 holds : (o : Option ℕ) (P : ℕ → Type 0) (n : ℕ) → o ≡ Some n → P n → IfSome o P
 holds o P n e h = subst (λ z. IfSome z P) (sym e) h
@@ -42,18 +42,14 @@ module _ (B E : ℕ → HoaCause → Type 0) where
     worst s f w = let t = there (int_in s) (λ n. B n f) w.stands.0 w.stands.1 in go t.0 t.1 t.2
       where
         go : (n : ℕ) → int_in s ≡ Some n → B n f → IsWorst (BadIn BothBad) s f
-        go n e b = record { stands = bad_at BothBad s f n e (inl b); least = λ g c. least g (bad_of BothBad s g n e c) }
-          where
-            least : (g : HoaCause) → BothBad n g → cause_number f ≤ cause_number g
-            least g (inl c) = w.least g (bad_at B s g n e c)
-            least g (inr c) = later n f g b c
+        go n e b = search (rules, bad_at, bad_of)
 
     refusal : (s : Sign) (f : HoaCause) → IsRefusal int_in (BadIn B) s f → IsRefusal int_in (BadIn BothBad) s f
     refusal s f r = record { none = r.none; good = λ g b. b.1 r.none; cause = r.cause }
 
     takes_fault : (p : Piece Sign) (e : HoaFault) → Takes {X = ℕ} (λ n. n) int_in (BadIn B) p (Err e) →
         Takes {X = ℕ} (λ n. n) int_in (BadIn BothBad) p (Err e)
-    takes_fault p e h1 = search (rules, worst, refusal)
+    takes_fault p e h = search (rules, worst, refusal)
 
     pub takes_err : (p : Piece Sign) (e : HoaFault) (r : Result ℕ HoaFault) →
         Takes {X = ℕ} (λ n. n) int_in (BadIn B) p (Err e) → IsErrAnd r (λ y. y ≡ e) →
@@ -62,11 +58,7 @@ module _ (B E : ℕ → HoaCause → Type 0) where
 
   pub takes_further : (p : Piece Sign) (n : ℕ) (f : HoaCause) → IsTaken int_in (BadIn B) p.sign n → E n f →
       ((g : HoaCause) → E n g → cause_number f ≤ cause_number g) → IsWorst (BadIn BothBad) p.sign f
-  takes_further p n f k b least =
-      record {
-        stands = bad_at BothBad p.sign f n k.some (inr b);
-        least = λ g c. go g (bad_of BothBad p.sign g n k.some c);
-      }
+  takes_further p n f k b least = search (rules, bad_at, go, bad_of)
     where
       go : (g : HoaCause) → BothBad n g → cause_number f ≤ cause_number g
       go g (inl c) = absurd (k.good g (bad_at B p.sign g n k.some c))

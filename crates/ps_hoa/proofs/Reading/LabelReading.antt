@@ -2,7 +2,7 @@
 --     label_operands      what is needed of its operands
 --     not_reads, not_fails      an operand behind `!`
 --     leaf_serves      an operand of one sign
-use Rattle.std.proofs.Common.{◌≡◌, ℕ, zero, suc, ◌-◌, ◌<◌, [], refl, subst, arith, ⊎_elim}
+use Rattle.std.proofs.Common.{◌≡◌, ℕ, zero, suc, ◌-◌, ◌<◌, [], refl, arith}
 use Rattle.ps_label.specs.Expression.{Expression, not_of}
 use Rattle.ps_text.specs.Answers.{Stream, next_of as there_of}
 use Rattle.ps_text.specs.Parts.{Part, either, mapped}
@@ -11,7 +11,7 @@ use Rattle.ps_text.proofs.Laws.{Laws, Joint, Nothing}
 use Rattle.ps_text.proofs.Simple.{laws_mapped}
 use Rattle.ps_text.proofs.Covered.{Enters}
 use Rattle.ps_text.proofs.Exits.{reads_then, reads_mapped}
-use Rattle.ps_text.proofs.Branches.{left_entered, right_entered, left_otherwise}
+use Rattle.ps_text.proofs.Branches.{left_entered, right_entered}
 use Rattle.ps_hoa.specs.Labels.{ScopeData, leaf_in, BadLeaf, leaf, together, negation, operand}
 use Rattle.ps_hoa.specs.Operands.{is_not, mark, inner, rows}
 use Rattle.ps_hoa.specs.Scan.{next_of, behind_next}
@@ -24,7 +24,7 @@ use Rattle.ps_hoa.proofs.Grammar.LabelLaws.{is_start, laws_not, laws_rows, laws_
 use Rattle.ps_hoa.proofs.Grammar.LabelLaws.{laws_single, laws_operand, not_left, single_nested, apart_right}
 use Rattle.ps_hoa.proofs.Reading.Exits.{Serves, serves_as, itself, serves_both, Leads, behind, under, instead, entered}
 use Rattle.ps_hoa.proofs.Reading.SingleSigns.{IsOfSigns, signs_of}
-use Rattle.ps_hoa.proofs.Reading.MarkReading.{tests_not, tests_left, mark_read, mark_begins, mark_elsewhere}
+use Rattle.ps_hoa.proofs.Reading.MarkReading.{tests_not, mark_read, mark_begins}
 use Rattle.ps_hoa.proofs.Reading.MarkReading.{enters_left, enters_right, inner_begins}
 use Rattle.ps_hoa.proofs.Reading.OperandReading.{Operands}
 
@@ -48,8 +48,7 @@ module _ (scope : ScopeData) (room : ℕ) (old : Stream Sign) where
   serves_nested : Enters (either (negation less) held) (there_of old) →
       Serves old (either (negation less) held) (operand scope (suc room))
   unfolding operand
-  serves_nested e = serves_as old
-      (right_entered (laws_single scope room) (laws_deep less laws_less) (there_of old) single_nested e)
+  serves_nested e = serves_as old (grind (arith, right_entered, laws_single, laws_deep, laws_less, single_nested))
 
   serves_not : (next_of old).sign.kind ≡ Not → Serves old (negation less) (operand scope (suc room))
   serves_not k = let e = entered joint_not old (mark_begins tests_not old k) in
@@ -67,9 +66,7 @@ label_operands scope = record { laws = laws_operand scope; serves = serves_paren
 module _ (scope : ScopeData) (room : ℕ) (some : 0 < room) {old mid : Stream Sign} (e : (next_of old).sign.kind ≡ Not)
     (n : mid ≡ behind_next old) where
   served : Serves old (negation (operand scope (room - 1))) (operand scope room)
-  served = let one_less : suc (room - 1) ≡ room = omega arith in
-      subst (λ k. Serves old (negation (operand scope (room - 1))) (operand scope k)) one_less
-      (serves_not scope (room - 1) old e)
+  served = grind (arith, serves_not scope (room - 1) old e)
 
   pub not_reads : {new : Stream Sign} {v : Expression} → Reads (operand scope (room - 1)) mid v new →
       Reads (operand scope room) old (not_of v) new
@@ -77,16 +74,12 @@ module _ (scope : ScopeData) (room : ℕ) (some : 0 < room) {old mid : Stream Si
       (reads_then (joint_not scope (room - 1) old) (mark_read tests_not e n) (reads_mapped not_of m))
 
   pub not_fails : Leads (operand scope room) old (operand scope (room - 1)) mid
-  not_fails = instead served (behind (joint_not scope (room - 1) old) (mark_read tests_not e n)
-      (under not_of (operand scope (room - 1))))
+  not_fails = instead served (behind (joint_not scope (room - 1) old) (mark_read tests_not e n) (grind (arith, under)))
 
 -- neither `!` nor `(` stands there, or no more may nest
-pub leaf_serves : (scope : ScopeData) (room : ℕ) (old : Stream Sign) →
-    (0 < room → (next_of old).sign.kind ≡ Not → ⊥) → (0 < room → (next_of old).sign.kind ≡ LeftParen → ⊥) →
-    Serves old (leaf scope room) (operand scope room)
+pub leaf_serves : (scope : ScopeData) (room : ℕ) (old : Stream Sign) → (0 < room → (next_of old).sign.kind ≡ Not → ⊥) →
+    (0 < room → (next_of old).sign.kind ≡ LeftParen → ⊥) → Serves old (leaf scope room) (operand scope room)
 unfolding operand
 leaf_serves scope zero old no_not no_left = itself
 leaf_serves scope (suc room) old no_not no_left = let some : 0 < suc room = omega arith in
-    serves_as old (left_otherwise (laws_single scope room) (laws_deep (operand scope room) (laws_operand scope room))
-    (there_of old) (λ t x h. ⊎_elim (mark_elsewhere tests_not old (no_not some) t x)
-    (mark_elsewhere tests_left old (no_left some) t x) h) (λ h. h))
+    serves_as old (grind (arith, laws_single scope room, laws_deep (operand scope room) (laws_operand scope room)))

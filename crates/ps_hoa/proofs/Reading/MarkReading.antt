@@ -53,9 +53,8 @@ module _ {test : Kind → Bool} {kind : Kind} (tests : Tests test kind) where
 
   pub mark_read : {old new : Stream Sign} → (next_of old).sign.kind ≡ kind → new ≡ behind_next old →
       Reads (mark test) old tt new
-  mark_read {old = old} {new = new} e n =
-      reads_one (λ u. u) (signs_mark test kind tests.is tests.proper) old new (Ok tt)
-      (record { some = taken_there (next_of old).sign e; good = λ f b. b }) n
+  mark_read {old = old} {new = new} e n = reads_one (λ u. u) (signs_mark test kind tests.is tests.proper) old new
+      (Ok tt) (record { some = taken_there (next_of old).sign e; good = λ f b. b }) n
 
   pub mark_begins : (s : Stream Sign) → (next_of s).sign.kind ≡ kind → Enters (mark test) (there_of s)
   mark_begins s e = search (rules, sign_begins, taken_there)
@@ -103,11 +102,11 @@ tests_string = record { is = test_of is_string Text refl refl; proper = λ e. cc
 -- what begins a form of `either` begins the whole
 pub enters_left : {V : Type 0} (P Q : Part Sign V HoaCause) (there : Option Sign) → Enters P there →
     Enters (either P Q) there
-enters_left P Q there h1 = search rules
+enters_left P Q there h = search rules
 
 pub enters_right : {V : Type 0} (P Q : Part Sign V HoaCause) (there : Option Sign) → Enters Q there →
     Enters (either P Q) there
-enters_right P Q there h1 = search rules
+enters_right P Q there h = search rules
 
 -- ## Parentheses
 

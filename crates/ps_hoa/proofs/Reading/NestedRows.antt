@@ -1,6 +1,6 @@
 -- Rows of operands, one behind the other: what a grammar by parts says of them, and a grammar of its own.
-use Rattle.std.proofs.Common.{◌≡◌, ℕ, zero, suc, Bool, true, cond, List, [], ◌∷◌, ◌++◌, None, Some, refl, sym, ap}
-use Rattle.std.proofs.Common.{subst, ◌∙◌, append_assoc, append-nil}
+use Rattle.std.proofs.Common.{rules, arith, ◌≡◌, ℕ, zero, suc, Bool, true, cond, List, [], ◌∷◌, ◌++◌, None, Some, refl}
+use Rattle.std.proofs.Common.{sym, ap, subst, ◌∙◌, append_assoc, append-nil}
 use Rattle.ps_text.specs.Parts.{Part, times}
 use Rattle.ps_hoa.specs.Operands.{mark_in, single, with_last, joined, further, row}
 use Rattle.ps_hoa.specs.Tokens.{Sign}
@@ -30,17 +30,15 @@ module _ {V : Type 0} (sign : Kind → Bool) (P : Part Sign V HoaCause) where
       right = rest;
       value = with_last ws v;
       split = refl;
-      is_left =
-          record {
-            left = t ∷ [];
-            right = text;
-            value = tt;
-            split = refl;
-            is_left = (t, refl, mark_taken sign t e);
-            is_right = (v, p, refl);
-          };
-      is_right = subst (λ us. (times r.0 (λ us. further sign P us) (with_last ws v)).IsText rest us)
-          (append_assoc ws (v ∷ []) vs) (r.1 (with_last ws v));
+      is_left = record {
+        left = t ∷ [];
+        right = text;
+        value = tt;
+        split = refl;
+        is_left = (t, refl, mark_taken sign t e);
+        is_right = (v, p, refl);
+      };
+      is_right = grind (arith, append_assoc ws (v ∷ []) vs);
     },
   )
 
@@ -66,15 +64,4 @@ module _ {V : Type 0} (sign : Kind → Bool) (P : Part Sign V HoaCause) where
     pub rest_of : (k : ℕ) (ws us : List V) (text : List Sign) → (times k (λ us. further sign P us) ws).IsText text us →
         (vs : List V) × (us ≡ ws ++ vs) × More text vs
     rest_of zero ws us text i = ([], i.1 ∙ sym (append-nil ws), subst (λ z. More z []) (sym i.0) none)
-    rest_of (suc k) ws us text i =
-        let m = i.is_left in
-        let v = m.is_right.0 in
-        let t = m.is_left.0 in
-        let r = rest_of k i.value us i.right i.is_right in
-        let e : text ≡ t ∷ m.right ++ i.right =
-        i.split ∙ ap (λ z. z ++ i.right) (m.split ∙ ap (λ z. z ++ m.right) m.is_left.1) in (
-          v ∷ r.0,
-          r.1 ∙ ap (λ z. z ++ r.0) m.is_right.2 ∙ append_assoc ws (v ∷ []) r.0,
-          subst (λ z. More z (v ∷ r.0)) (sym e) (some t m.right i.right v r.0 (taken_mark sign t m.value m.is_left.2)
-              m.is_right.1 r.2),
-        )
+    rest_of (suc k) ws us text i = search (rules, append_assoc, taken_mark, rest_of k i.value us i.right i.is_right)

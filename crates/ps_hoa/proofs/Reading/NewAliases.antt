@@ -1,6 +1,6 @@
 -- Which names of aliases are new.
 use Rattle.std.proofs.Common.{◌≡◌, ℕ, suc, ◌+◌, ◌<◌, ◌≤◌, Bool, true, false, cond, not, List, [], ◌∷◌, length, is_some}
-use Rattle.std.proofs.Common.{refl, subst, rules}
+use Rattle.std.proofs.Common.{refl, rules}
 use Rattle.std.specs.List.{position_or_len}
 use Rattle.std.specs.Str.{bytes_eq}
 use Rattle.std.proofs.lemmas.Bool.{le-ltb, lt-ltb}
@@ -23,23 +23,19 @@ module _ (text : List ℕ) where
 
   at_first : (b rest : Bool) (k n : ℕ) → cond b true rest ≡ true → (rest ≡ true → k < n) →
       cond (not b) (1 + k) 0 < suc n
-  at_first b rest k n h1 h2 = search rules
+  at_first b rest k n h m = search rules
 
   among_place : (names : List (List ℕ)) → is_name_among text names ≡ true → place names < length names
   among_place [] e = absurd (false_true e)
-  among_place (name ∷ names) e =
-      subst (λ b. cond (not b) (1 + place names) 0 < suc (length names)) (bytes_eq-sym text name)
-      (at_first (bytes_eq text name) (is_name_among text names) (place names) (length names) e (among_place names))
+  among_place (name ∷ names) e = search (rules, bytes_eq-sym, at_first, among_place names)
 
   past_first : (b rest : Bool) (k n : ℕ) → cond b true rest ≡ false → (rest ≡ false → k ≡ n) →
       cond (not b) (1 + k) 0 ≡ suc n
-  past_first b rest k n h1 h2 = search (rules, false_true)
+  past_first b rest k n h m = search (rules, false_true)
 
   no_place : (names : List (List ℕ)) → is_name_among text names ≡ false → place names ≡ length names
   no_place [] e = refl
-  no_place (name ∷ names) e =
-      subst (λ b. cond (not b) (1 + place names) 0 ≡ suc (length names)) (bytes_eq-sym text name)
-      (past_first (bytes_eq text name) (is_name_among text names) (place names) (length names) e (no_place names))
+  no_place (name ∷ names) e = search (rules, bytes_eq-sym, past_first, no_place names)
 
   pub number-among : (names : List (List ℕ)) → is_some (alias_number names text) ≡ is_name_among text names
   number-among names = search (rules, lt-ltb, among_place, no_place, le-ltb)

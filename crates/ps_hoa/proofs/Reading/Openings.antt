@@ -71,10 +71,12 @@ module _ (text : List ℕ) (first second : ℕ) (o : Opens text first second) wh
   more = drop (first + 4) text
 
   hoa_stands : IsBehindBlanks text o.before.blanks (codes "HOA:" ++ more)
-  hoa_stands =
-      let e : drop first text ≡ codes "HOA:" ++ more = word_stands (drop first text) (codes "HOA:") o.word
-      ∙ ap (λ (xs : List ℕ). codes "HOA:" ++ xs) (drop-drop 4 first text) in
-      subst (λ (rest : List ℕ). IsBehindBlanks text o.before.blanks rest) e (behind text 0 first o.before o.first_end)
+  hoa_stands = grind (
+    arith,
+    word_stands (drop first text) (codes "HOA:") o.word,
+    drop-drop 4 first text,
+    behind text 0 first o.before o.first_end,
+  )
 
   version_stands : IsBehindBlanks more o.further.blanks (drop second text)
   version_stands = behind text (first + 4) second o.further o.second_end
@@ -93,9 +95,8 @@ module _ (text : List ℕ) (first second : ℕ) (o : Opens text first second) wh
 
   pub with_other_version : bytes_eq (take (prefix_len is_version_byte (drop second text)) (drop second text))
       (codes "v1") ≡ false → ReadsFile text (at_offset causes.Version second)
-  with_other_version h = subst (λ (k : ℕ). ReadsFile text (at_offset causes.Version k)) place
-      (other_version o.short hoa_stands version_stands version_is
-      (λ e. wrong (sym ((bytes_eq-Decides _ (codes "v1")).1 e) ∙ h)))
+  with_other_version h = subst (λ (k : ℕ). ReadsFile text (at_offset causes.Version k)) place (other_version o.short
+      hoa_stands version_stands version_is (λ e. wrong (sym ((bytes_eq-Decides _ (codes "v1")).1 e) ∙ h)))
     where
       wrong : true ≡ false → ⊥
       wrong f = cc
@@ -107,21 +108,16 @@ module _ (text : List ℕ) (first second : ℕ) (o : Opens text first second) wh
       (answer : Result FileData (Found HoaCause)) → PartAnswers hoa_causes file stream answer → ReadsFile text answer
   with_version stream stop is same pieces_are end_is answer a =
       let k = prefix_len is_version_byte (drop second text) in
-      let v1 : take k (drop second text) ≡ codes "v1" =
-      (bytes_eq-Decides (take k (drop second text)) (codes "v1")).0 same in
+      let v1 : take k (drop second text) ≡ codes "v1" = grind (arith, bytes_eq-Decides) in
       let within = (run_sound is_version_byte (drop second text)).2 in
       let two : k ≡ 2 = sym (length-take-le k (drop second text) within) ∙ ap length v1 in
       let at : stop ≡ length o.before.blanks + 4 + length o.further.blanks + 2 = let p = place in omega arith in
       let tail : drop stop text ≡ drop k (drop second text) = search (rules, drop-drop) in
       let found = some_tokens (length (drop stop text)) stop (drop stop text) (omega arith) in
       let version = subst (λ (v : List ℕ). IsVersion (drop second text) v (drop k (drop second text))) v1 version_is in
-      let tokens =
-      subst (λ (n : ℕ). AreTokens n (drop k (drop second text)) found.0) at
-      (subst (λ (bytes : List ℕ). AreTokens stop bytes found.0) tail found.1) in
-      let whole_stream : stream ≡ record { pieces = marked fresh found.0; end = length text } =
-      λ i. record { pieces = pieces_are found.0 found.1 i; end = end_is i } in
-      by_tokens found.0 o.short hoa_stands version_stands version tokens
-      (subst (λ (s : Stream Sign). PartAnswers hoa_causes file s answer) whole_stream a)
+      let tokens = subst (λ (n : ℕ). AreTokens n (drop k (drop second text)) found.0) at (grind arith) in
+      let whole_stream : stream ≡ record { pieces = marked fresh found.0; end = length text } = grind arith in
+      by_tokens found.0 o.short hoa_stands version_stands version tokens (grind arith)
 
 -- what the code took as the version
 module _ (text : List ℕ) (second count : ℕ) (is : count ≡ prefix_len is_version_byte (to_its_end text second)) where

@@ -40,12 +40,7 @@ pub operand_row : {V : Type 0} {together : Connective → List V → V} {operand
     Row (is_sign_of c) (kind_of c) (between together c (operand room)) (Of is_start) (Behind c)
 operand_row o room connectives.And = search (rules, tests_and, laws_and, nothing_apart, Of)
 operand_row {together = together} {operand = operand} o room connectives.Or =
-    record {
-      tests = tests_or;
-      mark_laws = laws_or;
-      laws = laws_both (operand room) together (o.laws room);
-      apart = apart_or;
-    }
+    grind (arith, tests_or, laws_or, laws_both (operand room) together (o.laws room), apart_or)
 
 -- ## Parentheses
 

@@ -64,11 +64,8 @@ module _ {V : Type 0} {sign : Kind → Bool} {kind : Kind} {operand : Part Sign 
 
   pub row_starts : {old now : Stream Sign} {v : V} {vs : List V} → Reads operand old v now →
       (next_of now).sign.kind ≡ kind → vs ≡ single v → IsRow sign operand old vs now
-  row_starts {old} {now} r e is = subst (λ us. IsRow sign operand old us now) (sym is) (record {
-    carries = row_begins sign operand w.mark_laws w.laws w.apart r;
-    some = omega arith;
-    several = λ _. ap sign e ∙ w.tests.is.0;
-  })
+  row_starts {old} {now} r e is = subst (λ us. IsRow sign operand old us now) (sym is)
+      (grind (arith, row_begins sign operand w.mark_laws w.laws w.apart r))
 
   module _ {old now : Stream Sign} {vs : List V} (i : IsRow sign operand old vs now) where
     pub row_done : (join : List V → V) → ((next_of now).sign.kind ≡ kind → ⊥) →
@@ -88,11 +85,8 @@ module _ {V : Type 0} {sign : Kind → Bool} {kind : Kind} {operand : Part Sign 
       row_more {new} {v = v} r is =
           let long : length (with_last vs v) ≡ length vs + 1 = length-append vs (v ∷ []) in
           let some = i.some in
-          subst (λ us. IsRow sign operand old us new) (sym is) (record {
-            carries = row_goes_on sign operand w.mark_laws w.laws w.apart i.carries (mark_read w.tests e n) r;
-            some = omega arith;
-            several = λ one. absurd (omega arith);
-          })
+          subst (λ us. IsRow sign operand old us new) (sym is)
+          (grind (arith, row_goes_on sign operand w.mark_laws w.laws w.apart i.carries (mark_read w.tests e n) r))
 
       pub row_fails : (join : List V → V) → Leads (row sign join operand) old operand mid
       row_fails join = search (rules, row_stops, mark_read)

@@ -5,7 +5,7 @@
 --     name_serves, no_name_serves      and so with its name
 --     edges_serve      the edges of a row that has none yet
 --     state_loop, edge_loop, set_loop      the loops of the body
-use Rattle.std.proofs.Common.{◌≡◌, true, false, List, [], Option, None, Some, is_some, refl, sym, ap, ◌∙◌, rules}
+use Rattle.std.proofs.Common.{arith, ◌≡◌, true, false, List, [], Option, None, Some, is_some, refl, sym, ap, ◌∙◌, rules}
 use Rattle.std.specs.Prelude.{codes, ℕ}
 use Rattle.ps_text.specs.Answers.{Stream, next_of as there_of}
 use Rattle.ps_text.specs.Parts.{NoBad, give, then_by, mapped}
@@ -42,13 +42,12 @@ end_signs h b = signs_of End [] refl refl (λ f k. false_true k.0)
 -- ## `State:`
 
 there : (o : Option (Unit {0})) → is_some o ≡ true → o ≡ Some tt
-there o h1 = search (rules, false_true)
+there o h = search (rules, false_true)
 
 pub state_enters : (h : HeaderData) (b : BodyData) (s : Stream Sign) → is_some (state_value (next_of s).sign) ≡ true →
     Enters (state h b) (there_of s)
 state_enters h b s e = let v = there (state_value (next_of s).sign) e in
-    entered (joint_state h b) s (sign_begins state_value (IsBadNext h b) s
-    (λ f. let x = sym (text_of_state (next_of s).sign.kind (next_of s).sign.text tt v).0 ∙ f in cc) v)
+    entered (joint_state h b) s (search (rules, sign_begins, text_of_state))
 
 pub avoids_state : (s : Stream Sign) → is_some (state_value (next_of s).sign) ≡ false → Avoids IsState (there_of s)
 avoids_state s e t n k = false_true (sym e ∙ ap is_some (ap state_value (next_same s t n) ∙ k.1))
@@ -62,8 +61,7 @@ module _ (h : HeaderData) (s : Stream Sign) where
       (entered (joint_bracket h) s (mark_begins tests_left_bracket s e)))
 
   pub no_label_serves : ((next_of s).sign.kind ≡ LeftBracket → ⊥) → Serves s (give None) (state_label h)
-  no_label_serves differs = serves_as s (right_otherwise (laws_bracketed h) laws_no_label (there_of s)
-      (mark_elsewhere tests_left_bracket s differs) (λ k. k))
+  no_label_serves differs = serves_as s (grind (arith, laws_bracketed h, mark_elsewhere tests_left_bracket s differs))
 
 module _ (s : Stream Sign) where
   pub string_next : (next_of s).sign.kind ≡ Text → (v : List ℕ) × (string_in (next_of s).sign ≡ Some v)

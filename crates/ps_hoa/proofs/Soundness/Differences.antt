@@ -10,7 +10,7 @@ use Rattle.ps_hoa.specs.Sound.{AreDifferent}
 use Rattle.ps_hoa.proofs.Soundness.SoundLabels.{all_push}
 
 pub neither : (a b : Bool) → cond a true b ≡ false → (a ≡ false) × (b ≡ false)
-neither a b h1 = search rules
+neither a b h = search rules
 
 pub nat_eq_not : (a b : ℕ) → nat_eq a b ≡ false → nat_eq b a ≡ false
 nat_eq_not a b e = grind arith

@@ -2,8 +2,8 @@
 --     Keeps part S      S holds of the value of each text of the part in which no cause of it stands
 --     keeps_give, .., keeps_barred      for each combinator: of the parts of which it is made
 --     keeps_read      so S holds of what was read
-use Rattle.std.proofs.Common.{◌≡◌, ℕ, zero, suc, ◌+◌, List, [], ◌∷◌, ◌++◌, length, Option, Some, refl, sym, ap, subst}
-use Rattle.std.proofs.Common.{inl, inr, ◌∙◌, append_assoc, arith, length-append}
+use Rattle.std.proofs.Common.{◌≡◌, ℕ, zero, suc, List, [], ◌∷◌, ◌++◌, Option, Some, refl, sym, subst}
+use Rattle.std.proofs.Common.{inl, inr, append_assoc, arith, length-append}
 use Rattle.ps_text.specs.Choices.{choice}
 use Rattle.ps_text.specs.Parts.{Part, IsRead, give, one, then_by, either, times, many, mapped, barred}
 
@@ -34,20 +34,17 @@ pub keeps_then : {T A B F : Type 0} {S : A → Type 0} {R : B → Type 0} {P : P
 keeps_then {P = P} {Q = Q} p q text b i quiet = q i.value (p i.left i.value i.is_left left) i.right b i.is_right right
   where
     left : IsQuiet P i.left
-    left front rest t f e c =
-        quiet front (rest ++ i.right) t f (i.split ∙ ap (λ z. z ++ i.right) e ∙ append_assoc front (t ∷ rest) i.right)
-        (inl c)
+    left front rest t f e c = grind (arith, append_assoc)
 
     right : IsQuiet (Q i.value) i.right
-    right front rest t f e c = quiet (i.left ++ front) rest t f (i.split ∙ ap (λ z. i.left ++ z) e
-        ∙ sym (append_assoc i.left front (t ∷ rest))) (inr (record {
-          left = i.left;
-          right = front;
-          value = i.value;
-          split = refl;
-          is_left = i.is_left;
-          is_cause = c;
-        }))
+    right front rest t f e c = quiet (i.left ++ front) rest t f (grind (arith, append_assoc)) (inr (record {
+      left = i.left;
+      right = front;
+      value = i.value;
+      split = refl;
+      is_left = i.is_left;
+      is_cause = c;
+    }))
 
 pub keeps_behind : {T A B F : Type 0} {R : B → Type 0} (P : Part T A F) {Q : A → Part T B F} →
     ((a : A) → Keeps (Q a) R) → Keeps (then_by P Q) R
@@ -79,10 +76,4 @@ module _ {T C F : Type 0} {S : C → Type 0} (item : C → Part T C F) (k : (c :
 
 pub keeps_read : {T V F : Type 0} {S : V → Type 0} (part : Part T V F) → Keeps part S → (all rest : List T) (v : V) →
     IsRead part all v rest → S v
-keeps_read part k all rest v p = k p.text v p.is_text quiet
-  where
-    quiet : IsQuiet part p.text
-    quiet front more t f e c =
-        let l : length p.text ≡ length front + suc (length more) = ap length e ∙ length-append front (t ∷ more) in
-        p.clean front (more ++ rest) t f (p.split ∙ ap (λ z. z ++ rest) e ∙ append_assoc front (t ∷ more) rest)
-        (omega (arith, l)) c
+keeps_read part k all rest v p = grind (arith, length-append, append_assoc)

@@ -18,5 +18,4 @@ take-without_last (b ∷ c ∷ bs) = let e : length (b ∷ c ∷ bs) - 1 ≡ suc
 
 pub inside-range : (text : List ℕ) → slice_range text 1 (length text - 1) ≡ inside text
 inside-range [] = refl
-inside-range (b ∷ bs) = let e : length (b ∷ bs) - 1 - 1 ≡ length bs - 1 = omega arith in
-    ap (λ n. take n bs) e ∙ take-without_last bs
+inside-range (b ∷ bs) = grind (arith, take-without_last bs)

@@ -1,6 +1,6 @@
 -- Places of numbers.
 --     different_kept      numbers that are kept differ
-use Rattle.std.proofs.Common.{◌≡◌, ℕ, false, List, [], ◌∷◌, refl, ap, rules}
+use Rattle.std.proofs.Common.{◌≡◌, ℕ, false, List, [], ◌∷◌, refl, rules}
 use Rattle.std.specs.Prelude.{nat_eq}
 use Rattle.std.proofs.lemmas.Bool.{cond_both, eqb-true, eqb-false, false_from_ne_true}
 use Rattle.ps_hoa.specs.Files.{is_among}
@@ -12,9 +12,7 @@ free_place : (n : ℕ) (ns : List ℕ) → has_place (place_of n) ns ≡ false �
 free_place n [] e = refl
 free_place n (m ∷ ns) e =
     let f = neither (nat_eq (place_of n) (place_of m)) (has_place (place_of n) ns) e in
-    let differ : nat_eq n m ≡ false = false_from_ne_true (nat_eq n m)
-    (λ h. eqb-false (place_of n) (place_of m) f.0 (ap place_of (eqb-true n m h))) in
-    rw (differ, free_place n ns f.1) refl
+    search (rules, false_from_ne_true, eqb-false, eqb-true, free_place n ns f.1)
 
 pub different_kept : (ns : List ℕ) (n : ℕ) → AreDifferent ns → AreDifferent (kept ns n)
 different_kept ns n a = search (rules, cond_both, different_push, free_place)

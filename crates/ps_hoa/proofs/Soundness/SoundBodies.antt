@@ -9,12 +9,11 @@ use Rattle.ps_label.specs.Expression.{Expression}
 use Rattle.ps_text.specs.Parts.{one}
 use Rattle.ps_text.proofs.Simple.{none_is_some}
 use Rattle.ps_hoa.specs.Body.{edge_limit, BodyData, no_rows, IsBadState, IsBadSet, BadIn, sets_of, is_left_brace}
-use Rattle.ps_hoa.specs.Body.{is_right_brace, set_number, marks, is_left_bracket, is_right_bracket, body_scope}
-use Rattle.ps_hoa.specs.Body.{some_label, label_in_brackets, state_label, first_labelling, labelling, MayHaveNoLabel}
-use Rattle.ps_hoa.specs.Body.{MayHaveLabel, IsBadBracket, is_bracket, IsBadPlainTarget, guard_of, with_edge}
-use Rattle.ps_hoa.specs.Body.{labelled_edge, plain_edge, edge, edges, IsWrongCount, last_row, has_row, IsBadRow}
-use Rattle.ps_hoa.specs.Body.{state_name, empty_row, with_row, state_value, IsBadNext, state_begins, state, is_end}
-use Rattle.ps_hoa.specs.Body.{IsBadClose, ended, body}
+use Rattle.ps_hoa.specs.Body.{is_right_brace, set_number, marks, is_left_bracket, body_scope, label_in_brackets}
+use Rattle.ps_hoa.specs.Body.{state_label, first_labelling, labelling, MayHaveNoLabel, MayHaveLabel, IsBadBracket}
+use Rattle.ps_hoa.specs.Body.{is_bracket, IsBadPlainTarget, guard_of, with_edge, labelled_edge, plain_edge, edge, edges}
+use Rattle.ps_hoa.specs.Body.{IsWrongCount, last_row, has_row, IsBadRow, state_name, empty_row, with_row, state_value}
+use Rattle.ps_hoa.specs.Body.{IsBadNext, state_begins, state, is_end, IsBadClose, ended, body}
 use Rattle.ps_hoa.specs.Files.{GuardData, EdgeData, RowData, stated, of_state, at_letter, once}
 use Rattle.ps_hoa.specs.Header.{HeaderData, int_in, state_limit, IsAlternating}
 use Rattle.ps_hoa.specs.Labels.{label}
@@ -73,13 +72,11 @@ module _ (h : HeaderData) where
   HasLabel o = (e : Expression) × (o ≡ Some e) × IsScoped e
 
   keeps_label_in_brackets : Keeps (label_in_brackets h) HasLabel
-  keeps_label_in_brackets = keeps_then (keeps_label (body_scope h) nesting_limit)
-      (λ e s. keeps_mapped _ (some_label e) (mark is_right_bracket) (λ text u i q. (e, refl, s)))
+  keeps_label_in_brackets = keeps_then (keeps_label (body_scope h) nesting_limit) (λ e s. grind arith)
 
   keeps_state_label : Keeps (state_label h) (λ o. IfSome o IsScoped)
-  keeps_state_label = keeps_either (keeps_behind (mark is_left_bracket) (λ _.
-      keeps_less (label_in_brackets h) (λ o l. subst (λ z. IfSome z IsScoped) (sym l.1) l.2) keeps_label_in_brackets))
-      (keeps_give _ None tt)
+  keeps_state_label = keeps_either (keeps_behind (mark is_left_bracket) (λ _. keeps_less (label_in_brackets h)
+      (λ o l. subst (λ z. IfSome z IsScoped) (sym l.1) l.2) keeps_label_in_brackets)) (keeps_give _ None tt)
 
   -- ## Edges
 
@@ -114,11 +111,11 @@ letters_push k n (y ∷ es) x a e g = (a.0, letters_push (k + 1) n es x a.1 (ome
 
 push_plain : (o : Option Expression) (es : List EdgeData) (x : EdgeData) → x.guard ≡ plain_by o (length es) →
     LabelledBy o es → ((MayHaveNoLabel (way o es) → ⊥) → ⊥) → LabelledBy o (es ++ x ∷ [])
-push_plain o es x h1 h2 h3 = search (rules, all_push, letters_push)
+push_plain o es x h k m = search (rules, all_push, letters_push)
 
 push_stated : (o : Option Expression) (es : List EdgeData) (x : EdgeData) → IsStated x → LabelledBy o es →
     ((MayHaveLabel (way o es) → ⊥) → ⊥) → LabelledBy o (es ++ x ∷ [])
-push_stated o es x h1 h2 h3 = search (rules, all_push)
+push_stated o es x h k m = search (rules, all_push)
 
 -- ## Rows
 
@@ -137,21 +134,9 @@ module _ (h : HeaderData) (before : ℕ) (n : ℕ) where
 
   module _ (row : RowData) (k : RowOf row) where
     one_more : (label : Option Expression) (target : ℕ) (ns : List ℕ) → IsGuardKept h (guard_of row label) →
-        IsStateOf h.states target → AreSets h ns →
-        (edge_limit ≤ before + length row.edges → ⊥) → LabelledBy row.label (with_edge row label target ns).edges →
-        RowOf (with_edge row label target ns)
-    one_more label target ns g t a r l = (
-      record {
-        state = k.0.state;
-        label = k.0.label;
-        marks = k.0.marks;
-        edges = all_push (IsEdgeKept h) row.edges _ k.0.edges (record { guard = g; target = t; marks = a });
-        labelled = l;
-      },
-      k.1,
-      (let m : length (with_edge row label target ns).edges ≡ length row.edges + 1 = length-append row.edges _ in
-          let s : before + length row.edges < edge_limit = below r in omega arith),
-    )
+        IsStateOf h.states target → AreSets h ns → (edge_limit ≤ before + length row.edges → ⊥) →
+        LabelledBy row.label (with_edge row label target ns).edges → RowOf (with_edge row label target ns)
+    one_more label target ns g t a r l = grind (arith, all_push, length-append, below)
 
     abbrev MayBegin : Unit {0} → Type 0
     MayBegin _ = (edge_limit ≤ before + length row.edges → ⊥) × ((MayHaveLabel (labelling row) → ⊥) → ⊥)
@@ -164,10 +149,9 @@ module _ (h : HeaderData) (before : ℕ) (n : ℕ) where
         ))
 
     keeps_labelled_edge : Keeps (labelled_edge h before row) RowOf
-    keeps_labelled_edge = keeps_then keeps_bracket (λ _ m. keeps_then (keeps_label_in_brackets h) (λ label l.
-        keeps_then (keeps_barred (one int_in (BadIn (IsBadState h.states))) IsAlternating
-        (keeps_number (IsBadState h.states))) (λ target good.
-        keeps_mapped _ (with_edge row label target) (marks h) (λ text ns i q.
+    keeps_labelled_edge = keeps_then keeps_bracket (λ _ m. keeps_then (keeps_label_in_brackets h) (λ label l. keeps_then
+        (keeps_barred (one int_in (BadIn (IsBadState h.states))) IsAlternating (keeps_number (IsBadState h.states)))
+        (λ target good. keeps_mapped _ (with_edge row label target) (marks h) (λ text ns i q.
         let g : guard_of row label ≡ stated l.0 = ap (guard_of row) l.1 in
         one_more label target ns (subst (IsGuardKept h) (sym g) l.2) (is_state h.states target good)
         (keeps_marks h text ns i q) m.0 (push_stated row.label row.edges _ (l.0, g) k.0.labelled m.1)))))
@@ -176,12 +160,10 @@ module _ (h : HeaderData) (before : ℕ) (n : ℕ) where
     plain_kept o = search rules
 
     keeps_plain_edge : Keeps (plain_edge h before row) RowOf
-    keeps_plain_edge =
-        keeps_then (keeps_barred (one int_in (BadIn (IsBadPlainTarget h.states before row))) IsAlternating
-        (keeps_number (IsBadPlainTarget h.states before row))) (λ target good.
-        keeps_mapped _ (with_edge row None target) (marks h) (λ text ns i q.
-        one_more None target ns (plain_kept row.label) (is_state h.states target (λ f c. good f (inl c)))
-        (keeps_marks h text ns i q) (λ full. good causes.Limit (inr (inl (full, refl))))
+    keeps_plain_edge = keeps_then (keeps_barred (one int_in (BadIn (IsBadPlainTarget h.states before row)))
+        IsAlternating (keeps_number (IsBadPlainTarget h.states before row))) (λ target good. keeps_mapped _
+        (with_edge row None target) (marks h) (λ text ns i q. one_more None target ns (plain_kept row.label)
+        (grind (arith, is_state)) (search (rules, keeps_marks)) (λ full. good causes.Limit (inr (inl (full, refl))))
         (push_plain row.label row.edges _ refl k.0.labelled (λ no. good causes.Labels (inr (inr (no, refl)))))))
 
   keeps_edges : (row : RowData) → RowOf row → Keeps (edges h before row) RowOf
@@ -252,25 +234,16 @@ module _ (h : HeaderData) (b : BodyData) where
 
   keeps_state : IsBodyKept h b → Keeps (state h b) (IsBodyKept h)
   keeps_state k = keeps_then keeps_state_begins (λ _ r. keeps_then (keeps_state_label h)
-      (λ label l. keeps_then (keeps_number (IsBadRow h b)) (λ n g.
-      keeps_behind state_name (λ _. keeps_then (keeps_marks h) (λ ns a.
-      keeps_mapped _ (with_row b) (edges h b.edges (empty_row n label ns)) (λ text row i q.
-      let e =
-      keeps_edges h b.edges n (empty_row n label ns) (search (rules, starts, is_state, k.few)) text row i q in
+      (λ label l. keeps_then (keeps_number (IsBadRow h b)) (λ n g. keeps_behind state_name (λ _. keeps_then
+      (keeps_marks h) (λ ns a. keeps_mapped _ (with_row b) (edges h b.edges (empty_row n label ns)) (λ text row i q.
+      let e = keeps_edges h b.edges n (empty_row n label ns) (search (rules, starts, is_state, k.few)) text row i q in
       let new : has_row n b.rows ≡ false = false_from_ne_true (has_row n b.rows) (λ t. g causes.StateTwice
       (inr (t, refl))) in
-      record {
-        rows = all_push (IsRowKept h) b.rows row k.rows e.0;
-        once = rows_push b.rows row k.once (subst (λ m. has_row m b.rows ≡ false) (sym e.1) new);
-        counts = right_push h b.rows row (last_right h b.rows k.counts r);
-        edges = ap (λ m. m + length row.edges) k.edges ∙ sym (sum_by_push (λ r. length r.edges) b.rows row);
-        few = e.2;
-      }))))))
+      grind (arith, all_push, rows_push, right_push, last_right, sum_by_push)))))))
 
   keeps_ended : IsBodyKept h b → Keeps (ended h b) (IsBodyDone h)
-  keeps_ended k = keeps_mapped _ (λ _. b) (one (mark_in is_end) (IsBadClose h b))
-      (keeps_one (mark_in is_end) (IsBadClose h b) (λ t v e good.
-      search (rules, last_right, taken_mark, k.rows, k.once, k.edges, k.few)))
+  keeps_ended k = keeps_mapped _ (λ _. b) (one (mark_in is_end) (IsBadClose h b)) (keeps_one (mark_in is_end)
+      (IsBadClose h b) (λ t v e good. search (rules, last_right, taken_mark, k.rows, k.once, k.edges, k.few)))
 
 pub keeps_body : (h : HeaderData) → Keeps (body h) (IsBodyDone h)
 keeps_body h = keeps_then (keeps_many (state h) (keeps_state h) no_rows (search rules)) (keeps_ended h)

@@ -36,11 +36,7 @@ target_rises s (e ∷ es) = omega (arith, target_rises (max s e.target) es)
 
 state_rises : (s : ℕ) (rows : List RowData) → s ≤ greatest_state s rows
 state_rises s [] = omega arith
-state_rises s (r ∷ rows) = omega (
-  arith,
-  target_rises (max s r.state) r.edges,
-  state_rises (greatest_target (max s r.state) r.edges) rows,
-)
+state_rises s (r ∷ rows) = search (rules, target_rises, state_rises (greatest_target (max s r.state) r.edges) rows)
 
 targets_up_to : (g s : ℕ) (es : List EdgeData) → greatest_target s es ≤ g → AllByRecursion (λ e. e.target ≤ g) es
 targets_up_to g s [] l = tt
@@ -53,10 +49,7 @@ rows_up_to : (g s : ℕ) (rows : List RowData) → greatest_state s rows ≤ g �
 rows_up_to g s [] l = tt
 rows_up_to g s (r ∷ rows) l =
     let next = greatest_target (max s r.state) r.edges in
-    let n = state_rises next rows in (
-      (omega (arith, target_rises (max s r.state) r.edges), targets_up_to g (max s r.state) r.edges (omega arith)),
-      rows_up_to g next rows l,
-    )
+    search (rules, state_rises, target_rises, targets_up_to, rows_up_to g next rows l)
 
 targets_below : (limit s : ℕ) (es : List EdgeData) → s < limit → AllByRecursion (λ e. e.target < limit) es →
     greatest_target s es < limit
@@ -87,7 +80,7 @@ count_limit None start rows l s a = omega (arith, rows_below state_limit start r
 
 start_below : (states : Option ℕ) (start : ℕ) (rows : List RowData) → IsStateOf states start →
     start < count_of_states states start rows
-start_below states start rows h1 = search (rules, state_rises)
+start_below states start rows h = search (rules, state_rises)
 
 all_below : (states : Option ℕ) (start : ℕ) (rows : List RowData) → AllByRecursion (IsOf states) rows →
     AllByRecursion (IsBelow (count_of_states states start rows)) rows
@@ -99,7 +92,7 @@ all_below None start rows a = all_map (λ r u. (omega arith, all_map (λ e m. om
 
 start_state : (states start : Option ℕ) → (start ≡ None → ⊥) → (IsStartTooLarge states start → ⊥) →
     (IsStartBeyond states start → ⊥) → IsStateOf states (unwrap_or start 0)
-start_state states start h1 h2 h3 = search (rules, below)
+start_state states start h k m = search (rules, below)
 
 abbrev pub sets_in : Option AcceptanceData → ℕ
 sets_in o = elim o [ None ↦ 0 | Some a ↦ a.sets ]
@@ -108,7 +101,7 @@ abbrev pub condition_in : Option AcceptanceData → Condition
 condition_in o = elim o [ None ↦ conditions.constant true | Some a ↦ a.condition ]
 
 few_sets : (o : Option AcceptanceData) → IfSome o (λ a. a.sets ≤ set_limit) → sets_in o ≤ set_limit
-few_sets o h1 = search rules
+few_sets o h = search rules
 
 mutual
   condition_from : (count : ℕ) (c : Condition) → (NamesSetBeyond count c → ⊥) → IsCondition count c
@@ -140,7 +133,7 @@ control_within count (Some ns) b d = search (rules, all_at, indices_from)
 
 labelled_right : (propositions : ℕ) (o : Option Expression) (es : List EdgeData) → LabelledBy o es →
     ((way o es ≡ ByPlace) × (length es ≢ 2 ^ propositions) → ⊥) → AreLabelled propositions o es
-labelled_right propositions o es h1 h2 = search (rules, eqb_tells, way_of)
+labelled_right propositions o es h k = search (rules, eqb_tells, way_of)
 
 module _ (h : HeaderData) (b : BodyData) (k : Kept h) (n : HasNoFlaw h) (d : IsBodyDone h b) where
   abbrev whole : FileData
@@ -150,10 +143,10 @@ module _ (h : HeaderData) (b : BodyData) (k : Kept h) (n : HasNoFlaw h) (d : IsB
   is_label e s = search (rules, label_from, NamesBelow)
 
   guard_sound : (g : GuardData) → IsGuardKept h g → IsGuard whole g
-  guard_sound g h1 = search (rules, is_label)
+  guard_sound g h = search (rules, is_label)
 
   label_sound : (o : Option Expression) → IfSome o (IsScoped h) → IfSome o (IsLabelOf whole)
-  label_sound o h1 = search (rules, is_label)
+  label_sound o h = search (rules, is_label)
 
   marks_sound : (ns : List ℕ) → AreSets h ns → AreBelow whole.sets ns
   marks_sound ns a = record { all = all_at (λ n. n < whole.sets) ns a.0; different = a.1 }
@@ -161,24 +154,13 @@ module _ (h : HeaderData) (b : BodyData) (k : Kept h) (n : HasNoFlaw h) (d : IsB
   edges_sound : (es : List EdgeData) → AllByRecursion (IsEdgeKept h) es →
       AllByRecursion (λ e. e.target < whole.states) es → AllByRecursion (IsSoundEdge whole) es
   edges_sound [] a b = tt
-  edges_sound (e ∷ es) a b = (
-    record { guard = guard_sound e.guard a.0.guard; target = b.0; marks = marks_sound e.marks a.0.marks },
-    edges_sound es a.1 b.1,
-  )
+  edges_sound (e ∷ es) a b = search (rules, guard_sound, marks_sound, edges_sound es a.1 b.1)
 
   rows_sound : (rows : List RowData) → AllByRecursion (IsRowKept h) rows → AllByRecursion (HasRightCount h) rows →
       AllByRecursion (IsBelow whole.states) rows → AllByRecursion (IsSoundRow whole) rows
   rows_sound [] a c l = tt
-  rows_sound (row ∷ rows) a c l = (
-    record {
-      state = l.0.0;
-      label = label_sound row.label a.0.label;
-      marks = marks_sound row.marks a.0.marks;
-      edges = all_at (IsSoundEdge whole) row.edges (edges_sound row.edges a.0.edges l.0.1);
-      labelled = labelled_right (length (names_of h)) row.label row.edges a.0.labelled c.0;
-    },
-    rows_sound rows a.1 c.1 l.1,
-  )
+  rows_sound (row ∷ rows) a c l =
+      search (rules, label_sound, marks_sound, all_at, edges_sound, labelled_right, rows_sound rows a.1 c.1 l.1)
 
   start_is : IsStateOf h.states (unwrap_or h.start 0)
   start_is = start_state h.states h.start (λ e. n causes.Start (no_start e)) (λ l. n causes.Limit (start_too_large l))
@@ -193,9 +175,8 @@ module _ (h : HeaderData) (b : BodyData) (k : Kept h) (n : HasNoFlaw h) (d : IsB
     start = start_below h.states (unwrap_or h.start 0) b.rows start_is;
     few_names = k.1.0;
     names = k.1.1;
-    controllable =
-        control_within (length (names_of h)) h.controllable (λ c. n causes.Range (out_of_range (inr (inr (inr c)))))
-        k.4;
+    controllable = control_within (length (names_of h)) h.controllable
+        (λ c. n causes.Range (out_of_range (inr (inr (inr c))))) k.4;
     few_aliases = k.2.few;
     aliases = sound_aliases h k n;
     sets = few_sets h.acceptance k.3;
@@ -210,6 +191,5 @@ keeps_file = keeps_then keeps_header (λ h k.
     keeps_mapped _ (file_of h) (body h) (λ text b i q. sound h b k.0 k.1 (keeps_body h text b i q)))
 
 pub sound_file : (text : List ℕ) (f : FileData) → ReadsFile text (Ok f) → IsSoundFile f
-sound_file text f (by_tokens pieces short hoa version v1 tokens answer) =
-    keeps_file (signs (marked fresh pieces)) f answer.0 (λ front rest t g e c.
-    answer.1 front (t ∷ rest) g e (by_part t refl c))
+sound_file text f (by_tokens pieces short hoa version v1 tokens answer) = keeps_file (signs (marked fresh pieces)) f
+    answer.0 (λ front rest t g e c. answer.1 front (t ∷ rest) g e (by_part t refl c))

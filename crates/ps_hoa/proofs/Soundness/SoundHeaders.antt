@@ -46,9 +46,8 @@ pub keeps_number : (Bad : ℕ → HoaCause → Type 0) → Keeps (one int_in (Ba
 keeps_number Bad = keeps_one int_in (BadIn Bad) (λ t n e good f b. good f (if_there (λ m. Bad m f) e b))
 
 keeps_int : (limit : ℕ) → Keeps (int limit) (λ n. n ≤ limit)
-keeps_int limit = keeps_less (int limit)
-    (λ n good. let s : limit < n → ⊥ = λ l. good causes.Limit (l, refl) in omega arith)
-    (keeps_number (λ n f. (limit < n) × (f ≡ causes.Limit)))
+keeps_int limit =
+    keeps_less (int limit) (λ n good. grind arith) (keeps_number (λ n f. (limit < n) × (f ≡ causes.Limit)))
 
 -- ## What the items so far keep
 
@@ -76,14 +75,7 @@ rise_push k m (x ∷ es) e r is n = (r.0, rise_push (k + 1) m es e r.1 (omega (a
 
 one_more_alias : (names : List (List ℕ)) (es : List Expression) (name : List ℕ) (e : Expression) → HasAliases names es →
     length names < alias_limit → NamesBelow (length names) e → HasAliases (names ++ name ∷ []) (es ++ e ∷ [])
-one_more_alias names es name e a l n =
-    let y : length (names ++ name ∷ []) ≡ length names + 1 = length-append names (name ∷ []) in
-    let z : length (es ++ e ∷ []) ≡ length es + 1 = length-append es (e ∷ []) in
-    record {
-      one_each = omega arith;
-      few = omega arith;
-      rise = rise_push 0 (length names) es e a.rise (omega arith) n;
-    }
+one_more_alias names es name e a l n = grind (arith, length-append, rise_push)
 
 not_named : (other name : List ℕ) (names : List (List ℕ)) → is_name_among other names ≡ false →
     bytes_eq other name ≡ false → is_name_among other (names ++ name ∷ []) ≡ false
@@ -105,27 +97,22 @@ good_name names t name e good =
     go (is_empty name) (has_control name) (is_name_among name names) (λ b. good causes.Name (if_there _ e (b, refl)))
   where
     go : (x y z : Bool) → ((x || y || z) ≡ true → ⊥) → ((x || y) ≡ false) × (z ≡ false)
-    go true y z b = absurd (b refl)
-    go false true z b = absurd (b refl)
-    go false false z b = (refl, false_from_ne_true z b)
+    go x y z b = grind (arith, false_from_ne_true)
 
 keeps_names : (n : ℕ) (names : List (List ℕ)) → AreNames names →
     Keeps (times n proposition_name names) (λ all. (length all ≡ length names + n) × AreNames all)
 keeps_names zero names a = keeps_give _ names (omega arith, a)
-keeps_names (suc n) names a =
-    keeps_then {S = λ more. (length more ≡ length names + 1) × AreNames more}
+keeps_names (suc n) names a = keeps_then {S = λ more. (length more ≡ length names + 1) × AreNames more}
     (keeps_mapped _ (with_name names) (one string_in (IsBadName names)) (keeps_one string_in (IsBadName names)
-    (λ t name e good. let g = good_name names t name e good in
-    (length-append names (name ∷ []), names_push names name a g.0 g.1))))
-    (λ more l. keeps_less (times n proposition_name more) (λ all m. (omega (arith, l.0, m.0), m.1))
-    (keeps_names n more l.1))
+    (λ t name e good. grind (arith, good_name, length-append, names_push)))) (λ more l. keeps_less
+    (times n proposition_name more) (λ all m. (omega (arith, l.0, m.0), m.1)) (keeps_names n more l.1))
 
 few_more : (names : List (List ℕ)) (t : Sign) (name : List ℕ) → alias_value t.kind t.text ≡ Some name →
     ((f : HoaCause) → IsBadAlias names t f → ⊥) → length names < alias_limit
 few_more names t name e good = below (λ l. good causes.Limit (if_there _ e (inl (l, refl))))
 
 same_value : (h g : HeaderData) (kind : Kind) → read_over_value h kind ≡ Some g → h ≡ g
-same_value h g kind h1 = search (rules, same_some, none_is_some)
+same_value h g kind k = search (rules, same_some, none_is_some)
 
 keeps_read_over : (h : HeaderData) → Kept h → Keeps (read_over h) Kept
 keeps_read_over h k = search (rules, keeps_one, same_value)
@@ -135,12 +122,12 @@ keeps_form h k items.states = search (rules, keeps_behind, keeps_mapped, keeps_i
 keeps_form h k items.start = keeps_behind (start_name h) (λ _. search (rules, keeps_mapped))
 keeps_form h k items.propositions = keeps_behind (item_name (codes "AP:")) (λ _.
     keeps_then (keeps_int proposition_limit) (λ n l. search (rules, keeps_mapped, keeps_names, k.0, k.2, k.3, k.4)))
-keeps_form h k items.alias = keeps_behind (item_name (codes "Alias:")) (λ _.
-    keeps_then {S = λ _. length h.alias_names < alias_limit} (keeps_one (λ s. alias_value s.kind s.text)
-    (IsBadAlias h.alias_names) (few_more h.alias_names)) (λ name l.
-    keeps_mapped _ (with_alias h name) (label (header_scope h) nesting_limit) (λ text e i q.
-    let a = one_more_alias h.alias_names h.aliases name e k.2 l
-    (keeps_label (header_scope h) nesting_limit text e i q).0 in (k.0, k.1, a, k.3, k.4))))
+keeps_form h k items.alias = keeps_behind (item_name (codes "Alias:")) (λ _. keeps_then {S = λ _. length h.alias_names <
+    alias_limit} (keeps_one (λ s. alias_value s.kind s.text) (IsBadAlias h.alias_names) (few_more h.alias_names))
+    (λ name l. keeps_mapped _ (with_alias h name) (label (header_scope h) nesting_limit) (λ text e i q. grind (
+      arith,
+      one_more_alias h.alias_names h.aliases name e k.2 l (keeps_label (header_scope h) nesting_limit text e i q).0,
+    ))))
 keeps_form h k items.acceptance = keeps_behind (item_name (codes "Acceptance:")) (λ _.
     keeps_then (keeps_int set_limit) (λ n l. search (rules, keeps_mapped, k.0, k.1, k.2, k.4)))
 keeps_form h k items.controllable = keeps_behind (item_name (codes "controllable-AP:")) (λ _.
@@ -165,7 +152,7 @@ abbrev pub HasNoFlaw : HeaderData → Type 0
 HasNoFlaw h = (f : HoaCause) → IsBadHeader h f → ⊥
 
 same_header : (h g : HeaderData) (kind : Kind) → body_value h kind ≡ Some g → (kind ≡ Body) × (h ≡ g)
-same_header h g kind h1 = search (rules, same_some, none_is_some)
+same_header h g kind k = search (rules, same_some, none_is_some)
 
 keeps_body_mark : (h : HeaderData) → Kept h → Keeps (body_mark h) (λ g. Kept g × HasNoFlaw g)
 keeps_body_mark h k = keeps_one (λ s. body_value h s.kind) (IsBadBody h) (λ t g e good. search (rules, same_header))
@@ -181,8 +168,7 @@ keeps_header = keeps_then (keeps_many item keeps_item no_items no_items_kept) ke
 rise_sound : (count k : ℕ) (es : List Expression) → NamesRise k es → (AnAliasBeyond count es → ⊥) →
     AreAliases k count es
 rise_sound count k [] r n = tt
-rise_sound count k (e ∷ es) r n =
-    (label_from count k e r.0 (λ h. n (inl h)), rise_sound count (k + 1) es r.1 (λ h. n (inr h)))
+rise_sound count k (e ∷ es) r n = (grind (arith, label_from), rise_sound count (k + 1) es r.1 (λ h. n (inr h)))
 
 pub sound_aliases : (h : HeaderData) → Kept h → HasNoFlaw h → AreAliases 0 (length (names_of h)) h.aliases
 sound_aliases h k n =

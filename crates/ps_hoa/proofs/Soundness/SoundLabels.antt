@@ -14,8 +14,7 @@ use Rattle.ps_text.proofs.Simple.{none_is_some, same_some}
 use Rattle.ps_hoa.specs.Header.{SpeaksBeyond, SomeSpeaksBeyond}
 use Rattle.ps_hoa.specs.Labels.{ScopeData, leaf_value, leaf_in, IsBeyond, IsBadLeaf, BadLeaf, leaf, together, operand}
 use Rattle.ps_hoa.specs.Labels.{label}
-use Rattle.ps_hoa.specs.Operands.{is_not, is_left, is_right, mark, before, single, with_last, joined, further, operands}
-use Rattle.ps_hoa.specs.Operands.{row, rows}
+use Rattle.ps_hoa.specs.Operands.{is_not, is_left, mark, single, joined, further, operands, row, rows}
 use Rattle.ps_hoa.specs.Sound.{IsLabel, AreLabels}
 use Rattle.ps_hoa.specs.Tokens.{Sign}
 use Rattle.ps_hoa.specs.declared.connective.Connective.{Connective}
@@ -70,13 +69,11 @@ all_push S (y ∷ xs) x a s = (a.0, all_push S xs x a.1 s)
 module _ {V : Type 0} {S : V → Type 0} (sign : Kind → Bool) (join : List V → V) {part : Part Sign V HoaCause}
     (k : Keeps part S) (joins : (vs : List V) → AllByRecursion S vs → S (join vs)) where
   keeps_operands : Keeps (operands sign part) (AllByRecursion S)
-  keeps_operands =
-      keeps_then {S = AllByRecursion S} (keeps_mapped _ single part (λ text v i q. (k text v i q, tt)))
-      (keeps_many (λ ws. further sign part ws) (λ vs a. keeps_behind (mark sign) (λ _.
-      keeps_mapped _ (with_last vs) part (λ text v i q. all_push S vs v a (k text v i q)))))
+  keeps_operands = keeps_then {S = AllByRecursion S} (keeps_mapped _ single part (λ text v i q. (k text v i q, tt)))
+      (keeps_many (λ ws. further sign part ws) (λ vs a. search (rules, keeps_behind, keeps_mapped, all_push)))
 
   joined_too : (vs : List V) → AllByRecursion S vs → S (joined join vs)
-  joined_too vs h1 = search rules
+  joined_too vs h = search rules
 
   pub keeps_row : Keeps (row sign join part) S
   keeps_row = search (rules, keeps_mapped, joined_too, keeps_operands)
@@ -109,7 +106,7 @@ some_beyond scope (x ∷ es) a count e (inr h) = some_beyond scope es a.1 count 
 
 together_sound : (scope : ScopeData) (c : Connective) (es : List Expression) → AllByRecursion (InScope scope) es →
     InScope scope (together c es)
-together_sound scope c es h1 = search (rules, names_together, some_beyond)
+together_sound scope c es h = search (rules, names_together, some_beyond)
 
 module _ (scope : ScopeData) where
   keeps_leaf : (room : ℕ) → Keeps (leaf scope room) (InScope scope)
@@ -123,10 +120,8 @@ module _ (scope : ScopeData) where
   unfolding operand
   keeps_operand zero = keeps_leaf 0
   keeps_operand (suc room) = let k = keeps_operand room in
-      keeps_either (keeps_leaf (suc room)) (keeps_either
-      (keeps_behind (mark is_not) (λ _. keeps_mapped _ not_of (operand scope room) k))
-      (keeps_behind (mark is_left) (λ _. keeps_then (keeps_rows k)
-      (λ v s. keeps_mapped _ (before v) (mark is_right) (λ text u i q. s)))))
+      keeps_either (keeps_leaf (suc room)) (keeps_either (keeps_behind (mark is_not) (λ _. keeps_mapped _ not_of
+      (operand scope room) k)) (keeps_behind (mark is_left) (λ _. keeps_then (keeps_rows k) (λ v s. grind arith))))
 
   pub keeps_label : (room : ℕ) → Keeps (label scope room) (InScope scope)
   keeps_label room = keeps_rows (keeps_operand room)

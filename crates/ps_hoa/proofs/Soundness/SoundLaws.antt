@@ -5,14 +5,13 @@
 --     row_of_state      so is the row of a state, and it is of that state
 use Rattle.std.proofs.Common.{◌≡◌, ℕ, zero, suc, ◌+◌, ◌≤◌, List, [], ◌∷◌, length, Some, sym, subst, arith, inl, inr}
 use Rattle.std.specs.List.{All, AllByRecursion, slice_get}
-use Rattle.std.specs.Option.{IfSome}
 use Rattle.std.proofs.lemmas.Bool.Decides.{eqb_tells}
 use Rattle.ps_label.specs.Expression.{Expression, constant, proposition, alias, not_of, all_of, any_of, Operands, last}
 use Rattle.ps_label.specs.Expression.{more, IsWithin, AreWithin, AreOrderedFrom, AreOrdered}
 use Rattle.ps_text.proofs.Simple.{none_is_some, same_some}
 use Rattle.ps_hoa.specs.Edges.{row_among, row_of}
 use Rattle.ps_hoa.specs.Files.{EdgeData, RowData, FileData, stated}
-use Rattle.ps_hoa.specs.Sound.{IsLabel, AreLabels, AreAliases, IsGuard, IsSoundEdge, IsSoundRow, IsSoundFile}
+use Rattle.ps_hoa.specs.Sound.{IsLabel, AreLabels, AreAliases, IsSoundEdge, IsSoundRow, IsSoundFile}
 
 mutual
   pub label_within : (names count : ℕ) (e : Expression) → count ≤ 64 → IsLabel names count e → IsWithin names e
@@ -54,13 +53,11 @@ module _ (file : FileData) (s : IsSoundFile file) where
 
   pub edge_label : (edge : EdgeData) → IsSoundEdge file edge → (e : Expression) → edge.guard ≡ stated e →
       IsWithin (length file.aliases) e
-  edge_label edge i e g =
-      label_within (length file.aliases) (length file.names) e s.few_names (subst (IsGuard file) g i.guard)
+  edge_label edge i e g = label_within (length file.aliases) (length file.names) e s.few_names (grind arith)
 
   pub state_label : (row : RowData) → IsSoundRow file row → (e : Expression) → row.label ≡ Some e →
       IsWithin (length file.aliases) e
-  state_label row r e l = label_within (length file.aliases) (length file.names) e s.few_names
-      (subst (λ o. IfSome o (IsLabel (length file.aliases) (length file.names))) l r.label)
+  state_label row r e l = label_within (length file.aliases) (length file.names) e s.few_names (grind arith)
 
   among : (rows : List RowData) (q : ℕ) (row : RowData) → All (IsSoundRow file) rows → row_among rows q ≡ Some row →
       IsSoundRow file row × (row.state ≡ q)

@@ -1,6 +1,6 @@
 -- What is left behind the letter of a class: it heeds the second player's propositions alone.
 use Rattle.std.proofs.Common.{◌≡◌, ℕ, zero, suc, ◌+◌, ◌^◌, ◌<◌, Bool, true, false, cond, List, length, get_or, rules}
-use Rattle.std.proofs.Common.{option_map, Option, Some, refl, ap, sym, subst, ◌∙◌, arith, inl, inr}
+use Rattle.std.proofs.Common.{option_map, Option, Some, refl, ap, sym, ◌∙◌, arith, inl, inr}
 use Rattle.std.specs.Prelude.{IfSome, slice_get, slice_index, Any}
 use Rattle.std.proofs.lemmas.Bool.{cases_lt}
 use Rattle.std.proofs.Math.Nat.{pow-suc}
@@ -35,7 +35,7 @@ other_bit : {b : Bool} (c : Bool) {d : Bool} → b ≡ false → cond b c d ≡ 
 other_bit c {d} e = ap (λ x. cond x c d) e
 
 cond_alike : (b c : Bool) {d e : Bool} → (b ≡ false → d ≡ e) → cond b c d ≡ cond b c e
-cond_alike b c h1 = search rules
+cond_alike b c h = search rules
 
 -- the letter with one letter's bits on the mask, and another's elsewhere
 module _ (n mask class : ℕ) (small : mask < 2 ^ n) where
@@ -49,9 +49,8 @@ module _ (n mask class : ℕ) (small : mask < 2 ^ n) where
   unfolding bits joint
   joint_bit u p = elim (cases_lt p (n + u)) [
     | inl less ↦ letter_is (n + u) (bits u) p less
-    | inr more ↦ no_bit (n + u) (joint u) p (letter_lt (n + u) (bits u)) more
-        ∙ sym (other_bit (is_in p class) (no_bit n mask p small (omega arith))
-        ∙ no_bit u u p (small_power u) (omega arith))
+    | inr more ↦ no_bit (n + u) (joint u) p (letter_lt (n + u) (bits u)) more ∙ sym
+        (other_bit (is_in p class) (no_bit n mask p small (omega arith)) ∙ no_bit u u p (small_power u) (omega arith))
   ]
 
   joint_on : (u : ℕ) → AgreeOn mask class (joint u)
@@ -88,14 +87,12 @@ module _ {order : Order} {a : AutomatonData} {mask : ℕ} {t : Table} {q : ℕ} 
       like u = joint (length a.names) mask c.letter f.is_mask.within u
 
       there : (u : ℕ) → leaf_of t classes.places (like u) ≡ Some k
-      there u = sym (of.are.read c.letter (like u) (joint_on (length a.names) mask c.letter f.is_mask.within u))
-          ∙ (of.are.each k c at).least.here.1
+      there u = sym (of.are.read c.letter (like u) (grind (arith, joint_on))) ∙ (of.are.each k c at).least.here.1
 
       to : (u : ℕ) → leaf_of t c.rest u ≡ leaf_of a.store (node_of a q) (like u)
       to u =
           let is = of.are.each k c at in
-          is.others u (like u) (joint_off (length a.names) mask c.letter f.is_mask.within u) ∙ is.shared (like u)
-          (there u)
+          is.others u (like u) (grind (arith, joint_off)) ∙ is.shared (like u) (there u)
 
       same : (p : ℕ) → p < length a.names → is_in p (like x) ≡ is_in p (like y)
       same p lt = search (rules, joint_same)
@@ -105,11 +102,7 @@ module _ {order : Order} {a : AutomatonData} {mask : ℕ} {t : Table} {q : ℕ} 
   left {letter} {rest} any =
       let c : Class = any.1 in
       let at : slice_get classes.list.items any.0 ≡ Some c = search (rules, slice_get-get_or) in
-      record {
-        fit = f;
-        is_rest = rw (← any.4.0, ← any.4.1) (class_rest f of any.0 at);
-        heeds_second = rw any.4.1 at (class_heeds any.0 c at);
-      }
+      grind (arith, class_rest f of any.0 at, class_heeds any.0 c at)
 
 -- the places by another name
 pub renamed : (t u : Table) (places values : List ℕ) (rest made : ℕ) → values ≡ places →
@@ -140,5 +133,4 @@ module _ {order : Order} {a : AutomatonData} {keys : List Key} {t : Table} {clas
 
   pub left_behind : {letter rest : ℕ} → Any (λ (k : Class). (k.letter ≡ letter) × (k.rest ≡ rest)) l →
       Left order a d.mask t q letter rest
-  left_behind {letter} {rest} any =
-      left d.fit are_classes (rw same at any)
+  left_behind {letter} {rest} any = left d.fit are_classes (rw same at any)

@@ -1,5 +1,5 @@
 -- The classes of states, which are remembered.
-use Rattle.std.proofs.Common.{◌≡◌, ◌≢◌, ◌∙◌, ℕ, ◌<◌, ◌≤◌, Bool, cond, eqb, Option, None, Some, Result, List}
+use Rattle.std.proofs.Common.{◌≡◌, ◌≢◌, ◌∙◌, ℕ, ◌<◌, ◌≤◌, cond, eqb, Option, Some, Result, List}
 use Rattle.std.proofs.Common.{length, get_or, ap, subst, sym, inl, inr, rules}
 use Rattle.std.specs.Prelude.{IsSome, IsSomeAnd, OnOk}
 use Rattle.std.specs.List.{All, AllPairs}
@@ -49,8 +49,7 @@ module _ {order : Order} {a : AutomatonData} {mask : ℕ} {t u : Table} {rests n
       is_known = before key is.is_known;
       are = λ r c e. elim (bool_cases (eqb q r)) [
         | inl one ↦ search (rules, eqb-true)
-        | inr other ↦ remembered_kept r c
-            (is.are r c (sym (update r ∙ ap (λ (x : Bool). cond x (Some added) (classes r)) other) ∙ e))
+        | inr other ↦ remembered_kept r c (is.are r c (search (rules, e)))
       ];
     }
 
@@ -96,18 +95,17 @@ module _ {order : Order} {a : AutomatonData} {mask : ℕ} {t : Table} {rests : �
 pub answered_by : {order : Order} {a : AutomatonData} {mask : ℕ} {t : Table} {rests : ℕ × ℕ → Option ℕ}
     {classes : ℕ → Option Classes} {any key : Key} → KnowsMoves order a mask t rests classes any →
     IsDivided classes key → HasAnswered order a mask t classes key
-answered_by is divided =
-    record { fit = is.is_known.fit; are = λ q c e. (is.are q c e).are; is_divided = divided }
+answered_by is divided = record { fit = is.is_known.fit; are = λ q c e. (is.are q c e).are; is_divided = divided }
 
 pub divided_still : (old new : ℕ → Option Classes) → ((q : ℕ) → IsSome (old q) → IsSome (new q)) → (key : Key) →
     IsDivided old key → IsDivided new key
-divided_still old new h1 key h2 = search rules
+divided_still old new h key k = search rules
 
 pub on_ok : {X E : Type 0} (r : Result X E) (P : Type 0) → P → OnOk r P
-on_ok r P h1 = search (rules, e)
+on_ok r P h = search (rules, e)
 
 some_of : (o : Option Classes) (P : Classes → Type 0) → IsSome o → ((c : Classes) → o ≡ Some c → P c) → IsSomeAnd o P
-some_of o P h1 h2 = search (rules, true_is_not_false)
+some_of o P h k = search (rules, true_is_not_false)
 
 -- the classes of all keys that were answered
 pub all_divided : {order o : Order} {a b : AutomatonData} {mask : ℕ} {t : Table} {classes : ℕ → Option Classes}
@@ -125,7 +123,7 @@ all_divided {order} {b} {mask} {t} {classes} {keys} key same is begins all =
 -- ## What is lent
 
 pub is_divided : (o : Option Classes) (P : Classes → Type 0) → IsSomeAnd o P → IsSome o
-is_divided o P h1 = search rules
+is_divided o P h = search rules
 
 pub classes_at : {o : Option Classes} (P : Classes → Type 0) {c : Classes} → IsSomeAnd o P → o ≡ Some c → P c
 classes_at P h e = rw e at h

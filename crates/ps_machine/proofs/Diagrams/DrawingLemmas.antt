@@ -1,8 +1,7 @@
 -- What the diagrams of both movers rest on: memories of vertices, used vertices, where they lead, and rows.
-use Rattle.std.proofs.Common.{if◌then◌else◌}
-use Rattle.std.proofs.Common.{◌≡◌, ◌≢◌, ℕ, ◌+◌, ◌-◌, ◌<◌, Bool, true, false, List, [], ◌∷◌, ◌++◌, length, get_or, map}
-use Rattle.std.proofs.Common.{Some, ap, sym, subst, ◌∙◌, arith, rules, eqb}
-use Rattle.std.specs.Prelude.{slice_get, slice_index, IfSome}
+use Rattle.std.proofs.Common.{if◌then◌else◌, ◌≡◌, ◌≢◌, ℕ, ◌+◌, ◌<◌, Bool, true, List, length, get_or, map, Some, ap}
+use Rattle.std.proofs.Common.{sym, ◌∙◌, arith, rules, eqb}
+use Rattle.std.specs.Prelude.{slice_get}
 use Rattle.std.specs.List.{All, AllPairs, AllZip, Contains, list_any, position}
 use Rattle.std.proofs.lemmas.Bool.{eq-eqb}
 use Rattle.std.proofs.lemmas.List.{get_or_default, length-map, get_or-map, get_or_append_left, get_or_push, length_push}
@@ -15,8 +14,6 @@ use Rattle.ps_game.specs.Games.{ParityGame, vertex_count, owner_of, successors_o
 use Rattle.ps_game.proofs.Paths.{IsPath-push, Follows-push}
 use Rattle.ps_certificate.specs.Certificates.{CertificateData, IsClosed, winner_of, choice_of}
 use Rattle.ps_certificate.proofs.Keeping.{path_stays}
-use Rattle.ps_diagram.specs.Letters.{assignment}
-use Rattle.ps_diagram.specs.Tree.{leaf_at}
 use Rattle.ps_diagram.specs.Table.{Table, Keeps, leaf_of}
 use Rattle.ps_diagram.proofs.KnownLemmas.{some_nat}
 use Rattle.ps_automaton.specs.Automata.{AutomatonData}
@@ -50,14 +47,12 @@ at_position test xs d {i} e =
 -- a table has the key of a vertex
 pub has_key : (keys : List Key) (v : ℕ) (key : Key) → StandsAt keys v key →
     list_any ((key_eq.eq-value).it key) keys ≡ true
-has_key keys v key at =
-    list_any_at ((key_eq.eq-value).it key) keys v key (slice_get_within keys v key at)
+has_key keys v key at = list_any_at ((key_eq.eq-value).it key) keys v key (slice_get_within keys v key at)
     (rw (get_or_from_slice_get keys v key key at) (key_same key))
 
 pub has_mark : (marks : List ℕ) (memory : ℕ) {mark : ℕ} → slice_get marks memory ≡ Some mark →
     list_any (eqb mark) marks ≡ true
-has_mark marks memory {mark} at =
-    list_any_at (eqb mark) marks memory mark (slice_get_within marks memory mark at)
+has_mark marks memory {mark} at = list_any_at (eqb mark) marks memory mark (slice_get_within marks memory mark at)
     (eq-eqb mark (get_or marks memory mark) (sym (get_or_from_slice_get marks memory mark mark at)))
 
 -- a memory with the mark of a vertex stands for it
@@ -69,18 +64,10 @@ stands_for {is_first} {keys} {kept} {marks} {memory} v {q} p differ m at is {w} 
     let within : memory < length kept =
     omega (arith, slice_get_within marks memory (mark_of is_first v q) is, m.many) in
     let here = m.each memory within in
-    record {
-      vertex = slice_index kept memory;
-      state = here.state;
-      priority = here.priority;
-      is_kept = slice_get-get_or kept memory 0 within;
-      stands = here.stands;
-      shares = by is_first (slice_index kept memory) here.state (sym here.mark ∙ is);
-    }
+    grind (arith, slice_get-get_or, by)
   where
     by : (b : Bool) (u r : ℕ) → Some (mark_of b u r) ≡ Some (mark_of b v q) → Shares b u r w q
-    by true u r e = some_nat u v e ∙ one_place keys differ v w at there
-    by false u r e = cc
+    by b u r e = grind (arith, some_nat, one_place)
 
 -- ## Used vertices
 
@@ -90,15 +77,7 @@ pub used_more : {game : ParityGame} {certificate : CertificateData} {v : ℕ} {w
     → IsUsed game certificate w
 used_more {game} {certificate} {w} u edge within chosen =
     let long = length_push u.path w in
-    record {
-      path = u.path ++ w ∷ [];
-      is_path = IsPath-push game u.path w u.is_path (rw u.ends edge) within;
-      begins = get_or_append_left u.path (w ∷ []) 0 0 u.is_path.begins ∙ u.begins;
-      follows =
-          Follows-push game (winner certificate) (choice_of certificate) u.path w u.is_path.begins u.follows
-          (rw u.ends chosen);
-      ends = get_or_push u.path w 0 (length (u.path ++ w ∷ []) - 1) (omega arith);
-    }
+    grind (arith, IsPath-push, get_or_append_left, Follows-push, get_or_push)
 
 pub used_won : {game : ParityGame} {certificate : CertificateData} {v : ℕ} → IsClosed game certificate →
     IsUsed game certificate v → winner_of certificate v ≡ winner certificate
@@ -166,24 +145,13 @@ module _ {board : Board} {mover : ℕ} {keys : List Key} {game : ParityGame} {ce
       let won = used_won s.valid.closed used in
       let there =
       some_and (choice_of certificate v) (HasEdge game v) ((s.valid.closed.moves v within).own (own ∙ sym won)) in
-      let next : there.0 < vertex_count game =
-      rw there.1 at (s.fits.choices v within) in
-      record {
-        chosen = there.0;
-        choice = there.1;
-        edge = there.2;
-        used = used_more used there.2 next (λ o. there.1);
-      }
+      grind (arith, used_more)
 
   -- the keys to which a vertex's key leads
   next_keys : (v : ℕ) (k : Key) → StandsAt keys v k → (next : List Key) × LeadsTo board k next ×
       AllZip (StandsAt keys) (successors_of game v) next
   next_keys v k at =
-      let vertex = s.by_keys.vertices v (within_game s v at) in (
-        vertex.next,
-        rw (same_some (sym vertex.stands ∙ at)) at vertex.leads_to,
-        vertex.successors,
-      )
+      let vertex = s.by_keys.vertices v (within_game s v at) in grind (arith, same_some)
 
   pub class_at : (v : ℕ) {w q p : ℕ} → StandsAt keys v (First q p) → HasEdge game v w → ClassAt board keys q w
   class_at v {q} {p} at edge =
@@ -194,8 +162,7 @@ module _ {board : Board} {mover : ℕ} {keys : List Key} {game : ParityGame} {ce
   pub move_to : (v : ℕ) {w q x : ℕ} → StandsAt keys v (Second q x) → HasEdge game v w → MoveTo board keys q x w
   move_to v {q} {x} at edge =
       let n = next_keys v (Second q x) at in
-      let y = letter_of_number keys (pair_key q x) (successors_of game v) n.1.1 n.1.2 n.2 edge.1 in
-      record { letter = y.0; is_move = y.1; goes = record { stands = y.2 } }
+      grind (arith, letter_of_number keys (pair_key q x) (successors_of game v) n.1.1 n.1.2 n.2 edge.1)
 
   -- the vertex of a class of the state
   pub to_class_of : {v q p x : ℕ} → StandsAt keys v (First q p) → IsClass board q x → Leads keys game v (Second q x)
@@ -209,8 +176,7 @@ module _ {board : Board} {mover : ℕ} {keys : List Key} {game : ParityGame} {ce
       Leads keys game v (pair_key q x y)
   to_pair_of {v} {q} x y at is =
       let n = next_keys v (Second q x) at in
-      let there = number_of_letter keys (pair_key q x) (successors_of game v) n.1.1 n.1.2 n.2 is in
-      record { vertex = there.0; edge = (within_game s v at, there.1); stands = there.2 }
+      grind (arith, number_of_letter keys (pair_key q x) (successors_of game v) n.1.1 n.1.2 n.2 is, within_game s v at)
 
 -- ## The vertices of memories
 
@@ -229,13 +195,7 @@ module _ {order : Order} {a : AutomatonData} {keys : List Key} {certificate : Ce
   pub kept_at : {v : ℕ} → Contains kept v → KeptAt v
   kept_at {v} c =
       let m = plan.memories.each c.0 c.1 in
-      let same : slice_index kept c.0 ≡ v = get_or_default kept c.0 0 v c.1 ∙ c.2 in
-      record {
-        state = m.state;
-        priority = m.priority;
-        stands = rw same at m.stands;
-        used = (plan.are_used v).0 (rw same at m.is_used);
-      }
+      grind (arith, get_or_default)
 
   pub kept_used : {v : ℕ} → Contains kept v → IsUsed plan.game certificate v
   kept_used {v} c = (kept_at c).used
@@ -255,13 +215,12 @@ module _ {order : Order} {a : AutomatonData} {keys : List Key} {certificate : Ce
   pub kept_entry : (v : ℕ) → Contains kept v → v < length certificate.entries
   kept_entry v c =
       let k = kept_at c in
-      let small = within_game (setting plan) v k.stands in
-      omega (arith, small, plan.fits.entry_each)
+      grind (arith, within_game, setting)
 
 -- ## Rows
 
 by_case : (P : List Row → Type 0) (b : Bool) (old more : List Row) → P old → P more → P (if b then old else more)
-by_case P b old more h1 h2 = search rules
+by_case P b old more h k = search rules
 
 -- a row that is added, if it is not there, leaves the others at their places
 pub keeps_rows : (eq : Row → Row → Bool) {old : List Row} (row : Row) {new : List Row} → new ≡ insert_key eq old row →
@@ -270,8 +229,7 @@ keeps_rows eq {old} row e = search (rules, by_case, slice_get-left)
 
 pub all_rows : (P : Row → Type 0) (eq : Row → Row → Bool) (old : List Row) (row : Row) {new : List Row} →
     new ≡ insert_key eq old row → All P old → P row → All P new
-all_rows P eq old row e all here =
-    rw e (by_case (λ rows. All P rows) (list_any (eq row) old) old (old ++ row ∷ []) all (All-push P old row all here))
+all_rows P eq old row e all here = grind (arith, All-push P old row all here)
 
 pub keeps_rows_trans : {one two three : List Row} → KeepsRows one two → KeepsRows two three → KeepsRows one three
 keeps_rows_trans k l = record { same = λ leaf r is. l.same leaf r (k.same leaf r is) }
@@ -282,7 +240,7 @@ pub drawn_kept : {is_first : Bool} {board : Board} {keys : List Key} {kept : Lis
     IsDrawn is_first board keys kept certificate t old v node →
     IsDrawn is_first board keys kept certificate u new v node
 drawn_kept {t} {u} {node} k rows d =
-    let same : (x : ℕ) → leaf_of u node x ≡ leaf_of t node x = λ x. leaf_kept x in
+    let same : (x : ℕ) → leaf_of u node x ≡ leaf_of t node x = grind arith in
     record {
       held = k.held node d.held;
       state = d.state;
@@ -291,6 +249,3 @@ drawn_kept {t} {u} {node} k rows d =
       leads = search rules;
       heeds = λ x y alike. same x ∙ d.heeds x y alike ∙ sym (same y);
     }
-  where
-    leaf_kept : (x : ℕ) → leaf_of u node x ≡ leaf_of t node x
-    leaf_kept x = ap (λ tree. leaf_at tree (assignment x)) (k.same node d.held)

@@ -1,8 +1,7 @@
 -- The diagram of a memory of a player who moves first.
 use Rattle.std.proofs.Common.{not, is_some, ◌≡◌, ◌≢◌, ℕ, ◌+◌, ◌^◌, ◌<◌, Bool, true, List, length, get_or, option_map}
-use Rattle.std.proofs.Common.{Option, Some, None, refl, ap, sym, subst, ◌∙◌, arith, rules}
+use Rattle.std.proofs.Common.{Option, Some, None, refl, ap, sym, ◌∙◌, arith, rules}
 use Rattle.std.specs.Prelude.{IfSome, slice_get, slice_index}
-use Rattle.std.specs.Option.{unwrap_or}
 use Rattle.std.specs.List.{All, Contains}
 use Rattle.std.proofs.lemmas.Bool.{cases_eq, eqb-true}
 use Rattle.std.proofs.lemmas.List.{get_or_default}
@@ -14,7 +13,6 @@ use Rattle.ps_diagram.specs.Table.{Table, IsNode, leaf_of}
 use Rattle.ps_diagram.specs.Reached.{AreLeaves}
 use Rattle.ps_diagram.proofs.KnownLemmas.{some_nat}
 use Rattle.ps_automaton.specs.Automata.{AutomatonData, node_of, pair_of, step_of}
-use Rattle.ps_automaton.specs.declared.step.Step.{Step}
 use Rattle.ps_machine.specs.Boards.{Board, IsSecondLetter, IsClass}
 use Rattle.ps_machine.specs.BuiltBoards.{board_of}
 use Rattle.ps_machine.specs.Drawing.{IsPlan, IsRow, KeepsRows, IsDrawn, LeadsToRow}
@@ -28,11 +26,10 @@ use Rattle.ps_machine.specs.declared.key.Key.{Key}
 use Rattle.ps_machine.specs.declared.key.Key.TheVariants.{First, Second}
 use Rattle.ps_machine.specs.declared.key.Order.{Order}
 use Rattle.ps_machine.specs.declared.machine.Row.{Row}
-use Rattle.ps_machine.proofs.BoardSteps.{heeds, below_back, some_of}
+use Rattle.ps_machine.proofs.BoardSteps.{below_back, some_of}
 use Rattle.ps_machine.proofs.BoardMoves.{move_is, move_leaf, leaf_within}
-use Rattle.ps_machine.proofs.Diagrams.DrawingLemmas.{setting, kept_at, kept_used, not_both, keeps_rows}
-use Rattle.ps_machine.proofs.Diagrams.DrawingLemmas.{keeps_rows_trans, all_rows, move_at, class_at, to_pair_of}
-use Rattle.ps_machine.proofs.Diagrams.DrawingLemmas.{used_more}
+use Rattle.ps_machine.proofs.Diagrams.DrawingLemmas.{setting, kept_at, kept_used, not_both, keeps_rows, all_rows}
+use Rattle.ps_machine.proofs.Diagrams.DrawingLemmas.{move_at, class_at, to_pair_of, used_more}
 use Rattle.ps_machine.proofs.Lassos.Rounds.{within_game, first_owner, second_owner}
 use Rattle.ps_machine.proofs.Diagrams.ClassRests.{Heeds, Left}
 
@@ -52,12 +49,7 @@ module _ {a : AutomatonData} {keys : List Key} {is_first : Bool} {board : Board}
       AreNoted a keys is_first board kept letter found old rows places n → new ≡ insert_key eq rows row →
       IsRow is_first board kept row → AreNoted a keys is_first board kept letter found old new places n
   add_row eq {rows} {row} {new} h e is =
-      let k = keeps_rows eq row e in
-      record {
-        same_rows = keeps_rows_trans h.same_rows k;
-        each = all_rows (IsRow is_first board kept) eq rows row e h.each is;
-        placed = search rules;
-      }
+      grind (arith, keeps_rows eq row e, all_rows (IsRow is_first board kept) eq rows row e h.each is)
 
   -- and its place is noted
   pub note_more : {rows : List Row} {places more : List ℕ} {n leaf place : ℕ} {row : Row} →
@@ -91,15 +83,7 @@ module _ {order : Order} {a : AutomatonData} {keys : List Key} {certificate : Ce
   to_class v {q} {p} is_kept at =
       let s = setting plan in
       let m = move_at s at (kept_used plan is_kept) (first_owner s v at ∙ mover_wins) in
-      let c = class_at s v at m.edge in
-      record {
-        chosen = m.chosen;
-        choice = m.choice;
-        used = m.used;
-        letter = c.letter;
-        is_class = c.is_class;
-        stands = c.stands;
-      }
+      grind (arith, class_at s v at m.edge)
 
   -- the vertex that the certificate gives is one of a class
   class_chosen : (v : ℕ) {chosen : ℕ} {q p : ℕ} → Contains kept v → StandsAt keys v (First q p) →
@@ -116,15 +100,13 @@ module _ {order : Order} {a : AutomatonData} {keys : List Key} {certificate : Ce
       chosen < length keys
   chosen_within v {chosen} is_kept choice =
       let k = kept_at plan is_kept in
-      let to = class_chosen v is_kept k.stands choice in
-      slice_get_within keys chosen (Second k.state to.0) to.2
+      grind (arith, class_chosen, slice_get_within)
 
   pub chosen_not_first : (v : ℕ) {chosen r o : ℕ} → Contains kept v → choice_of certificate v ≡ Some chosen →
       get_or keys chosen (First 0 0) ≡ First r o → ⊥
   chosen_not_first v {chosen} is_kept choice is =
       let k = kept_at plan is_kept in
-      let to = class_chosen v is_kept k.stands choice in
-      not_both (sym (get_or_from_slice_get keys chosen (Second k.state to.0) (First 0 0) to.2) ∙ is)
+      grind (arith, class_chosen, not_both, get_or_from_slice_get)
 
   pub plays_class : (v chosen r letter : ℕ) → Contains kept v → choice_of certificate v ≡ Some chosen →
       get_or keys chosen (First 0 0) ≡ Second r letter → (q p : ℕ) → StandsAt keys v (First q p) →
@@ -145,11 +127,9 @@ module _ {order : Order} {a : AutomatonData} {keys : List Key} {certificate : Ce
       let y = (get_or found k (0, 0)).1 in
       let leaf = (get_or found k (0, 0)).0 in
       let on = to_pair_of s letter y plays.stands (move_is l.fit l.is_rest are k within) in
-      let there : step_of a q (letter + y) ≡ pair_of a leaf =
-      ap (λ o. pair_of a (unwrap_or o (length a.steps))) (move_leaf l.fit l.is_rest are k within) in
+      let there : step_of a q (letter + y) ≡ pair_of a leaf = grind (arith, move_leaf l.fit l.is_rest are k within) in
       let other : owner_of plan.game plays.chosen ≡ winner certificate → ⊥ =
-      λ own. (let o = second_owner s plays.chosen plays.stands in
-      omega (arith, o, own, mover_wins, s.is_mover)) in
+      grind (arith, second_owner s plays.chosen plays.stands, mover_wins) in
       let item : IsEntered order a keys certificate is_first kept marks leaf = record {
         within = leaf_within l.fit l.is_rest are k within;
         enters = record {
@@ -180,14 +160,7 @@ module _ {order : Order} {a : AutomatonData} {keys : List Key} {certificate : Ce
         (l.fit.whole.leaves q (letter + x) l.is_rest.state) in
         let is = l.is_rest.leaves x second ∙ there.1 in
         let any = are.each there.0 x (below_back l.fit x second.within, is) in
-        let same : (get_or found any.0 any.1).0 ≡ there.0 = ap (λ (e : ℕ × ℕ). e.0) any.3 ∙ any.4 in
-        record {
-          leaf = there.0;
-          is_leaf = is;
-          is_step = ap (λ o. pair_of a (unwrap_or o (length a.steps))) there.1;
-          is_placed = rw same at (placed any.0 any.1 any.2);
-          is_entered = rw (← same) (entered is_kept at plays l are any.0 any.1 any.2);
-        }
+        grind (arith, entered is_kept at plays l are any.0 any.1 any.2)
 
     -- each letter that leads the rest to a leaf leads it to one for which a place is noted
     pub all_noted : (x : ℕ) → x < 2 ^ t.propositions → IfSome (leaf_of t rest x) (λ leaf. leaf < length places)
@@ -228,7 +201,6 @@ module _ {order : Order} {a : AutomatonData} {keys : List Key} {certificate : Ce
         priority = p;
         stands = at;
         leads = row_at;
-        heeds =
-            λ x y alike. named x ∙ ap (λ o. option_map (λ k. slice_index places k) o)
+        heeds = λ x y alike. named x ∙ ap (λ o. option_map (λ k. slice_index places k) o)
             (l.heeds_second x y (λ r within isnt. alike r within (ap not isnt))) ∙ sym (named y);
       })

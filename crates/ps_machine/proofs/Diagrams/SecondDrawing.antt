@@ -1,7 +1,7 @@
 -- The diagrams of a machine whose player moves second.
 use Rattle.std.proofs.Common.{◌≡◌, ◌≢◌, ℕ, ◌+◌, ◌<◌, Bool, true, false, List, [], ◌∷◌, ◌++◌, length, get_or, take}
 use Rattle.std.proofs.Common.{Option, Some, ap, sym, subst, ◌∙◌, arith, ◌==◌, rules}
-use Rattle.std.specs.Prelude.{Any, IfSome, IsSomeAnd, MatchOption, slice_get, slice_index, option_map}
+use Rattle.std.specs.Prelude.{Any, IfSome, IsSomeAnd, slice_get, slice_index, option_map}
 use Rattle.std.specs.List.{All, AllZip, position}
 use Rattle.std.specs.Option.{unwrap_or}
 use Rattle.std.proofs.lemmas.Bool.{eq-eqb}
@@ -98,17 +98,7 @@ module _ {order : Order} {a : AutomatonData} {keys : List Key} {certificate : Ce
       let own : owner_of game to.vertex ≡ winner certificate = omega (arith, owner, loses, small, s.is_mover) in
       let m = move_at s to.stands used own in
       let t = move_to s to.vertex to.stands m.edge in
-      record {
-        at = to.vertex;
-        stands = to.stands;
-        chosen = m.chosen;
-        choice = m.choice;
-        letter = t.letter;
-        second = t.is_move.here.0;
-        goes = t.goes;
-        enters = record { plan = plan; vertex = m.chosen; stands = t.goes.stands; is_used = m.used };
-        apart = λ v w k. same_place s v w;
-      }
+      search (rules, same_place)
 
   module _ {q x : ℕ} (r : Replies order a keys certificate is_first kept marks q x) where
     pub reply_choice : (at : ℕ) → StandsAt keys at (Second q x) → choice_of certificate at ≡ Some r.chosen
@@ -139,13 +129,10 @@ module _ {order : Order} {a : AutomatonData} {mask : ℕ} {t : Table} {keys : Li
   leaf_there =
       let m = move_of f r are reply.second in
       let leaf = sym m.is ∙ r.leaves reply.letter reply.second in
-      let is : pair_of a (get_or found m.place (0, 0)).0 ≡ step_of a q (x + reply.letter) =
-      ap (λ o. pair_of a (unwrap_or o (length a.steps))) leaf in (
-        m.place,
-        get_or found m.place (0, 0),
-        m.within,
+      grind (
+        arith,
         get_or_default found m.place (get_or found m.place (0, 0)) (0, 0) m.within,
-        is ∙ same_pair reply.state reply.priority,
+        same_pair reply.state reply.priority,
       )
 
   -- the move that leads to the step is the least letter that does
@@ -196,10 +183,7 @@ pub answer_row : {is_first : Bool} {board : Board} {keys : List Key} {kept : Lis
     IsRow is_first board kept row
 answer_row {board} {kept} {row} turn answer =
     let at = answer 0 in
-    rw turn (record {
-      memory = slice_get_within kept row.memory at.next.vertex at.next.is_kept;
-      letter = at.played.least.here.0;
-    })
+    search (rules, slice_get_within)
 
 module _ (board : Board) (keys : List Key) (kept : List ℕ) (certificate : CertificateData) (q : ℕ) where
   abbrev pub Names : List Row → Class → ℕ → Type 0
@@ -210,10 +194,7 @@ module _ (board : Board) (keys : List Key) (kept : List ℕ) (certificate : Cert
   still_named k [] [] zip = tt
   still_named k [] (value ∷ values) zip = zip
   still_named k (class ∷ classes) [] zip = zip
-  still_named {old} {new} k (class ∷ classes) (value ∷ values) zip = (
-    record { row = zip.0.row; is_row = k.same value zip.0.row zip.0.is_row; is_answer = zip.0.is_answer },
-    still_named k classes values zip.1,
-  )
+  still_named {old} {new} k (class ∷ classes) (value ∷ values) zip = grind (arith, still_named k classes values zip.1)
 
 module _ {board : Board} {keys : List Key} {kept : List ℕ} {certificate : CertificateData} {q : ℕ} where
   -- one more class
@@ -228,10 +209,7 @@ module _ {board : Board} {keys : List Key} {kept : List ℕ} {certificate : Cert
       let k = keeps_rows (row_eq.eq-value).it row grown in
       let at : slice_get new value ≡ Some row = stored.1 ∙ ap (λ r. Some r) (sym (same_row stored.2)) in
       let here = rw is at answer in
-      rw (e, take_more classes i d within)
-      (AllZip-push (Names board keys kept certificate q new) (take i classes) values (get_or classes i d) value
-      (still_named board keys kept certificate q k (take i classes) values zip)
-      (record { row = row; is_row = at; is_answer = here }))
+      rw (e, take_more classes i d within) (grind (arith, AllZip-push, still_named))
 
   -- letters that step alike have one row
   alike_row : {v x c : ℕ} {row : Row} → SameSteps board q x c → IsRowAt false board keys kept certificate v q c row →
@@ -245,13 +223,12 @@ pub named_as : {X : Type 0} (N : X → ℕ → Type 0) {xs ys : List X} {values 
     AllZip N ys values → AllZip N xs same
 named_as N {ys} {same} is are zip = subst (λ l. AllZip N l same) is (subst (λ v. AllZip N ys v) (sym are) zip)
 
-pub class_each : {order : Order} {a : AutomatonData} {mask : ℕ} {t : Table} {q : ℕ} {c : Classes} →
-    IsFit order a mask t → AreClassesOf a mask t q c →
-    All (λ (c : Class). IsClass (board_of order a) q c.letter) c.list.items
+pub class_each : {order : Order} {a : AutomatonData} {mask : ℕ} {t : Table} {q : ℕ} {c : Classes} → IsFit order a mask t
+    → AreClassesOf a mask t q c → All (λ (c : Class). IsClass (board_of order a) q c.letter) c.list.items
 class_each {c} f of k d within = class_is f of k (slice_get-get_or c.list.items k d within)
 
 some_if : (o : Option ℕ) {n m : ℕ} → m ≡ n → IsSomeAnd o (λ k. k < n) → IfSome o (λ k. k < m)
-some_if o h1 h2 = search rules
+some_if o h k = search rules
 
 module _ (keys : List Key) (kept : List ℕ) (certificate : CertificateData) (rows : List Row) (values : List ℕ)
     {order : Order} {a : AutomatonData} {mask : ℕ} {t : Table} {q : ℕ} {classes : Classes} (f : IsFit order a mask t)
@@ -289,8 +266,7 @@ module _ (keys : List Key) (kept : List ℕ) (certificate : CertificateData) (ro
     heeds_first : (x y : ℕ) → ((p : ℕ) → p < length a.names → (board_of order a).is_first p ≡ true →
         is_in p x ≡ is_in p y) → leaf_of u node x ≡ leaf_of u node y
     heeds_first x y alike =
-        let on : AgreeOn mask x y = λ p is. (let within = mask_below (board_of order a) mask p f.is_mask is in
-        alike p within (sym (f.is_mask.is p within) ∙ is)) in
+        let on : AgreeOn mask x y = λ p is. grind (arith, mask_below (board_of order a) mask p f.is_mask is) in
         cc (leaf x, of.are.read x y on, leaf y)
 
     pub drawn_second : (v p : ℕ) → StandsAt keys v (First q p) → IsNode u node →

@@ -1,7 +1,6 @@
 -- A game is there for each admitted file: keys are visited by definition, and there are only so many.
-use Rattle.std.proofs.Common.{rules}
-use Rattle.std.proofs.Common.{◌≡◌, ◌≢◌, ◌⊎◌, inl, inr, ℕ, zero, suc, ◌+◌, ◌^◌, ◌<◌, ◌≤◌, Bool, true, not, List}
-use Rattle.std.proofs.Common.{[], ◌∷◌, ◌++◌, length, map, take, get_or, Some, refl, ap, sym, subst, ◌∙◌, arith, add-one}
+use Rattle.std.proofs.Common.{rules, ◌≡◌, ◌≢◌, ◌⊎◌, inl, inr, ℕ, zero, suc, ◌+◌, ◌^◌, ◌<◌, ◌≤◌, Bool, true, not, List}
+use Rattle.std.proofs.Common.{[], ◌∷◌, ◌++◌, length, map, take, get_or, refl, sym, subst, arith, add-one}
 use Rattle.std.specs.Bool.{Decides}
 use Rattle.std.specs.Cmp.{IsEquivalence}
 use Rattle.std.specs.Set.{is_member}
@@ -13,8 +12,8 @@ use Rattle.std.proofs.lemmas.List.Elements.{Contains-append_right, Contains-push
 use Rattle.std.proofs.lemmas.List.Quantifiers.{all_pairs_push}
 use Rattle.std.proofs.lemmas.Map.Made.{IsDistinct-from_AllPairs, is_member-Decides, length-le_from_is_member}
 use Rattle.std.proofs.lemmas.Option.{slice_get-get_or, slice_get_past}
-use Rattle.ps_game.specs.Games.{ParityGame, NamedGameData, vertex_count}
-use Rattle.ps_game.specs.Drafts.{with_edge, with_vertex}
+use Rattle.ps_game.specs.Games.{ParityGame, NamedGameData}
+use Rattle.ps_game.specs.Drafts.{with_vertex}
 use Rattle.ps_diagram.specs.Letters.{IsBefore, IsLeast}
 use Rattle.ps_hoa.specs.Files.{FileData}
 use Rattle.ps_hoa.specs.Sound.{IsSoundFile}
@@ -26,7 +25,7 @@ use Rattle.ps_machine.specs.Boards.{SameStep, SameSteps}
 use Rattle.ps_machine.specs.FileGames.{IsGameOfFile, board_of_file}
 use Rattle.ps_machine.specs.KeyNames.{key_names}
 use Rattle.ps_machine.specs.Keys.{mover_of, owner_of_key, priority_of_key}
-use Rattle.ps_machine.specs.Visits.{Came, Comes, DraftData, IsExplored, IsNumberOf, Visits}
+use Rattle.ps_machine.specs.Visits.{Comes, DraftData, IsExplored, IsNumberOf, Visits}
 use Rattle.ps_machine.specs.declared.key.Key.{Key}
 use Rattle.ps_machine.specs.declared.key.Key.TheVariants.{First, Second}
 use Rattle.ps_machine.specs.declared.key.Order.{Order}
@@ -67,14 +66,11 @@ module _ (n : ℕ) (P : ℕ → Type 0) (tell : (y : ℕ) → P y ⊎ (P y → �
             each = All-push P l.0 found.0 l.1.each found.1.0;
             low = All-push (λ y. rank 0 n y < suc count) l.0 found.0 (raised l.0 l.1.low) (omega (arith, found.1.1));
             complete = λ y is low. elim (cases_eq (rank 0 n y) count) [
-              | inl here ↦ subst (Contains (l.0 ++ found.0 ∷ [])) (same_rank found.0 y found.1.0 is
-                  (found.1.1 ∙ sym here)) (Contains-push l.0 found.0)
+              | inl here ↦ subst (Contains (l.0 ++ found.0 ∷ [])) (grind (arith, same_rank)) (Contains-push l.0 found.0)
               | inr other ↦ Contains-append_left l.0 (found.0 ∷ []) y (l.1.complete y is (omega arith))
             ];
-            rising =
-                all_pairs_push IsBefore l.0 found.0 l.1.rising (λ k d inside.
-                lower_before (l.1.each k d inside) found.1.0
-                (let low = l.1.low k d inside in omega (arith, low, found.1.1)));
+            rising = all_pairs_push IsBefore l.0 found.0 l.1.rising (λ k d inside. lower_before (l.1.each k d inside)
+                found.1.0 (let low = l.1.low k d inside in omega (arith, low, found.1.1)));
           },
         )
         | inr none ↦ search (rules, cases_eq, rank)
@@ -90,15 +86,10 @@ module _ (n : ℕ) (P : ℕ → Type 0) (tell : (y : ℕ) → P y ⊎ (P y → �
       raised letters low k d inside = (let less = low k d inside in omega arith)
 
   pub letters_there : (letters : List ℕ) × AreListed P letters
-  letters_there =
-      (let l = list_below (2 ^ n) in (
-        l.0,
-        record {
-          each = l.1.each;
-          complete = λ y is. l.1.complete y is (rank_lt 0 n y);
-          rising = l.1.rising;
-        },
-      ))
+  letters_there = (let l = list_below (2 ^ n) in (
+    l.0,
+    grind (arith, rank_lt),
+  ))
 
   -- whether a letter is the least with a property can be told
   pub least_or_not : (y : ℕ) → IsLeast P y ⊎ (IsLeast P y → ⊥)
@@ -119,55 +110,40 @@ told_apart : (a b : Key) → Decides (is_key a b) (a ≡ b)
 told_apart a b = (same_key a b, λ e. subst (λ k. is_key a k ≡ true) e (key_same a))
 
 both_ways : (a b : Bool) → (a ≡ true → b ≡ true) → (b ≡ true → a ≡ true) → a ≡ b
-both_ways a b h1 h2 = search rules
+both_ways a b h k = search rules
 
 key_laws : IsEquivalence is_key
 key_laws = search (rules, key_same, both_ways, told_apart, same_key)
 
 -- different keys of a list are no more than the list has
 keys_fit : (all keys : List Key) → AllPairs (λ x y. x ≢ y) keys → All (Contains all) keys → length keys ≤ length all
-keys_fit all keys differ each =
-    length-le_from_is_member key_laws keys all (IsDistinct-from_AllPairs told_apart keys differ)
-    (λ k is. (is_member-Decides told_apart all k).1 (All-contains (Contains all) keys k each
-    ((is_member-Decides told_apart keys k).0 is)))
+keys_fit all keys differ each = length-le_from_is_member key_laws keys all
+    (IsDistinct-from_AllPairs told_apart keys differ) (λ k is. (is_member-Decides told_apart all k).1
+    (All-contains (Contains all) keys k each ((is_member-Decides told_apart keys k).0 is)))
 
 came_or_not : (keys : List Key) (k : Key) → Contains keys k ⊎ (Contains keys k → ⊥)
-came_or_not keys k = elim (cases_Bool (is_member is_key keys k)) [
-  | inl is ↦ inl ((is_member-Decides told_apart keys k).0 is)
-  | inr isnt ↦ inr (λ c. cc ((is_member-Decides told_apart keys k).1 c))
-]
+came_or_not keys k = grind (arith, cases_Bool (is_member is_key keys k), is_member-Decides told_apart keys k)
 
 module _ (mover : ℕ) (old : DraftData) (key : Key) (next : List Key) where
   visit_first : (i : ℕ) → i ≤ length next → (now : DraftData) × Visits mover old key (take i next) now
-  visit_first zero few =
-      (let now : DraftData = record {
-        keys = old.keys;
-        game = with_vertex old.game (owner_of_key mover key) (priority_of_key key);
-      } in (now, visits_none refl refl))
+  visit_first zero few = (let now : DraftData = record {
+    keys = old.keys;
+    game = with_vertex old.game (owner_of_key mover key) (priority_of_key key);
+  } in (now, visits_none refl refl))
   visit_first (suc i) few = (let before = visit_first i (omega arith) in
       let k = get_or next i (First 0 0) in
       elim (came_or_not before.0.keys k) [
-        | inl c ↦ more before.0 before.1 c.0 before.0.keys (Came
-            (slice_get-get_or before.0.keys c.0 k c.1 ∙ ap (λ x. Some x) c.2) refl)
+        | inl c ↦ more before.0 before.1 c.0 before.0.keys (grind (arith, slice_get-get_or))
         | inr absent ↦ more before.0 before.1 (length before.0.keys) (before.0.keys ++ k ∷ []) (Comes absent refl refl)
       ])
     where
       more : (now : DraftData) → Visits mover old key (take i next) now → (number : ℕ) (keys : List Key) →
           IsNumberOf now.keys (get_or next i (First 0 0)) number keys →
           (now : DraftData) × Visits mover old key (take (suc i) next) now
-      more now v number keys is =
-          let new : DraftData = record { keys = keys; game = with_edge now.game (vertex_count old.game) number } in (
-            new,
-            subst (λ j. Visits mover old key (take j next) new) (add-one i)
-                (visits_next next i (omega arith) v is refl),
-          )
+      more now v number keys is = grind (arith, add-one i, visits_next next i (omega arith) v is refl)
 
   visit_there : (new : DraftData) × Visits mover old key next new
-  visit_there =
-      (let v = visit_first (length next) (omega arith) in (
-        v.0,
-        subst (λ l. Visits mover old key l v.0) (take_all (length next) next (omega arith)) v.1,
-      ))
+  visit_there = grind (arith, visit_first (length next) (omega arith), take_all (length next) next (omega arith))
 
 -- ## A board's game
 
@@ -195,17 +171,10 @@ module _ (board : Board) (mover : ℕ) (start : board.auto.start ≤ board.state
   at_letter q zero letter less = absurd (omega arith)
   at_letter q (suc count) letter less = elim (cases_eq letter count) [
     | inl same ↦ (
-      subst (λ l. Contains (keys_at q (suc count)) (First (board.auto.next q l) (board.auto.priority q l))) (sym same)
-          (0, omega arith, refl),
+      grind arith,
       subst (λ l. Contains (keys_at q (suc count)) (Second q l)) (sym same) (1, omega arith, refl),
     )
-    | inr other ↦
-        let before = at_letter q count letter (omega arith) in
-        let rest = keys_at q count in
-        let one : Key = First (board.auto.next q count) (board.auto.priority q count) in (
-          further one _ (Second q count ∷ rest) (further (Second q count) _ rest before.0),
-          further one _ (Second q count ∷ rest) (further (Second q count) _ rest before.1),
-        )
+    | inr other ↦ search (rules, further, at_letter q count letter (omega arith))
   ]
 
   below_state : (q count : ℕ) (k : Key) → q < count → Contains (keys_at q (2 ^ board.propositions)) k →
@@ -213,8 +182,7 @@ module _ (board : Board) (mover : ℕ) (start : board.auto.start ≤ board.state
   below_state q zero k less c = absurd (omega arith)
   below_state q (suc count) k less c = elim (cases_eq q count) [
     | inl same ↦ search (rules, Contains-append_left)
-    | inr other ↦ Contains-append_right (keys_at count (2 ^ board.propositions)) (keys_below count) k
-        (below_state q count k (omega arith) c)
+    | inr other ↦ search (rules, Contains-append_right, below_state q count k (omega arith) c)
   ]
 
   -- a key that may come: of a state of the board, and with a letter of the first player
@@ -223,7 +191,7 @@ module _ (board : Board) (mover : ℕ) (start : board.auto.start ≤ board.state
   Known (Second q x) = (q ≤ board.states) × IsFirstLetter board x × Contains all_keys (Second q x)
 
   known_listed : (k : Key) → Known k → Contains all_keys k
-  known_listed k h1 = search rules
+  known_listed k h = search rules
 
   known_first : Known (First board.auto.start 0)
   unfolding all_keys
@@ -234,9 +202,8 @@ module _ (board : Board) (mover : ℕ) (start : board.auto.start ≤ board.state
   known_second {q} {x} low first = (
     low,
     first,
-    further (First board.auto.start 0) (Second q x) (keys_below (suc board.states))
-        (below_state q (suc board.states) (Second q x) (omega arith)
-        (at_letter q (2 ^ board.propositions) x first.within).1),
+    further (First board.auto.start 0) (Second q x) (keys_below (suc board.states)) (below_state q
+        (suc board.states) (Second q x) (omega arith) (at_letter q (2 ^ board.propositions) x first.within).1),
   )
 
   known_pair : (q letter : ℕ) → q ≤ board.states → letter < 2 ^ board.propositions →
@@ -246,8 +213,7 @@ module _ (board : Board) (mover : ℕ) (start : board.auto.start ≤ board.state
       let k : Key = First (board.auto.next q letter) (board.auto.priority q letter) in (
         goes_on q letter low within,
         further (First board.auto.start 0) k (keys_below (suc board.states))
-            (below_state q (suc board.states) k (omega arith)
-            (at_letter q (2 ^ board.propositions) letter within).0),
+            (below_state q (suc board.states) k (omega arith) (at_letter q (2 ^ board.propositions) letter within).0),
       )
 
   -- where a key leads
@@ -260,10 +226,9 @@ module _ (board : Board) (mover : ℕ) (start : board.auto.start ≤ board.state
 
   next_there : (key : Key) → Known key → Next key
   next_there (First q p) known =
-      let is : (x : ℕ) → IsClass board q x ⊎ (IsClass board q x → ⊥) =
-      λ x. least_or_not board.propositions (λ other. IsFirstLetter board other × SameSteps board q other x)
-      (λ y. both_or_not (IsFirstLetter board y) (SameSteps board q y x) (first_or_not board y)
-      (steps_or_not board q y x)) (λ y is. is.0.within) x in
+      let is : (x : ℕ) → IsClass board q x ⊎ (IsClass board q x → ⊥) = λ x. least_or_not board.propositions
+      (λ other. IsFirstLetter board other × SameSteps board q other x) (λ y. both_or_not (IsFirstLetter board y)
+      (SameSteps board q y x) (first_or_not board y) (steps_or_not board q y x)) (λ y is. is.0.within) x in
       let l = letters_there board.propositions (IsClass board q) is (λ y is. is.here.0.within) in
       let key : ℕ → Key = λ x. Second q x in
       let class = class_there board q (over_first board (part_over board.propositions board.is_first 0)) in
@@ -279,8 +244,7 @@ module _ (board : Board) (mover : ℕ) (start : board.auto.start ≤ board.state
   next_there (Second q x) known =
       let is : (y : ℕ) → IsMove board q x y ⊎ (IsMove board q x y → ⊥) =
       λ y. least_or_not board.propositions (λ other. IsSecondLetter board other × SameStep board q (x + other) (x + y))
-      (λ z. both_or_not (IsSecondLetter board z) (SameStep board q (x + z) (x + y)) (second_or_not board z)
-      (step_or_not board)) (λ z is. is.0.within) y in
+      (λ z. search (rules, both_or_not, second_or_not, step_or_not)) (λ z is. is.0.within) y in
       let l = letters_there board.propositions (IsMove board q x) is (λ y is. is.here.0.within) in
       let key : ℕ → Key = λ y. First (board.auto.next q (x + y)) (board.auto.priority q (x + y)) in
       let seconds : ℕ → Bool = λ p. not (board.is_first p) in
@@ -289,16 +253,10 @@ module _ (board : Board) (mover : ℕ) (start : board.auto.start ≤ board.state
       record {
         next = map key l.0;
         leads_to = (l.0, l.1, refl);
-        known =
-            All-map Known key l.0 (λ k d within. known_pair q (x + get_or l.0 k d) known.0
+        known = All-map Known key l.0 (λ k d within. known_pair q (x + get_or l.0 k d) known.0
             (sum_within board known.1 (l.1.each k d within).here.0));
         some = omega (arith, there.1, length-map l.0 key);
-        differ =
-            pairs_map (λ x y. x ≢ y) key l.0 0 (λ i j less within e.
-            (l.1.each j 0 within).none_before (get_or l.0 i 0) (
-              (l.1.each i 0 (omega arith)).here.0,
-              record { state = same_states e; priority = same_priorities e },
-            ) (l.1.rising i j 0 less within));
+        differ = pairs_map (λ x y. x ≢ y) key l.0 0 (λ i j less within e. grind (arith, same_states, same_priorities));
       }
 
   abbrev Explored : DraftData → ℕ → Type 0
@@ -321,9 +279,7 @@ module _ (board : Board) (mover : ℕ) (start : board.auto.start ≤ board.state
         let key = get_or draft.keys v (First 0 0) in
         let next = next_there key (e.all_known v (First 0 0) more) in
         let visit = visit_there mover draft key next.next in
-        explore fuel visit.0 (v + 1) (explored_more e
-        (slice_get-get_or draft.keys v (First 0 0) more) next.leads_to next.known next.some next.differ visit.1)
-        (omega arith)
+        explore fuel visit.0 (v + 1) (search (rules, explored_more, slice_get-get_or)) (omega arith)
   ]
 
   pub board_game_there : SomeGame
@@ -336,16 +292,7 @@ pub game_there : (order : Order) (file : FileData) → IsSoundFile file → IsAd
 game_there order file sound admitted =
     let a = auto_there file sound admitted in
     let board = board_of_file order file a.1 in
-    let made =
-    board_game_there board (mover_of order) (subst (λ q. q ≤ file.states) refl a.3.start_within) a.3.within in (
+    let made = board_game_there board (mover_of order) (grind arith) a.3.within in (
       record { game = made.1; ids = range_with_len 0 (length made.0); names = key_names board made.0 },
-      record {
-        chain = a.0;
-        is_chain = a.2;
-        auto = a.1;
-        is_auto = a.3;
-        keys = made.0;
-        is_game = made.2;
-        are_named = record { ids = refl; names = refl };
-      },
+      grind arith,
     )

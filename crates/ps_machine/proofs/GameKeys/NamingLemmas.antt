@@ -1,6 +1,6 @@
 -- Names of keys, as they are written.
-use Rattle.std.proofs.Common.{◌≡◌, ◌≢◌, ℕ, suc, ◌+◌, ◌^◌, ◌<◌, Bool, true, false, List, [], ◌∷◌, ◌++◌, Some, rules}
-use Rattle.std.proofs.Common.{decimal, refl, ap, ap₂, subst, ◌∙◌, arith, append_assoc}
+use Rattle.std.proofs.Common.{◌≡◌, ◌≢◌, ℕ, suc, ◌+◌, ◌^◌, ◌<◌, Bool, List, [], ◌∷◌, ◌++◌, Some, rules}
+use Rattle.std.proofs.Common.{decimal, refl, subst, arith, append_assoc}
 use Rattle.std.specs.List.{AllPairs, range_with_len}
 use Rattle.ps_text.proofs.Decimals.{number_text}
 use Rattle.std.proofs.lemmas.List.Elements.{All-nil, All-cons, All-append, All-contains}
@@ -19,20 +19,13 @@ pub plain_decimal : (n : ℕ) → n < 2 ^ 64 → IsPlain (decimal n)
 plain_decimal n small k d lt e = let digit = (number_text n small).all k d lt in omega (arith, digit.0, e)
 
 pub plain_digit : (is_played is_true : Bool) → IsPlain (digit_if is_played is_true)
-plain_digit true true = plain_one 49 (λ e. omega arith)
-plain_digit true false = plain_one 48 (λ e. omega arith)
-plain_digit false b = All-nil (λ x. x ≢ quote)
+plain_digit is_played b = grind (arith, plain_one, All-nil)
 
 -- the digits of one more proposition
 pub digits_more : (board : Board) (x p : ℕ) (start : List ℕ) {old new : List ℕ} {is_played is_true : Bool} →
-    is_played ≡ board.is_first p → is_true ≡ is_in p x →
-    old ≡ start ++ first_digits board x p → new ≡ old ++ digit_if is_played is_true →
-    new ≡ start ++ first_digits board x (p + 1)
-digits_more board x p start {is_played} {is_true} f t e h =
-    let next : suc p ≡ p + 1 = omega arith in
-    let digit : digit_if is_played is_true ≡ digit_of board x p = ap₂ (λ (a b : Bool). digit_if a b) f t in
-    h ∙ ap₂ (λ (a b : List ℕ). a ++ b) e digit ∙ append_assoc start (first_digits board x p) (digit_of board x p)
-    ∙ ap (λ n. start ++ first_digits board x n) next
+    is_played ≡ board.is_first p → is_true ≡ is_in p x → old ≡ start ++ first_digits board x p →
+    new ≡ old ++ digit_if is_played is_true → new ≡ start ++ first_digits board x (p + 1)
+digits_more board x p start {is_played} {is_true} f t e h = grind (arith, append_assoc)
 
 pub plain_more : (board : Board) (x p : ℕ) → IsPlain (first_digits board x p) → IsPlain (first_digits board x (p + 1))
 plain_more board x p h =

@@ -1,11 +1,10 @@
 -- The game of an automaton, from that of its keys.
-use Rattle.std.proofs.Common.{◌≡◌, ℕ, ◌+◌, ◌<◌, ◌≤◌, List, ◌∷◌, [], ◌++◌, length, map, take, get_or, Option, Some, Vec}
-use Rattle.std.proofs.Common.{ap, ap₂, sym, subst, ◌∙◌, rules}
+use Rattle.std.proofs.Common.{◌≡◌, ℕ, ◌+◌, ◌<◌, List, ◌∷◌, [], ◌++◌, length, map, take, get_or, Option, Some, Vec}
+use Rattle.std.proofs.Common.{ap, ap₂, sym, ◌∙◌, rules}
 use Rattle.std.specs.List.{All}
 use Rattle.std.specs.Global.{Global}
 use Rattle.std.proofs.lemmas.List.{map_push, map_more}
 use Rattle.std.proofs.lemmas.List.Elements.{All-same, All-push}
-use Rattle.ps_diagram.specs.Table.{Table}
 use Rattle.ps_automaton.specs.Automata.{AutomatonData}
 use Rattle.ps_game.specs.Games.{ParityGame, HasNoQuote}
 use Rattle.ps_game.specs.Names.{name_bytes}
@@ -13,7 +12,6 @@ use Rattle.ps_machine.specs.Boards.{Board, LeadsTo, IsGameOf}
 use Rattle.ps_machine.specs.BuiltBoards.{board_of}
 use Rattle.ps_machine.specs.KeyNames.{key_name, key_names}
 use Rattle.ps_machine.specs.Keys.{mover_of}
-use Rattle.ps_machine.specs.Moving.{IsFit, IsKnown}
 use Rattle.ps_machine.specs.Naming.{IsPlain}
 use Rattle.ps_machine.specs.Numbering.{IsGameByKeys, IsNumbered}
 use Rattle.ps_machine.specs.declared.key.Key.{Key}
@@ -32,14 +30,11 @@ game_is {order} {a} {b} {q} {keys} {game} same is start by_keys numbered = recor
 pub names_more : (board : Board) (keys : List Key) (i : ℕ) (d : Key) (old new : List (Option (Vec ℕ Global)))
     (v : Vec ℕ Global) → i < length keys → new ≡ old ++ Some v ∷ [] → v.items ≡ key_name board (get_or keys i d) →
     map name_bytes old ≡ key_names board (take i keys) → map name_bytes new ≡ key_names board (take (i + 1) keys)
-names_more board keys i d old new v within e name was =
-    ap (map name_bytes) e ∙ map_push name_bytes old (Some v) ∙ ap₂
-    (λ (l : List (Option (List ℕ))) (n : List ℕ). l ++ Some n ∷ []) was name
+names_more board keys i d old new v within e name was = ap (map name_bytes) e ∙ map_push name_bytes old (Some v)
+    ∙ ap₂ (λ (l : List (Option (List ℕ))) (n : List ℕ). l ++ Some n ∷ []) was name
     ∙ sym (map_more (λ key. Some (key_name board key)) keys i d within)
 
 pub plain_names_more : (old new : List (Option (Vec ℕ Global))) (v : Vec ℕ Global) → new ≡ old ++ Some v ∷ [] →
     IsPlain v.items → All HasNoQuote (map name_bytes old) → All HasNoQuote (map name_bytes new)
-plain_names_more old new v e plain was =
-    All-same HasNoQuote (map name_bytes new) (map name_bytes old ++ Some v.items ∷ [])
-    (cc (e, map_push name_bytes old (Some v)))
-    (All-push HasNoQuote (map name_bytes old) (Some v.items) was (no_quote v.items plain))
+plain_names_more old new v e plain was = All-same HasNoQuote (map name_bytes new) (map name_bytes old
+    ++ Some v.items ∷ []) (cc (e, map_push name_bytes old (Some v))) (search (rules, All-push, no_quote))

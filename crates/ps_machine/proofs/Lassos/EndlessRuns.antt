@@ -1,10 +1,9 @@
 -- A lasso of a machine is read on and on; and its letters are those of the automaton.
 use Rattle.std.proofs.Common.{◌≡◌, ℕ, zero, suc, ◌+◌, ◌-◌, ◌*◌, ◌/◌, ◌%◌, ◌^◌, ◌<◌, ◌≤◌, ◌⊎◌, inl, inr, Bool, true}
-use Rattle.std.proofs.Common.{false, cond, ltb, List, ◌++◌, length, ap, sym, ◌∙◌, arith}
-use Rattle.std.proofs.Common.{add-one, rules}
+use Rattle.std.proofs.Common.{false, cond, ltb, List, ◌++◌, length, ap, arith, add-one, rules}
 use Rattle.std.specs.Prelude.{slice_index}
 use Rattle.ps_diagram.proofs.Letters.{no_bit}
-use Rattle.std.proofs.Math.Nat.{div-add-mod, mod-lt}
+use Rattle.std.proofs.Math.Nat.{mod-lt}
 use Rattle.std.proofs.Math.ListN.{get_or-append}
 use Rattle.std.proofs.lemmas.Nat.{mod-mul-add}
 use Rattle.std.proofs.lemmas.List.{length-append, get_or-append-add}
@@ -42,17 +41,9 @@ next_in_lap lap n some = by (cases_lt (suc (n % lap)) lap)
     q : ℕ
     q = n / lap
 
-    parts : lap * q + k ≡ n
-    parts = div-add-mod n lap
-
     by : (suc k < lap) ⊎ (lap ≤ suc k) → ((suc n) % lap ≡ suc k) ⊎ ((suc k ≡ lap) × ((suc n) % lap ≡ 0))
-    by (inl less) =
-        let is : q * lap + suc k ≡ suc n = omega arith in
-        inl (ap (λ m. m % lap) (sym is) ∙ mod-mul-add q lap (suc k) less)
-    by (inr more) =
-        let full : suc k ≡ lap = omega (arith, more, mod-lt n some) in
-        let is : suc q * lap + 0 ≡ suc n = omega arith in
-        inr (full, ap (λ m. m % lap) (sym is) ∙ mod-mul-add (suc q) lap 0 some)
+    by (inl less) = grind (arith, mod-mul-add q lap (suc k) less)
+    by (inr more) = grind (arith, mod-lt n some, mod-mul-add (suc q) lap 0 some)
 
 module _ {m : Behaviour} {stem lap : List ℕ} (l : IsLasso m stem lap) where
   long : length (stem ++ lap) ≡ length stem + length lap
@@ -83,46 +74,24 @@ module _ {m : Behaviour} {stem lap : List ℕ} (l : IsLasso m stem lap) where
       behind : (n : ℕ) → ((suc n) % length lap ≡ suc (n % length lap)) ⊎
           ((suc (n % length lap) ≡ length lap) × ((suc n) % length lap ≡ 0)) →
           l.memories (u + n % length lap + 1) ≡ l.memories (u + suc n % length lap)
-      behind n (inl is) = search rules
-      behind n (inr full) = search (rules, long)
+      behind n h = grind (arith, long)
 
       by : (t < u) ⊎ (u ≤ t) → (suc t < u) ⊎ (u ≤ suc t) → l.memories (folded u (length lap) t + 1) ≡ l.memories
           (folded u (length lap) (suc t))
-      by (inl less) (inl next) =
-          let here = folded_within u (length lap) less in
-          let there = folded_within u (length lap) next in
-          let same : folded u (length lap) t + 1 ≡ folded u (length lap) (suc t) = omega arith in
-          ap l.memories same
-      by (inl less) (inr next) =
-          let here = folded_within u (length lap) less in
-          let there = folded_behind u (length lap) (suc t) next in
-          let none : suc t - u ≡ 0 * length lap + 0 = omega arith in
-          let begin : (suc t - u) % length lap ≡ 0 = search (rules, mod-mul-add) in
-          let same : folded u (length lap) t + 1 ≡ folded u (length lap) (suc t) =
-          omega arith in
-          ap l.memories same
+      by (inl less) (inl next) = grind (arith, folded_within, u, folded)
+      by (inl less) (inr next) = search (rules, folded_within, u, folded_behind, mod-mul-add, folded)
       by (inr more) next =
           let here = folded_behind u (length lap) t more in
           let there = folded_behind u (length lap) (suc t) (omega arith) in
           let minus : suc t - u ≡ suc (t - u) = omega arith in
-          ap (λ n. l.memories (n + 1)) here ∙ behind (t - u) (next_in_lap (length lap) (t - u) l.some)
-          ∙ ap (λ n. l.memories (u + n % length lap)) (sym minus) ∙ ap l.memories (sym there)
+          grind (arith, behind (t - u) (next_in_lap (length lap) (t - u) l.some))
 
   pub endless : IsEndless m (word stem lap) memories_on
   unfolding memories_on at_place
-  endless = record {
-    begins = by (cases_lt 0 (length stem));
-    makes = search (rules, at_place, place_within, memories_on, goes_on, letter_at);
-  }
+  endless = search (rules, by, cases_lt, at_place, place_within, memories_on, goes_on, letter_at)
     where
       by : (0 < length stem) ⊎ (length stem ≤ 0) → l.memories (folded (length stem) (length lap) 0) ≡ 0
-      by (inl less) = ap l.memories (folded_within (length stem) (length lap) less) ∙ l.begins
-      by (inr more) =
-          let none : 0 - length stem ≡ 0 * length lap + 0 = omega arith in
-          let begin : (0 - length stem) % length lap ≡ 0 = search (rules, mod-mul-add) in
-          let is : folded (length stem) (length lap) 0 ≡ 0 =
-          omega (arith, folded_behind (length stem) (length lap) 0 more, begin, more) in
-          ap l.memories is ∙ l.begins
+      by h = grind (arith, folded_within, mod-mul-add, folded, folded_behind)
 
   -- behind the first lap it is in the memory before it
   pub memory_returns : memories_on (length stem + length lap) ≡ memories_on (length stem)
@@ -131,12 +100,7 @@ module _ {m : Behaviour} {stem lap : List ℕ} (l : IsLasso m stem lap) where
       let u = length stem in
       let n = length lap in
       let here : u + n - u ≡ 1 * n + 0 = omega arith in
-      let none : u - u ≡ 0 * n + 0 = omega arith in
-      let one : (u + n - u) % n ≡ 0 = ap (λ k. k % n) here ∙ mod-mul-add 1 n 0 l.some in
-      let zeroth : (u - u) % n ≡ 0 = ap (λ k. k % n) none ∙ mod-mul-add 0 n 0 l.some in
-      let same : folded u n (u + n) ≡ folded u n u =
-      omega (arith, folded_behind u n (u + n) (omega arith), folded_behind u n u (omega arith), one, zeroth) in
-      ap l.memories same
+      search (rules, mod-mul-add, folded, folded_behind)
 
   pub letter_returns : word stem lap (length stem + length lap) ≡ word stem lap (length stem)
   letter_returns = search (rules, mod-mul-add, word_behind)
@@ -160,11 +124,7 @@ module _ {m : Behaviour} (is_machine : IsMachine m) where
   pub memories_of_lasso : {stem lap : List ℕ} (l : IsLasso m stem lap) (t : ℕ) → t ≤ length (stem ++ lap) →
       l.memories t < m.memories
   memories_of_lasso l zero low = omega (arith, is_machine.some, l.begins)
-  memories_of_lasso {stem} {lap} l (suc t) low =
-      let makes = l.makes t (omega arith) in
-      let next = is_machine.next_within (l.memories t) makes.input (memories_of_lasso l t (omega arith)) in
-      let place : l.memories (t + 1) ≡ l.memories (suc t) = ap l.memories (add-one t) in
-      omega (arith, next, makes.next_is, place)
+  memories_of_lasso {stem} {lap} l (suc t) low = search (rules, add-one, memories_of_lasso l t (omega arith))
 
   pub reads_other : {names : List (List ℕ)} {board : Board} → HasPropositions names board m → (x : ℕ) → IsInput m x →
       IsOther m.is_first board x

@@ -1,6 +1,5 @@
 -- Each word of the machine of a valid certificate is won by the winner of vertex 0.
-use Rattle.std.proofs.Common.{rules}
-use Rattle.std.proofs.Common.{◌≡◌, ℕ, ◌+◌, ◌*◌, ◌%◌, ◌^◌, ◌<◌, List, ◌++◌, length, get_or, ap, sym, subst, ◌∙◌, arith}
+use Rattle.std.proofs.Common.{rules, ◌≡◌, ℕ, ◌+◌, ◌*◌, ◌%◌, ◌^◌, ◌<◌, List, ◌++◌, length, ap, ◌∙◌, arith}
 use Rattle.std.specs.Prelude.{All, slice_index}
 use Rattle.std.proofs.Math.ListN.{get_or-append}
 use Rattle.std.proofs.lemmas.List.{length-append, get_or-append-add, get_or_default}
@@ -46,16 +45,17 @@ module _ {file : FileData} {chain : Chain} {a : AutomatonData} (order : Order) {
     in_stem : All (λ letter. letter < 2 ^ length file.names) stem
     in_stem t d within =
         let both : length (stem ++ lap) ≡ length stem + length lap = length-append stem lap in
-        let is : get_or (stem ++ lap) t 0 ≡ get_or stem t 0 = get_or-append stem lap 0 t within in
-        let less = each_letter t (omega arith) in
-        rw (is ∙ get_or_default stem t 0 d within) at less
+        grind (arith, get_or-append stem lap 0 t within, each_letter t (omega arith), get_or_default stem t 0 d within)
 
     in_lap : All (λ letter. letter < 2 ^ length file.names) lap
     in_lap t d within =
         let both : length (stem ++ lap) ≡ length stem + length lap = length-append stem lap in
-        let is : get_or (stem ++ lap) (length stem + t) 0 ≡ get_or lap t 0 = get_or-append-add stem lap t 0 in
-        let less = each_letter (length stem + t) (omega arith) in
-        rw (is ∙ get_or_default lap t 0 d within) at less
+        grind (
+          arith,
+          get_or-append-add stem lap t 0,
+          each_letter (length stem + t) (omega arith),
+          get_or_default lap t 0 d within,
+        )
 
     others : (x : ℕ) → IsInput m x → IsOther m.is_first (board_of order a) x
     others x = reads_other is_machine has x
@@ -97,18 +97,15 @@ module _ {file : FileData} {chain : Chain} {a : AutomatonData} (order : Order) {
 
     if_even : m.player ≡ 0 → IsAccepted file stem lap
     unfolding from count
-    if_even is =
-        even_is_accepted file chain (auto_of a) built.is_chain built.auto stem lap l.some in_stem in_lap 0 1
-        (omega arith) returned (eq-eqb (greatest_from (priority_at (auto_of a) (word stem lap)) from count % 2) 0
-        (parity ∙ sym made.player ∙ is))
+    if_even is = even_is_accepted file chain (auto_of a) built.is_chain built.auto stem lap l.some in_stem in_lap 0 1
+        (omega arith) returned (grind (arith, eq-eqb, from, count, parity))
 
     only_even : IsAccepted file stem lap → m.player ≡ 0
     unfolding from count
     only_even accepted =
         let even = accepted_is_even file chain (auto_of a) built.is_chain built.auto stem lap l.some in_stem in_lap 0 1
         (omega arith) returned accepted in
-        made.player ∙ sym parity ∙ eqb-true (greatest_from (priority_at (auto_of a) (word stem lap)) from count % 2) 0
-        even
+        grind (arith, parity, eqb-true, from, count)
 
   pub each_lasso_won : LassosWon file m
   each_lasso_won = search (rules, if_even, only_even)

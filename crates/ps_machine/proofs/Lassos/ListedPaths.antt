@@ -1,6 +1,6 @@
 -- A function whose values follow edges gives a path: the list of its values.
-use Rattle.std.proofs.Common.{◌≡◌, ℕ, zero, suc, ◌+◌, ◌<◌, List, [], ◌∷◌, length, get_or, max, Option, Some, refl, ap}
-use Rattle.std.proofs.Common.{ap₂, sym, subst, ◌∙◌, arith, add-one, rules}
+use Rattle.std.proofs.Common.{◌≡◌, ℕ, zero, suc, ◌+◌, ◌<◌, List, [], ◌∷◌, length, get_or, Option, Some, refl, ap}
+use Rattle.std.proofs.Common.{◌∙◌, arith, add-one, rules}
 use Rattle.std.specs.Prelude.{slice_index}
 use Rattle.ps_automaton.specs.Autos.{greatest_from}
 use Rattle.ps_game.specs.Games.{ParityGame, owner_of, HasEdge}
@@ -55,6 +55,4 @@ twice_rises (suc m) (suc n) less = (let before = twice_rises m n (omega arith) i
 pub greatest_shift : (f g : ℕ → ℕ) → ((t : ℕ) → f (suc t) ≡ g t) → (from count : ℕ) →
     greatest_from f (suc from) count ≡ greatest_from g from count
 greatest_shift f g each from zero = refl
-greatest_shift f g each from (suc count) =
-    let place : suc from + 1 ≡ suc (from + 1) = omega arith in
-    ap₂ max (each from) (ap (λ n. greatest_from f n count) place ∙ greatest_shift f g each (from + 1) count)
+greatest_shift f g each from (suc count) = grind (arith, greatest_shift f g each (from + 1) count)

@@ -1,7 +1,7 @@
 -- One step of the machine is two steps through the game: to the vertex of a class, and on to that of a pair.
-use Rattle.std.proofs.Common.{◌≡◌, ◌≢◌, ℕ, ◌+◌, ◌-◌, ◌<◌, inl, inr, List, length, map, get_or, Some, refl, ap, ap₂, sym}
-use Rattle.std.proofs.Common.{subst, ◌∙◌, arith, rules}
-use Rattle.std.specs.Prelude.{IsSomeAnd, slice_get}
+use Rattle.std.proofs.Common.{◌≡◌, ◌≢◌, ℕ, ◌+◌, ◌-◌, ◌<◌, List, length, map, get_or, Some, refl, ap, ap₂, sym}
+use Rattle.std.proofs.Common.{◌∙◌, arith, rules}
+use Rattle.std.specs.Prelude.{slice_get}
 use Rattle.std.specs.List.{AllPairs, Contains}
 use Rattle.std.proofs.lemmas.Option.{slice_get_within, get_or_from_slice_get}
 use Rattle.std.proofs.lemmas.List.{length-map, get_or-map}
@@ -26,8 +26,7 @@ one_place xs differ v w {x} at there = search (rules, slice_get_within, get_or_f
 
 pub map_contains : (f : ℕ → Key) (letters : List ℕ) (k : ℕ) {y : ℕ} → k < length letters → get_or letters k y ≡ y →
     Contains (map f letters) (f y)
-map_contains f letters k {y} within is =
-    (k, omega (arith, within, length-map letters f), get_or-map f letters k y (f y) within ∙ ap f is)
+map_contains f letters k {y} within is = grind (arith, length-map letters f, get_or-map f letters k y (f y) within)
 
 -- ## Edges
 
@@ -71,20 +70,15 @@ module _ {board : Board} {mover : ℕ} {keys : List Key} {game : ParityGame} {ce
   edge_by_key v w k l at there leads =
       let within = within_game v at in
       let vertex = s.by_keys.vertices v within in
-      let from : LeadsTo board k vertex.next =
-      rw (same_some (sym vertex.stands ∙ at)) at vertex.leads_to in
+      let from : LeadsTo board k vertex.next = rw (same_some (sym vertex.stands ∙ at)) at vertex.leads_to in
       let one : (u : ℕ) → StandsAt keys u l → u ≡ w = λ u is. same_place u w is there in (
         within,
-        decided (successors_of game v) (λ none. leads vertex.next from (λ c.
-            let there = zip_vertex keys (successors_of game v) vertex.next vertex.successors c in
-            none (rw (one there.0 there.2) at there.1))),
+        decided (successors_of game v) (λ none. leads vertex.next from
+            (λ c. grind (arith, zip_vertex keys (successors_of game v) vertex.next vertex.successors c))),
       )
     where
       decided : (xs : List ℕ) → ((Contains xs w → ⊥) → ⊥) → Contains xs w
-      decided xs so = elim (contained_or_not xs w) [
-        | inl c ↦ c
-        | inr none ↦ absurd (so none)
-      ]
+      decided xs so = grind (arith, contained_or_not xs w)
 
   -- where the winner moves, the move is an edge
   edge_by_move : (v : ℕ) {w : ℕ} (k : Key) → StandsAt keys v k → owner_of game v ≡ winner_of certificate v →

@@ -1,6 +1,6 @@
 -- A machine that reads letters on and on walks through the game, by the winner's moves, and the automaton goes with it.
 use Rattle.std.proofs.Common.{◌≡◌, ℕ, zero, suc, ◌+◌, ◌-◌, ◌%◌, ◌<◌, ◌≤◌, Bool, true, false, List, length, get_or}
-use Rattle.std.proofs.Common.{Option, Some, refl, ap, ap₂, sym, subst, ◌∙◌, arith, rules, add-one, add-zero, ◌==◌}
+use Rattle.std.proofs.Common.{Option, Some, refl, ap, ap₂, sym, ◌∙◌, arith, rules, add-one, add-zero, ◌==◌}
 use Rattle.std.specs.Prelude.{IsTrue, slice_index}
 use Rattle.std.specs.List.{slice_get}
 use Rattle.std.proofs.Math.Nat.{le-max_left, le-max_right, le_antisymm}
@@ -40,7 +40,7 @@ same_state {first} {keys} {kept} {memory} {v} {q} p {u} {r} o f at is there = se
 
 same_vertex : (first : Bool) {keys : List Key} {kept : List ℕ} {memory v q u : ℕ} →
     StandsFor first keys kept memory v q → slice_get kept memory ≡ Some u → first ≡ true → u ≡ v
-same_vertex first h1 h2 h3 = search (rules, same_number)
+same_vertex first h k m = search (rules, same_number)
 
 -- ## The walk
 
@@ -69,9 +69,8 @@ module _ {board : Board} {mover : ℕ} {keys : List Key} {game : ParityGame} {ce
       (first ≡ true → u ≡ v) → winner_of certificate v ≡ winner certificate → StandsAt keys v (First q p) →
       IsPlayed first board keys certificate u q x letter → IsOther first board x → GoesTo keys board q (x + letter) w →
       Round game certificate v w
-  round_by true is v u q p x letter w same here at played other goes =
-      round_first s v q p x letter w (eqb-true mover (winner certificate) (sym is))
-      here at (rw (same refl) at played) other goes
+  round_by true is v u q p x letter w same here at played other goes = round_first s v q p x letter w
+      (eqb-true mover (winner certificate) (sym is)) here at (rw (same refl) at played) other goes
   round_by false is v u q p x letter w same here at played other goes =
       let loses = eqb-false mover (winner certificate) (sym is) in
       let edge = to_class s v played.at q p at played.stands played.is_class in
@@ -96,19 +95,11 @@ module _ {board : Board} {mover : ℕ} {keys : List Key} {game : ParityGame} {ce
       let step = made.steps memory x within (others x input) in
       let state : step.state ≡ q = same_state p step.priority f at step.is_kept step.stands in
       let letter = m.plays memory x in
-      let played : IsPlayed m.is_first board keys certificate step.vertex q x letter =
-      rw state at step.played in
-      let goes : GoesTo keys board q (x + letter) step.entered =
-      rw state at step.goes in
+      let played : IsPlayed m.is_first board keys certificate step.vertex q x letter = rw state at step.played in
+      let goes : GoesTo keys board q (x + letter) step.entered = rw state at step.goes in
       let round = round_by m.is_first made.is_first v step.vertex q p x letter step.entered
       (same_vertex m.is_first f step.is_kept) here at played (others x input) goes in
-      record {
-        vertex = step.entered;
-        stands = goes.stands;
-        at_memory = search rules;
-        won = won_along round.between (won_along v here round.there round.first) round.on round.second;
-        round = round;
-      }
+      grind (arith, won_along round.between (won_along v here round.there round.first) round.on round.second)
 
   -- ## Memory 0
 
@@ -158,19 +149,7 @@ module _ {board : Board} {mover : ℕ} {keys : List Key} {game : ParityGame} {ce
 
     walk : (t : ℕ) → At t
     unfolding entering
-    walk zero = record {
-      vertex = 0;
-      stands = s.by_keys.begins;
-      at_memory = rw e.begins (record {
-        vertex = 0;
-        state = board.auto.start;
-        priority = 0;
-        is_kept = memory_of_start;
-        stands = s.by_keys.begins;
-        shares = start_shares m.is_first;
-      });
-      won = refl;
-    }
+    walk zero = grind (arith, memory_of_start, start_shares)
     walk (suc t) = (advance t (walk t)).next
 
     vertex_at : ℕ → ℕ
@@ -202,8 +181,7 @@ module _ {board : Board} {mover : ℕ} {keys : List Key} {game : ParityGame} {ce
     place_even : (t n : ℕ) → place t (twice n) ≡ vertex_at (t + n)
     unfolding place twice
     place_even t zero = ap vertex_at (sym (add-zero t))
-    place_even t (suc n) =
-        (let further : suc t + n ≡ t + suc n = omega arith in place_even (suc t) n ∙ ap vertex_at further)
+    place_even t (suc n) = grind (arith, place_even (suc t) n)
 
     priority_of_vertex : ℕ → ℕ
     priority_of_vertex t = priority_of game (vertex_at t)
@@ -213,13 +191,12 @@ module _ {board : Board} {mover : ℕ} {keys : List Key} {game : ParityGame} {ce
     place_below t zero k within = absurd (omega arith)
     place_below t (suc n) zero within = le-max_left (priority_of_vertex t) (greatest_from priority_of_vertex (t + 1) n)
     place_below t (suc n) (suc zero) within = (let none = (round_at t).priority in omega arith)
-    place_below t (suc n) (suc (suc k)) within =
-        let one : suc t ≡ t + 1 = sym (add-one t) in
-        let below = place_below (suc t) n k (omega arith) in
-        let same : greatest_from priority_of_vertex (suc t) n ≡ greatest_from priority_of_vertex (t + 1) n =
-        ap (λ u. greatest_from priority_of_vertex u n) one in
-        let right = le-max_right (priority_of_vertex t) (greatest_from priority_of_vertex (t + 1) n) in
-        omega arith
+    place_below t (suc n) (suc (suc k)) within = grind (
+      arith,
+      add-one t,
+      le-max_right (priority_of_vertex t) (greatest_from priority_of_vertex (t + 1) n),
+      place_below (suc t) n k (omega arith),
+    )
 
     entered_priority : (t : ℕ) → priority_of_vertex (suc t) ≡ priority_at board.auto w t
     unfolding priority_of_vertex vertex_at entering
@@ -230,16 +207,7 @@ module _ {board : Board} {mover : ℕ} {keys : List Key} {game : ParityGame} {ce
     module _ (from count : ℕ) (some : 0 < count) (back : memories (from + count) ≡ memories from)
         (again : w (from + count) ≡ w from) where
       pub state_returns : state_at board.auto w (from + count) ≡ state_at board.auto w from
-      state_returns =
-          let a = board.auto in
-          let here = walk from in
-          let there = walk (from + count) in
-          let f = rw back at there.at_memory in
-          let h = here.at_memory in
-          let kept_state : h.state ≡ state_at a w from =
-          same_state (entering a w from) h.priority h here.stands h.is_kept h.stands in
-          let kept_there : h.state ≡ state_at a w (from + count) = search (rules, same_state, entering) in
-          sym kept_there ∙ kept_state
+      state_returns = grind (arith, walk from, walk (from + count), same_state, entering)
 
       -- one step later it is at the same vertex again
       vertex_returns : vertex_at (suc from + count) ≡ vertex_at (suc from)
@@ -272,11 +240,7 @@ module _ {board : Board} {mover : ℕ} {keys : List Key} {game : ParityGame} {ce
 
       is_loop : IsLoop path 0 (twice count)
       unfolding twice
-      is_loop = record {
-        rises = twice_rises 0 count some;
-        within = omega (arith, path_long);
-        same = search (rules, path_begins, vertex_returns, place_even, path_at, twice);
-      }
+      is_loop = grind (arith, twice_rises 0 count some, path_long, path_begins, vertex_returns, place_even, path_at)
 
       won_loop : WinsLoop game (winner certificate) path 0 (twice count)
       unfolding path vertex_at
@@ -284,12 +248,9 @@ module _ {board : Board} {mover : ℕ} {keys : List Key} {game : ParityGame} {ce
           let player = winner certificate in
           let holds = BothHold-from_valid game certificate s.fits s.valid player small_winner in
           let region : IsTrue (winner_of certificate (slice_index path 0) == player) =
-          eq-eqb (winner_of certificate (slice_index path 0)) player
-          (cc (path_begins, (walk (suc from)).won)) in
+          eq-eqb (winner_of certificate (slice_index path 0)) player (cc (path_begins, (walk (suc from)).won)) in
           holds.wins path 0 (twice count) (list_is_path game (place (suc from)) (place_goes (suc from)) (twice count))
-          region
-          (list_follows game (place (suc from)) (place_goes (suc from)) (twice count) player (choice_of certificate)
-          (place_follows (suc from))) is_loop
+          region (search (rules, list_follows, place, place_goes, twice, place_follows)) is_loop
 
       top_is : loop_priority game path 0 (twice count) ≡ greatest_from (priority_at board.auto w) from count
       unfolding priority_of_vertex

@@ -1,6 +1,5 @@
 -- How a machine is put together: its diagrams, its propositions, and the vertices of its certificate.
-use Rattle.std.proofs.Common.{◌≡◌, ℕ, ◌+◌, ◌<◌, Bool, true, false, List, [], ◌∷◌, ◌++◌, map, Vec}
-use Rattle.std.proofs.Common.{refl, ap₂, ◌∙◌, rules}
+use Rattle.std.proofs.Common.{◌≡◌, ℕ, ◌+◌, Bool, true, false, List, [], ◌∷◌, ◌++◌, map, Vec, refl, ap₂, rules}
 use Rattle.std.specs.Prelude.{slice_index, vec_len}
 use Rattle.std.specs.Global.{Global}
 use Rattle.std.specs.List.{All, AllZip}
@@ -32,19 +31,18 @@ pub same_names : (xs ys : List (Vec ℕ Global)) → AllZip (λ v w. AllZip (λ 
 same_names [] [] zip = refl
 same_names [] (y ∷ ys) zip = absurd zip
 same_names (x ∷ xs) [] zip = absurd zip
-same_names (x ∷ xs) (y ∷ ys) zip =
-    ap₂ (λ (n : List ℕ) (ns : List (List ℕ)). n ∷ ns) (same_items x.items y.items zip.0.0) (same_names xs ys zip.1)
+same_names (x ∷ xs) (y ∷ ys) zip = search (rules, same_items, same_names xs ys zip.1)
 
 -- ## Propositions
 
 -- the player who moves first or second plays what that player plays
 pub plays_own : (m : Bool) (board : Board) (p : ℕ) (b : Bool) → b ≡ board.is_first p → beq b m ≡ true →
     is_others m board p ≡ false
-plays_own m board p b h1 h2 = search (rules, true_is_not_false)
+plays_own m board p b h k = search (rules, true_is_not_false)
 
 pub reads_others : (m : Bool) (board : Board) (p : ℕ) (b : Bool) → b ≡ board.is_first p → beq b m ≡ false →
     is_others m board p ≡ true
-reads_others m board p b h1 h2 = search (rules, true_is_not_false)
+reads_others m board p b h k = search (rules, true_is_not_false)
 
 -- ## Diagrams
 

@@ -1,5 +1,5 @@
 -- The machine that is made is that of the certificate.
-use Rattle.std.proofs.Common.{◌≡◌, ℕ, ◌<◌, ◌≤◌, Bool, List, length, map, sym, subst, ◌∙◌, refl, rules}
+use Rattle.std.proofs.Common.{◌≡◌, ℕ, ◌<◌, ◌≤◌, Bool, List, length, map, subst, rules}
 use Rattle.std.specs.Prelude.{◌==◌}
 use Rattle.ps_automaton.specs.Automata.{AutomatonData}
 use Rattle.ps_certificate.specs.Certificates.{CertificateData, Fits, IsValid}
@@ -63,20 +63,8 @@ module _ {order : Order} {a : AutomatonData} {keys : List Key} {certificate : Ce
       map bytes_of p.names.items ≡ a.names → HasRoles first (board_of order a) p.inputs.items p.outputs.items →
       d.store.propositions ≡ length a.names → AreDrawn first (board_of order a) keys kept certificate d.store
       d.rows.keys d.nodes.items (length kept) → n ≡ machine_of player first p d → IsMade n
-  made p d few sound names roles letters drawn is = rw is (record {
-    is_machine = is_machine assembled;
-    has = record { names_are = names; as_many = refl; reads = roles.read.are };
-    of = record {
-      player = own;
-      is_first = plan.turn;
-      kept = kept;
-      rising = plan.memories.rising;
-      each = all_kept plan.memories plan.are_used;
-      complete = each_kept plan.memories plan.are_used;
-      memories = drawn.many;
-      steps = is_step assembled;
-    };
-  })
+  made p d few sound names roles letters drawn is =
+      rw is (search (rules, is_machine, assembled, all_kept, each_kept, is_step))
     where
       assembled : IsAssembled (board_of order a) keys kept certificate (machine_of player first p d)
       assembled = search (rules, some_vertices, some)

@@ -1,6 +1,5 @@
 -- The memories of the used vertices are the kept vertices of the machine.
-use Rattle.std.proofs.Common.{◌≡◌, ◌≢◌, inl, inr, ℕ, ◌<◌, ◌≤◌, Bool, List, length, get_or, Some, ap}
-use Rattle.std.proofs.Common.{subst, ◌∙◌, arith, rules}
+use Rattle.std.proofs.Common.{◌≡◌, ◌≢◌, inl, inr, ℕ, ◌<◌, ◌≤◌, Bool, List, length, get_or, Some, ap, ◌∙◌, arith, rules}
 use Rattle.std.specs.Prelude.{slice_get}
 use Rattle.std.specs.List.{All, AllPairs, Contains}
 use Rattle.std.proofs.lemmas.Bool.{cases_lt}
@@ -20,11 +19,11 @@ use Rattle.ps_machine.proofs.Lassos.Rounds.{one_place}
 -- vertices share a memory just where their marks are the same
 pub shares_mark : (is_first : Bool) (v q w r : ℕ) → Shares is_first v q w r →
     mark_of is_first v q ≡ mark_of is_first w r
-shares_mark is_first v q w r h1 = search rules
+shares_mark is_first v q w r h = search rules
 
 pub mark_shares : (is_first : Bool) (v q w r : ℕ) → mark_of is_first v q ≡ mark_of is_first w r →
     Shares is_first v q w r
-mark_shares is_first v q w r h1 = search rules
+mark_shares is_first v q w r h = search rules
 
 module _ {is_first : Bool} {keys : List Key} {used kept marks : List ℕ} (m : AreMemories is_first keys used kept marks)
   where
@@ -36,9 +35,9 @@ module _ {is_first : Bool} {keys : List Key} {used kept marks : List ℕ} (m : A
     pub memory_of : {w r : ℕ} (p : ℕ) → AllPairs (λ x y. x ≢ y) keys → Contains used w → StandsAt keys w (First r p) →
         (memory : ℕ) × (memory < length kept) × StandsFor is_first keys kept memory w r
     memory_of {w} {r} p differ is_used stands =
-        let h = m.found w r p is_used stands in (
-          h.memory,
-          omega (arith, slice_get_within marks h.memory (mark_of is_first w r) h.is_marked, m.many),
+        let h = m.found w r p is_used stands in grind (
+          arith,
+          slice_get_within marks h.memory (mark_of is_first w r) h.is_marked,
           stands_for w p differ m stands h.is_marked stands,
         )
 
@@ -63,29 +62,25 @@ module _ {is_first : Bool} {keys : List Key} {used kept marks : List ℕ} (m : A
             state = here.state;
             priority = here.priority;
             here = record { used = (are_used (get_or kept memory 0)).0 here.is_used; stands = here.stands };
-            least = λ w r p less there shares.
-                (let h = m.found w r p ((are_used w).1 there.used) there.stands in
+            least = λ w r p less there shares. (let h = m.found w r p ((are_used w).1 there.used) there.stands in
                 let same : h.memory ≡ memory = search (rules, one_memory, shares_mark) in
                 let behind : get_or kept memory 0 ≤ w = rw same at h.behind in
                 omega arith);
           }
 
       pub all_kept : All (IsKept is_first keys game certificate) kept
-      all_kept memory d within =
-          rw (get_or_default kept memory 0 d within) at (kept_at memory within)
+      all_kept memory d within = rw (get_or_default kept memory 0 d within) at (kept_at memory within)
 
       -- a used vertex that is the least of those that share a memory with it is the one that is kept
       pub each_kept : (v : ℕ) → IsKept is_first keys game certificate v → Contains kept v
       each_kept v k =
           let h = m.found v k.state k.priority ((are_used v).1 k.here.used) k.here.stands in
-          let within : h.memory < length kept =
-          omega (arith, slice_get_within marks h.memory (mark_of is_first v k.state) h.is_marked, m.many) in
+          let within : h.memory < length kept = grind (arith, slice_get_within) in
           let at = m.each h.memory within in
           let same : mark_of is_first v k.state ≡ mark_of is_first (get_or kept h.memory 0) at.state =
           search (rules, some_nat) in
           let is : get_or kept h.memory 0 ≡ v = elim (cases_lt (get_or kept h.memory 0) v) [
-            | inl less ↦ absurd (k.least (get_or kept h.memory 0) at.state at.priority less
-                (record { used = (are_used (get_or kept h.memory 0)).0 at.is_used; stands = at.stands })
+            | inl less ↦ absurd (k.least (get_or kept h.memory 0) at.state at.priority less (grind arith)
                 (mark_shares is_first v k.state (get_or kept h.memory 0) at.state same))
             | inr not_less ↦ omega (arith, not_less, h.behind)
           ] in

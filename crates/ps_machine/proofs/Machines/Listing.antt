@@ -1,6 +1,6 @@
 -- Numbers that are listed in their order, and the propositions that a machine reads and plays.
 use Rattle.std.proofs.Common.{◌≡◌, ◌≢◌, ℕ, zero, suc, ◌+◌, ◌<◌, Bool, true, false, cond, List, [], ◌∷◌, ◌++◌, length}
-use Rattle.std.proofs.Common.{get_or, nat_eq, refl, ap, sym, subst, ◌∙◌, arith, inl, inr, rules}
+use Rattle.std.proofs.Common.{get_or, nat_eq, refl, ap, sym, ◌∙◌, arith, inl, inr, rules}
 use Rattle.std.proofs.lemmas.Bool.{cases_Bool, cases_eq, eq-eqb, ne_eqb}
 use Rattle.std.specs.List.{Contains}
 use Rattle.std.proofs.lemmas.List.Quantifiers.{all_pairs_push}
@@ -23,16 +23,13 @@ among_last p (m ∷ list) = cc (among_last p list, always (nat_eq p m))
 get_among : (list : List ℕ) (k d : ℕ) → k < length list → is_among (get_or list k d) list ≡ true
 get_among [] k d within = absurd (omega arith)
 get_among (m ∷ list) zero d within = ap (λ (b : Bool). cond b true (is_among m list)) (eq-eqb m m refl)
-get_among (m ∷ list) (suc k) d within =
-    ap (λ (b : Bool). cond (nat_eq (get_or list k d) m) true b) (get_among list k d (omega arith))
-    ∙ always (nat_eq (get_or list k d) m)
+get_among (m ∷ list) (suc k) d within = search (rules, nat_eq, always, get_among list k d (omega arith))
 
 pub among_there : (p : ℕ) (list : List ℕ) → is_among p list ≡ true → Contains list p
 among_there p [] among = absurd (true_is_not_false (sym among))
 among_there p (m ∷ list) among = elim (cases_eq p m) [
   | inl same ↦ (0, omega arith, sym same)
-  | inr other ↦ (let c = among_there p list (sym (ap (λ (b : Bool). cond b true (is_among p list)) (ne_eqb p m other))
-      ∙ among) in (suc c.0, omega (arith, c.1), c.2))
+  | inr other ↦ (let c = among_there p list (grind (arith, ne_eqb)) in (suc c.0, omega (arith, c.1), c.2))
 ]
 
 there_among : (p : ℕ) (list : List ℕ) → Contains list p → is_among p list ≡ true
@@ -50,17 +47,14 @@ listed_none is = search (rules, true_is_not_false)
 
 pub listed_with : {n : ℕ} {is : ℕ → Bool} {list new : List ℕ} → is n ≡ true → new ≡ list ++ n ∷ [] →
     AreListedBelow n is list → AreListedBelow (n + 1) is new
-listed_with {n} {is} {list} here e l =
-    rw e (record {
-      rising =
-          all_pairs_push (λ p q. p < q) list n l.rising (λ k d within.
-          l.within (get_or list k d) (get_among list k d within));
-      within = search (rules, cases_eq, among_push);
-      are = λ p less. elim (cases_eq p n) [
-        | inl same ↦ rw same (among_last n list ∙ sym here)
-        | inr other ↦ among_push p n list other ∙ l.are p (omega arith)
-      ];
-    })
+listed_with {n} {is} {list} here e l = rw e (record {
+  rising = all_pairs_push (λ p q. p < q) list n l.rising (λ k d within. grind (arith, get_among list k d within));
+  within = search (rules, cases_eq, among_push);
+  are = λ p less. elim (cases_eq p n) [
+    | inl same ↦ rw same (among_last n list ∙ sym here)
+    | inr other ↦ among_push p n list other ∙ l.are p (omega arith)
+  ];
+})
 
 pub listed_without : {n : ℕ} {is : ℕ → Bool} {list new : List ℕ} → is n ≡ false → new ≡ list →
     AreListedBelow n is list → AreListedBelow (n + 1) is new

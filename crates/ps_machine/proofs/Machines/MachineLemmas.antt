@@ -1,8 +1,6 @@
 -- A machine that is put together of right parts is one, and is that of the certificate.
-use Rattle.std.proofs.Common.{◌≡◌, ℕ, ◌+◌, ◌^◌, ◌<◌, ◌⊎◌, Bool, true, false, not, List, length, Some}
-use Rattle.std.proofs.Common.{ap, sym, subst, ◌∙◌, arith, rules}
-use Rattle.std.specs.Prelude.{IsSomeAnd, slice_get, slice_index}
-use Rattle.std.specs.Option.{unwrap_or}
+use Rattle.std.proofs.Common.{◌≡◌, ℕ, ◌^◌, ◌<◌, ◌⊎◌, Bool, true, false, not, List, length, Some, ap, arith, rules}
+use Rattle.std.specs.Prelude.{slice_get, slice_index}
 use Rattle.std.proofs.lemmas.Bool.{cases_Bool, cases_lt}
 use Rattle.std.proofs.lemmas.Option.{slice_get_within, slice_get-get_or, get_or_from_slice_get}
 use Rattle.ps_label.specs.Truth.{is_in}
@@ -22,19 +20,19 @@ use Rattle.ps_machine.specs.declared.machine.Row.{Row}
 use Rattle.ps_machine.proofs.Choosing.{not_false, over_other, part, part_bit, part_over}
 
 back_not : (b : Bool) → not b ≡ true → b ≡ false
-back_not b h1 = search rules
+back_not b h = search rules
 
 -- a player who moves first plays the same letter at a vertex, whatever the other one plays
 pub one_letter : (b : Bool) (board : Board) (keys : List Key) (certificate : CertificateData) (v q x y one other : ℕ) →
     b ≡ true → IsPlayed b board keys certificate v q x one → IsPlayed b board keys certificate v q y other → one ≡ other
-one_letter b board keys certificate v q x y one other h1 h2 h3 = search (rules, true_is_not_false)
+one_letter b board keys certificate v q x y one other h k m = search (rules, true_is_not_false)
 
 pub own_within : (b : Bool) (board : Board) (y : ℕ) → IsOwn b board y → y < 2 ^ board.propositions
-own_within b board y h1 = search rules
+own_within b board y h = search rules
 
 -- of the other player's propositions none is true
 pub own_none : (b : Bool) (board : Board) (y p : ℕ) → IsOwn b board y → is_others b board p ≡ true → is_in p y ≡ false
-own_none b board y p h1 h2 = search (rules, back_not)
+own_none b board y p h k = search (rules, back_not)
 
 module _ {board : Board} {keys : List Key} {kept : List ℕ} {certificate : CertificateData} {m : MachineData}
     (a : IsAssembled board keys kept certificate m) where
@@ -78,10 +76,11 @@ module _ {board : Board} {keys : List Key} {kept : List ℕ} {certificate : Cert
   plays_same is memory x y d =
       let one = leads memory x d in
       let other = leads memory y d in
-      ap (λ (r : Row). r.letter) (step_is memory x (leaf_is memory x d) one.is_row)
-      ∙ one_letter m.is_first board keys certificate (slice_index kept memory) d.state (read x) (read y) one.row.letter
-      other.row.letter is one.is_right.played other.is_right.played
-      ∙ sym (ap (λ (r : Row). r.letter) (step_is memory y (leaf_is memory y d) other.is_row))
+      grind (
+        arith,
+        step_is memory x (leaf_is memory x d) one.is_row,
+        step_is memory y (leaf_is memory y d) other.is_row,
+      )
 
   read_or_played : (p : ℕ) → p < length m.names → (is_among p m.inputs ≡ true) ⊎ (is_among p m.outputs ≡ true)
   read_or_played p within = search (rules, cases_Bool)
@@ -92,9 +91,7 @@ module _ {board : Board} {keys : List Key} {kept : List ℕ} {certificate : Cert
   row_at memory x within =
       let l = leads memory x (drawn_at memory within) in
       let there = slice_get_within m.rows l.leaf l.row l.is_row in
-      let is : step_of m memory x ≡ row_of m l.leaf =
-      ap (λ o. row_of m (unwrap_or o (length m.rows))) (leaf_is memory x (drawn_at memory within)) in
-      rw is (row_is l.leaf there)
+      grind (arith, leaf_is, drawn_at, row_is)
 
   leaf_heeds : (memory x y : ℕ) → memory < length m.nodes → AreSameOn m.inputs x y →
       leaf_of m.store (slice_index m.nodes memory) x ≡ leaf_of m.store (slice_index m.nodes memory) y
@@ -126,8 +123,7 @@ module _ {board : Board} {keys : List Key} {kept : List ℕ} {certificate : Cert
     is_machine = does;
     letters = a.letters;
     held = λ memory within. (drawn_at memory within).held;
-    leaves = λ memory x within.
-        (let d = drawn_at memory within in
+    leaves = λ memory x within. (let d = drawn_at memory within in
         let l = leads memory x d in
         rw (leaf_is memory x d) (slice_get_within m.rows l.leaf l.row l.is_row));
     reads = leaf_heeds;
@@ -140,16 +136,8 @@ module _ {board : Board} {keys : List Key} {kept : List ℕ} {certificate : Cert
   is_step memory x within other =
       let d = drawn_at memory within in
       let l = d.leads x other in
-      let v = slice_index kept memory in
-      let step = sym (step_is memory x l.is_leaf l.is_row) in
-      record {
-        vertex = v;
-        state = d.state;
-        priority = d.priority;
-        is_kept = slice_get-get_or kept memory 0 (omega (arith, within, a.drawn.many));
-        stands = d.stands;
-        played = rw (← step) l.is_right.played;
-        entered = l.is_right.entered;
-        goes = search rules;
-        next = rw (← step) l.is_right.next;
-      }
+      grind (
+        arith,
+        step_is memory x l.is_leaf l.is_row,
+        slice_get-get_or kept memory 0 (omega (arith, within, a.drawn.many)),
+      )

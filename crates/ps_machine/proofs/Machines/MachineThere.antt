@@ -1,12 +1,12 @@
 -- A machine is there for each valid certificate of a board's game: its vertices, its memories and its steps are found
 -- by definition.
-use Rattle.std.proofs.Common.{◌≡◌, ◌≢◌, ◌⊎◌, inl, inr, ℕ, ◌+◌, ◌-◌, ◌^◌, ◌<◌, ◌≤◌, Bool, true, false, not, List, length}
-use Rattle.std.proofs.Common.{get_or, refl, ap, sym, subst, ◌∙◌, arith, rules}
+use Rattle.std.proofs.Common.{◌≡◌, ◌≢◌, ◌⊎◌, inl, inr, ℕ, ◌+◌, ◌-◌, ◌<◌, ◌≤◌, Bool, true, false, not, List, length}
+use Rattle.std.proofs.Common.{get_or, refl, ap, sym, ◌∙◌, arith, rules}
 use Rattle.std.specs.Prelude.{◌==◌}
 use Rattle.std.proofs.lemmas.Bool.{cases_Bool, cases_lt, eqb-true, eqb-false}
 use Rattle.std.proofs.lemmas.List.Elements.{All-contains}
 use Rattle.std.proofs.lemmas.Option.{slice_get-get_or}
-use Rattle.ps_game.specs.Games.{ParityGame, HasEdge, vertex_count, owner_of, successors_of}
+use Rattle.ps_game.specs.Games.{ParityGame, HasEdge, vertex_count, owner_of}
 use Rattle.ps_certificate.specs.Certificates.{CertificateData, Fits, IsValid}
 use Rattle.ps_diagram.proofs.Letters.{no_bit}
 use Rattle.ps_hoa.specs.Sound.{AreNames}
@@ -14,8 +14,7 @@ use Rattle.ps_machine.specs.Assembling.{AreListedBelow}
 use Rattle.ps_machine.specs.Behaviours.{Behaviour, IsMachine, IsOutput, AreSameOn}
 use Rattle.ps_machine.specs.Boards.{Board, IsFirstLetter, IsSecondLetter, SameStep, IsGameOf}
 use Rattle.ps_machine.specs.Drawing.{AreMemories, AreUsed, IsOwn, IsRowAt}
-use Rattle.ps_machine.specs.Extracting.{GoesTo, HasPropositions, IsMachineOf, IsOther, IsPlayed, IsStep, IsUsed}
-use Rattle.ps_machine.specs.Extracting.{is_others}
+use Rattle.ps_machine.specs.Extracting.{HasPropositions, IsMachineOf, IsOther, IsStep, IsUsed, is_others}
 use Rattle.ps_machine.specs.Numbering.{StandsAt}
 use Rattle.ps_machine.specs.Solving.{winner}
 use Rattle.ps_machine.specs.declared.key.Key.{Key}
@@ -26,9 +25,9 @@ use Rattle.ps_machine.proofs.Choosing.{part_over, part_same, same_priorities, sa
 use Rattle.ps_machine.proofs.Diagrams.DrawingLemmas.{class_at, move_at, move_to, to_class_of, to_pair_of, used_more}
 use Rattle.ps_machine.proofs.Machines.Following.{used_first}
 use Rattle.ps_machine.proofs.Machines.KeptMemories.{all_kept, each_kept, memory_of, some_kept}
-use Rattle.ps_machine.proofs.Machines.MachineLemmas.{one_letter, own_none, own_within}
+use Rattle.ps_machine.proofs.Machines.MachineLemmas.{own_none, own_within}
 use Rattle.ps_machine.proofs.Lassos.Rounds.{Setting, first_owner, second_owner, within_game}
-use Rattle.ps_machine.proofs.GameKeys.Standing.{one_state, same_some, stand-within}
+use Rattle.ps_machine.proofs.GameKeys.Standing.{same_some, stand-within}
 use Rattle.ps_machine.proofs.Machines.PartsThere.{listed_there, used_there, memories_there}
 
 -- ## Rows
@@ -38,9 +37,7 @@ module _ {board : Board} {mover : ℕ} {keys : List Key} {game : ParityGame} {ce
   edge_within : (v w : ℕ) → HasEdge game v w → w < vertex_count game
   edge_within v w edge =
       let at = s.by_keys.vertices v edge.0 in
-      let below = All-contains (λ u. u < length keys) (successors_of game v) w
-      (stand-within keys (successors_of game v) at.next at.successors) edge.1 in
-      omega (arith, below, s.by_keys.count)
+      grind (arith, All-contains, stand-within)
 
   small_winner : winner certificate < 2
   small_winner = s.fits.winners 0 (within_game s 0 s.by_keys.begins)
@@ -62,15 +59,12 @@ module _ {board : Board} {mover : ℕ} {keys : List Key} {game : ParityGame} {ce
         let to = to_pair_of s c.letter move.0 c.stands move.1 in
         let sum : c.letter + x ≡ x + c.letter = omega arith in
         let state : board.auto.next q (c.letter + move.0) ≡ board.auto.next q (x + c.letter) = search rules in
-        let priority : board.auto.priority q (c.letter + move.0) ≡ board.auto.priority q (x + c.letter) =
-        move.2.priority ∙ ap (board.auto.priority q) sum in
+        let priority : board.auto.priority q (c.letter + move.0) ≡ board.auto.priority q (x + c.letter) = grind arith in
         let there : StandsAt keys to.vertex (First (board.auto.next q (x + c.letter))
         (board.auto.priority q (x + c.letter))) = search rules in
         let other : owner_of game chosen.chosen ≡ 1 - mover = second_owner s chosen.chosen c.stands in
-        let next_used : IsUsed game certificate to.vertex = used_more chosen.used to.edge
-        (edge_within chosen.chosen to.vertex to.edge)
-        (λ own. absurd (let mine : 1 - mover ≡ mover = sym other ∙ own ∙ sym wins in omega (arith, mine, s.is_mover)))
-        in
+        let next_used : IsUsed game certificate to.vertex =
+        used_more chosen.used to.edge (edge_within chosen.chosen to.vertex to.edge) (λ own. grind arith) in
         let next = memory_of m
         (board.auto.priority q (x + c.letter)) s.by_keys.different ((are_used to.vertex).1 next_used) there in
         record {
@@ -122,7 +116,7 @@ module _ {board : Board} {mover : ℕ} {keys : List Key} {game : ParityGame} {ce
     row_there : (is_first : Bool) → is_first ≡ (mover == winner certificate) →
         AreMemories is_first keys used kept marks → {v q : ℕ} (p : ℕ) {x : ℕ} → StandsAt keys v (First q p) →
         IsUsed game certificate v → IsOther is_first board x → HasRow is_first v q x
-    row_there is_first h1 h2 p h3 h4 h5 = search (rules, row_first, row_second)
+    row_there is_first h k p m n q = search (rules, row_first, row_second)
 
 -- ## The machine
 
@@ -156,17 +150,10 @@ module _ (names : List (List ℕ)) {board : Board} {mover : ℕ} {keys : List Ke
     row_at : (memory z : ℕ) → memory < length kept → (row : Row) × IsRowOf memory (read z) row
     row_at memory z within =
         let here = m.each memory within in
-        let r = row_there setting used are_used kept marks first turn m here.priority here.stands
-        ((are_used (get_or kept memory 0)).0 here.is_used) (read_other z) in (
-          r.row,
-          record {
-            state = here.state;
-            priority = here.priority;
-            stands = here.stands;
-            right = r.is_right;
-            own = r.own;
-            within = r.within;
-          },
+        grind (
+          arith,
+          row_there setting used are_used kept marks first turn m here.priority here.stands
+              ((are_used (get_or kept memory 0)).0 here.is_used) (read_other z),
         )
 
     abbrev row_if : (memory z : ℕ) → (memory < length kept) ⊎ (length kept ≤ memory) → Row
@@ -188,8 +175,7 @@ module _ (names : List (List ℕ)) {board : Board} {mover : ℕ} {keys : List Ke
 
     row_heeds : (memory x y : ℕ) → AreSameOn inputs.0 x y → row memory x ≡ row memory y
     unfolding row read
-    row_heeds memory x y same =
-        ap (λ z. row_if memory z (cases_lt memory (length kept)))
+    row_heeds memory x y same = ap (λ z. row_if memory z (cases_lt memory (length kept)))
         (part_same board.propositions (is_others first board) x y (λ p less is. same p (inputs.1.are p less ∙ is)))
 
     made : Behaviour
@@ -211,13 +197,7 @@ module _ (names : List (List ℕ)) {board : Board} {mover : ℕ} {keys : List Ke
     same_letter_played : first ≡ true → (memory x y : ℕ) → memory < length kept →
         (row memory x).letter ≡ (row memory y).letter
     same_letter_played is memory x y within =
-        let v = get_or kept memory 0 in
-        let one = row_right x within in
-        let other = row_right y within in
-        let state : other.state ≡ one.state = one_state keys v other.priority one.priority other.stands one.stands in
-        one_letter first board keys certificate v one.state (read (read x)) (read (read y)) (row memory x).letter
-        (row memory y).letter is one.right.played
-        (rw state at other.right.played)
+        grind (arith, row_right x within, row_right y within, row memory x, row memory y)
 
     does : IsMachine made
     unfolding made
@@ -229,8 +209,7 @@ module _ (names : List (List ℕ)) {board : Board} {mover : ℕ} {keys : List Ke
       each = search (rules, cases_Bool);
       apart = search rules;
       player = small_winner setting;
-      some =
-          some_kept m 0 board.auto.start setting.by_keys.begins
+      some = some_kept m 0 board.auto.start setting.by_keys.begins
           ((are_used 0).1 (used_first game certificate (within_game setting 0 setting.by_keys.begins)));
       next_within = λ memory x within. (row_right x within).within;
       plays_own = λ memory x within. outputs_only (row memory x).letter (row_right x within).own;
@@ -284,8 +263,7 @@ pub machine_there : (names : List (List ℕ)) (board : Board) (mover : ℕ) (key
     IsGameOf board mover keys game → Fits game certificate → IsValid game certificate →
     (m : Behaviour) × IsMachine m × HasPropositions names board m × IsMachineOf board mover keys game certificate m
 machine_there names board mover keys game certificate few are_names as_many small is fits valid =
-    let s : Setting board mover keys game certificate =
-    record { is_mover = small; by_keys = is.by_keys; fits = fits; valid = valid } in
+    let s : Setting board mover keys game certificate = grind arith in
     let some = within_game s 0 s.by_keys.begins in
     let used = used_there valid (edge_within s) some in
     let first = mover == winner certificate in

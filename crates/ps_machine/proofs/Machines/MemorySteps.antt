@@ -1,16 +1,16 @@
 -- The memories of the vertices that were looked at, and what one more vertex adds.
-use Rattle.std.proofs.Common.{◌≡◌, ◌≢◌, inl, inr, ℕ, ◌+◌, ◌<◌, ◌≤◌, Bool, true, false, List, [], ◌∷◌, ◌++◌, length}
-use Rattle.std.proofs.Common.{get_or, refl, ap, sym, subst, ◌∙◌, arith, not, nat_eq, rules}
+use Rattle.std.proofs.Common.{◌≡◌, ◌≢◌, ℕ, ◌+◌, ◌<◌, ◌≤◌, Bool, true, false, List, [], ◌∷◌, ◌++◌, length}
+use Rattle.std.proofs.Common.{get_or, refl, ap, sym, ◌∙◌, arith, not, nat_eq, rules}
 use Rattle.std.specs.List.{All, AllPairs, Contains, list_any}
 use Rattle.std.specs.Cmp.{nat_eq_equiv}
 use Rattle.std.proofs.lemmas.Bool.{eqb-true}
 use Rattle.std.proofs.lemmas.List.{get_or_append_left, get_or_push, length_push}
-use Rattle.std.proofs.lemmas.List.Elements.{All-nil, All-push}
+use Rattle.std.proofs.lemmas.List.Elements.{All-push}
 use Rattle.std.proofs.lemmas.List.Quantifiers.{all_pairs_push}
 use Rattle.std.proofs.lemmas.Option.{slice_get_within, slice_get-get_or}
 use Rattle.std.proofs.lemmas.Map.Views.{Contains-from_any, list_any-from_Contains}
 use Rattle.indexmap.specs.IndexSet.{insert_key}
-use Rattle.ps_machine.specs.Drawing.{AreMemories, HasMemory, IsMemory, KeepsAt, Stays, mark_of}
+use Rattle.ps_machine.specs.Drawing.{AreMemories, HasMemory, IsMemory, KeepsAt, mark_of}
 use Rattle.ps_machine.specs.Numbering.{StandsAt}
 use Rattle.ps_machine.specs.declared.key.Key.{Key}
 use Rattle.ps_machine.specs.declared.key.Key.TheVariants.{First}
@@ -30,14 +30,13 @@ is_there xs x told is = Contains-from_any (λ y z h. eqb-true y z h) x xs (sym t
 pub is_absent : (xs : List ℕ) (x : ℕ) {b : Bool} → b ≡ list_any (nat_eq x) xs → b ≡ false → Contains xs x → ⊥
 is_absent xs x told is there = cc (list_any-from_Contains nat_eq_equiv x xs there)
 
-pub keeps_known : {kept marks : List ℕ} {v mark : ℕ} {new : List ℕ} {b : Bool} →
-    b ≡ not (list_any (nat_eq mark) marks) → b ≡ false → new ≡ insert_key nat_eq marks mark →
-    KeepsAt kept marks v mark kept new
-keeps_known {marks} {mark} {new} {b} told is e = elim (inserted marks mark new e) [
-  | inl there ↦ Stays there.0 refl there.1
-  | inr comes ↦ absurd (comes.0 (is_there marks mark (ap not told ∙ not_not (list_any (nat_eq mark) marks))
-      (ap not is)))
-]
+pub keeps_known : {kept marks : List ℕ} {v mark : ℕ} {new : List ℕ} {b : Bool} → b ≡ not (list_any (nat_eq mark) marks)
+    → b ≡ false → new ≡ insert_key nat_eq marks mark → KeepsAt kept marks v mark kept new
+keeps_known {marks} {mark} {new} {b} told is e = grind (
+  arith,
+  inserted marks mark new e,
+  is_there marks mark (ap not told ∙ not_not (list_any (nat_eq mark) marks)) (ap not is),
+)
 
 -- ## The memories of the first vertices
 
@@ -53,15 +52,7 @@ module _ (is_first : Bool) (keys : List Key) (used : List ℕ) where
         HasMemory kept marks v (mark_of is_first v q)
 
   pub none_below : {kept marks : List ℕ} → kept ≡ [] → marks ≡ [] → AreMemoriesBelow kept marks 0
-  none_below {marks} k m =
-      rw (k, m) (record {
-        many = refl;
-        rising = λ i j d rises within. absurd (omega arith);
-        different = λ i j d rises within. absurd (omega arith);
-        below = All-nil (λ v. v < 0);
-        each = λ memory within. absurd (omega arith);
-        found = λ v q p less. absurd (omega arith);
-      })
+  none_below {marks} k m = grind arith
 
   all_less : (kept : List ℕ) (n : ℕ) → All (λ v. v < n) kept → All (λ v. v < n + 1) kept
   all_less kept n below i d within = (let less = below i d within in omega arith)
@@ -102,11 +93,7 @@ module _ (is_first : Bool) (keys : List Key) (used : List ℕ) where
     has_left : (v x : ℕ) → HasMemory kept marks v x → HasMemory new_kept new_marks v x
     has_left v x h =
         let within : h.memory < length kept = omega (arith, slice_get_within marks h.memory x h.is_marked, m.many) in
-        record {
-          memory = h.memory;
-          is_marked = slice_get-left marks (new_mark ∷ []) h.memory h.is_marked;
-          behind = rw (kept_left h.memory within) h.behind;
-        }
+        grind (arith, slice_get-left, kept_left)
 
     has_last : HasMemory new_kept new_marks n new_mark
     has_last = search (rules, slice_get-seam, kept_last)
@@ -114,14 +101,7 @@ module _ (is_first : Bool) (keys : List Key) (used : List ℕ) where
     memory_left : (memory : ℕ) → memory < length kept → IsMemory is_first keys used new_kept new_marks memory
     memory_left memory within =
         let old = m.each memory within in
-        let same = sym (kept_left memory within) in
-        record {
-          state = old.state;
-          priority = old.priority;
-          stands = rw same at old.stands;
-          is_used = rw same at old.is_used;
-          mark = rw (← same) (slice_get-left marks (new_mark ∷ []) memory old.mark);
-        }
+        grind (arith, kept_left, slice_get-left)
 
     memory_last : IsMemory is_first keys used new_kept new_marks (length kept)
     memory_last = record {
@@ -147,7 +127,7 @@ module _ (is_first : Bool) (keys : List Key) (used : List ℕ) where
 
     pub below_more : {kept' marks' : List ℕ} → KeepsAt kept marks n new_mark kept' marks' →
         AreMemoriesBelow kept' marks' (n + 1)
-    below_more h1 = search (rules, below_stays, below_grows)
+    below_more h = search (rules, below_stays, below_grows)
 
   pub all_below : {kept marks : List ℕ} {n : ℕ} → length keys ≤ n → AreMemoriesBelow kept marks n →
       AreMemories is_first keys used kept marks

@@ -1,6 +1,6 @@
 -- The used vertices, the memories and the propositions of a machine are found by definition.
-use Rattle.std.proofs.Common.{◌≡◌, inl, inr, ℕ, zero, suc, ◌+◌, ◌<◌, ◌≤◌, Bool, List, [], ◌∷◌, ◌++◌, length, take}
-use Rattle.std.proofs.Common.{get_or, nat_eq, Option, None, Some, refl, sym, subst, ◌∙◌, arith, add-one, rules}
+use Rattle.std.proofs.Common.{◌≡◌, inl, inr, ℕ, zero, suc, ◌+◌, ◌<◌, ◌≤◌, Bool, List, [], length, take}
+use Rattle.std.proofs.Common.{get_or, nat_eq, Option, None, Some, refl, sym, arith, add-one, rules}
 use Rattle.std.specs.Prelude.{slice_get}
 use Rattle.std.specs.List.{Contains}
 use Rattle.std.proofs.lemmas.Bool.{cases_Bool, cases_eq, cases_lt}
@@ -42,11 +42,8 @@ module _ {game : ParityGame} {certificate : CertificateData} (valid : IsValid ga
   add_next v old used = elim (cases_eq (owner_of game v) (winner certificate)) [
     | inl own ↦ by own (choice_of certificate v) refl
     | inr other ↦
-        let all = add_first (successors_of game v) old (length (successors_of game v)) (omega arith) in (
-          all.0,
-          adds_all game certificate v (length (successors_of game v))
-              (used_within game certificate used) other (omega arith) all.1,
-        )
+        let all = add_first (successors_of game v) old (length (successors_of game v)) (omega arith) in
+        grind (arith, adds_all, used_within)
   ]
     where
       by : owner_of game v ≡ winner certificate → (o : Option ℕ) → choice_of certificate v ≡ o →
@@ -59,8 +56,7 @@ module _ {game : ParityGame} {certificate : CertificateData} (valid : IsValid ga
 
   search_on : (fuel turn : ℕ) (found : List ℕ) → IsSearched game certificate found turn →
       vertex_count game ≤ turn + fuel → (found : List ℕ) × AreUsed game certificate found
-  search_on zero turn found s enough =
-      (let few = search_bounded game certificate s in
+  search_on zero turn found s enough = (let few = search_bounded game certificate s in
       (found, search_done game certificate s (omega arith)))
   search_on (suc fuel) turn found s enough = elim (cases_lt turn (length found)) [
     | inr done ↦ (found, search_done game certificate s done)
@@ -72,9 +68,8 @@ module _ {game : ParityGame} {certificate : CertificateData} (valid : IsValid ga
   ]
 
   pub used_there : 0 < vertex_count game → (found : List ℕ) × AreUsed game certificate found
-  used_there some =
-      search_on (vertex_count game) 0 (insert_key nat_eq [] 0) (search_first game certificate some refl refl)
-      (omega arith)
+  used_there some = search_on (vertex_count game) 0 (insert_key nat_eq [] 0)
+      (search_first game certificate some refl refl) (omega arith)
 
 -- ## Memories
 
@@ -82,13 +77,11 @@ module _ (is_first : Bool) (keys : List Key) (used : List ℕ) where
   memories_below : (n : ℕ) → n ≤ length keys → (kept : List ℕ) × (marks : List ℕ) ×
       AreMemoriesBelow is_first keys used kept marks n
   memories_below zero few = ([], [], none_below is_first keys used refl refl)
-  memories_below (suc n) few =
-      (let m = memories_below n (omega arith) in at m.0 m.1 m.2 (get_or keys n (First 0 0))
-      (slice_get-get_or keys n (First 0 0) (omega arith)))
+  memories_below (suc n) few = (let m = memories_below n (omega arith) in
+      at m.0 m.1 m.2 (get_or keys n (First 0 0)) (slice_get-get_or keys n (First 0 0) (omega arith)))
     where
-      at : (kept marks : List ℕ) → AreMemoriesBelow is_first keys used kept marks n → (key : Key) →
-          StandsAt keys n key → (kept : List ℕ) × (marks : List ℕ) ×
-          AreMemoriesBelow is_first keys used kept marks (suc n)
+      at : (kept marks : List ℕ) → AreMemoriesBelow is_first keys used kept marks n → (key : Key) → StandsAt keys n key
+          → (kept : List ℕ) × (marks : List ℕ) × AreMemoriesBelow is_first keys used kept marks (suc n)
       at kept marks m (Second q x) stands = search (rules, AreMemoriesBelow, below_skip, not_both, same_some)
       at kept marks m (First q p) stands = elim (contained_or_not used n) [
         | inr not_used ↦ (
@@ -97,37 +90,25 @@ module _ (is_first : Bool) (keys : List Key) (used : List ℕ) where
           rw (add-one n) at (below_skip is_first keys used (λ r o is_used other. not_used is_used) m),
         )
         | inl is_used ↦ elim (contained_or_not marks (mark_of is_first n q)) [
-          | inl came ↦ (
-            kept,
-            marks,
-            rw (add-one n) at (below_more is_first keys used q p m stands is_used (Stays came refl refl)),
-          )
+          | inl came ↦
+              grind (arith, add-one n, below_more is_first keys used q p m stands is_used (Stays came refl refl))
           | inr comes ↦
-              let more = kept ++ n ∷ [] in
-              let others = marks ++ mark_of is_first n q ∷ [] in (
-                more,
-                others,
-                rw (add-one n) at (below_more is_first keys used q p m stands is_used (Grows comes refl refl)),
-              )
+              grind (arith, add-one n, below_more is_first keys used q p m stands is_used (Grows comes refl refl))
         ]
       ]
 
   pub memories_there : (kept : List ℕ) × (marks : List ℕ) × AreMemories is_first keys used kept marks
-  memories_there =
-      (let m = memories_below (length keys) (omega arith) in (
-        m.0,
-        m.1,
-        all_below is_first keys used (omega arith) m.2,
-      ))
+  memories_there = (let m = memories_below (length keys) (omega arith) in (
+    m.0,
+    m.1,
+    all_below is_first keys used (omega arith) m.2,
+  ))
 
 -- ## Propositions
 
 pub listed_there : (is : ℕ → Bool) (n : ℕ) → (list : List ℕ) × AreListedBelow n is list
 listed_there is zero = ([], listed_none is)
 listed_there is (suc n) = (let l = listed_there is n in elim (cases_Bool (is n)) [
-  | inl here ↦ (
-    l.0 ++ n ∷ [],
-    rw (add-one n) at (listed_with here refl l.1),
-  )
+  | inl here ↦ grind (arith, add-one n, listed_with here refl l.1)
   | inr isnt ↦ (l.0, rw (add-one n) at (listed_without isnt refl l.1))
 ])

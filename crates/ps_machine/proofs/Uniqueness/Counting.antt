@@ -1,6 +1,6 @@
 -- Lists whose numbers, with repeats left out, are those below a count.
 use Rattle.std.proofs.Common.{◌≡◌, ℕ, ◌+◌, ◌<◌, ◌⊎◌, inl, inr, true, not, ◌==◌, filter, List, [], ◌∷◌, ◌++◌}
-use Rattle.std.proofs.Common.{length, get_or, ap, sym, subst, ◌∙◌, arith, rules}
+use Rattle.std.proofs.Common.{length, get_or, ap, sym, ◌∙◌, arith, rules}
 use Rattle.std.specs.List.{All, Contains, range_with_len, list_any}
 use Rattle.std.proofs.Math.ListN.{get_or-append}
 use Rattle.std.proofs.Math.Seq.{get_or-append_seam}
@@ -37,13 +37,11 @@ all_from_distinct : (P : ℕ → Type 0) (xs : List ℕ) → All P (distinct xs)
 all_from_distinct P [] all = all
 all_from_distinct P (x ∷ xs) all =
     let here = All-head P x (filter (λ y. not (x == y)) (distinct xs)) all in
-    All-cons P x xs here (all_from_distinct P xs (all_unfiltered P x (distinct xs) here
-    (All-tail P x (filter (λ y. not (x == y)) (distinct xs)) all)))
+    All-cons P x xs here (all_from_distinct P xs (search (rules, all_unfiltered, All-tail)))
 
 pub counts_below : (list : List ℕ) (c : ℕ) → Counts list c → All (λ w. w < c) list
 counts_below list c e = all_from_distinct (λ w. w < c) list
-    (rw e (λ k d within. (let small : k < c = omega (arith, within, length-range_with_len 0 c) in
-    omega (arith, get_or-range_with_len 0 c k d small, small))))
+    (grind (arith, length-range_with_len, get_or-range_with_len))
 
 pub has_it : (xs : List ℕ) (y : ℕ) → list_any (λ z. z == y) xs ≡ true → Contains xs y
 has_it xs y e = search (rules, Any-from_list_any, eqb-true)
@@ -64,9 +62,7 @@ last_one list x m e =
     let long : c + 1 ≡ m = sym (length-append (distinct list) (x ∷ [])) ∙ ap length e ∙ length-range_with_len 0 m in
     let x_is : x ≡ c = sym (get_or-append_seam (distinct list) x [] 0) ∙ ap (λ l. get_or l c 0) e
     ∙ get_or-range_with_len 0 m c 0 (omega arith) ∙ none c in
-    same_number_lists (distinct list) (range_with_len 0 x) (sym x_is ∙ sym (length-range_with_len 0 x))
-    (λ k within. sym (get_or-append (distinct list) (x ∷ []) 0 k within) ∙ ap (λ l. get_or l k 0) e
-    ∙ get_or-range_with_len 0 m k 0 (omega arith) ∙ sym (get_or-range_with_len 0 x k 0 (omega arith)))
+    grind (arith, same_number_lists, length-range_with_len, get_or-append, get_or-range_with_len)
 
 counts_last : (list : List ℕ) (x m : ℕ) → Counts (list ++ x ∷ []) m → (Counts list m × (x < m)) ⊎ Counts list x
 counts_last list x m e = search (rules, cases_Bool, distinct-push, All-contains, counts_below, has_it, last_one)

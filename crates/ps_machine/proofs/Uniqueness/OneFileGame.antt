@@ -3,9 +3,9 @@
 --     listed_fine      each key that comes in a game has such a state, and a letter of the player who moves first
 --     leads_too      such a key leads to the same keys by either automaton
 --     game_too      so the game of one automaton is that of the other
-use Rattle.std.proofs.Common.{◌≡◌, ℕ, zero, suc, ◌+◌, ◌^◌, ◌<◌, ◌≤◌, List, [], ◌∷◌, ◌++◌, length, get_or}
-use Rattle.std.proofs.Common.{codes, Some, refl, ap, ap₂, sym, subst, ◌∙◌, arith, inl, inr, rules}
-use Rattle.std.specs.List.{All, Contains, range_with_len}
+use Rattle.std.proofs.Common.{◌≡◌, ℕ, zero, suc, ◌+◌, ◌^◌, ◌<◌, ◌≤◌, List, [], ◌∷◌, length, get_or}
+use Rattle.std.proofs.Common.{codes, sym, ◌∙◌, arith, inl, inr, rules}
+use Rattle.std.specs.List.{All, Contains}
 use Rattle.std.proofs.lemmas.Bool.{cases_lt}
 use Rattle.std.proofs.lemmas.List.Elements.{All-contains, All-map, Contains-append_cases}
 use Rattle.std.proofs.lemmas.Option.{slice_get_within}
@@ -17,7 +17,7 @@ use Rattle.ps_game.specs.Games.{ParityGame, NamedGameData, vertex_count, success
 use Rattle.ps_machine.specs.Boards.{Board, IsFirstLetter, IsSecondLetter, SameStep, SameSteps, IsClass, IsMove}
 use Rattle.ps_machine.specs.Boards.{AreListed, LeadsTo, IsGameOf}
 use Rattle.ps_machine.specs.FileGames.{IsGameOfFile, board_of_file}
-use Rattle.ps_machine.specs.KeyNames.{first_digits, key_name, key_names, state_name}
+use Rattle.ps_machine.specs.KeyNames.{first_digits, key_name, key_names}
 use Rattle.ps_machine.specs.Keys.{mover_of}
 use Rattle.ps_machine.specs.Numbering.{listed, StandsAt, IsVertexOf}
 use Rattle.ps_machine.specs.declared.key.Key.{Key}
@@ -59,11 +59,7 @@ module _ (order : Order) (file : FileData) (chain : Chain) where
     at_sink letter lt = search rules
 
     pub alike : (q letter : ℕ) → q ≤ file.states → letter < 2 ^ length file.names → StepAlike a b q letter
-    alike q letter le lt = elim (cases_lt q file.states) [
-      | inl low ↦ at_state q letter low lt
-      | inr ge ↦ (let sink : file.states ≡ q = omega arith in
-          rw sink at (at_sink letter lt))
-    ]
+    alike q letter le lt = grind (arith, cases_lt, at_state, at_sink)
 
   -- ## Letters, classes and moves
 
@@ -76,13 +72,7 @@ module _ (order : Order) (file : FileData) (chain : Chain) where
   module _ {a b : Auto} (is : IsAutoOf file chain a) (too : IsAutoOf file chain b) where
     step_too : {q l m : ℕ} → q ≤ file.states → l < 2 ^ length file.names → m < 2 ^ length file.names →
         SameStep (on a) q l m → SameStep (on b) q l m
-    step_too {q} {l} {m} le ll lm s =
-        let at_l = alike is too q l le ll in
-        let at_m = alike is too q m le lm in
-        record {
-          state = sym at_l.next ∙ s.state ∙ at_m.next;
-          priority = sym at_l.priority ∙ s.priority ∙ at_m.priority;
-        }
+    step_too {q} {l} {m} le ll lm s = grind (arith, alike)
 
     pub steps_too : (q : ℕ) {x z : ℕ} → q ≤ file.states → IsFirstLetter (on a) x → IsFirstLetter (on a) z →
         SameSteps (on a) q x z → SameSteps (on b) q x z
@@ -98,21 +88,12 @@ module _ (order : Order) (file : FileData) (chain : Chain) where
     pub class_too : (q x : ℕ) → q ≤ file.states → IsClass (on a) q x → IsClass (on b) q x
     class_too q x le c = record {
       here = (first_too a b c.here.0, steps_too is too q le c.here.0 c.here.0 c.here.1);
-      none_before = λ z p before.
-          (let hz = first_too b a p.0 in
+      none_before = λ z p before. (let hz = first_too b a p.0 in
           c.none_before z (hz, steps_too too is q le p.0 (first_too a b c.here.0) p.1) before);
     }
 
     move_too : (q x y : ℕ) → q ≤ file.states → IsFirstLetter (on a) x → IsMove (on a) q x y → IsMove (on b) q x y
-    move_too q x y le hx m = record {
-      here = (second_too a b m.here.0, move_step_too is too le hx m.here.0 m.here.0 m.here.1);
-      none_before = λ z p before.
-          (let hz = second_too b a p.0 in
-          m.none_before z (
-            hz,
-            move_step_too too is le (first_too a b hx) p.0 (second_too a b m.here.0) p.1,
-          ) before);
-    }
+    move_too q x y le hx m = grind (arith, second_too, move_step_too, first_too)
 
   -- ## Keys
 
@@ -125,17 +106,15 @@ module _ (order : Order) (file : FileData) (chain : Chain) where
     next_fine : (key : Key) (next : List Key) → IsFine key → LeadsTo (on a) key next → All IsFine next
     next_fine (First q p) next le leads =
         rw leads.2 (All-map IsFine (λ x. Second q x) leads.0 (λ k d within. (le, (leads.1.each k d within).here.0)))
-    next_fine (Second q x) next fine leads =
-        rw leads.2 (All-map IsFine (λ y. First (a.next q (x + y)) (a.priority q (x + y))) leads.0
-        (λ k d within. (let y = get_or leads.0 k d in is.within q (x + y) fine.0
-        (sum_within (on a) fine.1 (leads.1.each k d within).here.0))))
+    next_fine (Second q x) next fine leads = rw leads.2 (All-map IsFine
+        (λ y. First (a.next q (x + y)) (a.priority q (x + y))) leads.0 (λ k d within. (let y = get_or leads.0 k d in
+        is.within q (x + y) fine.0 (sum_within (on a) fine.1 (leads.1.each k d within).here.0))))
 
     leads_too : (key : Key) (next : List Key) → IsFine key → LeadsTo (on a) key next → LeadsTo (on b) key next
     leads_too (First q p) next le leads = search (rules, relisted, class_too)
     leads_too (Second q x) next fine leads = (
       leads.0,
-      relisted (IsMove (on a) q x) (IsMove (on b) q x) leads.0 (λ y. move_too is too q x y fine.0 fine.1)
-          (λ y. move_too too is q x y fine.0 (first_too a b fine.1)) leads.1,
+      search (rules, relisted, move_too, first_too),
       leads.2 ∙ map_same (λ y. First (a.next q (x + y)) (a.priority q (x + y)))
           (λ y. First (b.next q (x + y)) (b.priority q (x + y))) leads.0 0 same_key,
     )
@@ -145,8 +124,7 @@ module _ (order : Order) (file : FileData) (chain : Chain) where
             (b.next q (x + get_or leads.0 k 0)) (b.priority q (x + get_or leads.0 k 0))
         same_key k within =
             let y = get_or leads.0 k 0 in
-            let steps = alike is too q (x + y) fine.0 (sum_within (on a) fine.1 (leads.1.each k 0 within).here.0) in
-            ap₂ (λ (s p : ℕ). First s p) steps.next steps.priority
+            grind (arith, alike is too q (x + y) fine.0 (sum_within (on a) fine.1 (leads.1.each k 0 within).here.0))
 
     -- ## Games
 
@@ -164,8 +142,7 @@ module _ (order : Order) (file : FileData) (chain : Chain) where
       listed_fine zero le w key c at = first_fine w key c at
       listed_fine (suc v) le w key c at = elim (Contains-append_cases (listed game v) (successors_of game v) w c) [
         | inl before ↦ listed_fine v (omega arith) w key before at
-        | inr new ↦
-            (let lt : v < vertex_count game = omega arith in
+        | inr new ↦ (let lt : v < vertex_count game = omega arith in
             let vertex = g.by_keys.vertices v lt in
             let fine = listed_fine v (omega arith) v vertex.key (has_come v lt) vertex.stands in
             All-contains IsFine vertex.next key (next_fine vertex.key vertex.next fine vertex.leads_to)
@@ -180,17 +157,11 @@ module _ (order : Order) (file : FileData) (chain : Chain) where
       vertex_too : (v : ℕ) → v < vertex_count game → IsVertexOf (LeadsTo (on b)) mover keys game v
       vertex_too v lt =
           let vertex = g.by_keys.vertices v lt in
-          record {
-            key = vertex.key;
-            next = vertex.next;
-            stands = vertex.stands;
-            owner = vertex.owner;
-            priority = vertex.priority;
-            leads_to =
-                leads_too vertex.key vertex.next (listed_fine v (omega arith) v vertex.key (has_come v lt)
-                vertex.stands) vertex.leads_to;
-            successors = vertex.successors;
-          }
+          grind (
+            arith,
+            leads_too vertex.key vertex.next
+                (listed_fine v (omega arith) v vertex.key (has_come v lt) vertex.stands) vertex.leads_to,
+          )
 
       -- the game of one of the automata is that of the other
       pub game_too : IsGameOf (on b) mover keys game
@@ -198,22 +169,9 @@ module _ (order : Order) (file : FileData) (chain : Chain) where
 
 -- ## Names
 
-digits_too : (order : Order) (file : FileData) (a b : Auto) (x n : ℕ) →
-    first_digits (board_of_file order file a) x n ≡ first_digits (board_of_file order file b) x n
-digits_too order file a b x n = search rules
-
-name_too : (order : Order) (file : FileData) (a b : Auto) (key : Key) →
-    key_name (board_of_file order file a) key ≡ key_name (board_of_file order file b) key
-name_too order file a b (First q p) = refl
-name_too order file a b (Second q x) =
-    ap (λ l. state_name file.states q ++ codes ":" ++ l) (digits_too order file a b x (length file.names))
-
 names_too : (order : Order) (file : FileData) (a b : Auto) (keys : List Key) →
     key_names (board_of_file order file a) keys ≡ key_names (board_of_file order file b) keys
-names_too order file a b keys =
-    map_same (λ key. Some (key_name (board_of_file order file a) key))
-    (λ key. Some (key_name (board_of_file order file b) key)) keys (First 0 0)
-    (λ k within. ap Some (name_too order file a b (get_or keys k (First 0 0))))
+names_too order file a b keys = grind arith
 
 -- ## One game of a file
 

@@ -1,6 +1,5 @@
 -- A certificate of a file's game has one machine: the automata of a file differ only where no play comes.
-use Rattle.std.proofs.Common.{rules}
-use Rattle.std.proofs.Common.{◌≡◌, ℕ, ◌+◌, ◌^◌, ◌<◌, ◌≤◌, Bool, true, false, List, length, ap₂, subst, ◌∙◌, arith}
+use Rattle.std.proofs.Common.{rules, ◌≡◌, ℕ, ◌+◌, ◌^◌, ◌<◌, ◌≤◌, Bool, true, false, List, length, arith}
 use Rattle.ps_automaton.specs.Autos.{Auto, IsAutoOf}
 use Rattle.ps_automaton.specs.Chains.{Chain}
 use Rattle.ps_certificate.specs.Certificates.{CertificateData}
@@ -9,7 +8,7 @@ use Rattle.ps_hoa.specs.Files.{FileData}
 use Rattle.ps_machine.specs.Behaviours.{Behaviour, IsMachine}
 use Rattle.ps_machine.specs.Behaving.{BehavesAs}
 use Rattle.ps_machine.specs.Boards.{Board, IsFirstLetter, IsSecondLetter, IsGameOf}
-use Rattle.ps_machine.specs.Extracting.{GoesTo, HasPropositions, IsMachineOf, IsOther, IsPlayed, IsStep, StandsFor}
+use Rattle.ps_machine.specs.Extracting.{GoesTo, HasPropositions, IsMachineOf, IsOther, IsPlayed, IsStep}
 use Rattle.ps_machine.specs.FileGames.{IsGameOfFile, board_of_file}
 use Rattle.ps_machine.specs.Keys.{mover_of}
 use Rattle.ps_machine.specs.Numbering.{StandsAt}
@@ -33,12 +32,10 @@ module _ (order : Order) {file : FileData} {chain : Chain} {a b : Auto} (is : Is
 
   goes_too : {q letter w : ℕ} → q ≤ file.states → letter < 2 ^ length file.names → GoesTo keys one q letter w →
       GoesTo keys other q letter w
-  goes_too {q} {letter} {w} low lt goes =
-      let steps = alike order file chain is too q letter low lt in
-      record { stands = rw (ap₂ (λ (s p : ℕ). First s p) steps.next steps.priority) at goes.stands }
+  goes_too {q} {letter} {w} low lt goes = grind (arith, alike order file chain is too q letter low lt)
 
   other_too : (first : Bool) (x : ℕ) → IsOther first other x → IsOther first one x
-  other_too first x h1 = search (rules, second_too, first_too)
+  other_too first x h = search (rules, second_too, first_too)
 
 module _ (order : Order) {file : FileData} {chain : Chain} {a b : Auto} (is : IsAutoOf file chain a)
     (too : IsAutoOf file chain b) {mover : ℕ} {keys : List Key} {game : ParityGame}
@@ -63,8 +60,7 @@ module _ (order : Order) {file : FileData} {chain : Chain} {a b : Auto} (is : Is
       Plays true v q x letter
   plays_first {q} {x} {letter} second s = record {
     played = record { chosen = s.chosen; choice = s.choice; stands = s.stands };
-    within =
-        (let key = key_fine order file chain is too g s.chosen (Second q letter) s.stands in
+    within = (let key = key_fine order file chain is too g s.chosen (Second q letter) s.stands in
         rw (turned letter x) at (sum_within before key.1 second));
   }
 
@@ -80,7 +76,8 @@ module _ (order : Order) {file : FileData} {chain : Chain} {a b : Auto} (is : Is
       chosen = s.chosen;
       choice = s.choice;
       least = record {
-        here = (
+        here = grind (
+          arith,
           second_too order file chain a b s.least.here.0,
           goes_too order is too g low (sum_within before class_first s.least.here.0) s.least.here.1,
         );
@@ -97,12 +94,7 @@ module _ (order : Order) {file : FileData} {chain : Chain} {a b : Auto} (is : Is
           IsSecondLetter before z × GoesTo keys before q (s.class + z) s.chosen
       back z there =
           let second = second_too order file chain b a there.0 in
-          let steps = alike order file chain too is q (s.class + z) low (sum_within before class_first second) in (
-            second,
-            record {
-              stands = rw (← ap₂ (λ (r p : ℕ). First r p) steps.next steps.priority) there.1.stands;
-            },
-          )
+          grind (arith, alike order file chain too is q (s.class + z) low (sum_within before class_first second))
 
   plays : (first : Bool) (v q x letter : ℕ) → q ≤ file.states → IsOther first before x →
       IsPlayed first before keys certificate v q x letter → Plays first v q x letter
@@ -114,19 +106,7 @@ module _ (order : Order) {file : FileData} {chain : Chain} {a b : Auto} (is : Is
   step_too {kept} {m} {memory} {x} is_other s =
       let low = fine s.vertex s.state s.priority s.stands in
       let p = plays m.is_first s.vertex s.state x (m.plays memory x) low is_other s.played in
-      let letter = x + m.plays memory x in
-      let steps = alike order file chain is too s.state letter low p.within in
-      record {
-        vertex = s.vertex;
-        state = s.state;
-        priority = s.priority;
-        is_kept = s.is_kept;
-        stands = s.stands;
-        played = p.played;
-        entered = s.entered;
-        goes = goes_too order is too g low p.within s.goes;
-        next = rw steps.next at s.next;
-      }
+      grind (arith, goes_too order is too g low p.within s.goes)
 
   machine_too : (m : Behaviour) → IsMachineOf before mover keys game certificate m →
       IsMachineOf behind mover keys game certificate m

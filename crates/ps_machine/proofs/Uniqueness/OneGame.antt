@@ -9,7 +9,6 @@ use Rattle.std.proofs.lemmas.Option.{slice_get-get_or}
 use Rattle.ps_diagram.specs.Letters.{IsBefore}
 use Rattle.ps_diagram.proofs.Cells.{true_is_not_false}
 use Rattle.ps_game.specs.Games.{ParityGame, VertexData, no_vertex, vertex_count, owner_of, priority_of, successors_of}
-use Rattle.ps_game.specs.Drafts.{distinct}
 use Rattle.ps_machine.specs.Boards.{Board, AreListed, LeadsTo, IsGameOf}
 use Rattle.ps_machine.specs.Keys.{owner_of_key, priority_of_key}
 use Rattle.ps_machine.specs.Numbering.{listed, StandsAt, IsVertexOf}
@@ -28,16 +27,14 @@ not_both : (x y : ℕ) → IsBefore x y → IsBefore y x → ⊥
 not_both x y a b = search (rules, cases_eq, true_is_not_false, cases_lt)
 
 one_list : {P : ℕ → Type 0} {xs ys : List ℕ} → AreListed P xs → AreListed P ys → xs ≡ ys
-one_list {P} {xs} {ys} a b =
-    same_rising IsBefore not_both xs ys a.rising b.rising (λ z c. b.complete z (All-contains P xs z a.each c))
-    (λ z c. a.complete z (All-contains P ys z b.each c))
+one_list {P} {xs} {ys} a b = same_rising IsBefore not_both xs ys a.rising b.rising
+    (λ z c. b.complete z (All-contains P xs z a.each c)) (λ z c. a.complete z (All-contains P ys z b.each c))
 
 -- a key leads to one list of keys
 one_next : (board : Board) (key : Key) {one other : List Key} → LeadsTo board key one →
     LeadsTo board key other → one ≡ other
 one_next board (First q p) a b = a.2 ∙ ap (map (λ x. Second q x)) (one_list a.1 b.1) ∙ sym b.2
-one_next board (Second q x) a b =
-    a.2 ∙ ap (map (λ y. First (board.auto.next q (x + y)) (board.auto.priority q (x + y)))) (one_list a.1 b.1) ∙ sym b.2
+one_next board (Second q x) a b = grind (arith, one_list a.1 b.1)
 
 first_not_second : {q p r x : ℕ} → Second r x ≡ First q p → ⊥
 first_not_second e = search rules
@@ -72,7 +69,7 @@ module _ (one other : List Key) (one_differ : AllPairs (λ x y. x ≢ y) one)
     (other_differ : AllPairs (λ x y. x ≢ y) other) where
   same_number : {c x y : ℕ} (k : Key) → Agree one other c → StandsAt one x k → StandsAt other y k → (x < c) ⊎ (x ≡ c) →
       (y < c) ⊎ (y ≡ c) → x ≡ y
-  same_number k h1 h2 h3 h4 h5 = search (rules, one_place)
+  same_number k h m n p q = search (rules, one_place)
 
   agree_more : (c x : ℕ) (k : Key) → Agree one other c → x ≡ c → StandsAt one x k → StandsAt other x k →
       Agree one other (c + 1)
@@ -85,8 +82,7 @@ module _ (one other : List Key) (one_differ : AllPairs (λ x y. x ≢ y) one)
   walk : (list numbers others : List ℕ) (next : List Key) (c : ℕ) (more rest : List ℕ) (m l : ℕ) → Counts list c →
       Agree one other c → AllZip (StandsAt one) numbers next → AllZip (StandsAt other) others next →
       Counts (list ++ (numbers ++ more)) m → Counts (list ++ (others ++ rest)) l → Walked one other list numbers others
-  walk list [] [] next c more rest m l e agree a b all also =
-      record { same = refl; count = c; counts = subst (λ k. Counts k c) (sym (append-nil list)) e; agree = agree }
+  walk list [] [] next c more rest m l e agree a b all also = grind (arith, append-nil)
   walk list [] (y ∷ others) [] c more rest m l e agree a b all also = absurd b
   walk list [] (y ∷ others) (k ∷ next) c more rest m l e agree a b all also = absurd a
   walk list (x ∷ numbers) others [] c more rest m l e agree a b all also = absurd a
@@ -95,14 +91,12 @@ module _ (one other : List Key) (one_differ : AllPairs (λ x y. x ≢ y) one)
       let old = old_or_next list (numbers ++ more) x c m e all in
       let same = same_number k agree a.0 b.0 old (old_or_next list (others ++ rest) y c l e also) in
       let there : StandsAt other x k = subst (λ n. StandsAt other n k) (sym same) b.0 in
-      let all_on : Counts ((list ++ x ∷ []) ++ (numbers ++ more)) m =
-      subst (λ k. Counts k m) (sym (append_assoc list (x ∷ []) (numbers ++ more))) all in
+      let all_on : Counts ((list ++ x ∷ []) ++ (numbers ++ more)) m = grind (arith, append_assoc) in
       let also_on : Counts ((list ++ x ∷ []) ++ (others ++ rest)) l = search (rules, Counts, append_assoc) in
       joined list x y numbers others same (elim old [
         | inl less ↦ walk (list ++ x ∷ []) numbers others next c more rest m l (counts_old list c x e less) agree a.1
             b.1 all_on also_on
-        | inr is ↦ walk (list ++ x ∷ []) numbers others next (c + 1) more rest m l
-            (subst (λ n. Counts (list ++ n ∷ []) (c + 1)) (sym is) (counts_new list c e))
+        | inr is ↦ walk (list ++ x ∷ []) numbers others next (c + 1) more rest m l (grind (arith, counts_new))
             (agree_more c x k agree is a.0 there) a.1 b.1 all_on also_on
       ])
 
@@ -112,11 +106,8 @@ listed_front : (game : ParityGame) (v k : ℕ) → (more : List ℕ) × (listed 
 listed_front game v zero = search (rules, none, append-nil)
 listed_front game v (suc k) =
     let before = listed_front game v k in
-    let next : v + suc k ≡ suc (v + k) = omega arith in (
-      before.0 ++ successors_of game (v + k),
-      ap (listed game) next ∙ ap (λ l. l ++ successors_of game (v + k)) before.1
-          ∙ append_assoc (listed game v) before.0 (successors_of game (v + k)),
-    )
+    let next : v + suc k ≡ suc (v + k) = omega arith in
+    grind (arith, append_assoc (listed game v) before.0 (successors_of game (v + k)))
 
 gap : (v n : ℕ) → v ≤ n → (k : ℕ) × (v + k ≡ n)
 gap v n le = (n - v, omega (arith, le))
@@ -142,8 +133,7 @@ module _ (board : Board) (mover : ℕ) where
   count_at keys game v is le =
       let k = gap v (vertex_count game) le in
       let front = listed_front game v k.0 in
-      counts_front (listed game v) front.0 (vertex_count game) (ap distinct (sym front.1 ∙ ap (listed game) k.1)
-      ∙ is.numbered)
+      grind (arith, counts_front)
 
   -- where no more have come than there are vertices before this one, no more have come after it
   still : (keys : List Key) (game : ParityGame) (v c d : ℕ) → IsIt keys game → v < vertex_count game →
@@ -162,9 +152,7 @@ module _ (board : Board) (mover : ℕ) where
   behind keys game zero v c is e counts le =
       let lt : v < vertex_count game = omega (arith, e) in
       let end : suc v ≡ vertex_count game = omega (arith, e) in
-      let whole : Counts (listed game (suc v)) (vertex_count game) = search rules in
-      let few = still keys game v c (vertex_count game) is lt counts le whole in
-      omega (arith, few, lt)
+      grind (arith, still)
   behind keys game (suc k) v c is e counts le =
       let lt : v < vertex_count game = omega (arith, e) in
       let next = count_at keys game (suc v) is (omega (arith, e)) in
@@ -192,11 +180,7 @@ module _ (board : Board) (mover : ℕ) where
       (more : List ℕ) × (Counts (listed game v ++ (successors_of game v ++ more)) (vertex_count game))
   front_counts keys game v is lt =
       let k = gap (suc v) (vertex_count game) (omega (arith, lt)) in
-      let front = listed_front game (suc v) k.0 in (
-        front.0,
-        ap distinct (sym (append_assoc (listed game v) (successors_of game v) front.0) ∙ sym front.1
-            ∙ ap (listed game) k.1) ∙ is.numbered,
-      )
+      let front = listed_front game (suc v) k.0 in grind (arith, append_assoc)
 
   module _ (one other : List Key) (game same : ParityGame) (is : IsIt one game) (too : IsIt other same) where
     alike_first : Alike one other game same 0
@@ -241,25 +225,20 @@ module _ (board : Board) (mover : ℕ) where
         second = front_counts other same v too also
 
         walked : Walked one other (listed game v) (successors_of game v) (successors_of same v)
-        walked =
-            walk one other is.by_keys.different too.by_keys.different (listed game v) (successors_of game v)
+        walked = walk one other is.by_keys.different too.by_keys.different (listed game v) (successors_of game v)
             (successors_of same v) a.next before.count first.0 second.0 (vertex_count game) (vertex_count same)
-            before.counts before.agree a.successors (subst (λ (l : List Key).
-            AllZip (StandsAt other) (successors_of same v) l) next_same b.successors) first.1
-            (subst (λ (l : List ℕ). Counts (l ++ (successors_of same v ++ second.0)) (vertex_count same))
-            (sym before.lists) second.1)
+            before.counts before.agree a.successors (subst (λ (l : List Key). AllZip (StandsAt other)
+            (successors_of same v) l) next_same b.successors) first.1 (subst (λ (l : List ℕ). Counts
+            (l ++ (successors_of same v ++ second.0)) (vertex_count same)) (sym before.lists) second.1)
 
     alike : (v : ℕ) → v ≤ vertex_count game → v ≤ vertex_count same → Alike one other game same v
     alike zero le also = alike_first
-    alike (suc v) le also =
-        alike_next v (omega (arith, le)) (omega (arith, also)) (alike v (omega (arith, le)) (omega (arith, also)))
+    alike (suc v) le also = search (rules, alike_next, alike v (omega (arith, le)) (omega (arith, also)))
 
     not_fewer : vertex_count game < vertex_count same → ⊥
     not_fewer less =
         let at = alike (vertex_count game) (omega arith) (omega (arith, less)) in
-        let whole = counts_one (listed game (vertex_count game)) at.counts is.numbered in
-        let more = ahead other same (vertex_count game) at.count too less (ap distinct (sym at.lists) ∙ at.counts) in
-        omega (arith, whole, more)
+        grind (arith, counts_one, ahead)
 
   vertex_same : {x y : VertexData} → x.owner ≡ y.owner → x.priority ≡ y.priority → x.successors ≡ y.successors → x ≡ y
   vertex_same {x} {y} a b c = search rules
@@ -292,6 +271,5 @@ module _ (board : Board) (mover : ℕ) where
           (a.priority ∙ ap priority_of_key key ∙ sym b.priority) (at.successors k lt)
 
       games_same : game ≡ same
-      games_same = same_lists game same count_same
-          (λ k d within. sym (get_or_default game k no_vertex d within) ∙ each k within
-          ∙ get_or_default same k no_vertex d (omega (arith, within, count_same)))
+      games_same = same_lists game same count_same (λ k d within. sym (get_or_default game k no_vertex d within)
+          ∙ each k within ∙ get_or_default same k no_vertex d (omega (arith, within, count_same)))

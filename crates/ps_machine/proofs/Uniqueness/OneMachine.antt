@@ -1,27 +1,23 @@
 -- A certificate has one machine: its memories rise, and at each of them one letter is played and one memory comes next.
-use Rattle.std.proofs.Common.{◌≡◌, ◌≢◌, inl, inr, ℕ, ◌+◌, ◌<◌, Bool, true, false, not, List, length, Some, refl, ap}
-use Rattle.std.proofs.Common.{sym, subst, ◌∙◌, arith, rules}
+use Rattle.std.proofs.Common.{◌≡◌, ◌≢◌, ℕ, ◌+◌, ◌<◌, Bool, true, false, not, List, length, Some, refl, ap}
+use Rattle.std.proofs.Common.{sym, ◌∙◌, arith, rules}
 use Rattle.std.specs.Prelude.{slice_get}
 use Rattle.std.specs.List.{All, AllPairs, Contains}
-use Rattle.std.proofs.lemmas.Bool.{cases_Bool}
 use Rattle.std.proofs.lemmas.List.Elements.{All-contains}
 use Rattle.std.proofs.lemmas.Option.{slice_get_within, get_or_from_slice_get}
 use Rattle.ps_game.specs.Games.{ParityGame}
 use Rattle.ps_certificate.specs.Certificates.{CertificateData, choice_of}
-use Rattle.ps_diagram.specs.Letters.{IsLeast}
-use Rattle.ps_diagram.proofs.Cells.{true_is_not_false}
 use Rattle.ps_diagram.proofs.KnownLemmas.{some_nat}
-use Rattle.ps_hoa.specs.Files.{is_among}
 use Rattle.ps_machine.specs.Assembling.{AreListedBelow}
 use Rattle.ps_machine.specs.Behaviours.{Behaviour, IsMachine, AreSameOn}
 use Rattle.ps_machine.specs.Behaving.{BehavesAs}
-use Rattle.ps_machine.specs.Boards.{Board, IsClass, IsGameOf, IsSecondLetter, SameSteps}
+use Rattle.ps_machine.specs.Boards.{Board, IsClass, IsGameOf, SameSteps}
 use Rattle.ps_machine.specs.Drawing.{mark_of}
 use Rattle.ps_machine.specs.Extracting.{GoesTo, HasPropositions, IsKept, IsMachineOf, IsOther, IsPlayed, IsUsedFirst}
 use Rattle.ps_machine.specs.Extracting.{StandsFor, is_others}
 use Rattle.ps_machine.specs.Numbering.{StandsAt}
 use Rattle.ps_machine.specs.declared.key.Key.{Key}
-use Rattle.ps_machine.specs.declared.key.Key.TheVariants.{First, Second}
+use Rattle.ps_machine.specs.declared.key.Key.TheVariants.{First}
 use Rattle.ps_machine.proofs.BoardLetters.{neither_before, one_least}
 use Rattle.ps_machine.proofs.Choosing.{part, part_bit, part_over, steps_sym, steps_trans, over_other}
 use Rattle.ps_machine.proofs.Machines.KeptMemories.{mark_shares, shares_mark}
@@ -42,17 +38,7 @@ module _ {names : List (List ℕ)} {board : Board} {m : Behaviour} (is : IsMachi
   reads_listed = search (rules, many)
 
   pub plays_listed : AreListedBelow board.propositions (λ p. not (is_others m.is_first board p)) m.outputs
-  plays_listed = record {
-    rising = is.outputs_rise;
-    within = λ p among. (let less = (is.each p).1 (inr among) in omega (arith, less, many));
-    are = λ p less. elim (cases_Bool (is_among p m.inputs)) [
-      | inl read ↦ is.apart p read ∙ ap not (sym read ∙ has.reads p less)
-      | inr not_read ↦ elim ((is.each p).0 (omega (arith, less, many))) [
-        | inl read ↦ absurd (true_is_not_false (sym read ∙ not_read))
-        | inr played ↦ played ∙ ap not (sym not_read ∙ has.reads p less)
-      ]
-    ];
-  }
+  plays_listed = grind (arith, many)
 
 -- ## Memories
 
@@ -60,17 +46,14 @@ module _ (first : Bool) (keys : List Key) (game : ParityGame) (certificate : Cer
   abbrev Kept : ℕ → Type 0
   Kept v = IsKept first keys game certificate v
 
-  pub one_kept : {kept others : List ℕ} → AllPairs (λ v w. v < w) kept → AllPairs (λ v w. v < w) others →
-      All Kept kept → All Kept others →
-      ((v : ℕ) → Kept v → Contains kept v) → ((v : ℕ) → Kept v → Contains others v) → kept ≡ others
+  pub one_kept : {kept others : List ℕ} → AllPairs (λ v w. v < w) kept → AllPairs (λ v w. v < w) others → All Kept kept
+      → All Kept others → ((v : ℕ) → Kept v → Contains kept v) → ((v : ℕ) → Kept v → Contains others v) → kept ≡ others
   one_kept {kept} {others} r s each all whole complete = search (rules, same_numbers, All-contains)
 
   -- no used vertex below a kept one shares its memory
   none_below : {v q p : ℕ} (u r o : ℕ) → Kept u → StandsAt keys u (First r o) →
       IsUsedFirst keys game certificate v q p → mark_of first v q ≡ mark_of first u r → v < u → ⊥
-  none_below {v} {q} {p} u r o k stands used same less =
-      k.least v q p less used (mark_shares first u k.state v q
-      (cc (one_state keys u k.priority o k.here.stands stands, same)))
+  none_below {v} {q} {p} u r o k stands used same less = k.least v q p less used (grind (arith, mark_shares, one_state))
 
   kept_at : (kept : List ℕ) (memory : ℕ) {v : ℕ} → All Kept kept → slice_get kept memory ≡ Some v → Kept v
   kept_at kept memory {v} each at =
@@ -83,13 +66,8 @@ module _ (first : Bool) (keys : List Key) (game : ParityGame) (certificate : Cer
       let one = kept_at kept i each a.is_kept in
       let same : mark_of first a.vertex a.state ≡ mark_of first b.vertex b.state = search (rules, shares_mark) in
       let below = rises i j 0 less (slice_get_within kept j b.vertex b.is_kept) in
-      none_below b.vertex b.state b.priority
-      (kept_at kept j each b.is_kept) b.stands (record { used = one.here.used; stands = a.stands }) same (omega (
-        arith,
-        below,
-        get_or_from_slice_get kept i a.vertex 0 a.is_kept,
-        get_or_from_slice_get kept j b.vertex 0 b.is_kept,
-      ))
+      none_below b.vertex b.state b.priority (kept_at kept j each b.is_kept) b.stands
+      (record { used = one.here.used; stands = a.stands }) same (search (rules, get_or_from_slice_get))
 
   pub one_memory : {kept : List ℕ} {i j w r : ℕ} → AllPairs (λ v w. v < w) kept → All Kept kept →
       StandsFor first keys kept i w r → StandsFor first keys kept j w r → i ≡ j
@@ -132,10 +110,8 @@ module _ (names : List (List ℕ)) (board : Board) (mover : ℕ) (keys : List Ke
     same_first = other.is_first ∙ sym of.is_first
 
     same_kept : other.kept ≡ of.kept
-    same_kept = one_kept m.is_first keys game certificate other.rising of.rising
-        (rw same_first at other.each) of.each
-        (rw same_first at other.complete)
-        of.complete
+    same_kept = one_kept m.is_first keys game certificate other.rising of.rising (rw same_first at other.each) of.each
+        (rw same_first at other.complete) of.complete
 
     same_memories : m.memories ≡ o.memories
     same_memories = cc (of.memories, same_kept, other.memories)
@@ -154,20 +130,8 @@ module _ (names : List (List ℕ)) (board : Board) (mover : ℕ) (keys : List Ke
 
     other_step : (memory x : ℕ) → memory < m.memories → IsOther m.is_first board x → Steps memory x
     other_step memory x within is_other =
-        let t = other.steps memory x (omega (arith, within, same_memories))
-        (rw same_first is_other) in
-        let q = board.auto.next t.state (x + o.plays memory x) in
-        record {
-          vertex = t.vertex;
-          state = t.state;
-          priority = t.priority;
-          is_kept = ap (λ l. slice_get l memory) (sym same_kept) ∙ t.is_kept;
-          stands = t.stands;
-          played = search (rules, same_first);
-          entered = t.entered;
-          goes = t.goes;
-          next = search (rules, same_first, same_kept);
-        }
+        let t = other.steps memory x (omega (arith, within, same_memories)) (rw same_first is_other) in
+        grind (arith, same_first, same_kept)
 
     SameStepAt : ℕ → ℕ → Type 0
     SameStepAt memory x = (m.next memory x ≡ o.next memory x) × (m.plays memory x ≡ o.plays memory x)
@@ -179,31 +143,23 @@ module _ (names : List (List ℕ)) (board : Board) (mover : ℕ) (keys : List Ke
         let s = of.steps memory x within is_other in
         let t = other_step memory x within is_other in
         let vertex = some_nat t.vertex s.vertex (sym t.is_kept ∙ s.is_kept) in
-        let state = one_state keys s.vertex t.priority s.priority
-        (rw vertex at t.stands) s.stands in
+        let state = one_state keys s.vertex t.priority s.priority (rw vertex at t.stands) s.stands in
         let played = one_played board keys certificate differ m.is_first s.vertex s.state x
-        (rw vertex at (rw state at t.played))
-        s.played in
+        (rw vertex at (rw state at t.played)) s.played in
         let goes : GoesTo keys board s.state (x + m.plays memory x) t.entered = search rules in
         let entered = one_place keys differ t.entered s.entered goes.stands s.goes.stands in
         let r = board.auto.next s.state (x + m.plays memory x) in
-        let next : StandsFor m.is_first keys of.kept (o.next memory x) s.entered r = search rules in (
-          one_memory m.is_first keys game certificate of.rising of.each s.next next,
-          sym played,
-        )
+        let next : StandsFor m.is_first keys of.kept (o.next memory x) s.entered r = search rules in
+        grind (arith, one_memory m.is_first keys game certificate of.rising of.each s.next next)
       where
         differ : AllPairs (λ x y. x ≢ y) keys
         differ = is_game.by_keys.different
 
     same_inputs : m.inputs ≡ o.inputs
-    same_inputs =
-        one_listed (reads_listed is has)
-        (rw same_first at (reads_listed too also))
+    same_inputs = one_listed (reads_listed is has) (rw same_first at (reads_listed too also))
 
     same_outputs : m.outputs ≡ o.outputs
-    same_outputs =
-        one_listed (plays_listed is has)
-        (rw same_first at (plays_listed too also))
+    same_outputs = one_listed (plays_listed is has) (rw same_first at (plays_listed too also))
 
     -- what is read of any letter
     read : ℕ → ℕ
@@ -215,16 +171,13 @@ module _ (names : List (List ℕ)) (board : Board) (mover : ℕ) (keys : List Ke
 
     same_anywhere : (memory x : ℕ) → memory < m.memories → SameStepAt memory x
     unfolding SameStepAt read
-    same_anywhere memory x within =
-        let there : memory < o.memories = omega (arith, within, same_memories) in
-        let here = same_step memory (read x) within (over_other m.is_first board
-        (part_over board.propositions (is_others m.is_first board) x)) in
-        let same : AreSameOn o.inputs x (read x) = rw same_inputs at (read_same x) in (
-          is.next_heeds memory x (read x) within (read_same x) ∙ here.0
-              ∙ sym (too.next_heeds memory x (read x) there same),
-          is.plays_heeds memory x (read x) within (read_same x) ∙ here.1
-              ∙ sym (too.plays_heeds memory x (read x) there same),
-        )
+    same_anywhere memory x within = grind (
+      arith,
+      same_memories,
+      same_step memory (read x) within
+          (over_other m.is_first board (part_over board.propositions (is_others m.is_first board) x)),
+      read_same x,
+    )
 
     pub one_machine : BehavesAs m o
     unfolding SameStepAt

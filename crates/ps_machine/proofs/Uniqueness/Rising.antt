@@ -1,11 +1,10 @@
 -- Two lists that rise in one order and have the same members are one.
-use Rattle.std.proofs.Common.{rules}
-use Rattle.std.proofs.Common.{◌≡◌, ℕ, suc, ◌<◌, ◌⊎◌, inl, inr, List, [], ◌∷◌, refl, ap₂, sym, subst, ◌∙◌, arith}
+use Rattle.std.proofs.Common.{rules, ◌≡◌, ℕ, suc, ◌<◌, ◌⊎◌, inl, inr, List, [], ◌∷◌, refl, ap₂, sym, subst, arith}
 use Rattle.std.specs.List.{AllPairs, Contains}
 
 -- an element of a list is its head, or one of the others, at its place
 pub in_cons : {x z : ℕ} (xs : List ℕ) → Contains (x ∷ xs) z → (x ≡ z) ⊎ Contains xs z
-in_cons xs h1 = search rules
+in_cons xs h = search rules
 
 into_cons : (x z : ℕ) (xs : List ℕ) → Contains xs z → Contains (x ∷ xs) z
 into_cons x z xs c = (suc c.0, omega (arith, c.1), c.2)
@@ -34,14 +33,8 @@ module _ (Before : ℕ → ℕ → Type 0) (one_way : (x y : ℕ) → Before x y
     ]
   ]
 
-  never_itself : (x z : ℕ) → Before x z → x ≡ z → ⊥
-  never_itself x z b same = (let itself : Before x x = subst (Before x) (sym same) b in one_way x x itself itself)
-
   tails_within : {x y : ℕ} (xs ys : List ℕ) → x ≡ y → AllPairs Before (x ∷ xs) → Within (x ∷ xs) (y ∷ ys) → Within xs ys
-  tails_within {x} xs ys same r a z c = elim (in_cons ys (a z (into_cons x z xs c))) [
-    | inl is ↦ absurd (never_itself x z (before_others x z xs r c) (same ∙ is))
-    | inr there ↦ there
-  ]
+  tails_within {x} xs ys same r a z c = grind (arith, in_cons ys (a z (into_cons x z xs c)), before_others x z xs r c)
 
   pub same_rising : (xs ys : List ℕ) → AllPairs Before xs → AllPairs Before ys → Within xs ys → Within ys xs → xs ≡ ys
   same_rising [] [] r s a b = refl

@@ -1,6 +1,6 @@
 -- The lines of a text, and what is wrong in one line.
 use Rattle.std.proofs.Common.{◌≡◌, ◌≢◌, ℕ, zero, suc, ◌+◌, ◌-◌, ◌<◌, ◌≤◌, ◌==◌, ◌⊎◌, Bool, true, false, rules}
-use Rattle.std.proofs.Common.{List, [], ◌∷◌, ◌++◌, length, get_or, take, drop, refl, sym, ap, ◌∙◌, arith, Some}
+use Rattle.std.proofs.Common.{List, [], ◌∷◌, ◌++◌, length, get_or, take, drop, refl, ap, arith, Some}
 use Rattle.std.proofs.Common.{slice_get, All, length-take, length-drop}
 use Rattle.std.proofs.lemmas.List.{length-map, get_or-take, get_or-drop, take-append-drop, drop-drop, drop_more}
 use Rattle.std.proofs.lemmas.List.{drop_all, take_all}
@@ -9,8 +9,7 @@ use Rattle.std.proofs.lemmas.List.Sums.{sum_by-cons}
 use Rattle.std.proofs.lemmas.Option.{slice_get-map, slice_get_within}
 use Rattle.std.proofs.lemmas.Bool.{ne_eqb}
 use Rattle.ps_simulate.specs.declared.fault.StimulusCause.{StimulusCause}
-use Rattle.ps_simulate.specs.StimulusTexts.{lines_of, start_of, digit_of, digits_of, divider, IsDigit}
-use Rattle.ps_simulate.specs.StimulusTexts.{StandsInLine}
+use Rattle.ps_simulate.specs.StimulusTexts.{lines_of, start_of, digit_of, digits_of, divider, IsDigit, StandsInLine}
 
 -- ## Lines
 
@@ -19,28 +18,22 @@ NoNewline b = b ≢ 10
 
 lines_of-ended : (front rest : List ℕ) → All NoNewline front → lines_of (front ++ 10 ∷ rest) ≡ front ∷ lines_of rest
 lines_of-ended [] rest none = refl
-lines_of-ended (b ∷ front) rest none = rw (
-  ne_eqb b 10 (All-head NoNewline b front none),
-  lines_of-ended front rest (All-tail NoNewline b front none),
-)
+lines_of-ended (b ∷ front) rest none =
+    search (rules, ne_eqb, All-head, All-tail, lines_of-ended front rest (All-tail NoNewline b front none))
 
 lines_of-last : (b : ℕ) (front : List ℕ) → All NoNewline (b ∷ front) → lines_of (b ∷ front) ≡ (b ∷ front) ∷ []
 lines_of-last b [] none = rw (ne_eqb b 10 (All-head NoNewline b [] none))
-lines_of-last b (c ∷ front) none = rw (
-  ne_eqb b 10 (All-head NoNewline b (c ∷ front) none),
-  lines_of-last c front (All-tail NoNewline b (c ∷ front) none),
-)
+lines_of-last b (c ∷ front) none =
+    search (rules, ne_eqb, All-head, All-tail, lines_of-last c front (All-tail NoNewline b (c ∷ front) none))
 
 module _ (text : List ℕ) (start end : ℕ) (from : start ≤ end) (within : end ≤ length text)
     (none : (k : ℕ) → start ≤ k → k < end → get_or text k 0 ≢ 10) where
   front_has_none : All NoNewline (take (end - start) (drop start text))
   front_has_none = All-from_get_or NoNewline (take (end - start) (drop start text)) 0
-      (λ k lt e. (let less : k < end - start = omega (arith, lt, length-take (end - start) (drop start text)) in
-      none (start + k) (omega arith) (omega arith) (search (rules, get_or-drop, get_or-take))))
+      (λ k lt e. grind (arith, length-take, get_or-drop, get_or-take))
 
   split_here : take (end - start) (drop start text) ++ drop end text ≡ drop start text
-  split_here = ap (λ rest. take (end - start) (drop start text) ++ rest)
-      (search (rules, drop-drop)) ∙ take-append-drop (end - start) (drop start text)
+  split_here = grind (arith, drop-drop, take-append-drop (end - start) (drop start text))
 
   -- a line that a newline ends
   pub lines_of-drop_ended : end < length text → get_or text end 0 ≡ 10
@@ -51,14 +44,7 @@ module _ (text : List ℕ) (start end : ℕ) (from : start ≤ end) (within : en
 pub lines_of-drop_last : (text : List ℕ) (start : ℕ) → start < length text →
     ((k : ℕ) → start ≤ k → k < length text → get_or text k 0 ≢ 10)
     → lines_of (drop start text) ≡ take (length text - start) (drop start text) ∷ lines_of (drop (length text + 1) text)
-lines_of-drop_last text start lt none =
-    let whole : take (length text - start) (drop start text) ≡ drop start text =
-    take_all (length text - start) (drop start text) (omega (arith, length-drop start text)) in
-    let past : drop (length text + 1) text ≡ [] = drop_all (length text + 1) text (omega arith) in
-    last (drop start text) (omega (arith, length-drop start text))
-    (rw whole at (front_has_none text start (length text) (omega arith) (omega arith) none)) ∙ ap (λ line. line ∷ [])
-    (sym whole)
-    ∙ ap (λ rest. take (length text - start) (drop start text) ∷ lines_of rest) (sym past)
+lines_of-drop_last text start lt none = grind (arith, take_all, length-drop, drop_all, last, front_has_none)
   where
     last : (bytes : List ℕ) → 0 < length bytes → All NoNewline bytes → lines_of bytes ≡ bytes ∷ []
     last [] some none = absurd (omega arith)
@@ -78,12 +64,8 @@ start_of-later (l ∷ lines) k zero there less within = absurd (omega arith)
 start_of-later (l ∷ lines) zero (suc m) {line} there less within =
     let same : l ≡ line = cc in
     omega (arith, sum_by-cons (λ (bytes : List ℕ). length bytes + 1) l (take m lines), ap length same)
-start_of-later (l ∷ lines) (suc k) (suc m) {line} there less within = omega (
-  arith,
-  start_of-later lines k m there (omega arith) (omega arith),
-  sum_by-cons (λ (bytes : List ℕ). length bytes + 1) l (take k lines),
-  sum_by-cons (λ (bytes : List ℕ). length bytes + 1) l (take m lines),
-)
+start_of-later (l ∷ lines) (suc k) (suc m) {line} there less within =
+    search (rules, sum_by-cons, start_of-later lines k m there (omega arith) (omega arith))
 
 -- ## One line
 
@@ -91,7 +73,7 @@ pub digit_is : (bit : Bool) → IsDigit (digit_of bit)
 digit_is bit = search rules
 
 pub digit_of-is : (byte : ℕ) → IsDigit byte → digit_of (byte == 49) ≡ byte
-digit_of-is byte h1 = search rules
+digit_of-is byte h = search rules
 
 -- a letter's line is no divider
 pub digits_of-divider : (letter : List Bool) → digits_of letter ≢ divider
@@ -102,13 +84,13 @@ digits_of-divider (false ∷ letter) e = omega (arith, ap (λ (l : List ℕ). ge
 -- nothing is wrong with the line of a letter
 pub letter_none : (letter : List Bool) {line : List ℕ} (start : ℕ) {width : ℕ} (cause : StimulusCause) (offset : ℕ)
     → line ≡ digits_of letter → length letter ≡ width → StandsInLine line start width cause offset → ⊥
-letter_none letter start cause offset h1 h2 h3 = search (rules, length-map, slice_get-map, digit_is)
+letter_none letter start cause offset h k m = search (rules, length-map, slice_get-map, digit_is)
 
 -- where the causes of a line stand
 pub in_line_from : (line : List ℕ) (start width : ℕ) (cause : StimulusCause) (offset : ℕ) →
     StandsInLine line start width cause offset → start ≤ offset
-in_line_from line start width cause offset h1 = search rules
+in_line_from line start width cause offset h = search rules
 
 pub in_line_within : (line : List ℕ) (start width : ℕ) (cause : StimulusCause) (offset : ℕ) →
     StandsInLine line start width cause offset → (offset ≡ start) ⊎ (offset < start + length line)
-in_line_within line start width cause offset h1 = search (rules, slice_get_within)
+in_line_within line start width cause offset h = search (rules, slice_get_within)

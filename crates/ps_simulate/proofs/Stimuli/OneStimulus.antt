@@ -1,11 +1,10 @@
 -- The text of a stimulus has one answer.
-use Rattle.std.proofs.Common.{◌≡◌, ℕ, ◌<◌, ◌≤◌, ◌⊎◌, inl, inr, Bool, true, false, List, [], ◌∷◌, ◌++◌, map, length}
-use Rattle.std.proofs.Common.{refl, sym, ap, ap₂, ◌∙◌, arith, Ok, Err}
+use Rattle.std.proofs.Common.{◌≡◌, ℕ, inl, inr, Bool, true, false, List, [], ◌∷◌, ◌++◌, map, length}
+use Rattle.std.proofs.Common.{refl, sym, ap, ◌∙◌, arith, Ok, Err}
 use Rattle.std.proofs.lemmas.List.{append-nil}
 use Rattle.std.proofs.lemmas.Option.{slice_get_within}
 use Rattle.ps_text.specs.Answers.{Found}
 use Rattle.ps_simulate.specs.declared.fault.StimulusCause.{StimulusCause}
-use Rattle.ps_simulate.specs.declared.fault.StimulusCause.TheVariants.{Width, Stimulus}
 use Rattle.ps_simulate.specs.Faults.{rank}
 use Rattle.ps_simulate.specs.Stimuli.{StimulusData}
 use Rattle.ps_simulate.specs.StimulusTexts.{lines_of, digit_of, digits_of, divider, spelled, Stands, IsFirst}
@@ -20,15 +19,13 @@ digits_of-injective : (xs ys : List Bool) → digits_of xs ≡ digits_of ys → 
 digits_of-injective [] [] e = refl
 digits_of-injective [] (y ∷ ys) e = cc
 digits_of-injective (x ∷ xs) [] e = cc
-digits_of-injective (x ∷ xs) (y ∷ ys) e =
-    grind (arith, digit_of-injective x y, digits_of-injective xs ys)
+digits_of-injective (x ∷ xs) (y ∷ ys) e = grind (arith, digit_of-injective x y, digits_of-injective xs ys)
 
 letters_same : (xs ys : List (List Bool)) → map digits_of xs ≡ map digits_of ys → xs ≡ ys
 letters_same [] [] e = refl
 letters_same [] (y ∷ ys) e = cc
 letters_same (x ∷ xs) [] e = cc
-letters_same (x ∷ xs) (y ∷ ys) e =
-    grind (arith, digits_of-injective x y, letters_same xs ys)
+letters_same (x ∷ xs) (y ∷ ys) e = grind (arith, digits_of-injective x y, letters_same xs ys)
 
 parts_same : (xs ys as' bs : List (List Bool)) → map digits_of xs ++ divider ∷ map digits_of as' ≡ map digits_of ys ++
     divider ∷ map digits_of bs → (xs ≡ ys) × (as' ≡ bs)
@@ -38,38 +35,27 @@ parts_same (x ∷ xs) [] as' bs e = absurd (let head : digits_of x ≡ divider =
 parts_same (x ∷ xs) (y ∷ ys) as' bs e =
     let head : digits_of x ≡ digits_of y = cc in
     let tail : map digits_of xs ++ divider ∷ map digits_of as' ≡ map digits_of ys ++ divider ∷ map digits_of bs = cc in
-    let rest = parts_same xs ys as' bs tail in
-    (ap₂ ◌∷◌ (digits_of-injective x y head) rest.0, rest.1)
+    grind (arith, digits_of-injective x y head, parts_same xs ys as' bs tail)
 
 stimulus_same : (s t : StimulusData) → s.stem ≡ t.stem → s.lap ≡ t.lap → s ≡ t
 stimulus_same s t stem lap = λ i. record { stem = stem i; lap = lap i }
 
 one_stimulus : {text : List ℕ} {width : ℕ} (split : Bool) {s t : StimulusData} → IsStimulus text width split s →
     IsStimulus text width split t → s ≡ t
-one_stimulus false {s} {t} a b =
-    stimulus_same s t (letters_same s.stem t.stem (sym a.lines ∙ b.lines)) (a.no_lap refl ∙ sym (b.no_lap refl))
-one_stimulus true {s} {t} a b =
-    let parts = parts_same s.stem t.stem s.lap t.lap (sym a.lines ∙ b.lines) in stimulus_same s t parts.0 parts.1
+one_stimulus h1 {s} {t} a b = grind (arith, stimulus_same, letters_same, parts_same)
 
 rank-injective : (c d : StimulusCause) → rank c ≡ rank d → c ≡ d
 rank-injective c d e = grind arith
 
 one_first : (S : StimulusCause → ℕ → Type 0) (a b : Found StimulusCause) → IsFirst S a.cause a.offset →
     IsFirst S b.cause b.offset → a ≡ b
-one_first S a b first other =
-    let least = first.least b.cause b.offset other.stands in
-    let low = other.least a.cause a.offset first.stands in
-    grind (arith, rank-injective a.cause b.cause)
+one_first S a b first other = grind (arith, rank-injective)
 
 none_stands : {text : List ℕ} {width : ℕ} (split : Bool) {s : StimulusData} → IsStimulus text width split s →
     {cause : StimulusCause} {offset : ℕ} → Stands text width split cause offset → ⊥
 none_stands {text} {width} split {s} is {cause} {offset} (inl l) =
-    no_cause split s [] (lines_of text) width (is.lines ∙ sym (append-nil (spelled split s))) is.stem_widths
-    is.lap_widths (λ e. e) l.k l.line _ cause offset (omega (
-      arith,
-      slice_get_within (lines_of text) l.k l.line l.is_letter.there,
-      ap length is.lines,
-    )) l.is_letter l.in_line
+    no_cause split s [] (lines_of text) width (grind (arith, append-nil)) is.stem_widths
+    is.lap_widths (λ e. e) l.k l.line _ cause offset (grind (arith, slice_get_within)) l.is_letter l.in_line
 none_stands false is (inr m) = (let e = m.wanted in cc)
 none_stands {text} true {s} is (inr m) =
     m.none (length s.stem) (divides_at s [] (lines_of text) (is.lines ∙ sym (append-nil (spelled true s))) refl).there

@@ -1,8 +1,7 @@
 -- Each text of a stimulus has an answer: its letters, or the first cause, line by line.
 use Rattle.std.proofs.Common.{◌≡◌, ℕ, zero, suc, ◌+◌, ◌<◌, ◌≤◌, ◌≢◌, ◌==◌, ◌⊎◌, inl, inr, Bool, true, false, cond, List}
-use Rattle.std.proofs.Common.{rules}
-use Rattle.std.proofs.Common.{[], ◌∷◌, length, take, drop, refl, sym, ap, ap₂, ◌∙◌, arith, Some, Ok, Err}
-use Rattle.std.proofs.Common.{slice_get, length-drop}
+use Rattle.std.proofs.Common.{rules, [], ◌∷◌, length, take, drop, refl, sym, ap, ap₂, arith, Some, Ok, Err, slice_get}
+use Rattle.std.proofs.Common.{length-drop}
 use Rattle.std.proofs.lemmas.Bool.{cases_eq, cases_lt, eq-eqb, ne_eqb}
 use Rattle.std.proofs.lemmas.List.{drop-drop, length-take-le}
 use Rattle.ps_text.proofs.Decisions.{Decided, decide_as, decide_one}
@@ -15,8 +14,7 @@ use Rattle.ps_simulate.specs.StimulusTexts.{IsFirst, HasSomeAnswer}
 use Rattle.ps_simulate.specs.StimulusReading.{HasRead}
 use Rattle.ps_simulate.proofs.Stimuli.LineLemmas.{digit_of-is, letter_none}
 use Rattle.ps_simulate.proofs.Stimuli.StimulusSteps.{HasRead-start, HasRead-letter, HasRead-divider, at_line}
-use Rattle.ps_simulate.proofs.Stimuli.StimulusSteps.{IsFirst-in_line}
-use Rattle.ps_simulate.proofs.Stimuli.StimulusSteps.{not_divides, with_letter, IsStimulus-end, IsFirst-end}
+use Rattle.ps_simulate.proofs.Stimuli.StimulusSteps.{IsFirst-in_line, not_divides, IsStimulus-end, IsFirst-end}
 
 -- ## One line
 
@@ -37,12 +35,10 @@ letter_or_wrong (byte ∷ line) = go (decide_one (cases_eq byte 48) (cases_eq by
   where
     behind : IsDigit byte → (w : FirstWrong line) → (i b : ℕ) → slice_get (byte ∷ line) i ≡ Some b → ¬ IsDigit b →
         suc w.place ≤ i
-    behind d w zero b there wrong = absurd (wrong (let same : byte ≡ b = cc in rw same at d))
-    behind d w (suc i) b there wrong = omega (arith, w.least i b there wrong)
+    behind d w i b there wrong = grind arith
 
     go : Decided (IsDigit byte) → IsLetter line ⊎ FirstWrong line → IsLetter (byte ∷ line) ⊎ FirstWrong (byte ∷ line)
-    go (inr n) rest = inr (record
-        { place = 0; byte = byte; there = refl; wrong = n; least = λ i b there wrong. omega arith })
+    go (inr n) rest = inr (record { place = 0; byte = byte; there = refl; wrong = n; least = grind arith })
     go (inl d) (inl (letter, e)) = inl ((byte == 49) ∷ letter, ap₂ ◌∷◌ (sym (digit_of-is byte d)) e)
     go (inl d) (inr w) = inr (record
         { place = suc w.place; byte = w.byte; there = w.there; wrong = w.wrong; least = behind d w })
@@ -67,15 +63,12 @@ module _ (line : List ℕ) (start width : ℕ) where
   wrong_byte w fits = (
     Stimulus,
     start + w.place,
-    record { stands = (w.place, w.byte, w.there, w.wrong, refl); least = least fits },
+    grind (arith, least),
   )
     where
-      least : (length line ≡ width) ⊎ (w.place ≡ 0) → (cause : StimulusCause) (there : ℕ) →
-          StandsInLine line start width cause there →
-          (start + w.place < there) ⊎ ((start + w.place ≡ there) × (rank Stimulus ≤ rank cause))
-      least (inl e) Width there h = absurd (h.0 e)
-      least (inr e) Width there h = inr (omega (arith, e, h.1), omega arith)
-      least f Stimulus there h = search (rules, cases_lt, w.place, h.0, h.4, w.least, h.1)
+      least : (length line ≡ width) ⊎ (w.place ≡ 0) → (cause : StimulusCause) (there : ℕ) → StandsInLine line start
+          width cause there → (start + w.place < there) ⊎ ((start + w.place ≡ there) × (rank Stimulus ≤ rank cause))
+      least f cause there h = grind (arith, cases_lt)
 
   line_answer : LineAnswer
   line_answer = go (cases_eq (length line) width) (letter_or_wrong line)
@@ -112,11 +105,7 @@ first_line (b ∷ bytes) some = go (cases_eq b 10) bytes (first_line bytes)
     go (inr n) [] next = (1, (omega arith, ap (λ t. cond t ([] ∷ []) (put_byte b [])) (ne_eqb b 10 n)))
     go (inr n) (c ∷ rest) next = let l = next (omega arith) in (
       suc l.0,
-      (
-        omega (arith, l.1.0),
-        ap (λ t. cond t ([] ∷ lines_of (c ∷ rest)) (put_byte b (lines_of (c ∷ rest)))) (ne_eqb b 10 n)
-            ∙ ap (put_byte b) l.1.1,
-      ),
+      grind (arith, ne_eqb),
     )
 
 module _ (text : List ℕ) (width : ℕ) (split : Bool) where
@@ -138,8 +127,7 @@ module _ (text : List ℕ) (width : ℕ) (split : Bool) where
     line = take size (drop start text)
 
     next : lines_of (drop start text) ≡ line ∷ lines_of (drop (start + size + 1) text)
-    next = first.1 ∙ ap (λ rest. line ∷ lines_of rest) (drop-drop (suc size) start text
-        ∙ ap (λ n. drop n text) (omega arith))
+    next = grind (arith, drop-drop (suc size) start text)
 
     ends : start + length line ≡ start + size
     ends = omega (arith, length-take-le size (drop start text) first.0)
@@ -149,21 +137,17 @@ module _ (text : List ℕ) (width : ℕ) (split : Bool) where
 
     as_letter : (in_lap ≡ true) ⊎ (¬ (slice_get (lines_of text) (length (spelled in_lap s)) ≡ Some divider) ⊎
         (split ≡ false)) → LineAnswer line start width → Answer
-    as_letter plain (inl (letter, is, fits)) = later in_lap (with_letter in_lap s letter)
-        (HasRead-letter h next ends letter is fits)
+    as_letter plain (inl (letter, is, fits)) = grind (arith, HasRead-letter h next ends letter is fits)
     as_letter plain (inr (cause, offset, least)) = (
       Err (record { cause = cause; offset = offset }),
-      IsFirst-in_line h next ends some within (not_divides in_lap h plain) least,
+      search (rules, IsFirst-in_line, next, ends, within, not_divides),
     )
 
     by_line : (b wanted : Bool) → in_lap ≡ b → split ≡ wanted → Decided (line ≡ divider) → Answer
     by_line true wanted e x d = as_letter (inl e) (line_answer line start width)
     by_line false false e x d = as_letter (inr (inr x)) (line_answer line start width)
-    by_line false true e x (inr other) = as_letter (inr (inl (λ there.
-        let here = at_line h next ends in
-        other (let same : line ≡ divider = cc in same)))) (line_answer line start width)
-    by_line false true e x (inl is) = later true s (HasRead-divider
-        (rw e at h) next ends is x)
+    by_line false true e x (inr other) = as_letter (grind (arith, at_line h next ends)) (line_answer line start width)
+    by_line false true e x (inl is) = later true s (HasRead-divider (rw e at h) next ends is x)
 
   -- by recursion over how many bytes are left
   from_line : (n : ℕ) {in_lap : Bool} {start : ℕ} {s : StimulusData} → HasRead text width split in_lap start s →

@@ -1,7 +1,6 @@
 -- What the reader of stimuli keeps true, and the answers that it comes to.
 use Rattle.std.proofs.Common.{◌≡◌, ℕ, zero, suc, ◌+◌, ◌-◌, ◌<◌, ◌⊎◌, inl, inr, Bool, true, false, List, [], ◌∷◌, ◌++◌}
-use Rattle.std.proofs.Common.{map, length, refl, sym, ap, ◌∙◌, arith, Some, None, Option, slice_get, option_map}
-use Rattle.std.proofs.Common.{All}
+use Rattle.std.proofs.Common.{map, length, refl, sym, ap, ◌∙◌, arith, Some, slice_get, option_map, All}
 use Rattle.std.proofs.lemmas.List.{length-map, append_assoc}
 use Rattle.std.proofs.lemmas.Option.{slice_get-map, slice_get_within, get_or_from_slice_get}
 use Rattle.std.proofs.lemmas.Bool.{cases_order}
@@ -30,12 +29,7 @@ All-slice_get P xs k {x} all there =
 -- a line of letters is the line of one of them
 pub mapped : (letters : List (List Bool)) (k : ℕ) {line : List ℕ} → slice_get (map digits_of letters) k ≡ Some line
     → (letter : List Bool) × (slice_get letters k ≡ Some letter) × (line ≡ digits_of letter)
-mapped letters k {line} there = found (slice_get letters k) refl (sym (slice_get-map digits_of letters k) ∙ there)
-  where
-    found : (o : Option (List Bool)) → slice_get letters k ≡ o → option_map digits_of o ≡ Some line
-        → (letter : List Bool) × (slice_get letters k ≡ Some letter) × (line ≡ digits_of letter)
-    found None is e = cc
-    found (Some letter) is e = (letter, is, cc)
+mapped letters k {line} there = grind (arith, slice_get-map, option_map)
 
 mapped_none : (letters : List (List Bool)) (width k start : ℕ) {line : List ℕ} (cause : StimulusCause) (offset : ℕ) →
     All (λ letter. length letter ≡ width) letters
@@ -54,14 +48,13 @@ pub divides_at : {split : Bool} (s : StimulusData) (rest lines : List (List ℕ)
     split ≡ true → Divides split lines (length s.stem)
 divides_at s rest lines is wanted = record {
   wanted = wanted;
-  there = ap (λ (ls : List (List ℕ)). slice_get ls (length s.stem))
-      (is ∙ append_assoc (map digits_of s.stem) (divider ∷ map digits_of s.lap) rest)
-      ∙ slice_get-right (map digits_of s.stem) (divider ∷ map digits_of s.lap ++ rest) (length s.stem) 0
-      (omega (arith, length-map s.stem digits_of));
-  first = λ j less there. no_divider s.stem j
-      (sym (slice_get-left (map digits_of s.stem) (divider ∷ map digits_of s.lap ++ rest) j
-      (omega (arith, length-map s.stem digits_of))) ∙ ap (λ (ls : List (List ℕ)). slice_get ls j)
-      (sym (is ∙ append_assoc (map digits_of s.stem) (divider ∷ map digits_of s.lap) rest)) ∙ there);
+  there = grind (
+    arith,
+    append_assoc,
+    slice_get-right (map digits_of s.stem) (divider ∷ map digits_of s.lap ++ rest)
+        (length s.stem) 0 (omega (arith, length-map s.stem digits_of)),
+  );
+  first = grind (arith, no_divider, slice_get-left, length-map, append_assoc);
 }
 
 -- nothing is wrong with the lines of the letters
@@ -71,22 +64,16 @@ pub no_cause : {split : Bool} (in_lap : Bool) (s : StimulusData) (rest lines : L
     (k : ℕ) (line : List ℕ) (start : ℕ) (cause : StimulusCause) (offset : ℕ) → k < length (spelled in_lap s) →
     IsLetterLine split lines k line → StandsInLine line start width cause offset → ⊥
 no_cause false s rest lines width is stem lap wanted k line start cause offset lt letter stands =
-    mapped_none s.stem width k start cause offset stem (sym (slice_get-left (map digits_of s.stem) rest k lt)
-    ∙ ap (λ (ls : List (List ℕ)). slice_get ls k) (sym is) ∙ letter.there) stands
+    mapped_none s.stem width k start cause offset stem (grind (arith, slice_get-left)) stands
 no_cause {split} true s rest lines width is stem lap wanted k line start cause offset lt letter stands =
     which (cases_order k (length s.stem))
   where
     there : slice_get (map digits_of s.stem ++ divider ∷ map digits_of s.lap) k ≡ Some line
-    there = sym (slice_get-left (spelled true s) rest k lt) ∙ ap (λ (ls : List (List ℕ)). slice_get ls k) (sym is)
-        ∙ letter.there
+    there = grind (arith, slice_get-left)
 
     which : (k ≡ length s.stem) ⊎ ((k < length s.stem) ⊎ (length s.stem < k)) → ⊥
-    which (inl e) =
-        letter.letter (rw e (divides_at s rest lines is (wanted refl)))
-    which (inr (inl less)) =
-        mapped_none s.stem width k start cause offset stem (sym (slice_get-left (map digits_of s.stem)
-        (divider ∷ map digits_of s.lap) k (omega (arith, less, length-map s.stem digits_of))) ∙ there) stands
+    which (inl e) = grind (arith, divides_at)
+    which (inr (inl less)) = grind (arith, mapped_none, slice_get-left, length-map, there)
     which (inr (inr more)) = (let m = k - suc (length s.stem) in
-        mapped_none s.lap width m start cause offset lap
-        (sym (slice_get-right (map digits_of s.stem) (divider ∷ map digits_of s.lap) k (suc m)
-        (omega (arith, more, length-map s.stem digits_of))) ∙ there) stands)
+        mapped_none s.lap width m start cause offset lap (sym (slice_get-right (map digits_of s.stem)
+        (divider ∷ map digits_of s.lap) k (suc m) (omega (arith, more, length-map s.stem digits_of))) ∙ there) stands)

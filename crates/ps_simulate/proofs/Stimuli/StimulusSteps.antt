@@ -1,7 +1,6 @@
 -- The reader of stimuli, line by line.
 use Rattle.std.proofs.Common.{◌≡◌, ℕ, ◌+◌, ◌<◌, ◌≤◌, ◌⊎◌, inl, inr, Bool, true, false, List, [], ◌∷◌, ◌++◌, map, length}
-use Rattle.std.proofs.Common.{rules}
-use Rattle.std.proofs.Common.{drop, refl, sym, ap, subst, ◌∙◌, arith, Some, Err, slice_get, All, length-append}
+use Rattle.std.proofs.Common.{rules, drop, refl, sym, ap, ◌∙◌, arith, Some, Err, slice_get, All, length-append}
 use Rattle.std.specs.Prelude.{Vec}
 use Rattle.std.specs.Global.{Global}
 use Rattle.std.proofs.lemmas.List.{length-map, map_push, append_assoc, append-nil, drop_all, take_at}
@@ -11,8 +10,7 @@ use Rattle.std.proofs.lemmas.Option.{slice_get_within}
 use Rattle.std.proofs.lemmas.Bool.{cases_order}
 use Rattle.ps_simulate.specs.declared.fault.StimulusCause.{StimulusCause}
 use Rattle.ps_simulate.specs.declared.fault.StimulusCause.TheVariants.{Stimulus}
-use Rattle.ps_simulate.specs.Faults.{rank}
-use Rattle.ps_simulate.specs.Faults.{StimulusFault}
+use Rattle.ps_simulate.specs.Faults.{rank, StimulusFault}
 use Rattle.ps_text.specs.declared.faults.Fault.TheVariants.{Text, OutOfMemory}
 use Rattle.ps_simulate.specs.Stimuli.{StimulusData, letters_of}
 use Rattle.ps_simulate.specs.StimulusTexts.{lines_of, extent, start_of, digits_of, divider, spelled, Divides}
@@ -40,7 +38,7 @@ widths_with true s letter {width} stem lap each = (stem, All-push (λ l. length 
 
 no_lap_with : (in_lap : Bool) (s : StimulusData) (letter : List Bool) → (in_lap ≡ false → s.lap ≡ []) → in_lap ≡ false →
     (with_letter in_lap s letter).lap ≡ []
-no_lap_with in_lap s letter h1 h2 = search rules
+no_lap_with in_lap s letter h k = search rules
 
 pub HasRead-start : (text : List ℕ) (width : ℕ) (split : Bool) →
     HasRead text width split false 0 (record { stem = []; lap = [] })
@@ -62,25 +60,19 @@ module _ {text : List ℕ} {width : ℕ} {split in_lap : Bool} {start end : ℕ}
     -- a letter's line
     pub HasRead-letter : (letter : List Bool) → line ≡ digits_of letter → length line ≡ width →
         HasRead text width split in_lap (end + 1) (with_letter in_lap s letter)
-    HasRead-letter letter is each =
-        let spells : spelled in_lap s ++ line ∷ [] ≡ spelled in_lap (with_letter in_lap s letter) =
-        search (rules, spelled-with_letter) in
-        let widths = widths_with in_lap s letter h.stem_widths h.lap_widths
-        (sym (length-map letter _) ∙ ap length (sym is) ∙ each) in
-        record {
-          lines = pushed ∙ ap (λ (front : List (List ℕ)). front ++ lines_of (drop (end + 1) text)) spells;
-          start_is = end_is ∙ ap extent spells;
-          stem_widths = widths.0;
-          lap_widths = widths.1;
-          wanted = h.wanted;
-          no_lap = no_lap_with in_lap s letter h.no_lap;
-        }
+    HasRead-letter letter is each = grind (
+      arith,
+      spelled-with_letter,
+      widths_with in_lap s letter h.stem_widths h.lap_widths (sym (length-map letter _) ∙ ap length (sym is) ∙ each),
+      pushed,
+      end_is,
+      no_lap_with in_lap s letter h.no_lap,
+    )
 
     -- where line `length (spelled in_lap s)` begins
     pub at_line : slice_get (lines_of text) (length (spelled in_lap s)) ≡ Some line
-    at_line = ap (λ (ls : List (List ℕ)). slice_get ls (length (spelled in_lap s))) behind
-        ∙ slice_get-right (spelled in_lap s) (line ∷ lines_of (drop (end + 1) text)) (length (spelled in_lap s))
-        0 (omega arith)
+    at_line = ap (λ (ls : List (List ℕ)). slice_get ls (length (spelled in_lap s))) behind ∙ slice_get-right
+        (spelled in_lap s) (line ∷ lines_of (drop (end + 1) text)) (length (spelled in_lap s)) 0 (omega arith)
 
     start_here : start_of (lines_of text) (length (spelled in_lap s)) ≡ start
     start_here = search (rules, behind, take_at)
@@ -95,17 +87,11 @@ module _ {text : List ℕ} {width : ℕ} {split in_lap : Bool} {start end : ℕ}
           λ other there stands. elim stands [ inl l ↦ in_letter other there l | inr m ↦ inl (missing other there m) ];
     }
       where
-        here : ℕ
-        here = length (spelled in_lap s)
-
         bound : (offset ≡ start) ⊎ (offset < start + length line)
         bound = in_line_within line start width cause offset first.stands
 
         missing : (other : StimulusCause) (there : ℕ) → MissesDivider text split other there → offset < there
-        missing other there m = elim bound [
-          | inl e ↦ omega (arith, some, e, m.offset_is)
-          | inr less ↦ omega (arith, less, within, length_is, m.offset_is)
-        ]
+        missing other there m = grind (arith, bound)
 
         in_letter : (other : StimulusCause) (there : ℕ) → StandsInLetter text width split other there →
             (offset < there) ⊎ ((offset ≡ there) × (rank cause ≤ rank other))
@@ -113,21 +99,12 @@ module _ {text : List ℕ} {width : ℕ} {split in_lap : Bool} {start end : ℕ}
           where
             which : (l.k ≡ length (spelled in_lap s)) ⊎ ((l.k < length (spelled in_lap s)) ⊎
                 (length (spelled in_lap s) < l.k)) → (offset < there) ⊎ ((offset ≡ there) × (rank cause ≤ rank other))
-            which (inl e) =
-                (let same : l.line ≡ line = (let a = l.is_letter.there in let b = ap (slice_get (lines_of text)) e in
-                let c = at_line in cc) in
-                first.least other there (rw ((ap (start_of (lines_of text)) e ∙ start_here), same) at l.in_line))
-            which (inr (inl less)) =
-                absurd (no_cause in_lap s (line ∷ lines_of (drop (end + 1) text)) (lines_of text) width behind
-                h.stem_widths h.lap_widths h.wanted l.k l.line _ other there less l.is_letter l.in_line)
-            which (inr (inr more)) =
-                (let later = start_of-later (lines_of text) (length (spelled in_lap s)) l.k at_line more
-                (let w = slice_get_within (lines_of text) l.k l.line l.is_letter.there in omega arith) in
+            which (inl e) = grind (arith, at_line, start_here)
+            which (inr (inl less)) = grind (arith, no_cause, behind)
+            which (inr (inr more)) = (let later = start_of-later (lines_of text) (length (spelled in_lap s)) l.k at_line
+                more (let w = slice_get_within (lines_of text) l.k l.line l.is_letter.there in omega arith) in
                 let from = in_line_from l.line _ width other there l.in_line in
-                inl (elim bound [
-                  | inl e ↦ omega (arith, later, from, e, start_here)
-                  | inr less ↦ omega (arith, later, from, less, start_here)
-                ]))
+                inl (grind (arith, bound, start_here)))
 
 -- the divider's line
 pub HasRead-divider : {text : List ℕ} {width : ℕ} {split : Bool} {start end : ℕ} {s : StimulusData} →
@@ -135,15 +112,7 @@ pub HasRead-divider : {text : List ℕ} {width : ℕ} {split : Bool} {start end 
     → lines_of (drop start text) ≡ line ∷ lines_of (drop (end + 1) text) → start + length line ≡ end → line ≡ divider →
     split ≡ true → HasRead text width split true (end + 1) s
 HasRead-divider {text} {width} {split} {start} {end} {s} h {line} next length_is is wanted =
-    let spells : spelled false s ++ line ∷ [] ≡ spelled true s = search (rules, s.stem, h.no_lap) in
-    record {
-      lines = pushed h next length_is ∙ ap (λ (front : List (List ℕ)). front ++ lines_of (drop (end + 1) text)) spells;
-      start_is = end_is h next length_is ∙ ap extent spells;
-      stem_widths = h.stem_widths;
-      lap_widths = h.lap_widths;
-      wanted = λ e. wanted;
-      no_lap = λ e. cc;
-    }
+    grind (arith, pushed h next length_is, end_is h next length_is)
 
 -- a letter's line is no divider that is wanted
 pub not_divides : {text : List ℕ} {width : ℕ} {split : Bool} (in_lap : Bool) {start : ℕ} {s : StimulusData} →
@@ -152,11 +121,7 @@ pub not_divides : {text : List ℕ} {width : ℕ} {split : Bool} (in_lap : Bool)
     ¬ Divides split (lines_of text) (length (spelled in_lap s))
 not_divides {text} {split} true {start} {s} h (inl e) d =
     let at = divides_at s (lines_of (drop start text)) (lines_of text) h.lines (h.wanted refl) in
-    d.first (length s.stem) (omega (
-      arith,
-      length-map s.stem digits_of,
-      length-append (map digits_of s.stem) (divider ∷ map digits_of s.lap),
-    )) at.there
+    grind (arith, length-map, length-append)
 not_divides false h (inl e) d = cc
 not_divides in_lap h (inr (inl other)) d = other d.there
 not_divides in_lap h (inr (inr plain)) d = (let e = d.wanted in cc)

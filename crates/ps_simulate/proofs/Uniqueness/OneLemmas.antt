@@ -1,8 +1,6 @@
 -- A circuit has values, and no others.
-use Rattle.std.proofs.Common.{◌≡◌, ℕ, zero, suc, ◌+◌, ◌-◌, ◌⊎◌, ◌%◌, ◌<◌, ◌≤◌, ◌&&◌, ◌==◌, Bool, false, not, cond, inl}
-use Rattle.std.proofs.Common.{inr, List, ◌++◌, length, get_or, refl, sym, ap, ap₂, subst, ◌∙◌, arith, rules}
-use Rattle.std.proofs.Common.{length-append}
-use Rattle.std.specs.Prelude.{replicate}
+use Rattle.std.proofs.Common.{◌≡◌, ℕ, zero, suc, ◌+◌, ◌-◌, ◌⊎◌, ◌%◌, ◌<◌, ◌≤◌, ◌==◌, Bool, false, not, cond, inl, inr}
+use Rattle.std.proofs.Common.{List, length, get_or, refl, sym, ap, subst, ◌∙◌, arith, rules, length-append}
 use Rattle.std.proofs.lemmas.List.{length-map, length-replicate, get_or-map}
 use Rattle.std.proofs.lemmas.Bool.{cases_lt}
 use Rattle.std.proofs.lemmas.Option.{slice_get-get_or}
@@ -32,14 +30,17 @@ module _ {c : CircuitData} (is : IsCircuit c) {order : List ℕ}
   at_definition k {literal} lt e same = search (rules, bit_of-definition)
 
   input_same : (k : ℕ) → k < length c.inputs → Same (variable (get_or c.inputs k 0))
-  input_same k lt = at_definition k (omega (arith, length-definitions c)) (definitions_input c k lt)
-      (sym (get_or-map (bit_of values) c.inputs k 0 false lt) ∙ ap (λ bits. get_or bits k false)
-      (a.inputs_are ∙ sym b.inputs_are) ∙ get_or-map (bit_of others) c.inputs k 0 false lt)
+  input_same k lt = grind (
+    arith,
+    length-definitions c,
+    definitions_input c k lt,
+    get_or-map (bit_of values) c.inputs k 0 false lt,
+    get_or-map (bit_of others) c.inputs k 0 false lt,
+  )
 
   latch_same : (k : ℕ) → k < length c.latches → Same (variable (get_or c.latches k no_latch).literal)
   latch_same k lt = at_definition (length c.inputs + k) (omega (arith, length-definitions c)) (definitions_latch c k lt)
-      (sym (get_or-map (λ (l : Latch). bit_of values l.literal) c.latches k no_latch false lt)
-      ∙ ap (λ bits. get_or bits k false) (a.latches_are ∙ sym b.latches_are)
+      (sym (grind (arith, get_or-map)) ∙ ap (λ bits. get_or bits k false) (a.latches_are ∙ sym b.latches_are)
       ∙ get_or-map (λ (l : Latch). bit_of others l.literal) c.latches k no_latch false lt)
 
   -- the values agree at a known literal where they agree at the gate that it may be of
@@ -47,8 +48,7 @@ module _ {c : CircuitData} (is : IsCircuit c) {order : List ℕ}
       → ((i : ℕ) → i < length c.gates → variable literal ≡ variable (get_or c.gates i no_gate).literal →
       Same (variable literal)) → Same (variable literal)
   side_same literal (inl e) gate = rw e (a.constant ∙ sym b.constant)
-  side_same literal (inr (k, lt, e)) gate =
-      which (cases_lt k (length c.inputs)) (cases_lt k (length c.inputs + length c.latches))
+  side_same literal (inr (k, lt, e)) gate = grind (arith, which, cases_lt)
     where
       within : k < length (definitions c)
       within = omega (arith, lt, length-map (definitions c) variable)
@@ -67,8 +67,7 @@ module _ {c : CircuitData} (is : IsCircuit c) {order : List ℕ}
       which (inr behind) (inr third) = (let i = k - (length c.inputs + length c.latches) in
           let less : i < length c.gates = omega (arith, within, length-definitions c) in
           let there : length c.inputs + length c.latches + i ≡ k = omega arith in
-          gate i less (sym (ap variable (sym (definitions_gate c i less) ∙ ap (λ n. get_or (definitions c) n 0) there)
-          ∙ same)))
+          gate i less (sym (ap variable (grind (arith, definitions_gate)) ∙ same)))
 
   -- the gates whose places in the order are among the first n agree
   gates_same : (n i : ℕ) (less : i < length c.gates) → (is_order.each i less).0 < n →
@@ -82,18 +81,16 @@ module _ {c : CircuitData} (is : IsCircuit c) {order : List ℕ}
       (j : ℕ) → j < length c.gates → variable literal ≡ variable (get_or c.gates j no_gate).literal →
       Same (variable literal) = (λ literal side j within e.
       let there = is_order.each j within in
-      let lower : there.0 < here.0 = is_order.behind here.0 there.0 i j here.1 there.1 (record {
-        reader = g;
-        read = get_or c.gates j no_gate;
-        at_i = slice_get-get_or c.gates i no_gate less;
-        at_j = slice_get-get_or c.gates j no_gate within;
-        side = elim side [ inl x ↦ inl (x ∙ e) | inr x ↦ inr (x ∙ e) ];
-      }) in rw e (gates_same n j within (omega arith))) in
-      let first = bit_same g.first (side_same g.first sides.0 (earlier g.first (inl refl))) in
-      let second = bit_same g.second (side_same g.second sides.1 (earlier g.second (inr refl))) in
-      at_definition (length c.inputs + length c.latches + i) (omega (arith, less, length-definitions c))
-      (definitions_gate c i less)
-      (a.gates_are i no_gate less ∙ ap₂ ◌&&◌ first second ∙ sym (b.gates_are i no_gate less))
+      let lower : there.0 < here.0 = is_order.behind here.0 there.0 i j here.1 there.1 (grind (arith, slice_get-get_or))
+      in rw e (gates_same n j within (omega arith))) in
+      grind (
+        arith,
+        bit_same g.first (side_same g.first sides.0 (earlier g.first (inl refl))),
+        bit_same g.second
+            (side_same g.second sides.1 (earlier g.second (inr refl))),
+        length-definitions c,
+        definitions_gate c i less,
+      )
 
   pub bit_of-one : (literal : ℕ) → IsKnown (definitions c) literal → bit_of values literal ≡ bit_of others literal
   bit_of-one literal known = bit_same literal (side_same literal known
@@ -104,14 +101,12 @@ pub HasOneValues-circuit : {c : CircuitData} → IsCircuit c → {order : List �
 HasOneValues-circuit {c} is {order} is_order = record {
   some = λ inputs latches many_inputs many_latches. (
     _,
-    AreValues-work_out is (record { order = order; is_order = is_order; each = refl }) (omega (
+    AreValues-work_out is (record { order = order; is_order = is_order; each = refl }) (grind (
       arith,
-      length-variables c,
-      length-append (inputs ++ latches) (replicate (length c.gates) false),
-      length-append inputs latches,
-      length-replicate (length c.gates) false,
-    )) many_inputs many_latches
-        (Holds-first_table c inputs latches),
+      length-variables,
+      length-append,
+      length-replicate,
+    )) many_inputs many_latches (Holds-first_table c inputs latches),
   );
   one = λ inputs latches values others a b. bit_of-one is is_order a b;
 }

@@ -1,6 +1,5 @@
 -- A moment has one letter at most.
-use Rattle.std.proofs.Common.{◌≡◌, ◌∙◌, ℕ, ◌<◌, ◌⊎◌, inl, inr, Bool, List, [], ◌∷◌, length}
-use Rattle.std.proofs.Common.{sym, rules}
+use Rattle.std.proofs.Common.{◌≡◌, ◌∙◌, ℕ, ◌⊎◌, inl, inr, Bool, List, [], ◌∷◌, length, sym, rules}
 use Rattle.std.specs.Int.{bit_at}
 use Rattle.std.proofs.lemmas.Nat.Bits.{same_from_bits_below, bit_at-lt}
 use Rattle.ps_hoa.specs.Files.{is_among}
@@ -18,9 +17,8 @@ side role b = search rules
 module _ {role : Role} {names : List (List ℕ)} {controllable : List ℕ} {c : CircuitData}
     (has : HasSymbols role names controllable c) where
   one_letter : {m : Moment} {a b : ℕ} → IsLetterOf names c m a → IsLetterOf names c m b → a ≡ b
-  one_letter {a} {b} h k = same_from_bits_below (length names) a b h.few k.few
-      (λ p lt. same_bit (bit_at a p) (bit_at b p) (bit_at-lt a p) (bit_at-lt b p)
-      (elim (side role (is_among p controllable)) [
+  one_letter {a} {b} h k = same_from_bits_below (length names) a b h.few k.few (λ p lt. same_bit (bit_at a p)
+      (bit_at b p) (bit_at-lt a p) (bit_at-lt b p) (elim (side role (is_among p controllable)) [
         | inl input ↦ let s = has.inputs.each p lt input in h.inputs s.0 p s.1 ∙ sym (k.inputs s.0 p s.1)
         | inr output ↦ let s = has.outputs.each p lt output in h.outputs s.0 p s.1 ∙ sym (k.outputs s.0 p s.1)
       ]))

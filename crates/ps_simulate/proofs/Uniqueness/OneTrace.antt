@@ -1,6 +1,5 @@
 -- A circuit whose values are one goes on in one way for given letters.
-use Rattle.std.proofs.Common.{◌≡◌, ◌∙◌, ℕ, suc, ◌<◌, Bool, List, [], ◌∷◌, map, length, get_or, refl}
-use Rattle.std.proofs.Common.{sym, ap₂, arith}
+use Rattle.std.proofs.Common.{◌≡◌, ◌∙◌, ℕ, suc, ◌<◌, Bool, List, [], ◌∷◌, map, length, get_or, refl, sym, ap₂, arith}
 use Rattle.ps_circuit.specs.Circuits.{CircuitData, IsCircuit}
 use Rattle.ps_circuit.specs.declared.parts.Latch.{Latch}
 use Rattle.ps_circuit.specs.Values.{Moment, Steps, GoesOn, HasOneValues, bit_of}
@@ -34,8 +33,7 @@ module _ (c : CircuitData) (is : IsCircuit c) (one : HasOneValues c) where
       Steps c latches m.inputs m.outputs next → Steps c latches n.inputs n.outputs next' → m.inputs ≡ n.inputs →
       (m ≡ n) × (next ≡ next')
   firsts_agree latches next next' m n at at' steps steps' same =
-      let agree = steps_agree latches m.inputs m.outputs next n.outputs next' steps (rw same steps') in
-      (λ i. record { latches = (at ∙ sym at') i; inputs = same i; outputs = agree.0 i }, agree.1)
+      grind (arith, steps_agree latches m.inputs m.outputs next n.outputs next' steps (rw same steps'))
 
   pub runs_agree : (latches last last' : List Bool) (ms ns : List Moment) → GoesOn c latches ms last →
       GoesOn c latches ns last' → map (λ m. m.inputs) ms ≡ map (λ m. m.inputs) ns → (ms ≡ ns) × (last ≡ last')
@@ -46,5 +44,4 @@ module _ (c : CircuitData) (is : IsCircuit c) (one : HasOneValues c) where
       let inputs : m.inputs ≡ n.inputs = cc in
       let tails : map (λ (m : Moment). m.inputs) ms ≡ map (λ (m : Moment). m.inputs) ns = cc in
       let first = firsts_agree latches next next' m n at at' steps steps' inputs in
-      let others = runs_agree next last last' ms ns rest (rw first.1 rest') tails in
-      (cc (first.0, others.0), others.1)
+      grind (arith, runs_agree next last last' ms ns rest (rw first.1 rest') tails)

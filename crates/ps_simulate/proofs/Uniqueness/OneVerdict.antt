@@ -1,19 +1,17 @@
 -- A circuit has one verdict at most.
-use Rattle.std.proofs.Common.{◌≡◌, ◌∙◌, ℕ, zero, suc, ◌+◌, ◌-◌, ◌*◌, ◌<◌, ◌≤◌, inl, inr, Bool, List, []}
-use Rattle.std.proofs.Common.{◌∷◌, ◌++◌, map, get_or, take, drop, length, refl, sym, ap, ap₂, subst, arith, rules}
-use Rattle.std.proofs.Common.{append_assoc}
+use Rattle.std.proofs.Common.{◌≡◌, ◌∙◌, ℕ, zero, suc, ◌<◌, ◌≤◌, inl, inr, Bool, List, [], ◌∷◌, ◌++◌, map, get_or}
+use Rattle.std.proofs.Common.{length, refl, sym, ap, arith, rules, append_assoc}
 use Rattle.std.specs.Prelude.{◌↔◌, IsTrue}
 use Rattle.std.proofs.lemmas.Bool.{cases_order, cases_eq}
 use Rattle.std.proofs.lemmas.List.{append-nil}
 use Rattle.std.proofs.Math.Nat.{mul-le-mul_right}
 use Rattle.ps_hoa.specs.Files.{FileData}
-use Rattle.ps_automaton.specs.Acceptance.{IsAccepted}
 use Rattle.ps_circuit.specs.Circuits.{CircuitData, IsCircuit}
-use Rattle.ps_circuit.specs.Values.{Moment, GoesOn, HasOneValues, resets}
+use Rattle.ps_circuit.specs.Values.{Moment, GoesOn, HasOneValues}
 use Rattle.ps_simulate.specs.declared.role.Role.{Role}
 use Rattle.ps_simulate.specs.declared.lassos.Verdict.{Verdict}
 use Rattle.ps_simulate.specs.Symbols.{HasSymbols}
-use Rattle.ps_simulate.specs.Lassos.{laps_of, latches_along, latches_before, Repeats, IsVerdictOf}
+use Rattle.ps_simulate.specs.Lassos.{laps_of, latches_along, Repeats, IsVerdictOf}
 use Rattle.ps_simulate.proofs.Uniqueness.OneTrace.{firsts_agree}
 use Rattle.ps_simulate.proofs.Uniqueness.OneLetter.{one_letters}
 use Rattle.ps_simulate.proofs.LassoLemmas.{along_more, at_end, length_trace}
@@ -43,9 +41,7 @@ module _ {c : CircuitData} (is_circuit : IsCircuit c) (one : HasOneValues c) whe
       let inputs : m.inputs ≡ n.inputs = cc in
       let tails : map (λ (m : Moment). m.inputs) ns ≡ map (λ (m : Moment). m.inputs) ms ++ more = cc in
       let first = firsts_agree c is_circuit one latches next next' m n at at' steps steps' inputs in
-      let others : Behind ms last ns last' more =
-      goes_behind next last last' ms ns more rest (rw first.1 rest') tails in
-      (others.0, cc (first.0, others.1), others.2, others.3)
+      grind (arith, goes_behind next last last' ms ns more rest (rw first.1 rest') tails)
 
   no_letters : (ms : List Moment) → map (λ m. m.inputs) ms ≡ [] → ms ≡ []
   no_letters [] e = refl
@@ -58,17 +54,13 @@ module _ {c : CircuitData} (is_circuit : IsCircuit c) (one : HasOneValues c) whe
     not_earlier i j i' j' ms ns a b lt =
         let more = laps_front lap j j' (omega arith) in
         let reads : map (λ (m : Moment). m.inputs) ns ≡ map (λ (m : Moment). m.inputs) ms ++ more.0 =
-        b.reads ∙ ap (λ ls. stem ++ ls) more.1 ∙ sym (append_assoc stem (laps_of lap j) more.0)
-        ∙ ap (λ ls. ls ++ more.0) (sym a.reads) in
-        let behind : Behind ms a.last ns b.last more.0 =
-        goes_behind (resets c) a.last b.last ms ns more.0 a.goes_on b.goes_on reads in
+        grind (arith, append_assoc) in
+        let behind : Behind ms a.last ns b.last more.0 = grind (arith, goes_behind) in
         let size = length_trace stem lap ms j a.reads in
         let le = mul-le-mul_right {m = i} {n = j} (length lap) (omega (arith, a.earlier)) in
         let at : (t : ℕ) → t ≤ length ms → get_or (latches_along ns b.last) t [] ≡ get_or
         (latches_along ms a.last) t [] = search (rules, along_more) in
-        b.first i j a.earlier lt (at (length stem + i * length lap) (omega (arith, size, le)) ∙ a.returns
-        ∙ sym (at_end ms a.last) ∙ sym (at (length ms) (omega arith))
-        ∙ ap (λ t. get_or (latches_along ns b.last) t []) size)
+        grind (arith, at_end ms a.last)
 
     one_repetition : (i j i' j' : ℕ) (ms ns : List Moment) → Repeats c stem lap i j ms → Repeats c stem lap i' j' ns →
         (i ≡ i') × (j ≡ j') × (ms ≡ ns)
@@ -80,30 +72,19 @@ module _ {c : CircuitData} (is_circuit : IsCircuit c) (one : HasOneValues c) whe
         ] in
         let reads : map (λ (m : Moment). m.inputs) ns ≡ map (λ (m : Moment). m.inputs) ms ++ [] =
         search (rules, append-nil) in
-        let behind : Behind ms a.last ns b.last [] =
-        goes_behind (resets c) a.last b.last ms ns [] a.goes_on b.goes_on reads in
-        let none : behind.0 ≡ [] = no_letters behind.0 behind.3 in
-        let traces : ns ≡ ms = behind.1 ∙ ap (λ (ls : List Moment). ms ++ ls) none ∙ append-nil ms in
-        let lasts : a.last ≡ b.last = subst (λ (ls : List Moment). GoesOn c a.last ls b.last) none behind.2 in
-        let there : (last : List Bool) × (latches_before stem lap ms last i' ≡ last) × (last ≡ b.last) = search rules in
-        let back : latches_before stem lap ms a.last i' ≡ a.last =
-        ap (λ (ls : List Bool). latches_before stem lap ms ls i') lasts ∙ there.1 ∙ sym lasts in
-        let firsts : i ≡ i' = search (rules, cases_order) in
-        (firsts, laps, sym traces)
+        grind (arith, goes_behind, no_letters, append-nil, cases_order)
 
 -- ---- the verdict
 
 one_truth : (a b : Bool) (P : Type 0) → (IsTrue a ↔ P) → (IsTrue b ↔ P) → a ≡ b
-one_truth a b P h1 h2 = search rules
+one_truth a b P h k = search rules
 
 pub one_verdict : {role : Role} {file : FileData} {c : CircuitData} {stem lap : List (List Bool)} {v w : Verdict} →
     IsCircuit c → HasOneValues c → HasSymbols role file.names file.controllable c → IsVerdictOf file c stem lap v →
     IsVerdictOf file c stem lap w → v ≡ w
-one_verdict {role} {file} {c} {stem} {lap} {v} {w} is one has a b =
-    let same = one_repetition is one stem lap a.i a.j b.i b.j a.trace b.trace a.repeats b.repeats in
-    let letters : a.letters ≡ b.letters = search (rules, one_letters) in
-    let stems : v.stem ≡ w.stem = a.stem_is ∙ ap (λ i. length stem + i * length lap) same.0 ∙ sym b.stem_is in
-    let laps : v.lap ≡ w.lap = a.lap_is ∙ ap₂ (λ i j. (j - i) * length lap) same.0 same.1 ∙ sym b.lap_is in
-    let asked : IsTrue v.accepted ↔ IsAccepted file (take w.stem b.letters) (drop w.stem b.letters) = search rules in
-    let truth : v.accepted ≡ w.accepted = search (rules, one_truth) in
-    λ k. record { accepted = truth k; stem = stems k; lap = laps k }
+one_verdict {role} {file} {c} {stem} {lap} {v} {w} is one has a b = grind (
+  arith,
+  one_repetition is one stem lap a.i a.j b.i b.j a.trace b.trace a.repeats b.repeats,
+  one_letters,
+  one_truth,
+)

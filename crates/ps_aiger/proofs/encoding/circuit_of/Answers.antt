@@ -1,4 +1,4 @@
-use Rattle.std.proofs.Common.{◌≡◌, ◌∙◌, ◌+◌, length, ap, subst, sym}
+use Rattle.std.proofs.Common.{rules, arith, ◌≡◌, subst, sym}
 use Rattle.std.proofs.lemmas.Result.{IfOk-weaker}
 use Rattle.ps_circuit.specs.Circuits.{CircuitData, IsCircuit}
 use Rattle.ps_circuit.specs.Drafts.{data_of}
@@ -14,8 +14,7 @@ use Rattle.ps_aiger.proofs.encoding.circuit_of.Goals as goal
 pub parts_of-requires-clause-given : goal.parts_of-requires-clause-given
 parts_of-requires-clause-given c =
     let b = behaviour c.args.machine.now in
-    c.requires.given ∙ ap (λ n. length b.inputs + n) (sym (ap length c.requires.next_wired
-    ∙ next_many b c.args.latches))
+    grind (arith, next_many b c.args.latches)
 
 pub in_order-requires : goal.in_order-requires
 in_order-requires c =
@@ -23,9 +22,8 @@ in_order-requires c =
     let e = c.parts_of.ensures in
     let r = c.requires in
     let x = data_of c.in_ok-parts.parts in
-    let w =
-    whole b c.args.latches c.args.builder.now c.args.next.now c.args.outputs.items x e.sound r.next_wired r.output_wired
-    c.in_ok-parts.ensures.built in
+    let w = whole b c.args.latches c.args.builder.now c.args.next.now c.args.outputs.items x e.sound r.next_wired
+    r.output_wired c.in_ok-parts.ensures.built in
     record { draft = draft b e.machine c.args.latches x w; ordered = ordered b e.machine c.args.latches x w }
 
 pub returns-clause-encodes : goal.returns-clause-encodes
@@ -34,13 +32,11 @@ returns-clause-encodes c =
     let e = c.parts_of.ensures in
     let r = c.requires in
     let x = data_of c.in_ok-parts.parts in
-    let w =
-    whole b c.args.latches c.args.builder.now c.args.next.now c.args.outputs.items x e.sound r.next_wired r.output_wired
-    c.in_ok-parts.ensures.built in
-    ok_with c.in_order.result (λ (y : CircuitData). y ≡ x) IsCircuit (Encodes b)
-    (λ y is well. subst (Encodes b) (sym is)
-    (encodes b e.machine c.args.latches x w r.enough r.least (subst IsCircuit is well)))
-    c.in_order.ensures.ok c.in_order.ensures.well_formed
+    let w = whole b c.args.latches c.args.builder.now c.args.next.now c.args.outputs.items x e.sound r.next_wired
+    r.output_wired c.in_ok-parts.ensures.built in
+    ok_with c.in_order.result (λ (y : CircuitData). y ≡ x) IsCircuit (Encodes b) (λ y is well. subst (Encodes b)
+    (sym is) (encodes b e.machine c.args.latches x w r.enough r.least (subst IsCircuit is well))) c.in_order.ensures.ok
+    c.in_order.ensures.well_formed
 
 pub returns-clause-tidy : goal.returns-clause-tidy
 returns-clause-tidy c =
@@ -48,17 +44,15 @@ returns-clause-tidy c =
     let e = c.parts_of.ensures in
     let r = c.requires in
     let x = data_of c.in_ok-parts.parts in
-    let w =
-    whole b c.args.latches c.args.builder.now c.args.next.now c.args.outputs.items x e.sound r.next_wired r.output_wired
-    c.in_ok-parts.ensures.built in
+    let w = whole b c.args.latches c.args.builder.now c.args.next.now c.args.outputs.items x e.sound r.next_wired
+    r.output_wired c.in_ok-parts.ensures.built in
     IfOk-weaker c.in_order.result _ _ (λ y is. subst IsTidy (sym is) (is_tidy b e.machine c.args.latches x w))
     c.in_order.ensures.ok
 
 pub returns-clause-sees_no_input : goal.returns-clause-sees_no_input
 returns-clause-sees_no_input c =
     let b = behaviour c.args.machine.now in
-    IfOk-weaker c.in_order.result _ _ (λ y encodes first. sees b y c.parts_of.ensures.machine encodes first)
-    (returns-clause-encodes c)
+    IfOk-weaker c.in_order.result _ _ (λ y encodes first. search (rules, sees, encodes)) (returns-clause-encodes c)
 
 pub returns-clause-wired : goal.returns-clause-wired
 returns-clause-wired c =
@@ -66,8 +60,7 @@ returns-clause-wired c =
     let e = c.parts_of.ensures in
     let r = c.requires in
     let x = data_of c.in_ok-parts.parts in
-    let w =
-    whole b c.args.latches c.args.builder.now c.args.next.now c.args.outputs.items x e.sound r.next_wired r.output_wired
-    c.in_ok-parts.ensures.built in
+    let w = whole b c.args.latches c.args.builder.now c.args.next.now c.args.outputs.items x e.sound r.next_wired
+    r.output_wired c.in_ok-parts.ensures.built in
     IfOk-weaker c.in_order.result _ _ (λ y is. subst (IsWired b) (sym is) (wired b e.machine c.args.latches x w))
     c.in_order.ensures.ok

@@ -1,4 +1,4 @@
-use Rattle.std.proofs.Common.{◌≡◌, ◌∙◌, ◌<◌, rules}
+use Rattle.std.proofs.Common.{rules}
 use Rattle.std.proofs.lemmas.Result.{IfOk-weaker}
 use Rattle.ps_aiger.proofs.EncodeLemmas.{few_inputs, output_bits_within}
 use Rattle.ps_aiger.proofs.WiredLemmas.{all_wired}

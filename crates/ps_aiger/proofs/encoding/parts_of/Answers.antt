@@ -1,4 +1,4 @@
-use Rattle.std.proofs.Common.{◌<◌, ℕ, List, All, length, subst, sym, rules}
+use Rattle.std.proofs.Common.{arith, rules}
 use Rattle.ps_machine.specs.Machines.{behaviour}
 use Rattle.ps_aiger.proofs.EncodeLemmas.{inputs_within, outputs_within}
 use Rattle.ps_aiger.proofs.encoding.parts_of.Goals as goal
@@ -6,14 +6,12 @@ use Rattle.ps_aiger.proofs.encoding.parts_of.Goals as goal
 pub symbols-requires : goal.symbols-requires
 symbols-requires c =
     let m = c.args.machine.now in
-    subst (λ (xs : List ℕ). All (λ p. p < length m.names) xs) (sym c.inputs-inputs.ensures.inputs)
-    (inputs_within (behaviour m) c.inputs-inputs.ensures.machine.is_machine)
+    grind (arith, inputs_within (behaviour m) c.inputs-inputs.ensures.machine.is_machine)
 
 pub symbols-requires-2 : goal.symbols-requires-2
 symbols-requires-2 c =
     let m = c.args.machine.now in
-    subst (λ (xs : List ℕ). All (λ p. p < length m.names) xs) (sym c.outputs.ensures.outputs)
-    (outputs_within (behaviour m) c.outputs.ensures.machine.is_machine)
+    grind (arith, outputs_within (behaviour m) c.outputs.ensures.machine.is_machine)
 
 pub returns-clause-machine : goal.returns-clause-machine
 returns-clause-machine c = search rules

@@ -1,4 +1,4 @@
-use Rattle.std.proofs.Common.{◌<◌, ◌∙◌, arith, length}
+use Rattle.std.proofs.Common.{◌<◌, arith, length}
 use Rattle.ps_aiger.proofs.EncodeLemmas.{symbol_more}
 use Rattle.ps_aiger.proofs.encoding.symbols.Goals as goal
 
@@ -8,7 +8,5 @@ loop-proposition-preserved c =
     let i = c.loop-proposition.proposition-index in
     let within : i < length ps = omega arith in
     symbol_more c.args.machine.now c.names.result.now ps i c.loop-proposition.names.items c.push.new.self.items
-    c.index-names-proposition.result c.in_ok-name.name
-    c.names.ensures.names within (c.requires i 0 within) c.index-names-proposition.is
-    (c.in_ok-name.ensures.items_if_clones_equal (λ x y e. e) ∙ c.as_slice.ensures.value) c.in_ok-push.ensures.items
-    c.loop-proposition.invariant
+    c.index-names-proposition.result c.in_ok-name.name c.names.ensures.names within (c.requires i 0 within)
+    c.index-names-proposition.is (grind arith) c.in_ok-push.ensures.items c.loop-proposition.invariant

@@ -1,6 +1,4 @@
-use Rattle.std.proofs.Common.{◌≡◌, ◌∙◌, ℕ, ◌+◌, ◌*◌, false, ◌<◌, ◌≤◌, List, sym, subst}
-use Rattle.std.proofs.Common.{rules}
-use Rattle.std.proofs.Common.{nat_eq}
+use Rattle.std.proofs.Common.{arith, ◌≡◌, ◌∙◌, ℕ, ◌+◌, ◌*◌, false, ◌<◌, List, sym, subst, rules, nat_eq}
 use Rattle.std.proofs.lemmas.Result.{IfOk-weaker}
 use Rattle.ps_hoa.specs.Files.{is_among}
 use Rattle.indexmap.specs.IndexMap.{get}
@@ -31,17 +29,14 @@ pub returns-in-Nothing-clause-made : goal.returns-in-Nothing-clause-made
 returns-in-Nothing-clause-made t c = search (rules, made-nothing)
 
 pub returns-in-Leaf-clause-made : goal.returns-in-Leaf-clause-made
-returns-in-Leaf-clause-made t c =
-    made-leaf c.args.machine.now c.args.wanted c.args.node c.in-Leaf.leaf c.constant.result c.args.builder.now
-    (search (rules, c.store.ensures.store, c.in-Leaf.ensures)) c.constant.ensures
+returns-in-Leaf-clause-made t c = made-leaf c.args.machine.now c.args.wanted c.args.node c.in-Leaf.leaf
+    c.constant.result c.args.builder.now (search (rules, c.store.ensures.store, c.in-Leaf.ensures)) c.constant.ensures
 
 pub returns-in_default-clause-made : goal.returns-in_default-clause-made
 returns-in_default-clause-made t c =
-    let sees =
-    subst (λ (s : Table). SeesTest s c.args.node c.in-Test.proposition c.in-Test.low c.in-Test.high)
+    let sees = subst (λ (s : Table). SeesTest s c.args.node c.in-Test.proposition c.in-Test.low c.in-Test.high)
     c.store.ensures.store c.in-Test.ensures in
-    let none =
-    subst (λ (xs : List ℕ). is_among c.in-Test.proposition xs ≡ false) c.inputs.ensures.inputs
+    let none = subst (λ (xs : List ℕ). is_among c.in-Test.proposition xs ≡ false) c.inputs.ensures.inputs
     c.in_default.ensures.none in
     IfOk-weaker c.over_inputs.result _ _ (λ literal is. made-low c.args.machine.now c.args.wanted c.args.node
     c.in-Test.proposition c.in-Test.low c.in-Test.high c.args.builder.now c.inputs.ensures.machine.is_machine sees
@@ -49,11 +44,9 @@ returns-in_default-clause-made t c =
 
 pub returns-in_default-clause-too_large : goal.returns-in_default-clause-too_large
 returns-in_default-clause-too_large t c e =
-    let sees =
-    subst (λ (s : Table). SeesTest s c.args.node c.in-Test.proposition c.in-Test.low c.in-Test.high)
+    let sees = subst (λ (s : Table). SeesTest s c.args.node c.in-Test.proposition c.in-Test.low c.in-Test.high)
     c.store.ensures.store c.in-Test.ensures in
-    let none =
-    subst (λ (xs : List ℕ). is_among c.in-Test.proposition xs ≡ false) c.inputs.ensures.inputs
+    let none = subst (λ (xs : List ℕ). is_among c.in-Test.proposition xs ≡ false) c.inputs.ensures.inputs
     c.in_default.ensures.none in
     subst (λ (n : Made). 2147483647 < variables_of n.draft) (sym
     (made-low c.args.machine.now c.args.wanted c.args.node c.in-Test.proposition c.in-Test.low c.in-Test.high
@@ -72,23 +65,18 @@ returns-in_err-where_true-in-Test-clause-too_large t c e =
     let m = c.args.machine.now in
     let w = c.args.wanted in
     let s = 2 * (c.in-Some.place + 1) in
-    let whole =
-    made-test m w c.args.node c.in-Test.proposition c.in-Test.low c.in-Test.high c.in-Some.place c.args.builder.now
-    c.inputs.ensures.machine.is_machine
-    (search (rules, c.store.ensures.store, c.in-Test.ensures))
+    let whole = made-test m w c.args.node c.in-Test.proposition c.in-Test.low c.in-Test.high c.in-Some.place
+    c.args.builder.now c.inputs.ensures.machine.is_machine (search (rules, c.store.ensures.store, c.in-Test.ensures))
     (search (rules, c.inputs.ensures.inputs, c.in-Some.ensures.found)) in
-    choice-above _ _ (node_made m w c.in-Test.low) s whole (inputs-extends m w c.in-Test.low)
-    (search (rules, passed, c.over_inputs-in-Test.ensures.too_large, c.from_residual.ensures.1))
+    search (rules, choice-above, inputs-extends, passed)
 
 pub returns-in_err-where_false-in-Test-clause-too_large : goal.returns-in_err-where_false-in-Test-clause-too_large
 returns-in_err-where_false-in-Test-clause-too_large t c e =
     let m = c.args.machine.now in
     let w = c.args.wanted in
     let s = 2 * (c.in-Some.place + 1) in
-    let whole =
-    made-test m w c.args.node c.in-Test.proposition c.in-Test.low c.in-Test.high c.in-Some.place c.args.builder.now
-    c.inputs.ensures.machine.is_machine
-    (search (rules, c.store.ensures.store, c.in-Test.ensures))
+    let whole = made-test m w c.args.node c.in-Test.proposition c.in-Test.low c.in-Test.high c.in-Some.place
+    c.args.builder.now c.inputs.ensures.machine.is_machine (search (rules, c.store.ensures.store, c.in-Test.ensures))
     (search (rules, c.inputs.ensures.inputs, c.in-Some.ensures.found)) in
     choice-above_low _ _ (node_made m w c.in-Test.low) c.over_inputs-in-Test.new.builder s
     c.in_ok-where_true-in-Test.where_true whole c.in_ok-where_true-in-Test.ensures.made
@@ -103,50 +91,33 @@ returns-in_err-literal-in-Test-clause-too_large t c e =
     let m = c.args.machine.now in
     let w = c.args.wanted in
     let s = 2 * (c.in-Some.place + 1) in
-    let whole =
-    made-test m w c.args.node c.in-Test.proposition c.in-Test.low c.in-Test.high c.in-Some.place c.args.builder.now
-    c.inputs.ensures.machine.is_machine
-    (search (rules, c.store.ensures.store, c.in-Test.ensures))
+    let whole = made-test m w c.args.node c.in-Test.proposition c.in-Test.low c.in-Test.high c.in-Some.place
+    c.args.builder.now c.inputs.ensures.machine.is_machine (search (rules, c.store.ensures.store, c.in-Test.ensures))
     (search (rules, c.inputs.ensures.inputs, c.in-Some.ensures.found)) in
-    subst (λ (n : Made). 2147483647 < variables_of n.draft) (sym
-    (choice-made _ _ (node_made m w c.in-Test.low) c.over_inputs-in-Test.new.builder
-    c.over_inputs-in-Test-2.new.builder s c.in_ok-where_true-in-Test.where_true
-    c.in_ok-where_false-in-Test.where_false whole c.in_ok-where_true-in-Test.ensures.made
-    c.in_ok-where_false-in-Test.ensures.made))
-    (rw c.positive-input.ensures at (c.mux.ensures.above (search
-    (rules, passed, c.from_residual-in_err-literal-in-Test.ensures.1))))
+    grind (arith, passed)
 
 pub returns-in_ok-insert-in-Test-clause-made : goal.returns-in_ok-insert-in-Test-clause-made
 returns-in_ok-insert-in-Test-clause-made t c =
     let m = c.args.machine.now in
     let w = c.args.wanted in
     let s = 2 * (c.in-Some.place + 1) in
-    let whole =
-    made-test m w c.args.node c.in-Test.proposition c.in-Test.low c.in-Test.high c.in-Some.place c.args.builder.now
-    c.inputs.ensures.machine.is_machine
-    (search (rules, c.store.ensures.store, c.in-Test.ensures))
+    let whole = made-test m w c.args.node c.in-Test.proposition c.in-Test.low c.in-Test.high c.in-Some.place
+    c.args.builder.now c.inputs.ensures.machine.is_machine (search (rules, c.store.ensures.store, c.in-Test.ensures))
     (search (rules, c.inputs.ensures.inputs, c.in-Some.ensures.found)) in
-    choice-made _ _ (node_made m w c.in-Test.low) c.over_inputs-in-Test.new.builder c.over_inputs-in-Test-2.new.builder
-    s c.in_ok-where_true-in-Test.where_true c.in_ok-where_false-in-Test.where_false whole
-    c.in_ok-where_true-in-Test.ensures.made c.in_ok-where_false-in-Test.ensures.made
-    ∙ (rw c.positive-input.ensures at c.in_ok-literal-in-Test.ensures.made)
+    search (rules, choice-made)
 
 pub returns-in_ok-insert-in-Test-clause-known_made : goal.returns-in_ok-insert-in-Test-clause-known_made
 returns-in_ok-insert-in-Test-clause-known_made t c =
     let m = c.args.machine.now in
     let w = c.args.wanted in
     let s = 2 * (c.in-Some.place + 1) in
-    let whole =
-    made-test m w c.args.node c.in-Test.proposition c.in-Test.low c.in-Test.high c.in-Some.place c.args.builder.now
-    c.inputs.ensures.machine.is_machine
-    (search (rules, c.store.ensures.store, c.in-Test.ensures))
+    let whole = made-test m w c.args.node c.in-Test.proposition c.in-Test.low c.in-Test.high c.in-Some.place
+    c.args.builder.now c.inputs.ensures.machine.is_machine (search (rules, c.store.ensures.store, c.in-Test.ensures))
     (search (rules, c.inputs.ensures.inputs, c.in-Some.ensures.found)) in
     made-more m w c.args.builder.now c.mux.new.self (get nat_eq c.over_inputs-in-Test-2.new.known)
-    (get nat_eq c.insert.new.self) c.args.node c.in_ok-literal-in-Test.literal
-    c.in_ok-insert-in-Test.ensures.updates.0
+    (get nat_eq c.insert.new.self) c.args.node c.in_ok-literal-in-Test.literal c.in_ok-insert-in-Test.ensures.updates.0
     (search (rules, made-kept, c.mux.ensures.extends, c.in_ok-where_false-in-Test.ensures.known_made))
-    c.in_ok-literal-in-Test.ensures.held
-    (choice-made _ _ (node_made m w c.in-Test.low) c.over_inputs-in-Test.new.builder c.over_inputs-in-Test-2.new.builder
-    s c.in_ok-where_true-in-Test.where_true c.in_ok-where_false-in-Test.where_false whole
-    c.in_ok-where_true-in-Test.ensures.made c.in_ok-where_false-in-Test.ensures.made
-    ∙ (rw c.positive-input.ensures at c.in_ok-literal-in-Test.ensures.made))
+    c.in_ok-literal-in-Test.ensures.held (choice-made _ _ (node_made m w c.in-Test.low)
+    c.over_inputs-in-Test.new.builder c.over_inputs-in-Test-2.new.builder s c.in_ok-where_true-in-Test.where_true
+    c.in_ok-where_false-in-Test.where_false whole c.in_ok-where_true-in-Test.ensures.made
+    c.in_ok-where_false-in-Test.ensures.made ∙ (rw c.positive-input.ensures at c.in_ok-literal-in-Test.ensures.made))

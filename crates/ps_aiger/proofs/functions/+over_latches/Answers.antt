@@ -14,61 +14,28 @@ use Rattle.ps_aiger.proofs.WireLemmas.{code-extends}
 use Rattle.ps_aiger.proofs.functions.+over_latches.Goals as goal
 
 pub overflow_add-code : goal.overflow_add-code
-overflow_add-code t c =
-    let fits = upper_fits c.args.latches c.args.code c.if-latches-eq0.false c.requires.few c.requires.fits in
-    let some = positive (c.args.latches - 1) in
-    omega arith
+overflow_add-code t c = grind (
+  arith,
+  upper_fits c.args.latches c.args.code c.if-latches-eq0.false c.requires.few c.requires.fits,
+  positive (c.args.latches - 1),
+)
 
 pub over_latches-requires : goal.over_latches-requires
 over_latches-requires t c =
     let some = c.if-latches-eq0.false in
     let few = c.requires.few in
-    let given = c.requires.given in
-    let least = c.decreases in (
-      omega arith,
-      (
-        c.requires.within,
-        (
-          omega arith,
-          (
-            upper_fits c.args.latches c.args.code some few c.requires.fits,
-            (omega arith, (c.requires.small, c.requires.known_made)),
-          ),
-        ),
-      ),
-    )
+    grind (arith, upper_fits c.args.latches c.args.code some few c.requires.fits)
 
 pub over_latches-requires-2 : goal.over_latches-requires-2
 over_latches-requires-2 t c =
     let some = c.if-latches-eq0.false in
-    let few = c.requires.few in
-    let given = c.requires.given in
-    let same = c.over_latches.ensures.extends.given in
-    let least = c.decreases in (
-      omega arith,
-      (
-        c.requires.within,
-        (
-          omega arith,
-          (
-            lower_fits c.args.latches c.args.code some c.requires.fits,
-            (omega arith, (c.requires.small, c.in_ok-where_true.ensures.known_made)),
-          ),
-        ),
-      ),
-    )
+    grind (arith, lower_fits c.args.latches c.args.code some c.requires.fits)
 
 pub returns-then-latches-eq0-clause-made : goal.returns-then-latches-eq0-clause-made
-returns-then-latches-eq0-clause-made t c =
-    IfOk-weaker c.over_inputs.result _ _ (λ literal is. code-zero c.args.machine.now c.args.wanted c.args.latches
-    c.args.code c.node_at.result c.args.builder.now c.if-latches-eq0.true c.node_at.ensures.node ∙ is)
-    c.over_inputs.ensures.made
+returns-then-latches-eq0-clause-made t c = grind (arith, IfOk-weaker, code-zero)
 
 pub returns-then-latches-eq0-clause-too_large : goal.returns-then-latches-eq0-clause-too_large
-returns-then-latches-eq0-clause-too_large t c e =
-    subst (λ (n : Made). 2147483647 < variables_of n.draft) (sym
-    (code-zero c.args.machine.now c.args.wanted c.args.latches c.args.code c.node_at.result c.args.builder.now
-    c.if-latches-eq0.true c.node_at.ensures.node)) (c.over_inputs.ensures.too_large e)
+returns-then-latches-eq0-clause-too_large t c e = grind (arith, code-zero)
 
 pub returns-in_err-where_true-clause-too_large : goal.returns-in_err-where_true-clause-too_large
 returns-in_err-where_true-clause-too_large t c e =
@@ -82,10 +49,9 @@ returns-in_err-where_true-clause-too_large t c e =
     let is : c.args.latches ≡ suc latch = omega arith in
     let up : upper ≡ c.args.code + 2 ^ latch = ap (λ n. c.args.code + n) (shl_is latch (omega arith)) in
     let whole = code-suc m w c.args.latches latch c.args.code upper s c.args.builder.now is up refl in
-    choice-above _ _ (code_wanted m w latch c.args.code) s whole
-    (code-extends (behaviour m) (bit_wanted (behaviour m) w) latch c.args.code)
-    (c.over_latches.ensures.too_large (c.in_err-where_true.was
-    ∙ ap (λ f. Err f) (passed c.from_residual.result c.in_err-where_true.field-0.0 _ c.from_residual.ensures.1 e)))
+    choice-above _ _ (code_wanted m w latch c.args.code) s whole (code-extends (behaviour m)
+    (bit_wanted (behaviour m) w) latch c.args.code) (c.over_latches.ensures.too_large (c.in_err-where_true.was ∙ ap
+    (λ f. Err f) (passed c.from_residual.result c.in_err-where_true.field-0.0 _ c.from_residual.ensures.1 e)))
 
 pub returns-in_err-where_false-clause-too_large : goal.returns-in_err-where_false-clause-too_large
 returns-in_err-where_false-clause-too_large t c e =
@@ -100,9 +66,8 @@ returns-in_err-where_false-clause-too_large t c e =
     let up : upper ≡ c.args.code + 2 ^ latch = ap (λ n. c.args.code + n) (shl_is latch (omega arith)) in
     let whole = code-suc m w c.args.latches latch c.args.code upper s c.args.builder.now is up refl in
     choice-above_low _ _ (code_wanted m w latch c.args.code) c.over_latches.new.builder s c.in_ok-where_true.where_true
-    whole c.in_ok-where_true.ensures.made
-    (c.over_latches-2.ensures.too_large (c.in_err-where_false.was
-    ∙ ap (λ f. Err f) (passed c.from_residual-in_err-where_false.result c.in_err-where_false.field-0.0 _
+    whole c.in_ok-where_true.ensures.made (c.over_latches-2.ensures.too_large (c.in_err-where_false.was ∙ ap
+    (λ f. Err f) (passed c.from_residual-in_err-where_false.result c.in_err-where_false.field-0.0 _
     c.from_residual-in_err-where_false.ensures.1 e)))
 
 pub returns-clause-made : goal.returns-clause-made
@@ -137,10 +102,9 @@ returns-clause-too_large t c e =
     let up : upper ≡ c.args.code + 2 ^ latch = ap (λ n. c.args.code + n) (shl_is latch (omega arith)) in
     let whole = code-suc m w c.args.latches latch c.args.code upper s c.args.builder.now is up refl in
     let variable = c.positive.ensures ∙ ap (λ xs. 2 * (length xs + 1 + latch)) c.inputs.ensures.inputs in
-    subst (λ (n : Made). 2147483647 < variables_of n.draft) (sym
-    (choice-made _ _ (code_wanted m w latch c.args.code) c.over_latches.new.builder c.over_latches-2.new.builder s
-    c.in_ok-where_true.where_true c.in_ok-where_false.where_false whole c.in_ok-where_true.ensures.made
-    c.in_ok-where_false.ensures.made
+    subst (λ (n : Made). 2147483647 < variables_of n.draft) (sym (choice-made _ _ (code_wanted m w latch c.args.code)
+    c.over_latches.new.builder c.over_latches-2.new.builder s c.in_ok-where_true.where_true
+    c.in_ok-where_false.where_false whole c.in_ok-where_true.ensures.made c.in_ok-where_false.ensures.made
     ∙ ap (λ x. mux_of c.over_latches-2.new.builder x c.in_ok-where_true.where_true c.in_ok-where_false.where_false)
     (sym variable))) (c.mux.ensures.above e)
 
@@ -148,7 +112,8 @@ pub returns-clause-known_made : goal.returns-clause-known_made
 returns-clause-known_made t c =
     let m = c.args.machine.now in
     let w = c.args.wanted in
-    let kept =
-    made-kept m w c.over_latches-2.new.builder c.mux.new.self (get nat_eq c.over_latches-2.new.known)
-    c.mux.ensures.extends c.in_ok-where_false.ensures.known_made in
-    IfOk-weaker c.mux.result _ _ (λ literal made. kept) c.mux.ensures.made
+    grind (
+      arith,
+      made-kept m w c.over_latches-2.new.builder c.mux.new.self (get nat_eq c.over_latches-2.new.known)
+          c.mux.ensures.extends c.in_ok-where_false.ensures.known_made,
+    )

@@ -7,23 +7,20 @@ returns-clause-within g c = search (rules, answer_of, region_within)
 
 pub returns-clause-closed : goal.returns-clause-closed
 returns-clause-closed g c =
-    let answer =
-    answer_of c.requires.subgame c.requires.target c.in_ok-tables.ensures.attracted c.count.ensures.vertices
-    c.in_ok-region.ensures.placed in
+    let answer = answer_of c.requires.subgame c.requires.target c.in_ok-tables.ensures.attracted
+    c.count.ensures.vertices c.in_ok-region.ensures.placed in
     (region_attracted answer).closed
 
 pub returns-clause-least : goal.returns-clause-least
 returns-clause-least g c =
-    let answer =
-    answer_of c.requires.subgame c.requires.target c.in_ok-tables.ensures.attracted c.count.ensures.vertices
-    c.in_ok-region.ensures.placed in
+    let answer = answer_of c.requires.subgame c.requires.target c.in_ok-tables.ensures.attracted
+    c.count.ensures.vertices c.in_ok-region.ensures.placed in
     (region_attracted answer).least
 
 pub returns-clause-moves : goal.returns-clause-moves
 returns-clause-moves g c =
-    let answer =
-    answer_of c.requires.subgame c.requires.target c.in_ok-tables.ensures.attracted c.count.ensures.vertices
-    c.in_ok-region.ensures.placed in
+    let answer = answer_of c.requires.subgame c.requires.target c.in_ok-tables.ensures.attracted
+    c.count.ensures.vertices c.in_ok-region.ensures.placed in
     only_moves answer c.in_ok-moves.ensures.given
 
 pub returns-clause-falls : goal.returns-clause-falls

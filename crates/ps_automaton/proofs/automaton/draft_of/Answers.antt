@@ -1,9 +1,8 @@
-use Rattle.std.proofs.Common.{◌≡◌, false, Some, sym, ap, ◌∙◌}
-use Rattle.std.specs.Option.{option_map}
+use Rattle.std.proofs.Common.{arith, ◌≡◌, false, Some}
 use Rattle.std.proofs.lemmas.Result.{IfErr-weaker, IfOk-weaker}
-use Rattle.ps_automaton.specs.Answers.{IsAdmitted, IsRefused}
+use Rattle.ps_automaton.specs.Answers.{IsAdmitted}
 use Rattle.ps_automaton.specs.Chains.{chain_of, has_complement}
-use Rattle.ps_automaton.specs.Drafts.{IsDraft, IsDraftFault}
+use Rattle.ps_automaton.specs.Drafts.{IsDraft}
 use Rattle.ps_automaton.specs.Numbering.{AreSetsBelow}
 use Rattle.ps_automaton.specs.Views.{chain_data}
 use Rattle.ps_automaton.specs.declared.draft.Draft.{Draft}
@@ -14,12 +13,10 @@ use Rattle.ps_automaton.proofs.automaton.draft_of.Goals.{In-Some}
 
 -- the chain is the condition's
 chain_is : (c : In-Some) → chain_of c.args.file.now.condition ≡ Some (chain_data c.in-Some.chain)
-chain_is c = ap chain_of (sym c.condition-2.ensures.value) ∙ sym c.in_ok-chain.ensures
-    ∙ ap (option_map chain_data) c.in-Some.is
+chain_is c = grind arith
 
 no_complement : (c : In-Some) → has_complement c.args.file.now.condition ≡ false
-no_complement c = ap has_complement (sym c.condition.ensures.value) ∙ sym c.is_complemented.ensures
-    ∙ c.if-is_complemented.false
+no_complement c = grind arith
 
 few_sets : (c : In-Some) → AreSetsBelow 64 (chain_data c.in-Some.chain).links
 few_sets c =
@@ -30,16 +27,13 @@ pub table_of-numbers-requires : goal.table_of-numbers-requires
 table_of-numbers-requires c = few_sets (goal.at.table_of-numbers-requires c).In-Some
 
 pub drafted-requires : goal.drafted-requires
-drafted-requires c = record {
-  levels = record { few = few_sets (goal.at.drafted-requires c).In-Some; table = c.table_of-numbers.ensures };
-}
+drafted-requires c = grind (arith, few_sets)
 
 pub returns-clause-refused : goal.returns-clause-refused
 returns-clause-refused c =
     let file = c.args.file.now in
     let a = (goal.at.returns-clause-refused c).In-Some in
-    IfErr-weaker c.drafted.result (IsDraftFault file) (IsRefused file) (draft_refused file (no_complement a)
-    (chain_is a)) c.drafted.ensures.refused
+    grind (arith, IfErr-weaker, draft_refused, no_complement, chain_is)
 
 pub returns-clause-admitted : goal.returns-clause-admitted
 returns-clause-admitted c =
@@ -55,9 +49,4 @@ returns-clause-admitted c =
     }) c.drafted.ensures.draft
 
 pub returns-clause-draft : goal.returns-clause-draft
-returns-clause-draft c =
-    let file = c.args.file.now in
-    let chain = chain_data c.in-Some.chain in
-    let is = chain_is (goal.at.returns-clause-draft c).In-Some in
-    let IsDrafted : Draft → Type 0 = λ d. IsDraft file chain d.pairs.steps.keys d.pairs.store d.nodes.items in
-    IfOk-weaker c.drafted.result IsDrafted _ (λ d drafted. (chain, is, drafted)) c.drafted.ensures.draft
+returns-clause-draft c = grind (arith, chain_is, IfOk-weaker)

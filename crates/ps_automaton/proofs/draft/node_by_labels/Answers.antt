@@ -1,6 +1,6 @@
-use Rattle.std.proofs.Common.{◌≡◌, ◌^◌, ◌<◌, ◌∙◌, length, subst, sym, arith}
+use Rattle.std.proofs.Common.{◌≡◌, ◌∙◌, length, subst, arith}
 use Rattle.std.proofs.lemmas.List.{length-map}
-use Rattle.ps_hoa.specs.Views.{edge_data, row_data}
+use Rattle.ps_hoa.specs.Views.{row_data}
 use Rattle.ps_automaton.specs.Drafts.{AreSteps, IsUnion}
 use Rattle.ps_automaton.proofs.Meeting.{keeps_both}
 use Rattle.ps_automaton.proofs.RowSteps.{leaf_within, steps_of_row}
@@ -17,20 +17,18 @@ node_of_union-requires-clause-within c = λ letter small.
     leaf_within c.in_ok-union.ensures.union letter (rw letters at small)
 
 pub returns-clause-grows : goal.returns-clause-grows
-returns-clause-grows c = record {
-  keeps = keeps_both c.in_ok-union.ensures.keeps c.in_ok-node_of_union.ensures.keeps;
-  extends = c.in_ok-node_of_union.ensures.extends;
-  steps = all_steps (goal.at.returns-clause-grows c).In_ok-node_of_union;
-}
+returns-clause-grows c = grind (
+  arith,
+  keeps_both c.in_ok-union.ensures.keeps c.in_ok-node_of_union.ensures.keeps,
+  all_steps (goal.at.returns-clause-grows c).In_ok-node_of_union,
+)
 
 pub returns-clause-node : goal.returns-clause-node
 returns-clause-node c = λ q of_state.
     let row = row_data c.args.guards.now.row.now in
     let made = c.in_ok-node_of_union.ensures in
-    let all_edges : length c.args.guards.now.row.now.edges.items ≡ length row.edges =
-    sym (length-map c.args.guards.now.row.now.edges.items edge_data) in
+    let all_edges : length c.args.guards.now.row.now.edges.items ≡ length row.edges = grind (arith, length-map) in
     let union = subst (λ n. IsUnion c.args.guards.now.file.now row n c.in_ok-union.union.targets c.joined.new.store
     c.in_ok-union.union.node) all_edges c.in_ok-union.ensures.union in
     steps_of_row c.requires.ready.sound c.requires.ready.row c.requires.levels.few union.joined
-    (all_steps (goal.at.returns-clause-node c).In_ok-node_of_union) made.leaf.1 q of_state
-    c.node_of_union.new.pairs.store made.held made.leaf.2
+    (grind (arith, all_steps)) made.leaf.1 q of_state c.node_of_union.new.pairs.store made.held made.leaf.2

@@ -1,8 +1,6 @@
-use Rattle.std.proofs.Common.{◌≡◌, ℕ, length, get_or, subst, sym, ap, ◌∙◌, arith, List}
+use Rattle.std.proofs.Common.{◌≡◌, ℕ, get_or, subst, sym, ap, ◌∙◌, arith, List}
 use Rattle.std.proofs.lemmas.List.{get_or_append_left, get_or_push}
-use Rattle.ps_diagram.specs.Labels.{AreOverFrom}
 use Rattle.ps_diagram.specs.Table.{IsNode, leaf_of}
-use Rattle.ps_automaton.specs.Drafts.{IsStepsOf}
 use Rattle.ps_automaton.specs.Views.{chain_data}
 use Rattle.ps_automaton.proofs.Fitting.{aliases_over}
 use Rattle.ps_automaton.proofs.Drafting.{steps_stay}
@@ -10,12 +8,7 @@ use Rattle.ps_automaton.proofs.Steps.{extends_same}
 use Rattle.ps_automaton.proofs.draft.nodes_of.Goals as goal
 
 pub of_aliases-requires : goal.of_aliases-requires
-of_aliases-requires c =
-    let file = c.args.file.now in
-    record {
-      aliases = rw c.aliases.ensures.value (subst (λ n. AreOverFrom 0 n file.aliases) (sym c.requires.letters)
-          (aliases_over 0 (length file.names) file.aliases c.aliases.ensures.well_formed.aliases));
-    }
+of_aliases-requires c = grind (arith, aliases_over)
 
 pub returns-clause-draft : goal.returns-clause-draft
 returns-clause-draft c =
@@ -27,8 +20,7 @@ returns-clause-draft c =
     let nodes = c.in_ok-nodes.nodes.items in
     let is = c.in_ok-push.ensures.items in
     let size = made.one_each in
-    let sink : get_or c.push.new.self.items file.states 0 ≡ c.in_ok-leaf.field-0 =
-    ap (λ (ns : List ℕ). get_or ns file.states 0) is ∙ get_or_push nodes c.in_ok-leaf.field-0 0 file.states size in
+    let sink : get_or c.push.new.self.items file.states 0 ≡ c.in_ok-leaf.field-0 = grind (arith, get_or_push) in
     record {
       letters = keeps.propositions ∙ made.letters;
       all_steps = made.steps;
@@ -36,8 +28,7 @@ returns-clause-draft c =
       states = λ q within.
           let same =
           ap (λ (ns : List ℕ). get_or ns q 0) is ∙ get_or_append_left nodes _ 0 q (omega (arith, within, size)) in
-          subst (IsStepsOf file chain q steps c.leaf.new.self) (sym same)
-          (steps_stay file chain nodes file.states (extends_same steps) keeps made.states q within);
+          grind (arith, steps_stay file chain nodes file.states (extends_same steps) keeps made.states q within);
       sink_held = subst (IsNode c.leaf.new.self) (sym sink) c.in_ok-leaf.ensures.held;
       sink = λ letter. ap (λ node. leaf_of c.leaf.new.self node letter) sink ∙ c.in_ok-leaf.ensures.leaf letter;
     }

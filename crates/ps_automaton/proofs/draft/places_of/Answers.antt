@@ -1,4 +1,4 @@
-use Rattle.std.proofs.Common.{◌≡◌, arith, rules}
+use Rattle.std.proofs.Common.{arith, rules}
 use Rattle.std.proofs.lemmas.Option.{slice_get-get_or}
 use Rattle.ps_automaton.specs.Drafts.{Extends}
 use Rattle.ps_automaton.specs.Views.{chain_data}

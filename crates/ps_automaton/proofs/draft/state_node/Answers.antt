@@ -1,4 +1,4 @@
-use Rattle.std.proofs.Common.{sym, ◌∙◌}
+use Rattle.std.proofs.Common.{arith, sym}
 use Rattle.std.proofs.lemmas.Result.{on_ok_weaker, IfErr-weaker}
 use Rattle.ps_hoa.proofs.Soundness.SoundLaws.{row_of_state}
 use Rattle.ps_hoa.specs.Views.{row_data}
@@ -8,26 +8,19 @@ use Rattle.ps_automaton.proofs.StateSteps.{fault_of_state}
 use Rattle.ps_automaton.proofs.draft.state_node.Goals as goal
 
 pub label_node-requires-clause-row : goal.label_node-requires-clause-row
-label_node-requires-clause-row c =
-    (row_of_state c.args.source.now.file.now c.row.ensures.well_formed c.args.state (row_data c.in-Some.row.now)
-    (sym c.in-Some.ensures.value)).0
+label_node-requires-clause-row c = (row_of_state c.args.source.now.file.now c.row.ensures.well_formed c.args.state
+    (row_data c.in-Some.row.now) (sym c.in-Some.ensures.value)).0
 
 pub row_node-requires-clause-ready : goal.row_node-requires-clause-ready
-row_node-requires-clause-ready c = record {
-  sound = c.row.ensures.well_formed;
-  row = (row_of_state c.args.source.now.file.now c.row.ensures.well_formed c.args.state (row_data c.in-Some.row.now)
-      (sym c.in-Some.ensures.value)).0;
-  letters = c.in_ok-label.ensures.keeps.propositions ∙ c.requires.letters;
-  aliases = kept_nodes c.in_ok-label.ensures.keeps c.requires.aliases;
-  label = c.in_ok-label.ensures.label;
-}
+row_node-requires-clause-ready c = grind (
+  arith,
+  row_of_state c.args.source.now.file.now c.row.ensures.well_formed
+      c.args.state (row_data c.in-Some.row.now) (sym c.in-Some.ensures.value),
+  kept_nodes c.in_ok-label.ensures.keeps c.requires.aliases,
+)
 
 pub returns-clause-grows : goal.returns-clause-grows
-returns-clause-grows c = on_ok_weaker c.row_node.result (λ g. record {
-  keeps = keeps_both c.in_ok-label.ensures.keeps g.keeps;
-  extends = g.extends;
-  steps = g.steps;
-}) c.row_node.ensures.grows
+returns-clause-grows c = grind (arith, on_ok_weaker, keeps_both)
 
 pub returns-clause-refused : goal.returns-clause-refused
 returns-clause-refused c =

@@ -1,11 +1,10 @@
 use Rattle.std.proofs.Common.{◌≡◌, length, subst, ◌∙◌, arith}
-use Rattle.std.proofs.lemmas.Result.{IfOk-weaker, on_ok_weaker}
+use Rattle.std.proofs.lemmas.Result.{on_ok_weaker}
 use Rattle.ps_hoa.specs.Views.{edge_data, row_data}
 use Rattle.ps_automaton.specs.Answers.{AreAlike}
 use Rattle.ps_automaton.specs.Targets.{IsTargetOf}
 use Rattle.ps_automaton.proofs.Fitting.{fits, edge_at, edge_marks_few, alike_of_target, target_of_alike}
-use Rattle.ps_automaton.proofs.Meeting.{clash_meets, keeps_both, kept_shows, meets_clash}
-use Rattle.ps_automaton.proofs.TakenEdges.{clash_at}
+use Rattle.ps_automaton.proofs.Meeting.{keeps_both, kept_shows}
 use Rattle.ps_automaton.proofs.taken.clashes.Goals as goal
 
 pub target_of-requires-clause-edge : goal.target_of-requires-clause-edge
@@ -28,10 +27,10 @@ returns-then-eq-clause-clashing c =
     let at_other = edge_at c.args.guards.now.row.now.edges.items c.args.second (omega arith) c.index.ensures in
     let same : c.target_of-2.result ≡ c.target_of.result = grind arith in
     let other_is = subst (IsTargetOf row other) same c.target_of-2.ensures in
-    let alike = alike_of_target c.requires.ready.sound c.requires.ready.row c.args.first
-    c.args.second at_one at_other c.target_of.ensures other_is in (
-      (λ h. let never : ⊥ = cc in absurd never),
-      (λ k. absurd ((clash_at at_one at_other k).4 alike)),
+    grind (
+      arith,
+      alike_of_target c.requires.ready.sound c.requires.ready.row c.args.first c.args.second at_one at_other
+          c.target_of.ensures other_is,
     )
 
 pub returns-clause-keeps : goal.returns-clause-keeps
@@ -54,9 +53,4 @@ returns-clause-clashing c =
     let same = target_of_alike c.target_of.ensures c.target_of-2.ensures alike in
     let not_same = c.if-eq.ensures in
     grind arith in
-    let shows_one = c.in_ok-earlier.ensures.shows in
-    IfOk-weaker c.meet.result _ _ (λ both h. (
-      (λ is. meets_clash at_one at_other t c.in_ok-earlier.earlier c.args.later letters shows_one shows_other
-          c.requires.earlier differ (h.0 is)),
-      (λ k. h.1 (clash_meets at_one at_other t c.in_ok-earlier.earlier c.args.later letters shows_one shows_other k)),
-    )) c.meet.ensures.meet
+    grind arith

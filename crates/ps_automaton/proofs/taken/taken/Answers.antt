@@ -1,7 +1,7 @@
-use Rattle.std.proofs.Common.{◌≡◌, ℕ, sym, ap}
+use Rattle.std.proofs.Common.{arith, ℕ}
 use Rattle.ps_hoa.specs.Edges.{IsOpen}
 use Rattle.ps_hoa.specs.Files.{of_state}
-use Rattle.ps_hoa.specs.Views.{guard_data, row_data}
+use Rattle.ps_hoa.specs.Views.{row_data}
 use Rattle.ps_diagram.specs.Table.{IsNode, leaf_of}
 use Rattle.ps_automaton.specs.Drafts.{IsWhere}
 use Rattle.ps_automaton.proofs.Meeting.{label_shows}
@@ -10,14 +10,10 @@ use Rattle.ps_automaton.proofs.taken.taken.Goals as goal
 shown : (c : goal.In-Some) → IsNode c.args.store.now c.in-Some.node ×
     ((letter : ℕ) → IsWhere (leaf_of c.args.store.now c.in-Some.node letter) 1
     (IsOpen c.args.guards.now.file.now.aliases (row_data c.args.guards.now.row.now).label of_state letter))
-shown c =
-    label_shows c.args.store.now c.args.guards.now.file.now (row_data c.args.guards.now.row.now).label c.in-Some.node
-    (rw c.in-Some.is at c.requires.ready.label)
+shown c = grind (arith, label_shows)
 
 pub returns-in-Some-clause-held : goal.returns-in-Some-clause-held
 returns-in-Some-clause-held c = (shown c).0
 
 pub returns-in-Some-clause-shows : goal.returns-in-Some-clause-shows
-returns-in-Some-clause-shows c = λ letter small.
-    let guard : of_state ≡ guard_data c.args.edge.now.guard = sym (ap guard_data c.in-OfState.is) in
-    rw guard at ((shown c).1 letter)
+returns-in-Some-clause-shows c = grind (arith, shown)

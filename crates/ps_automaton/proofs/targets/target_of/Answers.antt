@@ -1,4 +1,4 @@
-use Rattle.std.proofs.Common.{◌∙◌, refl}
+use Rattle.std.proofs.Common.{arith, refl}
 use Rattle.std.proofs.lemmas.Nat.{or_lt}
 use Rattle.ps_automaton.proofs.Bits.{in_or, both_among}
 use Rattle.ps_automaton.proofs.targets.target_of.Goals as goal
@@ -7,6 +7,5 @@ pub returns : goal.returns
 returns c = record {
   state = refl;
   few = or_lt 64 c.mask_of.result c.mask_of-2.result c.mask_of.type_inv c.mask_of-2.type_inv;
-  sets = λ set small. in_or set c.mask_of.result c.mask_of-2.result ∙ both_among set c.mask_of.result c.mask_of-2.result
-      (c.mask_of.ensures set small) (c.mask_of-2.ensures set small) c.as_slice.ensures c.as_slice-2.ensures;
+  sets = grind (arith, in_or, both_among);
 }

@@ -41,8 +41,7 @@ first_clash-requires-clause-clash c =
     let small = subst (λ n. told.0 < 2 ^ n) (keeps.propositions ∙ c.requires.ready.letters) told.1 in
     union_clash c.requires.ready.sound c.requires.ready.row at c.target_of.ensures c.place_of.new.self
     c.in_ok-target.target (placed_keeps placed) placed.stored (placed_is placed) keeps c.in_ok-marked.marked
-    c.requires.union (shows_edge (goal.at.first_clash-requires-clause-clash c).In_ok-marked)
-    c.in_ok-target.ensures.distinct told.0 small told.2 told.3 told.4
+    c.requires.union (search (rules, shows_edge)) c.in_ok-target.ensures.distinct told.0 small told.2 told.3 told.4
 
 pub returns-in-Ok-clause-keeps : goal.returns-in-Ok-clause-keeps
 returns-in-Ok-clause-keeps c =
@@ -55,8 +54,7 @@ returns-in-Ok-clause-union c =
     let placed = c.in_ok-target.ensures.placed in
     union_grown c.requires.ready.sound c.requires.ready.row at c.target_of.ensures c.place_of.new.self
     c.in_ok-target.target (placed_keeps placed) placed.stored (placed_is placed) keeps c.in_ok-marked.marked
-    c.requires.union (shows_edge (goal.at.returns-in-Ok-clause-union c).In_ok-marked) c.in-Ok.ensures.held
-    c.in-Ok.ensures.leaf c.in-Ok.ensures.alike
+    c.requires.union (search (rules, shows_edge)) c.in-Ok.ensures.held c.in-Ok.ensures.leaf c.in-Ok.ensures.alike
 
 pub returns-in_ok-first_clash-in-Err-Clash-clause-refused : goal.returns-in_ok-first_clash-in-Err-Clash-clause-refused
 returns-in_ok-first_clash-in-Err-Clash-clause-refused c = search (rules, first_of_row)

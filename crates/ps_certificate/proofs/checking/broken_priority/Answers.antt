@@ -1,4 +1,4 @@
-use Rattle.std.proofs.Common.{◌≡◌, ◌∙◌, ℕ, ◌<◌, List, length, ap, arith, max, rules}
+use Rattle.std.proofs.Common.{◌≡◌, ℕ, ◌<◌, List, length, ap, arith, rules}
 use Rattle.std.specs.List.Sorted.{IsStrictlyIncreasing}
 use Rattle.ps_certificate.proofs.Counts.{opposing_rises, Compared, FallsAtStart, KeepsCount-compared}
 use Rattle.ps_certificate.proofs.Counts.{IsFirstBroken-behind}

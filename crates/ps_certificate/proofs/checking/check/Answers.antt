@@ -22,8 +22,7 @@ loop-vertex-preserved g c = record {
 pub returns-in-Some-unranked-clause-flaw : goal.returns-in-Some-unranked-clause-flaw
 returns-in-Some-unranked-clause-flaw g c =
     let game = g.A.Arena.game c.args.arena.now in
-    let closed : IsClosed game c.args.certificate.now =
-    IsClosed-from_sound (λ v below. c.loop-vertex.invariant.sound v (omega (arith, below))) in
+    let closed : IsClosed game c.args.certificate.now = IsClosed-from_sound (λ v below. search rules) in
     let found : IsFirstUnranked game c.args.certificate.now c.in-Some-unranked.flaw =
     rw c.in-Some-unranked.is at c.loop-vertex.invariant.some in
     first_unranked closed found.before found.at_vertex
@@ -40,9 +39,8 @@ returns-in-None-clause-regions g c = BothHold-from_valid (g.A.Arena.game c.args.
     )) c.loop-vertex.invariant.sound c.loop-vertex.invariant.none c.in-None.is)
 
 pub returns-in-None-clause-best : goal.returns-in-None-clause-best
-returns-in-None-clause-best g c = NoneWinsOutside-from_valid
-    (g.A.Arena.game c.args.arena.now) c.args.certificate.now c.count-vertex-end.ensures.well_formed c.requires
-    (valid_in_the_end c.loop-vertex.vertex (omega (
+returns-in-None-clause-best g c = NoneWinsOutside-from_valid (g.A.Arena.game c.args.arena.now) c.args.certificate.now
+    c.count-vertex-end.ensures.well_formed c.requires (valid_in_the_end c.loop-vertex.vertex (omega (
       arith,
       c.loop-vertex-test.false,
       c.count-vertex-end.ensures.vertices,

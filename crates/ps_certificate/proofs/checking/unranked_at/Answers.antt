@@ -1,7 +1,6 @@
-use Rattle.std.proofs.Common.{◌≡◌, ◌∙◌, ℕ, Some, sym, subst, arith, inl, below_more, rules}
+use Rattle.std.proofs.Common.{◌≡◌, ◌∙◌, Some, sym, arith, below_more, rules}
 use Rattle.ps_game.specs.Games.{owner_of}
 use Rattle.ps_certificate.specs.Certificates.{Remains, winner_of, choice_of}
-use Rattle.ps_certificate.specs.Prefixes.{KeepsCounts}
 use Rattle.ps_certificate.proofs.Edges.{HasEdge-at, Remains-other}
 use Rattle.ps_certificate.proofs.Counts.{own_edge, own_edges, other_edges, IsFirstFlawAt-rank, KeepsCountsAt-from_all}
 use Rattle.ps_certificate.proofs.checking.unranked_at.Goals as goal
@@ -10,19 +9,16 @@ pub returns-in-Some-broken_priority-clause-some : goal.returns-in-Some-broken_pr
 returns-in-Some-broken_priority-clause-some g c =
     let own : owner_of (g.A.Arena.game c.args.arena.now) c.args.vertex ≡ winner_of
     c.args.certificate.now c.args.vertex = sym c.owner.ensures ∙ c.if-owner-winner.true ∙ c.winner.ensures in
-    let is : choice_of c.args.certificate.now c.args.vertex ≡ Some c.in-Some.successor =
-    sym c.choice.ensures ∙ c.in-Some.is in
+    let is : choice_of c.args.certificate.now c.args.vertex ≡ Some c.in-Some.successor = grind arith in
     let remains : Remains (g.A.Arena.game c.args.arena.now) c.args.certificate.now c.args.vertex c.in-Some.successor =
     own_edge c.requires.sound.right_move own is in
-    IsFirstFlawAt-rank c.requires.fits remains
-    (c.requires.sound.inside c.in-Some.successor remains) c.in-Some-broken_priority.ensures.some
-    (λ w other. inl (own_edges (g.A.Arena.game c.args.arena.now) c.args.certificate.now c.args.vertex own is other))
+    IsFirstFlawAt-rank c.requires.fits remains (grind arith) c.in-Some-broken_priority.ensures.some
+    (λ w other. grind (arith, own_edges))
 
 pub broken_priority-requires-in-loop-number-clause-successor :
     goal.broken_priority-requires-in-loop-number-clause-successor
 broken_priority-requires-in-loop-number-clause-successor g c = c.count-vertices.ensures.well_formed.within
-    c.args.vertex c.successor-successor.result (HasEdge-at (g.A.Arena.game c.args.arena.now)
-    c.args.vertex c.loop-number.number c.requires.vertex (omega arith) c.successor-successor.ensures)
+    c.args.vertex c.successor-successor.result (search (rules, HasEdge-at))
 
 pub returns-in-Some-broken_priority-2-clause-some : goal.returns-in-Some-broken_priority-2-clause-some
 returns-in-Some-broken_priority-2-clause-some g c =
@@ -30,15 +26,11 @@ returns-in-Some-broken_priority-2-clause-some g c =
     c.args.vertex → ⊥ = λ own. c.if-owner-winner.false (c.owner.ensures ∙ own ∙ sym c.winner.ensures) in
     let remains : Remains (g.A.Arena.game c.args.arena.now) c.args.certificate.now
     c.args.vertex c.successor-successor.result = search (rules, Remains-other, HasEdge-at) in
-    IsFirstFlawAt-rank c.requires.fits remains
-    (c.requires.sound.inside c.successor-successor.result remains) c.in-Some-broken_priority-2.ensures.some
-    (other_edges (g.A.Arena.game c.args.arena.now) c.args.certificate.now c.args.vertex c.successor-successor.result
-    c.loop-number.number (omega arith) c.successor-successor.ensures c.loop-number.invariant)
+    IsFirstFlawAt-rank c.requires.fits remains (grind arith) c.in-Some-broken_priority-2.ensures.some
+    (search (rules, other_edges))
 
 pub loop-number-preserved : goal.loop-number-preserved
-loop-number-preserved g c = let P : ℕ →
-    Type 0 = KeepsCounts (g.A.Arena.game c.args.arena.now) c.args.certificate.now c.args.vertex in below_more
-    _ _ c.loop-number.invariant (subst P c.successor-successor.ensures c.in_default-broken_priority.ensures.none)
+loop-number-preserved g c = search (rules, below_more)
 
 pub returns-clause-none : goal.returns-clause-none
 returns-clause-none g c = search (rules, KeepsCountsAt-from_all)

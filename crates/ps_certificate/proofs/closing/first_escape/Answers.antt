@@ -1,4 +1,4 @@
-use Rattle.std.proofs.Common.{◌≢◌, ◌∙◌, rules}
+use Rattle.std.proofs.Common.{rules}
 use Rattle.ps_certificate.proofs.Edges.{has_entry, IsFirstEscape-at, StaysInside-from_all}
 use Rattle.ps_certificate.proofs.closing.first_escape.Goals as goal
 

@@ -1,4 +1,4 @@
-use Rattle.std.proofs.Common.{◌≡◌, ℕ, arith, false, refl, subst}
+use Rattle.std.proofs.Common.{◌≡◌, ℕ, arith, false, refl}
 use Rattle.std.proofs.lemmas.Bool.{both_ways}
 use Rattle.ps_game.specs.Games.{vertex_count}
 use Rattle.ps_certificate.proofs.Lists.{nothing_marked}
@@ -7,12 +7,11 @@ use Rattle.ps_certificate.proofs.fitted.is_just.Goals as goal
 
 pub loop-vertex-init : goal.loop-vertex-init
 loop-vertex-init g c = record {
-  marks =
-      record {
-        room = c.requires.short;
-        marked = λ k below is. absurd (nothing_marked 1024 k is);
-        passed = λ k v below less is. absurd (omega arith);
-      };
+  marks = record {
+    room = c.requires.short;
+    marked = λ k below is. absurd (nothing_marked 1024 k is);
+    passed = λ k v below less is. absurd (omega arith);
+  };
   complete = λ v below. absurd (omega arith);
 }
 
@@ -25,11 +24,10 @@ returns-then-not-seen-place g c =
     let game = g.A.Arena.game c.args.arena.now in
     let P : ℕ → Type 0 = λ n. AreMarks game c.args.list.now c.loop-vertex.seen n in
     let done : c.loop-vertex.vertex ≡ vertex_count game = omega arith in
-    let marks : AreMarks game c.args.list.now c.loop-vertex.seen (vertex_count game) =
-    subst P done c.loop-vertex.invariant.marks in (
+    let marks : AreMarks game c.args.list.now c.loop-vertex.seen (vertex_count game) = grind arith in (
       (λ no. absurd (both_ways false refl no)),
-      λ both. absurd (both_ways _ c.if-not-seen-place.true
-          (marked_in_the_end c.loop-place.place marks both.1 (omega arith))),
+      λ both. absurd
+          (both_ways _ c.if-not-seen-place.true (marked_in_the_end c.loop-place.place marks both.1 (omega arith))),
     )
 
 pub returns : goal.returns

@@ -1,4 +1,4 @@
-use Rattle.std.proofs.Common.{◌≡◌, ◌+◌, arith, false, refl, sym, subst, List, Bool, rules}
+use Rattle.std.proofs.Common.{arith, false, refl, rules}
 use Rattle.std.proofs.lemmas.Bool.{both_ways}
 use Rattle.ps_game.specs.Games.{vertex_count}
 use Rattle.ps_certificate.proofs.Lists.{nothing_marked}
@@ -7,21 +7,19 @@ use Rattle.ps_certificate.proofs.fitted.window_present.Goals as goal
 use Rattle.ps_certificate.proofs.fitted.window_present.Goals.{in-Some, in_default}
 
 pub loop-vertex-init : goal.loop-vertex-init
-loop-vertex-init g c =
-    record {
-      room = c.requires.short;
-      marked = λ k below is. absurd (nothing_marked 1024 k is);
-      passed = λ k v below less is. absurd (omega arith);
-    }
+loop-vertex-init g c = record {
+  room = c.requires.short;
+  marked = λ k below is. absurd (nothing_marked 1024 k is);
+  passed = λ k v below less is. absurd (omega arith);
+}
 
 pub loop-vertex-preserved : goal.loop-vertex-preserved
 loop-vertex-preserved g c = elim c.match-place_of.branch [
-  | in-Some w ↦ (let P : List Bool → Type 0 = λ s. AreMarks (g.A.Arena.game c.args.arena.now) c.args.window.now s
-      (c.loop-vertex.vertex + 1) in subst P (sym w.seen-is) (AreMarks-found c.requires.rising
-      (omega arith) c.priority.ensures w.in-Some.ensures.some c.loop-vertex.invariant))
-  | in_default w ↦ (let P : List Bool → Type 0 = λ s. AreMarks (g.A.Arena.game c.args.arena.now) c.args.window.now s
-      (c.loop-vertex.vertex + 1) in
-      subst P (sym w.seen-is) (AreMarks-missing c.priority.ensures w.in_default.ensures.none c.loop-vertex.invariant))
+  | in-Some w ↦ grind (
+    arith,
+    AreMarks-found c.requires.rising (omega arith) c.priority.ensures w.in-Some.ensures.some c.loop-vertex.invariant,
+  )
+  | in_default w ↦ grind (arith, AreMarks-missing c.priority.ensures w.in_default.ensures.none c.loop-vertex.invariant)
 ]
 
 pub returns-then-not-seen-place : goal.returns-then-not-seen-place
@@ -29,8 +27,7 @@ returns-then-not-seen-place g c =
     let marks : AreMarks (g.A.Arena.game c.args.arena.now) c.args.window.now c.loop-vertex.seen
     (vertex_count (g.A.Arena.game c.args.arena.now)) = search (rules, AreMarks) in (
       (λ no. absurd (both_ways false refl no)),
-      λ all. absurd (both_ways _ c.if-not-seen-place.true (marked_in_the_end c.loop-place.place
-          marks all (omega arith))),
+      λ all. search (rules, both_ways, marked_in_the_end),
     )
 
 pub returns : goal.returns

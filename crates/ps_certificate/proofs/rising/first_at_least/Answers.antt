@@ -1,14 +1,11 @@
-use Rattle.std.proofs.Common.{◌<◌, ◌≤◌, Ok, Err, arith, rules}
-use Rattle.std.specs.Prelude.{slice_index}
+use Rattle.std.proofs.Common.{Ok, Err, arith, rules}
 use Rattle.ps_certificate.proofs.Lists.{search_result, rising_far, rising_near}
 use Rattle.ps_certificate.proofs.rising.first_at_least.Goals as goal
 
 pub returns-in-Ok-clause-before : goal.returns-in-Ok-clause-before
 returns-in-Ok-clause-before c k below =
     let found = search_result c.args.list.now c.args.number (Ok c.in-Ok.place) c.requires c.in-Ok.ensures.position in
-    let less : slice_index c.args.list.now k < slice_index c.args.list.now c.in-Ok.place =
-    rising_far c.args.list.now c.requires k c.in-Ok.place below found.0 in
-    omega (arith, less, found.1)
+    grind (arith, rising_far)
 
 pub returns-in-Ok-clause-behind : goal.returns-in-Ok-clause-behind
 returns-in-Ok-clause-behind c k above within = search (rules, search_result, rising_near)
@@ -19,5 +16,4 @@ returns-in-Err-clause-before c k below = let found = search_result c.args.list.n
 
 pub returns-in-Err-clause-behind : goal.returns-in-Err-clause-behind
 returns-in-Err-clause-behind c k above within =
-    let found = search_result c.args.list.now c.args.number (Err c.in-Err.place) c.requires c.in-Err.ensures.position in
-    let more : c.args.number < slice_index c.args.list.now k = found.2 k above within in omega arith
+    grind (arith, search_result c.args.list.now c.args.number (Err c.in-Err.place) c.requires c.in-Err.ensures.position)

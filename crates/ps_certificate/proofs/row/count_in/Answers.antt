@@ -9,8 +9,8 @@ returns-then-placed-number c = search (rules, count_first)
 
 pub returns-else-number-placed : goal.returns-else-number-placed
 returns-else-number-placed c =
-    sym (count_none c.args.placed.now c.args.place c.args.number c.requires.rising c.requires.number
-    (elim c.else-number-placed.branch [
-      | else-number-placed-via-then-number-placed+else-placed-number w ↦ (λ within. w.if-placed-number.false)
-      | else-number-placed-via-else-number-placed w ↦ search rules
-    ]))
+    sym (count_none c.args.placed.now c.args.place c.args.number c.requires.rising c.requires.number (search (
+      rules,
+      else-number-placed-via-then-number-placed+else-placed-number,
+      else-number-placed-via-else-number-placed,
+    )))

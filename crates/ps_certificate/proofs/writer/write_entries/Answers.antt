@@ -1,4 +1,4 @@
-use Rattle.std.proofs.Common.{◌≡◌, ◌∙◌, ap, get_or, arith, subst}
+use Rattle.std.proofs.Common.{◌≡◌, ◌∙◌, get_or, arith, subst}
 use Rattle.std.proofs.lemmas.Grind.{common_steps}
 use Rattle.std.specs.List.{All}
 use Rattle.ps_certificate.specs.Certificates.{EntryData, no_entry}
@@ -14,18 +14,11 @@ loop-vertex-preserved c =
     let choice : c.choice.result ≡ is.choice = c.choice.ensures in
     let counts : row ≡ is.counts = c.deref.ensures.value ∙ c.in_ok-copy_into.ensures ∙ c.counts.ensures in
     let made : EntryData = record { winner = c.winner.result; choice = c.choice.result; counts = row } in
-    let entry : made ≡ is =
-    ap (λ w. record { winner = w; choice = c.choice.result; counts = row }) winner
-    ∙ ap (λ m. record { winner = is.winner; choice = m; counts = row }) choice
-    ∙ ap (λ ns. record { winner = is.winner; choice = is.choice; counts = ns }) counts in
+    let entry : made ≡ is = grind arith in
     record {
       bytes = grind (arith, common_steps);
-      ids = all_taken IsWord c.args.game.now.ids c.loop-vertex.vertex 0 (omega (
-        arith,
-        c.loop-vertex-test.true,
-        c.len-vertex-end.ensures,
-        c.requires.ids,
-      )) c.loop-vertex.invariant.ids c.in_ok-write_entry.ensures.id;
+      ids = all_taken IsWord c.args.game.now.ids c.loop-vertex.vertex 0 (grind arith) c.loop-vertex.invariant.ids
+          c.in_ok-write_entry.ensures.id;
       counts = all_taken (λ (e : EntryData). All IsWord e.counts) c.args.entries.now c.loop-vertex.vertex no_entry
           (omega (arith, c.loop-vertex-test.true, c.len-vertex-end.ensures)) c.loop-vertex.invariant.counts
           (subst (λ (e : EntryData). All IsWord e.counts) entry c.in_ok-write_entry.ensures.counts);

@@ -19,11 +19,4 @@ returns-clause-bytes c =
     grind (arith, common_steps) in
     let d : c.extend_from_slice-3.new.self.items ≡ c.write_number.new.out.items ++ odd_word =
     grind (arith, common_steps) in
-    let e : c.write_fields.new.out.items ≡ c.extend_from_slice-3.new.self.items ++ fields c.args.certificate.now.odd =
-    grind (arith, common_steps) in
-    let f : c.extend_from_slice-4.new.self.items ≡ c.write_fields.new.out.items ++ 10 ∷ even_word =
-    grind (arith, common_steps) in
-    let g : c.write_fields-2.new.out.items
-    ≡ c.extend_from_slice-4.new.self.items ++ fields c.args.certificate.now.even = grind (arith, common_steps) in
-    let h : c.push-2.new.self.items ≡ c.write_fields-2.new.out.items ++ 10 ∷ [] = grind (arith, common_steps) in
-    rw (h, g, f, e, d, b, a, y, z) o
+    grind (arith, common_steps)

@@ -1,14 +1,10 @@
 use Rattle.std.proofs.Common.{arith}
-use Rattle.ps_circuit.specs.Texts.{WrongMost, field}
-use Rattle.ps_circuit.proofs.Exits.{exit}
 use Rattle.ps_circuit.proofs.Judges.{judge_most}
 use Rattle.ps_circuit.proofs.NumberLemmas.{most_reads, most_wrong, field_none}
 use Rattle.ps_circuit.proofs.header.most.Goals as goal
 
 pub returns-in_err-most-clause-exact : goal.returns-in_err-most-clause-exact
-returns-in_err-most-clause-exact c =
-    exit (λ n. n) (field WrongMost) c.args.cursor.now _ _ _ (field_none judge_most c.field.new.cursor _
-    c.in_err-most.ensures) c.from_residual.ensures.1
+returns-in_err-most-clause-exact c = grind (arith, field_none judge_most c.field.new.cursor _ c.in_err-most.ensures)
 
 pub returns-then-most-gt-MOST-clause-exact : goal.returns-then-most-gt-MOST-clause-exact
 returns-then-most-gt-MOST-clause-exact c =

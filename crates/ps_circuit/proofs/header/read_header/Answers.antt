@@ -1,4 +1,4 @@
-use Rattle.std.proofs.Common.{refl}
+use Rattle.std.proofs.Common.{arith, refl}
 use Rattle.ps_circuit.proofs.Exits.{past, stops_at, stops_last, reads_last}
 use Rattle.ps_circuit.proofs.TextLaws.{chain_header, chain_0, chain_1, chain_2, chain_3, chain_4, header_of}
 use Rattle.ps_circuit.proofs.NumberLemmas.{header_exit, header_unread, past_most, past_inputs, past_latches}
@@ -6,44 +6,51 @@ use Rattle.ps_circuit.proofs.NumberLemmas.{past_outputs, past_gates}
 use Rattle.ps_circuit.proofs.header.read_header.Goals as goal
 
 pub returns-in_err-first_word-clause-exact : goal.returns-in_err-first_word-clause-exact
-returns-in_err-first_word-clause-exact c =
-    header_exit c.args.cursor.now _ _ _ (stops_at chain_header header_unread _ c.in_err-first_word.ensures)
-    c.from_residual.ensures.1
+returns-in_err-first_word-clause-exact c = header_exit c.args.cursor.now _ _ _
+    (stops_at chain_header header_unread _ c.in_err-first_word.ensures) c.from_residual.ensures.1
 
 pub returns-in_err-most-clause-exact : goal.returns-in_err-most-clause-exact
-returns-in_err-most-clause-exact c =
-    header_exit c.args.cursor.now _ _ _ (stops_at chain_0 (past chain_header header_unread c.in_ok-first_word.ensures)
-    _ c.in_err-most.ensures.exact) c.from_residual-in_err-most.ensures.1
+returns-in_err-most-clause-exact c = grind (
+  arith,
+  stops_at chain_0 (past chain_header header_unread c.in_ok-first_word.ensures) _ c.in_err-most.ensures.exact,
+)
 
 pub returns-in_err-inputs-clause-exact : goal.returns-in_err-inputs-clause-exact
-returns-in_err-inputs-clause-exact c =
-    header_exit c.args.cursor.now _ _ _ (stops_at (chain_1 c.in_ok-most.most)
-    (past_most c.in_ok-first_word.ensures c.in_ok-most.ensures.exact) _ c.in_err-inputs.ensures)
-    c.from_residual-in_err-inputs.ensures.1
+returns-in_err-inputs-clause-exact c = grind (
+  arith,
+  stops_at (chain_1 c.in_ok-most.most)
+      (past_most c.in_ok-first_word.ensures c.in_ok-most.ensures.exact) _ c.in_err-inputs.ensures,
+)
 
 pub returns-in_err-latches-clause-exact : goal.returns-in_err-latches-clause-exact
 returns-in_err-latches-clause-exact c =
     let i = c.in_ok-inputs.ensures in
-    header_exit c.args.cursor.now _ _ _ (stops_at (chain_2 c.in_ok-most.most i.0)
-    (past_inputs c.in_ok-first_word.ensures c.in_ok-most.ensures.exact i.2) _ c.in_err-latches.ensures)
-    c.from_residual-in_err-latches.ensures.1
+    grind (
+      arith,
+      stops_at (chain_2 c.in_ok-most.most i.0)
+          (past_inputs c.in_ok-first_word.ensures c.in_ok-most.ensures.exact i.2) _ c.in_err-latches.ensures,
+    )
 
 pub returns-in_err-outputs-clause-exact : goal.returns-in_err-outputs-clause-exact
 returns-in_err-outputs-clause-exact c =
     let i = c.in_ok-inputs.ensures in
     let l = c.in_ok-latches.ensures in
-    header_exit c.args.cursor.now _ _ _ (stops_at (chain_3 c.in_ok-most.most i.0 l.0)
-    (past_latches c.in_ok-first_word.ensures c.in_ok-most.ensures.exact i.2 l.2) _ c.in_err-outputs.ensures)
-    c.from_residual-in_err-outputs.ensures.1
+    grind (
+      arith,
+      stops_at (chain_3 c.in_ok-most.most i.0 l.0)
+          (past_latches c.in_ok-first_word.ensures c.in_ok-most.ensures.exact i.2 l.2) _ c.in_err-outputs.ensures,
+    )
 
 pub returns-in_err-gates-clause-exact : goal.returns-in_err-gates-clause-exact
 returns-in_err-gates-clause-exact c =
     let i = c.in_ok-inputs.ensures in
     let l = c.in_ok-latches.ensures in
     let o = c.in_ok-outputs.ensures in
-    header_exit c.args.cursor.now _ _ _ (stops_at (chain_4 c.in_ok-most.most i.0 l.0 o.0)
-    (past_outputs c.in_ok-first_word.ensures c.in_ok-most.ensures.exact i.2 l.2 o.2) _ c.in_err-gates.ensures)
-    c.from_residual-in_err-gates.ensures.1
+    grind (
+      arith,
+      stops_at (chain_4 c.in_ok-most.most i.0 l.0 o.0)
+          (past_outputs c.in_ok-first_word.ensures c.in_ok-most.ensures.exact i.2 l.2 o.2) _ c.in_err-gates.ensures,
+    )
 
 pub returns-in_err-sections-clause-exact : goal.returns-in_err-sections-clause-exact
 returns-in_err-sections-clause-exact c =

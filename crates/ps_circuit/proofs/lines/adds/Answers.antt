@@ -1,4 +1,4 @@
-use Rattle.std.proofs.Common.{◌∙◌, sym}
+use Rattle.std.proofs.Common.{arith, ◌∙◌, sym}
 use Rattle.ps_ids.proofs.Members.{Contains-any, Contains-none}
 use Rattle.ps_circuit.proofs.ReadingLemmas.{adds_variable}
 use Rattle.ps_circuit.proofs.lines.adds.Goals as goal
@@ -7,10 +7,8 @@ pub push-requires : goal.push-requires
 push-requires c = Contains-none c.args.variable c.args.variables.now (sym c.has.ensures ∙ c.if-has.false)
 
 pub returns-clause-new : goal.returns-clause-new
-returns-clause-new c =
-    adds_variable c.in_ok-push.ensures.ok
+returns-clause-new c = adds_variable c.in_ok-push.ensures.ok
     (Contains-none c.args.variable c.args.variables.now (sym c.has.ensures ∙ c.if-has.false))
 
 pub returns-then-has-clause-twice : goal.returns-then-has-clause-twice
-returns-then-has-clause-twice c =
-    λ _. Contains-any c.args.variable c.args.variables.now (sym c.has.ensures ∙ c.if-has.true)
+returns-then-has-clause-twice c = grind (arith, Contains-any)

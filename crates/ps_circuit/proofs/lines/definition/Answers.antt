@@ -1,9 +1,8 @@
-use Rattle.std.proofs.Common.{◌∙◌, Ok, ap}
+use Rattle.std.proofs.Common.{arith, ◌∙◌, Ok, ap}
 use Rattle.ps_circuit.specs.Literals.{variable}
-use Rattle.ps_circuit.specs.Signs.{number}
 use Rattle.ps_circuit.specs.Texts.{WrongDefinition}
 use Rattle.ps_circuit.specs.Reading.{AddsVariable}
-use Rattle.ps_circuit.proofs.Exits.{exit, memory_exit, refuted}
+use Rattle.ps_circuit.proofs.Exits.{refuted}
 use Rattle.ps_circuit.proofs.NumberLemmas.{number_none}
 use Rattle.ps_circuit.proofs.LineLemmas.{definition_reads, definition_wrong, definition_twice}
 use Rattle.ps_circuit.proofs.ReadingLemmas.{defines_one, at_true}
@@ -12,23 +11,18 @@ use Rattle.ps_circuit.proofs.lines.definition.Goals as goal
 pub returns-in_err-number-clause-exact : goal.returns-in_err-number-clause-exact
 returns-in_err-number-clause-exact c =
     let Wrong = WrongDefinition c.args.most c.args.variables.now in
-    exit (λ n. n) (number Wrong) c.args.cursor.now _ _ _ (number_none Wrong c.number.new.self _
-    c.in_err-number.ensures) c.from_residual.ensures.1
+    grind (arith, number_none Wrong c.number.new.self _ c.in_err-number.ensures)
 
 pub returns-then-not-can_define-clause-exact : goal.returns-then-not-can_define-clause-exact
-returns-then-not-can_define-clause-exact c =
-    definition_wrong c.args.most c.args.variables.now c.requires c.in_ok-number.ensures
-    (refuted c.can_define.ensures.1 c.if-not-can_define.true) c.refused.ensures
+returns-then-not-can_define-clause-exact c = definition_wrong c.args.most c.args.variables.now c.requires
+    c.in_ok-number.ensures (refuted c.can_define.ensures.1 c.if-not-can_define.true) c.refused.ensures
 
 pub returns-in_err-adds-clause-exact : goal.returns-in_err-adds-clause-exact
-returns-in_err-adds-clause-exact c =
-    memory_exit (λ n. n) (number (WrongDefinition c.args.most c.args.variables.now)) c.args.cursor.now _ _
-    c.in_err-adds.ensures.memory c.from_residual-in_err-adds.ensures.1
+returns-in_err-adds-clause-exact c = grind arith
 
 pub returns-then-not-branch-clause-exact : goal.returns-then-not-branch-clause-exact
-returns-then-not-branch-clause-exact c =
-    definition_twice c.args.most c.args.variables.now c.requires c.in_ok-number.ensures
-    (c.can_define.ensures.0 c.if-not-can_define.false) (rw c.variable.ensures at
+returns-then-not-branch-clause-exact c = definition_twice c.args.most c.args.variables.now c.requires
+    c.in_ok-number.ensures (c.can_define.ensures.0 c.if-not-can_define.false) (rw c.variable.ensures at
     (c.adds.ensures.twice (c.in_ok-adds.was ∙ ap Ok c.if-not-branch.true))) c.refused-then-not-branch.ensures
 
 pub returns-clause-exact : goal.returns-clause-exact

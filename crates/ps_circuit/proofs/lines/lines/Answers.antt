@@ -1,4 +1,4 @@
-use Rattle.std.proofs.Common.{[], sym, ap}
+use Rattle.std.proofs.Common.{rules, arith, []}
 use Rattle.ps_text.specs.Parts.{times}
 use Rattle.ps_circuit.specs.Reading.{lines_of}
 use Rattle.ps_circuit.proofs.Exits.{exit}
@@ -6,27 +6,22 @@ use Rattle.ps_circuit.proofs.LineLemmas.{lining_from, lining_next, lining_fails,
 use Rattle.ps_circuit.proofs.lines.lines.Goals as goal
 
 pub loop-init : goal.loop-init
-loop-init g c =
-    lining_from (g.L.Line.part c.args.most) (g.L.Line.adds c.args.most) c.requires.row c.args.count c.args.cursor.now
-    (lines_of [] c.args.noted.now) (ap (λ xs. lines_of xs c.args.noted.now) (sym c.new-items.ensures.items))
+loop-init g c = lining_from (g.L.Line.part c.args.most) (g.L.Line.adds c.args.most) c.requires.row c.args.count
+    c.args.cursor.now (lines_of [] c.args.noted.now) (grind arith)
 
 pub loop-preserved : goal.loop-preserved
-loop-preserved g c =
-    lining_next (g.L.Line.part c.args.most) (g.L.Line.adds c.args.most) c.requires.row c.args.count c.args.cursor.now
-    (lines_of [] c.args.noted.now)
-    c.loop-test.true c.loop.invariant c.in_ok-read.ensures.exact c.in_ok-read.ensures.adds
+loop-preserved g c = lining_next (g.L.Line.part c.args.most) (g.L.Line.adds c.args.most) c.requires.row c.args.count
+    c.args.cursor.now (lines_of [] c.args.noted.now) c.loop-test.true c.loop.invariant c.in_ok-read.ensures.exact
+    c.in_ok-read.ensures.adds
 
 pub returns-in_err-read-clause-exact : goal.returns-in_err-read-clause-exact
-returns-in_err-read-clause-exact g c = λ n k short.
-    exit _ (times n (g.L.Line.part c.args.most) (lines_of [] c.args.noted.now)) c.args.cursor.now _ _ _
-    (lining_fails (g.L.Line.part c.args.most) (g.L.Line.adds c.args.most) c.requires.row c.args.count c.args.cursor.now
-    (lines_of [] c.args.noted.now) _ c.loop-test.true
-    c.loop.invariant c.in_err-read.ensures.exact n k) c.from_residual.ensures.1
+returns-in_err-read-clause-exact g c = λ n k short. exit _ (times n (g.L.Line.part c.args.most)
+    (lines_of [] c.args.noted.now)) c.args.cursor.now _ _ _ (lining_fails (g.L.Line.part c.args.most)
+    (g.L.Line.adds c.args.most) c.requires.row c.args.count c.args.cursor.now (lines_of [] c.args.noted.now) _
+    c.loop-test.true c.loop.invariant c.in_err-read.ensures.exact n k) c.from_residual.ensures.1
 
 pub returns-clause-exact : goal.returns-clause-exact
-returns-clause-exact g c = λ n k short.
-    lining_ends (g.L.Line.part c.args.most) (g.L.Line.adds c.args.most) c.requires.row c.args.count c.args.cursor.now
-    (lines_of [] c.args.noted.now) c.loop-test.false c.loop.invariant n k short
+returns-clause-exact g c = search (rules, lining_ends)
 
 pub returns-clause-grown : goal.returns-clause-grown
 returns-clause-grown g c = c.loop.invariant.grown

@@ -1,4 +1,4 @@
-use Rattle.std.proofs.Common.{◌∙◌, Some, sym, ap}
+use Rattle.std.proofs.Common.{arith, ◌∙◌, sym}
 use Rattle.ps_circuit.proofs.SymbolLemmas.{comment_none, comment_reads}
 use Rattle.ps_circuit.proofs.names.comment.Goals as goal
 
@@ -6,6 +6,4 @@ pub returns-in-None : goal.returns-in-None
 returns-in-None c = comment_none (sym c.peek.ensures ∙ c.in-None.is)
 
 pub returns-in-Some-eq99 : goal.returns-in-Some-eq99
-returns-in-Some-eq99 c =
-    comment_reads (sym c.peek.ensures ∙ c.in-Some-eq99.is
-    ∙ ap Some c.in-Some-eq99.field-0-test) c.finish.ensures.pieces c.finish.ensures.end
+returns-in-Some-eq99 c = comment_reads (grind arith) c.finish.ensures.pieces c.finish.ensures.end

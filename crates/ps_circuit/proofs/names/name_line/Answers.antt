@@ -1,4 +1,4 @@
-use Rattle.std.proofs.Common.{refl}
+use Rattle.std.proofs.Common.{arith, refl}
 use Rattle.ps_circuit.specs.Texts.{AnyNumber}
 use Rattle.ps_circuit.proofs.Exits.{exits_at, exits_last}
 use Rattle.ps_circuit.proofs.NumberLemmas.{number_any, number_none}
@@ -15,10 +15,7 @@ returns-in_err-number-clause-exact c = λ all kind t same next is.
     (number_none AnyNumber c.number.new.self _ c.in_err-number.ensures) c.from_residual.ensures.1
 
 pub returns-then-not-is_free-clause-exact : goal.returns-then-not-is_free-clause-exact
-returns-then-not-is_free-clause-exact c = λ all kind t same next is.
-    let a = at_letter all kind c.args.names.now.items t same next is c.step.ensures.ahead c.step.ensures.next in
-    letter_stops a c.in_ok-number.ensures c.is_free.ensures.small (c.is_free.ensures.taken c.if-not-is_free.true)
-    c.refusal-refusal.ensures
+returns-then-not-is_free-clause-exact c = grind (arith, at_letter, letter_stops)
 
 pub returns-in_err-byte-clause-exact : goal.returns-in_err-byte-clause-exact
 returns-in_err-byte-clause-exact c = λ all kind t same next is.
@@ -45,11 +42,7 @@ pub returns-clause-exact : goal.returns-clause-exact
 returns-clause-exact c = λ all kind t same next is.
     let a = at_letter all kind c.args.names.now.items t same next is c.step.ensures.ahead c.step.ensures.next in
     symbol_reads a c.in_ok-number.ensures c.is_free.ensures.small (c.is_free.ensures.free c.if-not-is_free.false)
-    c.in_ok-byte.ensures c.in_ok-name.ensures c.in_ok-to_vec.field-0 c.in_ok-newline.ensures refl
-    (c.in_ok-to_vec.ensures.items_if_clones_equal (λ x y h. h))
+    c.in_ok-byte.ensures c.in_ok-name.ensures c.in_ok-to_vec.field-0 c.in_ok-newline.ensures refl (grind arith)
 
 pub returns-clause-names : goal.returns-clause-names
-returns-clause-names c =
-    let plain = plain_name c.in_ok-name.ensures in
-    name_set c.args.names.now.items c.in_ok-number.number.value c.in_ok-to_vec.field-0 c.requires
-    (c.in_ok-to_vec.ensures.items_if_clones_equal (λ x y h. h)) plain.0 plain.1
+returns-clause-names c = grind (arith, plain_name, name_set)

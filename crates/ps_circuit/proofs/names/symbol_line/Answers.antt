@@ -1,4 +1,4 @@
-use Rattle.std.proofs.Common.{refl}
+use Rattle.std.proofs.Common.{arith, refl}
 use Rattle.ps_circuit.specs.Texts.{OfInput, OfLatch, OfOutput}
 use Rattle.ps_circuit.specs.Names.{names_data}
 use Rattle.ps_circuit.proofs.Exits.{refuted}
@@ -21,8 +21,5 @@ returns-then-comes-3-clause-exact c =
     c.name_line-then-comes-3.ensures.exact (names_data c.args.names.now) OfOutput t.0 refl t.1 t.2
 
 pub returns-clause-exact : goal.returns-clause-exact
-returns-clause-exact c =
-    symbol_refused (names_data c.args.names.now) c.args.cursor.now
-    (refuted c.comes.ensures.1 c.if-comes.false)
-    (refuted c.comes-2.ensures.1 c.if-comes-2.false)
-    (refuted c.comes-3.ensures.1 c.if-comes-3.false) c.refusal.ensures
+returns-clause-exact c = symbol_refused (names_data c.args.names.now) c.args.cursor.now (grind (arith, refuted))
+    (refuted c.comes-2.ensures.1 c.if-comes-2.false) (refuted c.comes-3.ensures.1 c.if-comes-3.false) c.refusal.ensures

@@ -10,5 +10,4 @@ cyclic-requires c =
 pub returns-in-Err-Cyclic-clause-cyclic : goal.returns-in-Err-Cyclic-clause-cyclic
 returns-in-Err-Cyclic-clause-cyclic c = λ e h.
     let first = c.new.ensures.cyclic c.in-Err-Cyclic.gate (cc) in
-    cyclic_tells c.args.parts.gates.items c.args.starts.now first
-    (omega (arith, way_within c.args.parts.gates.items first.cyclic, c.requires.starts)) c.cyclic.ensures cc
+    grind (arith, cyclic_tells, way_within)

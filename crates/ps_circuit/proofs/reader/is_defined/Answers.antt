@@ -1,4 +1,4 @@
-use Rattle.std.proofs.Common.{◌∙◌, rules}
+use Rattle.std.proofs.Common.{rules}
 use Rattle.ps_ids.proofs.Members.{Contains-any}
 use Rattle.ps_circuit.proofs.reader.is_defined.Goals as goal
 

@@ -52,42 +52,38 @@ inputs_ahead c = record {
   n = (header_of c).inputs;
   counted = c.in_ok-header.ensures.exact.1.inputs;
   chain = chain_inputs (header_of c) _;
-  reached =
-      past_header c.in_ok-header.ensures.exact.1.most c.new-cursor.ensures.small c.in_ok-header.ensures.exact.2
+  reached = past_header c.in_ok-header.ensures.exact.1.most c.new-cursor.ensures.small c.in_ok-header.ensures.exact.2
       c.nothing-noted.ensures;
 }
 
 latches_ahead : (c : After-lines-2) →
     Ahead (latch_line c.in_ok-header.header.most) (body_outputs (header_of (one c)) (inputs_of c))
     c.new-cursor.result c.lines.new.cursor c.in_ok-header.header.latches (lines_of [] c.lines.new.noted)
-latches_ahead c = record {
-  n = (header_of (one c)).latches;
-  counted = c.in_ok-header.ensures.exact.1.latches;
-  chain = chain_latches (header_of (one c)) (inputs_of c);
-  reached = past_lines (inputs_ahead (one c)) (inputs_of c) c.in_ok-inputs.ensures.exact;
-}
+latches_ahead c = grind (
+  arith,
+  chain_latches (header_of (one c)) (inputs_of c),
+  past_lines (inputs_ahead (one c)) (inputs_of c) c.in_ok-inputs.ensures.exact,
+)
 
 outputs_ahead : (c : After-lines-3) →
     Ahead (output_line c.in_ok-header.header.most)
     (body_gates (header_of (one (two c))) (inputs_of (two c)) (latches_of c))
     c.new-cursor.result c.lines-2.new.cursor c.in_ok-header.header.outputs (lines_of [] c.lines-2.new.noted)
-outputs_ahead c = record {
-  n = (header_of (one (two c))).outputs;
-  counted = c.in_ok-header.ensures.exact.1.outputs;
-  chain = chain_outputs (header_of (one (two c))) (inputs_of (two c)) (latches_of c);
-  reached = past_lines (latches_ahead (two c)) (latches_of c) c.in_ok-latches.ensures.exact;
-}
+outputs_ahead c = grind (
+  arith,
+  chain_outputs (header_of (one (two c))) (inputs_of (two c)) (latches_of c),
+  past_lines (latches_ahead (two c)) (latches_of c) c.in_ok-latches.ensures.exact,
+)
 
 gates_ahead : (c : After-lines-4) → let b = two (three c) in
     Ahead (gate_line c.in_ok-header.header.most)
     (symbols c.in_ok-header.header.most (inputs_of b) (latches_of (three c)) (outputs_of c))
     c.new-cursor.result c.lines-3.new.cursor c.in_ok-header.header.gates (lines_of [] c.lines-3.new.noted)
-gates_ahead c = let b = two (three c) in record {
-  n = (header_of (one b)).gates;
-  counted = c.in_ok-header.ensures.exact.1.gates;
-  chain = chain_gates (header_of (one b)) (inputs_of b) (latches_of (three c)) (outputs_of c);
-  reached = past_lines (outputs_ahead (three c)) (outputs_of c) c.in_ok-outputs.ensures.exact;
-}
+gates_ahead c = let b = two (three c) in grind (
+  arith,
+  chain_gates (header_of (one b)) (inputs_of b) (latches_of (three c)) (outputs_of c),
+  past_lines (outputs_ahead (three c)) (outputs_of c) c.in_ok-outputs.ensures.exact,
+)
 
 behind_gates : (c : After-symbols) → let b = two (three (four c)) in Reached c.new-cursor.result c.lines-4.new.cursor
     (symbols (header_of (one b)).most (inputs_of b) (latches_of (three (four c))) (outputs_of (four c)) (gates_of c))
@@ -106,31 +102,26 @@ none_yet c =
 -- ## The exits
 
 pub returns-in_err-header-clause-exact : goal.returns-in_err-header-clause-exact
-returns-in_err-header-clause-exact c =
-    draft_fails c.args.text.now _ _ c.new-cursor.ensures.stream
+returns-in_err-header-clause-exact c = draft_fails c.args.text.now _ _ c.new-cursor.ensures.stream
     (stops_at chain_text text_unread _ c.in_err-header.ensures.exact) c.from_residual.ensures.1
 
 pub returns-in_err-inputs-clause-exact : goal.returns-in_err-inputs-clause-exact
-returns-in_err-inputs-clause-exact c =
-    draft_fails c.args.text.now _ _ c.new-cursor.ensures.stream
+returns-in_err-inputs-clause-exact c = draft_fails c.args.text.now _ _ c.new-cursor.ensures.stream
     (lines_fail (inputs_ahead (goal.at.returns-in_err-inputs-clause-exact c).After-lines) _
     c.in_err-inputs.ensures.exact) c.from_residual-in_err-inputs.ensures.1
 
 pub returns-in_err-latches-clause-exact : goal.returns-in_err-latches-clause-exact
-returns-in_err-latches-clause-exact c =
-    draft_fails c.args.text.now _ _ c.new-cursor.ensures.stream
+returns-in_err-latches-clause-exact c = draft_fails c.args.text.now _ _ c.new-cursor.ensures.stream
     (lines_fail (latches_ahead (goal.at.returns-in_err-latches-clause-exact c).After-lines-2) _
     c.in_err-latches.ensures.exact) c.from_residual-in_err-latches.ensures.1
 
 pub returns-in_err-outputs-clause-exact : goal.returns-in_err-outputs-clause-exact
-returns-in_err-outputs-clause-exact c =
-    draft_fails c.args.text.now _ _ c.new-cursor.ensures.stream
+returns-in_err-outputs-clause-exact c = draft_fails c.args.text.now _ _ c.new-cursor.ensures.stream
     (lines_fail (outputs_ahead (goal.at.returns-in_err-outputs-clause-exact c).After-lines-3) _
     c.in_err-outputs.ensures.exact) c.from_residual-in_err-outputs.ensures.1
 
 pub returns-in_err-gates-clause-exact : goal.returns-in_err-gates-clause-exact
-returns-in_err-gates-clause-exact c =
-    draft_fails c.args.text.now _ _ c.new-cursor.ensures.stream
+returns-in_err-gates-clause-exact c = draft_fails c.args.text.now _ _ c.new-cursor.ensures.stream
     (lines_fail (gates_ahead (goal.at.returns-in_err-gates-clause-exact c).After-lines-4) _
     c.in_err-gates.ensures.exact) c.from_residual-in_err-gates.ensures.1
 
@@ -166,12 +157,10 @@ returns-clause-sound c =
     let read = draft_reads c.args.text.now c.new-cursor.ensures.stream c.in_ok-comment.ensures.1
     (all_reads _ _ _ _ _ (behind_gates b) (none_yet b) c.in_ok-symbols.ensures.exact c.in_ok-comment.ensures.0) in
     sound_draft most (names_data c.symbols.new.names) c.in_ok-header.ensures.small (gates_placed _ _ read.0)
-    (search (rules, c.nothing-noted.ensures, c.in_ok-inputs.ensures.grown))
-    c.in_ok-latches.ensures.grown c.in_ok-outputs.ensures.grown c.in_ok-gates.ensures.grown
-    (search (rules, each_named, c.len.ensures))
-    (search (rules, each_named, c.len-2.ensures))
-    (search (rules, each_named, c.len-3.ensures))
-    n.inputs_named n.latches_named n.outputs_named
+    (search (rules, c.nothing-noted.ensures, c.in_ok-inputs.ensures.grown)) c.in_ok-latches.ensures.grown
+    c.in_ok-outputs.ensures.grown c.in_ok-gates.ensures.grown (search (rules, each_named, c.len.ensures))
+    (search (rules, each_named, c.len-2.ensures)) (search (rules, each_named, c.len-3.ensures)) n.inputs_named
+    n.latches_named n.outputs_named
 
 pub lines-requires-clause-row : goal.lines-requires-clause-row
 lines-requires-clause-row c = is_row (laws_input_line c.in_ok-header.header.most)

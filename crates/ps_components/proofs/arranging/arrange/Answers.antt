@@ -1,3 +1,4 @@
+use Rattle.std.proofs.Common.{arith}
 use Rattle.ps_components.proofs.Knots.{first-knot, no_cycle, order-of_components}
 use Rattle.ps_components.proofs.arranging.arrange.Goals as goal
 
@@ -8,7 +9,8 @@ returns-in-Some g c =
 
 pub returns-in-None : goal.returns-in-None
 returns-in-None g c =
-    let e = c.in_ok-components.ensures in (
-      rw c.into_order.ensures (order-of_components e.components e.met c.in-None.ensures.none),
+    let e = c.in_ok-components.ensures in grind (
+      arith,
+      order-of_components e.components e.met c.in-None.ensures.none,
       no_cycle e.components e.met c.in-None.ensures.none,
     )

@@ -17,14 +17,11 @@ loop-at-preserved g c =
     let back = c.requires.back c.loop-at.at (get_or steps c.loop-at.at d) (omega arith) here in
     record {
       within = slice_get_within steps _ back.0 back.2;
-      trail = λ e s he hs.
-          (let same : back.0 ≡ s = cc (back.2) in
-          rw (c.in_ok-push-2.ensures.items, get_or_from_slice_get steps _ s d hs)
-          (trail-more (i.trail e _ he here) (rw same at back.3)
-          (trail-new steps c.loop-at.items.items c.requires.apart i.placed back.1 hs)));
+      trail = λ e s he hs. (let same : back.0 ≡ s = cc (back.2) in
+          rw (c.in_ok-push-2.ensures.items, get_or_from_slice_get steps _ s d hs) (trail-more (i.trail e _ he here)
+          (rw same at back.3) (trail-new steps c.loop-at.items.items c.requires.apart i.placed back.1 hs)));
       placed = search (rules, slice_get-push_cases, slice_get-get_or, slice_get_within);
     }
 
 pub returns : goal.returns
-returns g c =
-    λ e s he hs. c.loop-at.invariant.trail e s he (let z : c.loop-at.at ≡ 0 = omega arith in rw z hs)
+returns g c = λ e s he hs. c.loop-at.invariant.trail e s he (let z : c.loop-at.at ≡ 0 = omega arith in rw z hs)

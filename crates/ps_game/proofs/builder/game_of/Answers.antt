@@ -1,4 +1,4 @@
-use Rattle.std.proofs.Common.{◌≡◌, ◌<◌, ◌∙◌, rules}
+use Rattle.std.proofs.Common.{rules}
 use Rattle.std.proofs.lemmas.List.{get_or_read}
 use Rattle.ps_game.specs.Games.{vertex_count, owner_of}
 use Rattle.ps_game.proofs.builder.game_of.Goals as goal

@@ -8,11 +8,12 @@ pub loop-vertex-preserved : goal.loop-vertex-preserved
 loop-vertex-preserved g c =
     let e = c.priority-priority.ensures in
     elim c.if-priority-parity.branch [
-      | then-priority-parity+in_ok-push w ↦ rw (w.priorities-is, w.in_ok-push.ensures.items, e)
-          (lists_push c.loop-vertex.invariant (omega (arith, c.count-vertex-end.ensures.vertices))
-          (rw e at w.if-priority-parity.true))
-      | else-priority-parity w ↦
-          rw w.priorities-is (lists_skip c.loop-vertex.invariant (rw e at w.if-priority-parity.false))
+      | then-priority-parity+in_ok-push w ↦ grind (
+        arith,
+        lists_push c.loop-vertex.invariant
+            (omega (arith, c.count-vertex-end.ensures.vertices)) (rw e at w.if-priority-parity.true),
+      )
+      | else-priority-parity w ↦ grind (arith, lists_skip c.loop-vertex.invariant (rw e at w.if-priority-parity.false))
     ]
 
 pub returns : goal.returns

@@ -10,8 +10,7 @@ contains-requires g c =
     let game = g.A.Arena.game c.args.arena.now in
     let below : c.loop-number.number < length (successors_of game c.args.vertex) = omega arith in
     let is_vertex : get_or (successors_of game c.args.vertex) c.loop-number.number 0 < vertex_count game =
-    c.requires.game.within c.args.vertex _ (edge_at game c.args.vertex c.loop-number.number c.requires.vertex below)
-    in
+    c.requires.game.within c.args.vertex _ (edge_at game c.args.vertex c.loop-number.number c.requires.vertex below) in
     omega (arith, c.successor.ensures, c.requires.places)
 
 pub returns : goal.returns

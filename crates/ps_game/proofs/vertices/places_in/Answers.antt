@@ -6,10 +6,8 @@ use Rattle.ps_ids.proofs.Members.{any-from_Contains}
 use Rattle.ps_game.proofs.vertices.places_in.Goals as goal
 
 pub unwrap-place-requires : goal.unwrap-place-requires
-unwrap-place-requires c =
-    c.place.ensures.member ∙ any-from_Contains _ c.args.ids.now
-    (subst (λ id. Contains c.args.ids.now id) (sym (c.loop-at.invariant.left c.loop-at.at (omega arith)))
-    (c.requires c.loop-at.at 0 (omega (arith, c.loop-at-test.true, c.loop-at.auto.numbers))))
+unwrap-place-requires c = c.place.ensures.member ∙ any-from_Contains _ c.args.ids.now
+    (subst (λ id. Contains c.args.ids.now id) (sym (c.loop-at.invariant.left c.loop-at.at (omega arith))) (grind arith))
 
 pub returns : goal.returns
 returns c =

@@ -1,3 +1,4 @@
+use Rattle.std.proofs.Common.{arith}
 use Rattle.ps_text.specs.Parts.{one}
 use Rattle.ps_text.proofs.Meeting.{meets_mapped}
 use Rattle.ps_hoa.specs.Body.{is_end, IsBadClose}
@@ -14,5 +15,4 @@ returns c =
     let h = header_data c.args.header.now in
     let b = body_data c.args.rows.now in
     meets_mapped found_of hoa_causes (λ u. u) (λ _. b) (one (mark_in is_end) (IsBadClose h b)) _ _ c.end_of.result
-    (reads_token (λ u. u) (end_signs h b) _ _ _ _ c.end_of.ensures c.advance-token.ensures.next
-    c.advance-token.ensures.rest)
+    (grind (arith, reads_token, end_signs))

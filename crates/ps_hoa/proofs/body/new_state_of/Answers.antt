@@ -28,6 +28,5 @@ returns-then-has-clause-sign c =
     )
 
 pub returns-clause-sign : goal.returns-clause-sign
-returns-clause-sign c =
-    takes_both (IsBadState c.args.header.now.states) (Again (body_data c.args.rows.now)) (piece_of c.args.token).sign
-    c.in_ok-state.state c.in_ok-state.ensures (λ f k. false_true (sym c.if-has.false ∙ c.has.ensures ∙ k.0))
+returns-clause-sign c = takes_both (IsBadState c.args.header.now.states) (Again (body_data c.args.rows.now))
+    (piece_of c.args.token).sign c.in_ok-state.state c.in_ok-state.ensures (λ f k. false_true (grind arith))

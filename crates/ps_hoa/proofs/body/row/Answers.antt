@@ -1,4 +1,4 @@
-use Rattle.std.proofs.Common.{List, map, option_map, ap}
+use Rattle.std.proofs.Common.{rules, List, map, option_map, ap}
 use Rattle.ps_label.specs.Expression.{expression}
 use Rattle.ps_text.proofs.Exits.{reads_mapped, reads_then}
 use Rattle.ps_hoa.specs.Body.{edges, empty_row, with_row}
@@ -12,8 +12,7 @@ use Rattle.ps_hoa.proofs.body.row.Goals as goal
 
 pub returns-in_err-begin-clause-part : goal.returns-in_err-begin-clause-part
 returns-in_err-begin-clause-part c =
-    exit _ _ _ _ (first (joint_state (header_data c.args.header.now) (body_data c.args.rows.now)))
-    c.in_err-begin.ensures c.from_residual.ensures.1
+    exit _ _ _ _ (search (rules, first, joint_state)) c.in_err-begin.ensures c.from_residual.ensures.1
 
 pub returns-in_err-label-clause-part : goal.returns-in_err-label-clause-part
 returns-in_err-label-clause-part c =
@@ -47,13 +46,11 @@ returns-in_err-edges-clause-part c =
     let l = option_map expression c.in_ok-label.label in
     let empty = empty_row c.in_ok-state.state l c.in_ok-marks.marks.items in
     let same = ap (λ (es : List EdgeData). record empty { edges = es }) (ap (map edge_data) c.new.ensures.items) in
-    exit _ _ _ _ (behind (joint_state h b) c.in_ok-begin.ensures (behind (joint_state_label h b) c.in_ok-label.ensures
-    (behind (joint_number h b l) c.in_ok-state.ensures.part
-    (behind (joint_name h b l c.in_ok-state.state) c.pass_name.ensures
-    (behind (joint_marks h b l c.in_ok-state.state) c.in_ok-marks.ensures
-    (under (with_row b) (edges h b.edges empty)))))))
-    ((edges_serve h c.edges-before.ensures.value same _).stops _ c.in_err-edges.ensures.part)
-    c.from_residual-in_err-edges.ensures.1
+    exit _ _ _ _ (behind (joint_state h b) c.in_ok-begin.ensures
+    (behind (joint_state_label h b) c.in_ok-label.ensures (behind (joint_number h b l) c.in_ok-state.ensures.part
+    (behind (joint_name h b l c.in_ok-state.state) c.pass_name.ensures (behind (joint_marks h b l c.in_ok-state.state)
+    c.in_ok-marks.ensures (under (with_row b) (edges h b.edges empty))))))) ((edges_serve h c.edges-before.ensures.value
+    same _).stops _ c.in_err-edges.ensures.part) c.from_residual-in_err-edges.ensures.1
 
 pub returns-clause-part : goal.returns-clause-part
 returns-clause-part c =

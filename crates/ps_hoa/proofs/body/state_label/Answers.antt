@@ -1,3 +1,4 @@
+use Rattle.std.proofs.Common.{arith}
 use Rattle.std.proofs.lemmas.Bool.{iff_false}
 use Rattle.ps_text.proofs.Exits.{reads_give, reads_then}
 use Rattle.ps_hoa.specs.Body.{is_left_bracket}
@@ -10,8 +11,7 @@ use Rattle.ps_hoa.proofs.body.state_label.Goals as goal
 
 pub returns-then-not-is_at : goal.returns-then-not-is_at
 returns-then-not-is_at c =
-    (no_label_serves (header_data c.args.header.now) _ (iff_false c.is_at.ensures c.if-not-is_at.true)).reads _ _
-    (reads_give _ _)
+    (no_label_serves (header_data c.args.header.now) _ (grind (arith, iff_false))).reads _ _ (reads_give _ _)
 
 pub returns-in_err-mark : goal.returns-in_err-mark
 returns-in_err-mark c = let h = header_data c.args.header.now in

@@ -1,22 +1,12 @@
-use Rattle.std.proofs.Common.{sym, ◌∙◌, subst}
-use Rattle.ps_text.specs.Parts.{many}
-use Rattle.ps_text.specs.Readers.{Carries}
-use Rattle.ps_text.proofs.Exits.{carries_start}
-use Rattle.ps_hoa.specs.Body.{BodyData, state, no_rows}
-use Rattle.ps_hoa.specs.Causes.{hoa_causes}
+use Rattle.std.proofs.Common.{arith, sym, ◌∙◌}
 use Rattle.ps_hoa.specs.Inner.Rows.{body_data}
-use Rattle.ps_hoa.specs.Scan.{stream_of}
 use Rattle.ps_hoa.specs.Views.{header_data}
 use Rattle.ps_hoa.proofs.Reading.Exits.{exit, loop_more, loop_fails, loop_ends, loop_shrinks}
 use Rattle.ps_hoa.proofs.Reading.StateReading.{state_enters, avoids_state, state_loop}
 use Rattle.ps_hoa.proofs.body.states.Goals as goal
 
 pub more-init : goal.more-init
-more-init c =
-    let h = header_data c.args.header.now in
-    let s = stream_of c.args.tokens.now in
-    subst (λ (b : BodyData). Carries hoa_causes (many (state h) no_rows) s (many (state h) b) s)
-    (sym c.new-rows.ensures) (carries_start hoa_causes (many (state h) no_rows) s)
+more-init c = grind arith
 
 pub more-smaller : goal.more-smaller
 more-smaller c = loop_shrinks (state_loop (header_data c.args.header.now)) c.in_ok-state.ensures
@@ -30,5 +20,4 @@ returns-in_err-state c = let h = header_data c.args.header.now in
     (sym c.is_at_state.ensures ∙ c.more-test.true))) c.in_err-state.ensures c.from_residual.ensures.1
 
 pub returns : goal.returns
-returns c = loop_ends (state_loop (header_data c.args.header.now)) c.more.invariant
-    (avoids_state _ (sym c.is_at_state.ensures ∙ c.more-test.false))
+returns c = loop_ends (state_loop (header_data c.args.header.now)) c.more.invariant (grind (arith, avoids_state))

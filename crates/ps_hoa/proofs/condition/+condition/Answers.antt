@@ -1,4 +1,4 @@
-use Rattle.std.proofs.Common.{sym, arith}
+use Rattle.std.proofs.Common.{rules, sym, arith}
 use Rattle.std.proofs.lemmas.Bool.{iff_false}
 use Rattle.ps_hoa.specs.Values.{condition_of}
 use Rattle.ps_hoa.specs.Conditions.{together}
@@ -15,8 +15,7 @@ use Rattle.ps_hoa.proofs.condition.+condition.Goals.{operand-else-room-gt0-via-e
 
 pub row-returns-in_err-first : goal.row-returns-in_err-first
 row-returns-in_err-first t c = let row = operand_row condition_operands c.args.room c.args.connective in
-    exit condition_of _ _ _ (first_fails row (together c.args.connective)) c.in_err-first.ensures
-    c.from_residual.ensures.1
+    exit condition_of _ _ _ (search (rules, first_fails)) c.in_err-first.ensures c.from_residual.ensures.1
 
 pub row-returns-then-not-is_at : goal.row-returns-then-not-is_at
 row-returns-then-not-is_at t c = let row = operand_row condition_operands c.args.room c.args.connective in
@@ -24,8 +23,7 @@ row-returns-then-not-is_at t c = let row = operand_row condition_operands c.args
 
 pub row-more-init : goal.row-more-init
 row-more-init t c = let row = operand_row condition_operands c.args.room c.args.connective in
-    row_starts row c.in_ok-first.ensures (c.is_at.ensures.0 c.if-not-is_at.false)
-    (first_value condition_of _ c.in_ok-push.ensures.items c.new-operands.ensures.items)
+    row_starts row c.in_ok-first.ensures (c.is_at.ensures.0 c.if-not-is_at.false) (grind (arith, first_value))
 
 pub row-returns-in_err-part : goal.row-returns-in_err-part
 row-returns-in_err-part t c = let row = operand_row condition_operands c.args.room c.args.connective in
@@ -52,10 +50,9 @@ operand-returns-in_err-inner t c = exit condition_of _ _ _
     c.advance.ensures.rest) c.in_err-inner.ensures c.from_residual.ensures.1
 
 pub operand-returns-in_err-mark : goal.operand-returns-in_err-mark
-operand-returns-in_err-mark t c = exit condition_of _ _ _
-    (paren_stays_open condition_operands c.args.room c.if-room-gt0.true (c.is_at.ensures.0 c.if-is_at.true)
-    c.advance.ensures.rest c.in_ok-inner.ensures) (c.in_err-mark.ensures is_right tests_right.is)
-    c.from_residual-in_err-mark.ensures.1
+operand-returns-in_err-mark t c = exit condition_of _ _ _ (paren_stays_open condition_operands c.args.room
+    c.if-room-gt0.true (c.is_at.ensures.0 c.if-is_at.true) c.advance.ensures.rest c.in_ok-inner.ensures)
+    (c.in_err-mark.ensures is_right tests_right.is) c.from_residual-in_err-mark.ensures.1
 
 pub operand-returns-then-is_at : goal.operand-returns-then-is_at
 operand-returns-then-is_at t c =
@@ -63,9 +60,9 @@ operand-returns-then-is_at t c =
     c.advance.ensures.rest c.in_ok-inner.ensures (c.in_ok-mark.ensures is_right tests_right.is)
 
 pub operand-returns : goal.operand-returns
-operand-returns t c = serves_meets condition_of _ c.atom.result (atom_serves c.args.room _
-    (λ some e. elim c.else-room-gt0.branch [
-      | operand-else-room-gt0-via-then-room-gt0+else-is_at w ↦ iff_false w.is_at.ensures w.if-is_at.false e
-      | operand-else-room-gt0-via-else-room-gt0 w ↦ absurd (omega (arith, some, w.if-room-gt0.false))
-    ]))
-    c.atom.ensures
+operand-returns t c = serves_meets condition_of _ c.atom.result (atom_serves c.args.room _ (λ some e. grind (
+  arith,
+  operand-else-room-gt0-via-then-room-gt0+else-is_at,
+  iff_false,
+  operand-else-room-gt0-via-else-room-gt0,
+))) c.atom.ensures

@@ -1,4 +1,4 @@
-use Rattle.std.proofs.Common.{ap, sym, ◌∙◌}
+use Rattle.std.proofs.Common.{arith, ap, sym, ◌∙◌}
 use Rattle.ps_hoa.specs.Conditions.{often_in}
 use Rattle.ps_hoa.specs.Operands.{is_left, is_right}
 use Rattle.ps_hoa.specs.Values.{condition_of}
@@ -9,8 +9,7 @@ use Rattle.ps_hoa.proofs.Reading.ConditionReading.{constant_serves}
 use Rattle.ps_hoa.proofs.condition.atom.Goals as goal
 
 pub returns-in_default : goal.returns-in_default
-returns-in_default c = serves_meets condition_of _ c.constant.result (constant_serves c.args.room _
-    (ap (λ p. often_in p.sign) (sym c.peek.ensures.next) ∙ sym c.often_of.ensures ∙ c.in_default.is)) c.constant.ensures
+returns-in_default c = serves_meets condition_of _ c.constant.result (grind (arith, constant_serves)) c.constant.ensures
 
 pub returns-in_err-mark : goal.returns-in_err-mark
 returns-in_err-mark c =

@@ -1,4 +1,4 @@
-use Rattle.std.proofs.Common.{◌≡◌, ℕ, cond, List, [], ◌∷◌, ◌++◌, refl, sym, ap, ◌∙◌, Bool, true, false, arith}
+use Rattle.std.proofs.Common.{◌≡◌, ℕ, cond, List, [], ◌∷◌, ◌++◌, refl, sym, ap, ◌∙◌, Bool, arith}
 use Rattle.std.specs.List.{list_any}
 use Rattle.std.proofs.Math.Dec.{eqb}
 use Rattle.ps_hoa.specs.Files.{is_among, once}
@@ -16,9 +16,7 @@ once_is : (ms : List ℕ) (n : ℕ) {b : Bool} → list_any (λ m. eqb m n) ms �
 once_is ms n e = ap (λ (b : Bool). cond b ms (ms ++ n ∷ [])) (sym e ∙ among n ms)
 
 pub returns-in_ok-push : goal.returns-in_ok-push
-returns-in_ok-push c = c.in_ok-push.ensures.ok ∙ once_is c.args.numbers.now.items c.args.number
-    (ap (list_any (λ m. eqb m c.args.number)) (sym c.as_slice.ensures) ∙ sym c.contains.ensures.value
-    ∙ c.if-not-contains.true)
+returns-in_ok-push c = grind (arith, once_is)
 
 pub returns-else-not-contains : goal.returns-else-not-contains
 returns-else-not-contains c = once_is c.args.numbers.now.items c.args.number

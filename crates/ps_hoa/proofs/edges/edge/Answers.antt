@@ -1,3 +1,4 @@
+use Rattle.std.proofs.Common.{rules}
 use Rattle.std.proofs.lemmas.Bool.{iff_false}
 use Rattle.ps_hoa.specs.Views.{header_data, row_data}
 use Rattle.ps_hoa.proofs.Reading.BodyReading.{bracket_serves, int_serves}
@@ -10,6 +11,4 @@ returns-then-is_at-clause-part c = serves_meets _ _ c.labelled_edge.result
     (c.is_at.ensures.0 c.if-is_at.true)) c.labelled_edge.ensures.part
 
 pub returns-else-is_at-clause-part : goal.returns-else-is_at-clause-part
-returns-else-is_at-clause-part c = serves_meets _ _ c.plain_edge.result
-    (int_serves (header_data c.args.header.now) c.args.before (row_data c.args.row.now) _
-    (iff_false c.is_at.ensures c.if-is_at.false)) c.plain_edge.ensures.part
+returns-else-is_at-clause-part c = search (rules, serves_meets, int_serves, iff_false)

@@ -1,4 +1,4 @@
-use Rattle.std.proofs.Common.{sym, ◌∙◌}
+use Rattle.std.proofs.Common.{arith, sym, ◌∙◌}
 use Rattle.ps_hoa.specs.Inner.Ahead.{begins_edge}
 use Rattle.ps_hoa.specs.Views.{header_data, row_data}
 use Rattle.ps_hoa.proofs.Grammar.OperandLaws.{false_true}
@@ -12,12 +12,11 @@ pub more-smaller : goal.more-smaller
 more-smaller c = loop_shrinks (edge_loop (header_data c.args.header.now) c.args.before) c.in_ok-edge.ensures.part
 
 pub more-preserved : goal.more-preserved
-more-preserved c = record {
-  carries = loop_more (edge_loop (header_data c.args.header.now) c.args.before) c.more.invariant.carries
-      c.in_ok-edge.ensures.part;
-  within = c.in_ok-edge.ensures.within;
-  same = c.edge.ensures.same ∙ c.more.invariant.same;
-}
+more-preserved c = grind (
+  arith,
+  loop_more (edge_loop (header_data c.args.header.now) c.args.before)
+      c.more.invariant.carries c.in_ok-edge.ensures.part,
+)
 
 pub returns-in_err-edge-clause-part : goal.returns-in_err-edge-clause-part
 returns-in_err-edge-clause-part c = let h = header_data c.args.header.now in

@@ -1,11 +1,11 @@
-use Rattle.std.proofs.Common.{subst}
+use Rattle.std.proofs.Common.{rules, subst}
 use Rattle.ps_label.specs.Expression.{expression}
 use Rattle.ps_text.proofs.Exits.{reads_mapped, reads_then}
 use Rattle.ps_text.specs.Readers.{Reads, Stops}
 use Rattle.ps_hoa.specs.Body.{is_right_bracket, some_label}
 use Rattle.ps_hoa.specs.Causes.{found_of, hoa_causes}
 use Rattle.ps_hoa.specs.Labels.{label}
-use Rattle.ps_hoa.specs.Operands.{mark, nesting_limit}
+use Rattle.ps_hoa.specs.Operands.{nesting_limit}
 use Rattle.ps_hoa.specs.Scan.{stream_of}
 use Rattle.ps_hoa.specs.Views.{header_data}
 use Rattle.ps_hoa.proofs.Grammar.BodyLaws.{joint_label}
@@ -22,9 +22,8 @@ pub returns-in_err-mark : goal.returns-in_err-mark
 returns-in_err-mark c =
     let read = subst (λ s. Reads (label s nesting_limit) (stream_of c.args.tokens.now) (expression c.in_ok-label.label)
     (stream_of c.label.new.tokens)) c.scope-scope.ensures c.in_ok-label.ensures in
-    exit _ _ _ _ (behind (joint_label (header_data c.args.header.now)) read
-    (under (some_label _) (mark is_right_bracket))) (c.in_err-mark.ensures is_right_bracket tests_right_bracket.is)
-    c.from_residual-in_err-mark.ensures.1
+    exit _ _ _ _ (search (rules, behind, joint_label, under))
+    (c.in_err-mark.ensures is_right_bracket tests_right_bracket.is) c.from_residual-in_err-mark.ensures.1
 
 pub returns : goal.returns
 returns c =

@@ -1,8 +1,7 @@
-use Rattle.std.proofs.Common.{List, Some, ap}
+use Rattle.std.proofs.Common.{rules, arith, Some}
 use Rattle.ps_label.specs.Expression.{expression}
 use Rattle.ps_text.proofs.Exits.{reads_mapped, reads_then}
-use Rattle.ps_hoa.specs.Body.{marks, with_edge}
-use Rattle.ps_hoa.specs.Files.{EdgeData}
+use Rattle.ps_hoa.specs.Body.{with_edge}
 use Rattle.ps_hoa.specs.Views.{header_data, row_data}
 use Rattle.ps_hoa.proofs.Grammar.BodyLaws.{joint_edge_label, joint_edge_target, joint_edge_marks}
 use Rattle.ps_hoa.proofs.Reading.BodyReading.{pushed_edge}
@@ -25,30 +24,27 @@ pub returns-in_err-target-clause-part : goal.returns-in_err-target-clause-part
 returns-in_err-target-clause-part c =
     let h = header_data c.args.header.now in
     let row = row_data c.args.row.now in
-    exit _ _ _ _ (behind (joint_edge_label h c.args.before row) c.in_ok-bracket.ensures.part
-    (behind (joint_edge_target h c.args.before row) c.in_ok-label.ensures
-    (first (joint_edge_marks h c.args.before row (Some (expression c.in_ok-label.label)))))) c.in_err-target.ensures
-    c.from_residual-in_err-target.ensures.1
+    exit _ _ _ _ (behind (joint_edge_label h c.args.before row) c.in_ok-bracket.ensures.part (grind (
+      arith,
+      behind (joint_edge_target h c.args.before row) c.in_ok-label.ensures (first (joint_edge_marks h c.args.before row
+          (Some (expression c.in_ok-label.label)))),
+    ))) c.in_err-target.ensures c.from_residual-in_err-target.ensures.1
 
 pub returns-in_err-marks-clause-part : goal.returns-in_err-marks-clause-part
 returns-in_err-marks-clause-part c =
     let h = header_data c.args.header.now in
     let row = row_data c.args.row.now in
     let label = Some (expression c.in_ok-label.label) in
-    exit _ _ _ _ (behind (joint_edge_label h c.args.before row) c.in_ok-bracket.ensures.part
-    (behind (joint_edge_target h c.args.before row) c.in_ok-label.ensures
-    (behind (joint_edge_marks h c.args.before row label) c.in_ok-target.ensures
-    (under (with_edge row label c.in_ok-target.target) (marks h))))) c.in_err-marks.ensures
-    c.from_residual-in_err-marks.ensures.1
+    exit _ _ _ _ (behind (joint_edge_label h c.args.before row) c.in_ok-bracket.ensures.part (behind
+    (joint_edge_target h c.args.before row) c.in_ok-label.ensures (behind (joint_edge_marks h c.args.before row label)
+    c.in_ok-target.ensures (search (rules, under))))) c.in_err-marks.ensures c.from_residual-in_err-marks.ensures.1
 
 pub returns-clause-part : goal.returns-clause-part
 returns-clause-part c =
     let h = header_data c.args.header.now in
     let row = row_data c.args.row.now in
     let label = Some (expression c.in_ok-label.label) in
-    value_is (ap (λ (es : List EdgeData). record row { edges = es })
-    (pushed_edge c.args.row.now.edges.items c.push.new.self.items _ c.in_ok-push.ensures.items))
-    (reads_then (joint_edge_label h c.args.before row) c.in_ok-bracket.ensures.part
-    (reads_then (joint_edge_target h c.args.before row) c.in_ok-label.ensures
-    (reads_then (joint_edge_marks h c.args.before row label) c.in_ok-target.ensures
-    (reads_mapped (with_edge row label c.in_ok-target.target) c.in_ok-marks.ensures))))
+    value_is (grind (arith, pushed_edge c.args.row.now.edges.items c.push.new.self.items _ c.in_ok-push.ensures.items))
+    (reads_then (joint_edge_label h c.args.before row) c.in_ok-bracket.ensures.part (reads_then (joint_edge_target h
+    c.args.before row) c.in_ok-label.ensures (reads_then (joint_edge_marks h c.args.before row label)
+    c.in_ok-target.ensures (reads_mapped (with_edge row label c.in_ok-target.target) c.in_ok-marks.ensures))))

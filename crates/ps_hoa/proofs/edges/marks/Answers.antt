@@ -1,8 +1,6 @@
-use Rattle.std.proofs.Common.{sym, subst}
+use Rattle.std.proofs.Common.{arith, sym}
 use Rattle.std.proofs.lemmas.Bool.{iff_false}
 use Rattle.ps_text.proofs.Exits.{reads_give}
-use Rattle.ps_hoa.specs.Body.{sets}
-use Rattle.ps_hoa.specs.Inner.Reads.{ReadsAs}
 use Rattle.ps_hoa.specs.Views.{header_data}
 use Rattle.ps_hoa.proofs.Reading.BodyReading.{braces_serve, no_braces_serve}
 use Rattle.ps_hoa.proofs.Reading.Exits.{serves_meets, value_is}
@@ -10,11 +8,8 @@ use Rattle.ps_hoa.proofs.edges.marks.Goals as goal
 
 pub returns-then-is_at : goal.returns-then-is_at
 returns-then-is_at c = serves_meets (λ ns. ns.items) _ c.sets.result
-    (braces_serve (header_data c.args.header.now) _ (c.is_at.ensures.0 c.if-is_at.true))
-    (subst (λ count. ReadsAs (λ ns. ns.items) (sets count) c.args.tokens.now c.sets.result c.sets.new.tokens)
-    c.sets-count.ensures c.sets.ensures)
+    (braces_serve (header_data c.args.header.now) _ (c.is_at.ensures.0 c.if-is_at.true)) (grind arith)
 
 pub returns-else-is_at : goal.returns-else-is_at
 returns-else-is_at c = value_is (sym c.new.ensures.items)
-    ((no_braces_serve (header_data c.args.header.now) _ (iff_false c.is_at.ensures c.if-is_at.false)).reads _ _
-    (reads_give _ _))
+    ((no_braces_serve (header_data c.args.header.now) _ (grind (arith, iff_false))).reads _ _ (reads_give _ _))

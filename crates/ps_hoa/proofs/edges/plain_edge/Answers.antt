@@ -1,8 +1,7 @@
-use Rattle.std.proofs.Common.{List, [], ◌∷◌, ◌++◌, None, map, sym, ap, ◌∙◌}
+use Rattle.std.proofs.Common.{rules, arith, None}
 use Rattle.ps_text.proofs.Exits.{reads_mapped, reads_then}
-use Rattle.ps_hoa.specs.Body.{marks, with_edge}
-use Rattle.ps_hoa.specs.Files.{EdgeData, GuardData}
-use Rattle.ps_hoa.specs.Views.{edge_data, header_data, row_data}
+use Rattle.ps_hoa.specs.Body.{with_edge}
+use Rattle.ps_hoa.specs.Views.{header_data, row_data}
 use Rattle.ps_hoa.proofs.Grammar.BodyLaws.{joint_plain_marks}
 use Rattle.ps_hoa.proofs.Reading.BodyReading.{pushed_edge}
 use Rattle.ps_hoa.proofs.Reading.Exits.{exit, first, behind, under, value_is}
@@ -10,27 +9,19 @@ use Rattle.ps_hoa.proofs.edges.plain_edge.Goals as goal
 
 pub returns-in_err-target-clause-part : goal.returns-in_err-target-clause-part
 returns-in_err-target-clause-part c =
-    exit _ _ _ _ (first (joint_plain_marks (header_data c.args.header.now) c.args.before (row_data c.args.row.now)))
-    c.in_err-target.ensures.part c.from_residual.ensures.1
+    exit _ _ _ _ (search (rules, first, joint_plain_marks)) c.in_err-target.ensures.part c.from_residual.ensures.1
 
 pub returns-in_err-marks-clause-part : goal.returns-in_err-marks-clause-part
 returns-in_err-marks-clause-part c =
     let h = header_data c.args.header.now in
     let row = row_data c.args.row.now in
-    exit _ _ _ _ (behind (joint_plain_marks h c.args.before row) c.in_ok-target.ensures.part
-    (under (with_edge row None c.in_ok-target.target) (marks h))) c.in_err-marks.ensures
-    c.from_residual-in_err-marks.ensures.1
+    exit _ _ _ _ (behind (joint_plain_marks h c.args.before row) c.in_ok-target.ensures.part (search (rules, under)))
+    c.in_err-marks.ensures c.from_residual-in_err-marks.ensures.1
 
 pub returns-clause-part : goal.returns-clause-part
 returns-clause-part c =
     let row = row_data c.args.row.now in
     let es = c.args.row.now.edges.items in
-    value_is (ap (λ (g : GuardData). record row {
-      edges = map edge_data es ++
-          record { guard = g; target = c.in_ok-target.target; marks = c.in_ok-marks.marks.items } ∷ [];
-    })
-    (sym c.plain_guard-guard.ensures)
-    ∙ ap (λ (list : List EdgeData). record row { edges = list })
-    (pushed_edge es c.push.new.self.items _ c.in_ok-push.ensures.items))
+    value_is (grind (arith, pushed_edge es c.push.new.self.items _ c.in_ok-push.ensures.items))
     (reads_then (joint_plain_marks (header_data c.args.header.now) c.args.before row) c.in_ok-target.ensures.part
     (reads_mapped (with_edge row None c.in_ok-target.target) c.in_ok-marks.ensures))

@@ -16,6 +16,5 @@ returns-in_err-alone-clause-part c = exit _ _ _ _ here
     c.from_residual-in_err-alone.ensures.1
 
 pub returns-clause-part : goal.returns-clause-part
-returns-clause-part c =
-    target_reads (IsBadPlainTarget c.args.header.now.states c.args.before (row_data c.args.row.now)) _
-    c.advance-token.ensures.next c.advance-token.ensures.rest _ c.in_ok-target.ensures.sign c.in_ok-alone.ensures
+returns-clause-part c = target_reads (IsBadPlainTarget c.args.header.now.states c.args.before (row_data c.args.row.now))
+    _ c.advance-token.ensures.next c.advance-token.ensures.rest _ c.in_ok-target.ensures.sign c.in_ok-alone.ensures

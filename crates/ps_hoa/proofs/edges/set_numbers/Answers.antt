@@ -1,4 +1,4 @@
-use Rattle.std.proofs.Common.{ℕ, [], Ok, Err, subst, sym}
+use Rattle.std.proofs.Common.{arith, ℕ, [], Ok, Err, subst, sym}
 use Rattle.std.proofs.lemmas.Bool.{iff_false}
 use Rattle.ps_text.specs.Parts.{one, many}
 use Rattle.ps_text.specs.Readers.{Carries}
@@ -28,12 +28,10 @@ returns-in_err-set c =
 
 pub more-preserved : goal.more-preserved
 more-preserved c = let item = set_number c.args.count in
-    subst (λ ns. Carries hoa_causes (many item []) (stream_of c.args.tokens.now) (many item ns)
-    (stream_of c.advance-token.new.self)) (sym c.in_ok-add_once.ensures)
-    (loop_more (set_loop c.args.count) c.more.invariant (reads_mapped (once c.more.marks.items)
-    (reads_token {X = ℕ} (λ n. n) (int_signs (IsBadSet c.args.count)) _ _ _ (Ok c.in_ok-set.set) c.in_ok-set.ensures
-    c.advance-token.ensures.next c.advance-token.ensures.rest)))
+    subst (λ ns. Carries hoa_causes (many item []) (stream_of c.args.tokens.now) (many item ns) (stream_of
+    c.advance-token.new.self)) (sym c.in_ok-add_once.ensures) (loop_more (set_loop c.args.count) c.more.invariant
+    (reads_mapped (once c.more.marks.items) (reads_token {X = ℕ} (λ n. n) (int_signs (IsBadSet c.args.count)) _ _ _
+    (Ok c.in_ok-set.set) c.in_ok-set.ensures c.advance-token.ensures.next c.advance-token.ensures.rest)))
 
 pub returns : goal.returns
-returns c = loop_ends (set_loop c.args.count) c.more.invariant
-    (mark_elsewhere tests_int _ (iff_false c.is_at.ensures c.more-test.false))
+returns c = loop_ends (set_loop c.args.count) c.more.invariant (grind (arith, mark_elsewhere, tests_int, iff_false))

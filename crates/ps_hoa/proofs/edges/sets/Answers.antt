@@ -1,6 +1,6 @@
+use Rattle.std.proofs.Common.{rules, arith}
 use Rattle.ps_text.proofs.Exits.{reads_mapped, reads_then}
 use Rattle.ps_hoa.specs.Body.{is_left_brace, is_right_brace}
-use Rattle.ps_hoa.specs.Operands.{mark}
 use Rattle.ps_hoa.proofs.Grammar.BodyLaws.{joint_braces, joint_sets}
 use Rattle.ps_hoa.proofs.Reading.Exits.{exit, first, behind, under}
 use Rattle.ps_hoa.proofs.Reading.MarkReading.{tests_left_brace, tests_right_brace}
@@ -11,14 +11,15 @@ returns-in_err-mark c = exit _ _ _ _ (first (joint_braces c.args.count))
     (c.in_err-mark.ensures is_left_brace tests_left_brace.is) c.from_residual.ensures.1
 
 pub returns-in_err-marks : goal.returns-in_err-marks
-returns-in_err-marks c = exit _ _ _ _ (behind (joint_braces c.args.count)
-    (c.in_ok-mark.ensures is_left_brace tests_left_brace.is) (first (joint_sets c.args.count))) c.in_err-marks.ensures
-    c.from_residual-in_err-marks.ensures.1
+returns-in_err-marks c = grind (
+  arith,
+  behind (joint_braces c.args.count)
+      (c.in_ok-mark.ensures is_left_brace tests_left_brace.is) (first (joint_sets c.args.count)),
+)
 
 pub returns-in_err-mark-2 : goal.returns-in_err-mark-2
 returns-in_err-mark-2 c = exit _ _ _ _ (behind (joint_braces c.args.count)
-    (c.in_ok-mark.ensures is_left_brace tests_left_brace.is) (behind (joint_sets c.args.count) c.in_ok-marks.ensures
-    (under (λ _. c.in_ok-marks.marks.items) (mark is_right_brace))))
+    (c.in_ok-mark.ensures is_left_brace tests_left_brace.is) (search (rules, behind, joint_sets, under)))
     (c.in_err-mark-2.ensures is_right_brace tests_right_brace.is) c.from_residual-in_err-mark-2.ensures.1
 
 pub returns : goal.returns

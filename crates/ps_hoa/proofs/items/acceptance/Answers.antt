@@ -1,3 +1,4 @@
+use Rattle.std.proofs.Common.{arith}
 use Rattle.ps_text.proofs.Exits.{reads_then, reads_mapped}
 use Rattle.ps_hoa.specs.Conditions.{condition}
 use Rattle.ps_hoa.specs.Header.{with_acceptance}
@@ -13,9 +14,11 @@ returns-in_err-sets c = exit _ _ _ _ (first (joint_counted_condition (header_dat
 
 pub returns-in_err-condition : goal.returns-in_err-condition
 returns-in_err-condition c = let h = header_data c.args.header.now in
-    exit _ _ _ _ (behind (joint_counted_condition h) c.in_ok-sets.ensures.part
-    (under (with_acceptance h c.in_ok-sets.sets) (condition nesting_limit))) c.in_err-condition.ensures
-    c.from_residual-in_err-condition.ensures.1
+    grind (
+      arith,
+      behind (joint_counted_condition h) c.in_ok-sets.ensures.part
+          (under (with_acceptance h c.in_ok-sets.sets) (condition nesting_limit)),
+    )
 
 pub returns : goal.returns
 returns c = let h = header_data c.args.header.now in

@@ -1,14 +1,12 @@
-use Rattle.std.proofs.Common.{[]}
-use Rattle.ps_text.specs.Parts.{many}
+use Rattle.std.proofs.Common.{arith}
 use Rattle.ps_text.proofs.Exits.{reads_mapped}
-use Rattle.ps_hoa.specs.Header.{with_controllable, index}
+use Rattle.ps_hoa.specs.Header.{with_controllable}
 use Rattle.ps_hoa.specs.Views.{header_data}
 use Rattle.ps_hoa.proofs.Reading.Exits.{exit, under}
 use Rattle.ps_hoa.proofs.items.controllable.Goals as goal
 
 pub returns-in_err-indices : goal.returns-in_err-indices
-returns-in_err-indices c = exit _ _ _ _ (under (with_controllable (header_data c.args.header.now)) (many index []))
-    c.in_err-indices.ensures c.from_residual.ensures.1
+returns-in_err-indices c = exit _ _ _ _ (grind (arith, under)) c.in_err-indices.ensures c.from_residual.ensures.1
 
 pub returns : goal.returns
 returns c = reads_mapped (with_controllable (header_data c.args.header.now)) c.in_ok-indices.ensures

@@ -1,12 +1,9 @@
-use Rattle.std.proofs.Common.{[], sym, subst}
+use Rattle.std.proofs.Common.{rules, arith}
 use Rattle.std.proofs.lemmas.Bool.{iff_false}
-use Rattle.ps_text.specs.Parts.{many}
-use Rattle.ps_text.specs.Readers.{Carries}
 use Rattle.ps_text.proofs.Exits.{reads_mapped, stops_mapped}
 use Rattle.ps_hoa.specs.Causes.{hoa_causes}
-use Rattle.ps_hoa.specs.Header.{index, int, kept}
+use Rattle.ps_hoa.specs.Header.{int, kept}
 use Rattle.ps_hoa.specs.Operands.{number_limit}
-use Rattle.ps_hoa.specs.Scan.{stream_of}
 use Rattle.ps_hoa.proofs.Reading.Exits.{exit, loop_more, loop_fails, loop_ends}
 use Rattle.ps_hoa.proofs.Reading.HeaderLoops.{index_begins, index_loop}
 use Rattle.ps_hoa.proofs.Reading.MarkReading.{tests_int, mark_elsewhere}
@@ -14,15 +11,14 @@ use Rattle.ps_hoa.proofs.items.indices.Goals as goal
 
 pub returns-in_err-number : goal.returns-in_err-number
 returns-in_err-number c = exit _ _ _ _ (loop_fails index_loop c.indices.invariant
-    (index_begins c.indices.indices _ (c.is_at.ensures.0 c.indices-test.true)))
-    (stops_mapped hoa_causes (kept c.indices.indices) (int number_limit) _ _ c.in_err-number.ensures.part)
-    c.from_residual.ensures.1
+    (index_begins c.indices.indices _ (c.is_at.ensures.0 c.indices-test.true))) (stops_mapped hoa_causes
+    (kept c.indices.indices) (int number_limit) _ _ c.in_err-number.ensures.part) c.from_residual.ensures.1
 
 pub indices-preserved : goal.indices-preserved
-indices-preserved c = subst (λ ks. Carries hoa_causes (many index []) (stream_of c.args.tokens.now) (many index ks)
-    (stream_of c.int.new.tokens)) (sym c.in_ok-add.ensures.ok)
-    (loop_more index_loop c.indices.invariant (reads_mapped (kept c.indices.indices) c.in_ok-number.ensures.part))
+indices-preserved c = grind (
+  arith,
+  loop_more index_loop c.indices.invariant (reads_mapped (kept c.indices.indices) c.in_ok-number.ensures.part),
+)
 
 pub returns : goal.returns
-returns c = loop_ends index_loop c.indices.invariant
-    (mark_elsewhere tests_int _ (iff_false c.is_at.ensures c.indices-test.false))
+returns c = search (rules, loop_ends, index_loop, mark_elsewhere, tests_int, iff_false)

@@ -1,17 +1,12 @@
-use Rattle.std.proofs.Common.{◌≡◌, Option, Some, option_map, sym, ap, subst, ◌∙◌}
+use Rattle.std.proofs.Common.{arith, ◌≡◌, Option, Some, option_map, sym, ap, ◌∙◌}
 use Rattle.ps_text.specs.Answers.{Piece, Stream}
-use Rattle.ps_text.specs.Parts.{many}
-use Rattle.ps_text.specs.Readers.{Carries}
-use Rattle.ps_text.proofs.Exits.{carries_start}
-use Rattle.ps_hoa.specs.Causes.{hoa_causes}
-use Rattle.ps_hoa.specs.Header.{no_items, item}
 use Rattle.ps_hoa.specs.Inner.Items.{item_at, item_name_of}
 use Rattle.ps_hoa.specs.Scan.{stream_of, next_of}
 use Rattle.ps_hoa.specs.Tokens.{Sign}
 use Rattle.ps_hoa.specs.declared.items.Item.{Item}
 use Rattle.ps_hoa.specs.Views.{header_data}
 use Rattle.ps_hoa.proofs.Grammar.ItemChoice.{stands_next, enters_next, avoids_next}
-use Rattle.ps_hoa.proofs.Reading.Exits.{exit, serves_as, loop_more, loop_fails, loop_ends, loop_shrinks}
+use Rattle.ps_hoa.proofs.Reading.Exits.{serves_as, loop_more, loop_fails, loop_ends, loop_shrinks}
 use Rattle.ps_hoa.proofs.Reading.HeaderLoops.{item_loop}
 use Rattle.ps_hoa.proofs.items.items.Goals as goal
 
@@ -20,9 +15,7 @@ told : {piece : Piece Sign} (s : Stream Sign) (o : Option Item) → piece ≡ ne
 told s o next e = sym (ap (λ (p : Piece Sign). item_at p.sign) next) ∙ sym e
 
 pub items-init : goal.items-init
-items-init c = let s = stream_of c.args.tokens.now in
-    subst (λ h. Carries hoa_causes (many item no_items) s (many item h) s) (sym c.new-header.ensures)
-    (carries_start hoa_causes (many item no_items) s)
+items-init c = grind arith
 
 pub items-smaller : goal.items-smaller
 items-smaller c =
@@ -43,14 +36,15 @@ returns-in_err-read_item c =
     let h = header_data c.items.header in
     let s = stream_of c.items.tokens in
     let e = told s (Some c.in-Some.item) c.peek.ensures.next c.in-Some.ensures in
-    exit _ _ _ _ (loop_fails item_loop c.items.invariant (enters_next s h (item_name_of c.in-Some.item) e))
-    ((serves_as s (stands_next s h (item_name_of c.in-Some.item) e)).stops _ c.in_err-read_item.ensures)
-    c.from_residual.ensures.1
+    grind (
+      arith,
+      loop_fails item_loop c.items.invariant (enters_next s h (item_name_of c.in-Some.item) e),
+      serves_as s (stands_next s h (item_name_of c.in-Some.item) e),
+    )
 
 pub returns : goal.returns
 returns c = let s = stream_of c.items.tokens in
-    loop_ends item_loop c.items.invariant (avoids_next s (told s c.item_at.result c.peek.ensures.next c.item_at.ensures
-    ∙ ap (λ o. option_map item_name_of o) c.in_default.is))
+    loop_ends item_loop c.items.invariant (avoids_next s (grind (arith, told, option_map)))
 
 pub read_item-requires : goal.read_item-requires
 read_item-requires c = told (stream_of c.items.tokens) (Some c.in-Some.item) c.peek.ensures.next c.in-Some.ensures

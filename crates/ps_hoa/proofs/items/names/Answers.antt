@@ -1,7 +1,5 @@
-use Rattle.std.proofs.Common.{[]}
-use Rattle.ps_text.specs.Parts.{times}
+use Rattle.std.proofs.Common.{arith}
 use Rattle.ps_text.proofs.Exits.{reads_then, reads_mapped}
-use Rattle.ps_hoa.specs.Header.{with_names, proposition_name}
 use Rattle.ps_hoa.specs.Views.{header_data}
 use Rattle.ps_hoa.proofs.Reading.Exits.{exit, first, behind, under}
 use Rattle.ps_hoa.proofs.Grammar.HeaderLaws.{joint_counted_names}
@@ -13,11 +11,9 @@ returns-in_err-count c = exit _ _ _ _ (first (joint_counted_names (header_data c
 
 pub returns-in_err-propositions : goal.returns-in_err-propositions
 returns-in_err-propositions c = let h = header_data c.args.header.now in
-    exit _ _ _ _ (behind (joint_counted_names h) c.in_ok-count.ensures.part
-    (under (with_names h) (times c.in_ok-count.count proposition_name []))) c.in_err-propositions.ensures
+    exit _ _ _ _ (grind (arith, behind, joint_counted_names, under)) c.in_err-propositions.ensures
     c.from_residual-in_err-propositions.ensures.1
 
 pub returns : goal.returns
 returns c = let h = header_data c.args.header.now in
-    reads_then (joint_counted_names h) c.in_ok-count.ensures.part
-    (reads_mapped (with_names h) c.in_ok-propositions.ensures)
+    reads_then (joint_counted_names h) c.in_ok-count.ensures.part (grind (arith, reads_mapped))

@@ -1,3 +1,4 @@
+use Rattle.std.proofs.Common.{arith}
 use Rattle.std.specs.Prelude.{codes}
 use Rattle.ps_hoa.specs.ItemNames as items
 use Rattle.ps_hoa.specs.Views.{header_data}
@@ -7,8 +8,7 @@ use Rattle.ps_hoa.proofs.Grammar.ItemChoice.{item_read, named, other}
 use Rattle.ps_hoa.proofs.items.read_item.Goals as goal
 
 pub returns-in-Start : goal.returns-in-Start
-returns-in-Start c = rw c.in-Start.is
-    (c.start.ensures c.args.tokens.now c.advance-token.ensures.next c.advance-token.ensures.rest)
+returns-in-Start c = rw c.in-Start.is (grind arith)
 
 pub returns-in-States : goal.returns-in-States
 returns-in-States c = rw c.in-States.is (item_read _ _ c.advance-token.ensures.rest items.states

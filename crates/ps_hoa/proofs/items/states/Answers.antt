@@ -1,12 +1,12 @@
+use Rattle.std.proofs.Common.{arith}
 use Rattle.ps_text.proofs.Exits.{reads_mapped}
-use Rattle.ps_hoa.specs.Header.{with_states, int, state_limit}
+use Rattle.ps_hoa.specs.Header.{with_states}
 use Rattle.ps_hoa.specs.Views.{header_data}
 use Rattle.ps_hoa.proofs.Reading.Exits.{exit, under}
 use Rattle.ps_hoa.proofs.items.states.Goals as goal
 
 pub returns-in_err-int : goal.returns-in_err-int
-returns-in_err-int c = exit _ _ _ _ (under (with_states (header_data c.args.header.now)) (int state_limit))
-    c.in_err-int.ensures.part c.from_residual.ensures.1
+returns-in_err-int c = exit _ _ _ _ (grind (arith, under)) c.in_err-int.ensures.part c.from_residual.ensures.1
 
 pub returns : goal.returns
 returns c = reads_mapped (with_states (header_data c.args.header.now)) c.in_ok-int.ensures.part

@@ -1,6 +1,6 @@
-use Rattle.std.proofs.Common.{sym, ap, arith}
+use Rattle.std.proofs.Common.{rules, sym, arith}
 use Rattle.std.proofs.lemmas.Bool.{iff_false}
-use Rattle.ps_label.specs.Expression.{expression, not_of}
+use Rattle.ps_label.specs.Expression.{expression}
 use Rattle.ps_hoa.specs.Labels.{together}
 use Rattle.ps_hoa.specs.Operands.{is_right}
 use Rattle.ps_hoa.proofs.Reading.RowReading.{first_value, last_value, first_fails, first_alone, row_starts, row_more}
@@ -17,8 +17,7 @@ use Rattle.ps_hoa.proofs.label.+label.Goals.{operand-else-room-gt0-2-via-else-ro
 
 pub row-returns-in_err-first : goal.row-returns-in_err-first
 row-returns-in_err-first t c = let row = operand_row (label_operands c.args.scope.now) c.args.room c.args.connective in
-    exit expression _ _ _ (first_fails row (together c.args.connective)) c.in_err-first.ensures
-    c.from_residual.ensures.1
+    exit expression _ _ _ (search (rules, first_fails)) c.in_err-first.ensures c.from_residual.ensures.1
 
 pub row-returns-then-not-is_at : goal.row-returns-then-not-is_at
 row-returns-then-not-is_at t c =
@@ -27,8 +26,7 @@ row-returns-then-not-is_at t c =
 
 pub row-more-init : goal.row-more-init
 row-more-init t c = let row = operand_row (label_operands c.args.scope.now) c.args.room c.args.connective in
-    row_starts row c.in_ok-first.ensures (c.is_at.ensures.0 c.if-not-is_at.false)
-    (first_value expression _ c.in_ok-push.ensures.items c.in_ok-operands.ensures.items)
+    row_starts row c.in_ok-first.ensures (c.is_at.ensures.0 c.if-not-is_at.false) (grind (arith, first_value))
 
 pub row-returns-in_err-part : goal.row-returns-in_err-part
 row-returns-in_err-part t c = let row = operand_row (label_operands c.args.scope.now) c.args.room c.args.connective in
@@ -50,26 +48,21 @@ row-more-smaller t c = let row = operand_row (label_operands c.args.scope.now) c
     row_shrinks row _ c.advance.ensures.rest c.in_ok-part.ensures
 
 pub operand-returns-in_err-negated : goal.operand-returns-in_err-negated
-operand-returns-in_err-negated t c = exit expression _ _ _
-    (not_fails c.args.scope.now c.args.room c.if-room-gt0.true (c.is_at.ensures.0 c.if-is_at.true)
-    c.advance.ensures.rest) c.in_err-negated.ensures c.from_residual.ensures.1
+operand-returns-in_err-negated t c = exit expression _ _ _ (not_fails c.args.scope.now c.args.room c.if-room-gt0.true
+    (c.is_at.ensures.0 c.if-is_at.true) c.advance.ensures.rest) c.in_err-negated.ensures c.from_residual.ensures.1
 
 pub operand-returns-then-is_at : goal.operand-returns-then-is_at
-operand-returns-then-is_at t c = value_is (ap (λ v. not_of (expression v)) (sym c.in_ok-new.ensures.ok))
-    (not_reads c.args.scope.now c.args.room c.if-room-gt0.true (c.is_at.ensures.0 c.if-is_at.true)
-    c.advance.ensures.rest c.in_ok-negated.ensures)
+operand-returns-then-is_at t c = grind (arith, value_is, not_reads)
 
 pub operand-returns-in_err-inner : goal.operand-returns-in_err-inner
-operand-returns-in_err-inner t c = exit expression _ _ _
-    (paren_fails (label_operands c.args.scope.now) c.args.room c.if-room-gt0-2.true
-    (c.is_at-then-room-gt0-2.ensures.0 c.if-is_at-2.true) c.advance-then-is_at-2.ensures.rest)
+operand-returns-in_err-inner t c = exit expression _ _ _ (paren_fails (label_operands c.args.scope.now) c.args.room
+    c.if-room-gt0-2.true (c.is_at-then-room-gt0-2.ensures.0 c.if-is_at-2.true) c.advance-then-is_at-2.ensures.rest)
     c.in_err-inner.ensures c.from_residual-in_err-inner.ensures.1
 
 pub operand-returns-in_err-mark : goal.operand-returns-in_err-mark
-operand-returns-in_err-mark t c = exit expression _ _ _
-    (paren_stays_open (label_operands c.args.scope.now) c.args.room c.if-room-gt0-2.true
-    (c.is_at-then-room-gt0-2.ensures.0 c.if-is_at-2.true) c.advance-then-is_at-2.ensures.rest c.in_ok-inner.ensures)
-    (c.in_err-mark.ensures is_right tests_right.is) c.from_residual-in_err-mark.ensures.1
+operand-returns-in_err-mark t c = exit expression _ _ _ (paren_stays_open (label_operands c.args.scope.now) c.args.room
+    c.if-room-gt0-2.true (c.is_at-then-room-gt0-2.ensures.0 c.if-is_at-2.true) c.advance-then-is_at-2.ensures.rest
+    c.in_ok-inner.ensures) (c.in_err-mark.ensures is_right tests_right.is) c.from_residual-in_err-mark.ensures.1
 
 pub operand-returns-then-is_at-2 : goal.operand-returns-then-is_at-2
 operand-returns-then-is_at-2 t c = paren_reads (label_operands c.args.scope.now) c.args.room c.if-room-gt0-2.true
@@ -77,14 +70,15 @@ operand-returns-then-is_at-2 t c = paren_reads (label_operands c.args.scope.now)
     (c.in_ok-mark.ensures is_right tests_right.is)
 
 pub operand-returns : goal.operand-returns
-operand-returns t c = serves_meets expression _ c.leaf.result (leaf_serves c.args.scope.now c.args.room _
-    (λ some e. elim c.else-room-gt0.branch [
-      | operand-else-room-gt0-via-then-room-gt0+else-is_at w ↦ iff_false w.is_at.ensures w.if-is_at.false e
-      | operand-else-room-gt0-via-else-room-gt0 w ↦ absurd (omega (arith, some, w.if-room-gt0.false))
-    ])
-    (λ some e. elim c.else-room-gt0-2.branch [
-      | operand-else-room-gt0-2-via-then-room-gt0-2+else-is_at-2 w ↦
-          iff_false w.is_at-then-room-gt0-2.ensures w.if-is_at-2.false e
-      | operand-else-room-gt0-2-via-else-room-gt0-2 w ↦ absurd (omega (arith, some, w.if-room-gt0-2.false))
-    ]))
-    c.leaf.ensures
+operand-returns t c =
+    serves_meets expression _ c.leaf.result (leaf_serves c.args.scope.now c.args.room _ (λ some e. grind (
+      arith,
+      operand-else-room-gt0-via-then-room-gt0+else-is_at,
+      iff_false,
+      operand-else-room-gt0-via-else-room-gt0,
+    )) (λ some e. grind (
+      arith,
+      operand-else-room-gt0-2-via-then-room-gt0-2+else-is_at-2,
+      iff_false,
+      operand-else-room-gt0-2-via-else-room-gt0-2,
+    ))) c.leaf.ensures

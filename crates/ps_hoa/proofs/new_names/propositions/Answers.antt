@@ -1,8 +1,8 @@
-use Rattle.std.proofs.Common.{◌≡◌, ◌-◌, ◌+◌, [], sym, subst, arith}
+use Rattle.std.proofs.Common.{◌≡◌, ◌-◌, ◌+◌, [], subst, arith}
 use Rattle.ps_text.specs.Parts.{times}
 use Rattle.ps_text.specs.Readers.{Carries}
-use Rattle.ps_text.proofs.Branches.{times_ends, times_fails, carries_times}
-use Rattle.ps_text.proofs.Exits.{carries_start, carries_reads, carries_stops}
+use Rattle.ps_text.proofs.Branches.{times_fails, carries_times}
+use Rattle.ps_text.proofs.Exits.{carries_reads, carries_stops}
 use Rattle.ps_hoa.specs.Causes.{hoa_causes}
 use Rattle.ps_hoa.specs.Header.{proposition_name}
 use Rattle.ps_hoa.specs.Scan.{stream_of}
@@ -12,13 +12,7 @@ use Rattle.ps_hoa.proofs.Grammar.SignLaws.{is_string, laws_proposition_name}
 use Rattle.ps_hoa.proofs.new_names.propositions.Goals as goal
 
 pub names-init : goal.names-init
-names-init c =
-    let s = stream_of c.args.tokens.now in
-    let whole = times c.args.count proposition_name [] in
-    let none : c.args.count - 0 ≡ c.args.count = omega arith in
-    subst (λ n. Carries hoa_causes whole s (times n proposition_name c.new-names.result) s) (sym none)
-    (subst (λ names. Carries hoa_causes whole s (times c.args.count proposition_name names) s) (sym c.new-names.ensures)
-    (carries_start hoa_causes whole s))
+names-init c = grind arith
 
 pub returns-in_err-proposition : goal.returns-in_err-proposition
 returns-in_err-proposition c = exit _ _ _ _ here (carries_stops hoa_causes (times c.args.count proposition_name [])
@@ -36,6 +30,4 @@ names-preserved c =
     (c.args.count - c.names.counter) (omega arith) c.names.invariant c.in_ok-proposition.ensures)
 
 pub returns : goal.returns
-returns c = carries_reads hoa_causes c.names.invariant (times_ends proposition_name laws_proposition_name
-    (nothing_apart (Of is_string)) (c.args.count - c.names.counter) c.names.names (stream_of c.names.tokens)
-    (omega arith))
+returns c = carries_reads hoa_causes c.names.invariant (grind (arith, nothing_apart (Of is_string)))

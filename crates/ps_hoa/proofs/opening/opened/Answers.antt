@@ -1,4 +1,4 @@
-use Rattle.std.proofs.Common.{◌+◌, ℕ, ap, sym, ◌∙◌}
+use Rattle.std.proofs.Common.{arith, ◌+◌, ℕ, ap, sym, ◌∙◌}
 use Rattle.ps_hoa.specs.Scan.{stream_of}
 use Rattle.ps_hoa.specs.Texts.{too_long}
 use Rattle.ps_hoa.proofs.Reading.Openings.{without_hoa, told_word, opens, with_other_version, with_version, told_count}
@@ -9,11 +9,7 @@ pub returns-then-text-gt-TEXT_LIMIT-clause-refused : goal.returns-then-text-gt-T
 returns-then-text-gt-TEXT_LIMIT-clause-refused c = too_long c.if-text-gt-TEXT_LIMIT.true
 
 pub returns-then-not-begins_with-clause-refused : goal.returns-then-not-begins_with-clause-refused
-returns-then-not-begins_with-clause-refused c =
-    let text = c.args.text.now in
-    let a = c.behind_blanks-first.ensures in
-    without_hoa text c.behind_blanks-first.result c.if-text-gt-TEXT_LIMIT.false a.blanks a.token
-    (told_word text c.behind_blanks-first.result (sym c.begins_with.ensures.value ∙ c.if-not-begins_with.true))
+returns-then-not-begins_with-clause-refused c = grind (arith, without_hoa, told_word)
 
 pub returns-then-not-is_same-clause-refused : goal.returns-then-not-is_same-clause-refused
 returns-then-not-is_same-clause-refused c =
@@ -21,10 +17,9 @@ returns-then-not-is_same-clause-refused c =
     let second = c.behind_blanks-second.result in
     let a = c.behind_blanks-first.ensures in
     let b = c.behind_blanks-second.ensures in
-    with_other_version text c.behind_blanks-first.result second
-    (opens c.if-text-gt-TEXT_LIMIT.false a.blanks a.token (sym c.begins_with.ensures.value ∙ c.if-not-begins_with.false)
-    b.blanks b.token) (told_version text second c.version_at.result c.version_at.ensures.value
-    (sym c.is_same.ensures ∙ c.if-not-is_same.true))
+    with_other_version text c.behind_blanks-first.result second (opens c.if-text-gt-TEXT_LIMIT.false a.blanks a.token
+    (sym c.begins_with.ensures.value ∙ c.if-not-begins_with.false) b.blanks b.token) (told_version text second
+    c.version_at.result c.version_at.ensures.value (sym c.is_same.ensures ∙ c.if-not-is_same.true))
 
 pub returns-clause-tokens : goal.returns-clause-tokens
 returns-clause-tokens c =
@@ -33,9 +28,8 @@ returns-clause-tokens c =
     let a = c.behind_blanks-first.ensures in
     let b = c.behind_blanks-second.ensures in
     let count = c.version_at.ensures.value in
-    with_version text c.behind_blanks-first.result second
-    (opens c.if-text-gt-TEXT_LIMIT.false a.blanks a.token (sym c.begins_with.ensures.value ∙ c.if-not-begins_with.false)
-    b.blanks b.token) (stream_of c.new.result) (second + c.version_at.result)
-    (ap (λ (k : ℕ). second + k) (told_count text second c.version_at.result count))
+    with_version text c.behind_blanks-first.result second (opens c.if-text-gt-TEXT_LIMIT.false a.blanks a.token
+    (sym c.begins_with.ensures.value ∙ c.if-not-begins_with.false) b.blanks b.token) (stream_of c.new.result)
+    (second + c.version_at.result) (ap (λ (k : ℕ). second + k) (told_count text second c.version_at.result count))
     (told_version text second c.version_at.result count (sym c.is_same.ensures ∙ c.if-not-is_same.false))
     c.new.ensures.pieces c.new.ensures.end

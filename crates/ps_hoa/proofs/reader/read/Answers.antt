@@ -28,13 +28,11 @@ sound {h = h} {b = b} m n =
     keeps_read file keeps_file _ _ (file_of h b) (reads_then joint_file m (reads_mapped (file_of h) n)).1
 
 pub returns-in_err-tokens-clause-answer : goal.returns-in_err-tokens-clause-answer
-returns-in_err-tokens-clause-answer c =
-    refused_answers seen c.args.text.now _ _ c.in_err-tokens.ensures.refused c.from_residual.ensures.1
+returns-in_err-tokens-clause-answer c = search (rules, refused_answers)
 
 pub returns-in_err-header-clause-answer : goal.returns-in_err-header-clause-answer
-returns-in_err-header-clause-answer c =
-    header_fails seen c.args.text.now (stream_of c.in_ok-tokens.tokens) c.in_ok-tokens.ensures.tokens _ _
-    c.in_err-header.ensures c.from_residual-in_err-header.ensures.1
+returns-in_err-header-clause-answer c = header_fails seen c.args.text.now (stream_of c.in_ok-tokens.tokens)
+    c.in_ok-tokens.ensures.tokens _ _ c.in_err-header.ensures c.from_residual-in_err-header.ensures.1
 
 pub returns-in_err-rows-clause-answer : goal.returns-in_err-rows-clause-answer
 returns-in_err-rows-clause-answer c =
@@ -54,18 +52,16 @@ file-requires c = sound c.in_ok-header.ensures c.in_ok-rows.ensures
 made : (text : List ℕ) (v : FileData) (r : Result HoaFile HoaFault) →
     ((x : HoaFile) → seen x ≡ v → IsFileAnswer seen text (Ok x)) →
     IfOk r (λ x. seen x ≡ v) → IfErr r (λ e. e ≡ OutOfMemory) → IsFileAnswer seen text r
-made text v r h1 h2 h3 = search rules
+made text v r h k m = search rules
 
 pub returns-clause-answer : goal.returns-clause-answer
-returns-clause-answer c = made c.args.text.now _ c.file.result
-    (λ x v. ends_answers seen c.args.text.now (stream_of c.in_ok-tokens.tokens) c.in_ok-tokens.ensures.tokens _ _
-    c.in_ok-header.ensures _ _ c.in_ok-rows.ensures x v c.in_ok-finish.ensures)
-    c.file.ensures.value c.file.ensures.memory
+returns-clause-answer c = made c.args.text.now _ c.file.result (λ x v. ends_answers seen c.args.text.now
+    (stream_of c.in_ok-tokens.tokens) c.in_ok-tokens.ensures.tokens _ _ c.in_ok-header.ensures _ _ c.in_ok-rows.ensures
+    x v c.in_ok-finish.ensures) c.file.ensures.value c.file.ensures.memory
 
 made_sound : {v : FileData} (r : Result HoaFile HoaFault) → IsSoundFile v → IfOk r (λ x. seen x ≡ v) →
     IfOk r IsSoundFile
-made_sound r h1 h2 = search rules
+made_sound r h k = search rules
 
 pub returns-clause-sound : goal.returns-clause-sound
-returns-clause-sound c =
-    made_sound c.file.result (sound c.in_ok-header.ensures c.in_ok-rows.ensures) c.file.ensures.value
+returns-clause-sound c = search (rules, made_sound, sound)

@@ -1,8 +1,6 @@
-use Rattle.std.proofs.Common.{false}
-use Rattle.ps_hoa.specs.Header.{unescaped}
+use Rattle.std.proofs.Common.{arith}
 use Rattle.ps_hoa.proofs.Grammar.HeaderSigns.{reads_token, signs_string}
 use Rattle.ps_hoa.proofs.signs.quoted.Goals as goal
 
 pub returns : goal.returns
-returns c = reads_token (λ inner. unescaped false inner.now) signs_string _ _ _ _ c.quoted_of.ensures
-    c.advance-token.ensures.next c.advance-token.ensures.rest
+returns c = grind (arith, reads_token, signs_string)

@@ -1,12 +1,11 @@
-use Rattle.std.proofs.Common.{refl, ap, ◌∙◌}
+use Rattle.std.proofs.Common.{arith, refl}
 use Rattle.std.proofs.lemmas.Bool.{iff_false}
 use Rattle.ps_text.proofs.Barred.{reads_barred, stops_barred, stops_bar}
-use Rattle.ps_hoa.specs.Causes.{found_of, hoa_causes}
+use Rattle.ps_hoa.specs.Causes.{hoa_causes}
 use Rattle.ps_hoa.specs.Header.{IsAlternating}
 use Rattle.ps_hoa.specs.Operands.{number_limit}
 use Rattle.ps_hoa.specs.Scan.{stream_of, next_of}
 use Rattle.ps_hoa.specs.declared.fault.HoaCause.TheVariants.{Alternating}
-use Rattle.ps_text.specs.declared.faults.Fault.TheVariants.{Text}
 use Rattle.ps_hoa.proofs.Grammar.HeaderSigns.{least_same}
 use Rattle.ps_hoa.proofs.Grammar.OperandLaws.{nothing_apart}
 use Rattle.ps_hoa.proofs.Grammar.SignLaws.{laws_int}
@@ -22,11 +21,7 @@ pub returns-then-is_at : goal.returns-then-is_at
 returns-then-is_at c = let s = stream_of c.int.new.tokens in
     stops_bar IsAlternating (laws_int number_limit) (nothing_apart _) hoa_causes c.in_ok-state.ensures.part
     (next_of s).sign Alternating _ (next_there s (λ e. let is = c.is_at.ensures.0 c.if-is_at.true in cc))
-    (c.is_at.ensures.0 c.if-is_at.true, refl) (λ g b. least_same Alternating g b.1)
-    (ap found_of c.fault_at.ensures ∙ ap (λ n. found_of (Text Alternating n))
-    (ap (λ p. p.start) c.peek.ensures.next ∙ start_there s))
+    (c.is_at.ensures.0 c.if-is_at.true, refl) (λ g b. least_same Alternating g b.1) (grind (arith, start_there))
 
 pub returns : goal.returns
-returns c = reads_barred IsAlternating (laws_int number_limit) (nothing_apart _)
-    (λ t f e b. iff_false c.is_at.ensures c.if-is_at.false (ap (λ z. z.kind)
-    (next_same (stream_of c.int.new.tokens) t e) ∙ b.0)) c.in_ok-state.ensures.part
+returns c = grind (arith, reads_barred, laws_int, nothing_apart, iff_false, next_same)

@@ -1,11 +1,11 @@
+use Rattle.std.proofs.Common.{arith}
 use Rattle.ps_text.proofs.Exits.{reads_mapped}
-use Rattle.ps_hoa.specs.Header.{string, unchanged}
+use Rattle.ps_hoa.specs.Header.{unchanged}
 use Rattle.ps_hoa.proofs.Reading.Exits.{exit, under}
 use Rattle.ps_hoa.proofs.skipped.name.Goals as goal
 
 pub returns-in_err-quoted : goal.returns-in_err-quoted
-returns-in_err-quoted c =
-    λ h. exit _ _ _ _ (under (unchanged h) string) c.in_err-quoted.ensures c.from_residual.ensures.1
+returns-in_err-quoted c = λ h. exit _ _ _ _ (grind (arith, under)) c.in_err-quoted.ensures c.from_residual.ensures.1
 
 pub returns : goal.returns
 returns c = λ h. reads_mapped (unchanged h) c.in_ok-quoted.ensures

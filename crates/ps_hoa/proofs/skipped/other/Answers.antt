@@ -1,4 +1,4 @@
-use Rattle.std.proofs.Common.{ap, sym, ◌∙◌}
+use Rattle.std.proofs.Common.{rules, ap, sym, ◌∙◌}
 use Rattle.ps_text.specs.Parts.{many}
 use Rattle.ps_text.proofs.Exits.{carries_start}
 use Rattle.ps_hoa.specs.Causes.{hoa_causes}
@@ -25,5 +25,4 @@ returns-in_err-read_over c = λ h. exit _ _ _ _ (loop_fails read_over_loop (c.va
     ∙ c.values-test.true))) (c.in_err-read_over.ensures h) c.from_residual.ensures.1
 
 pub returns : goal.returns
-returns c = λ h. loop_ends read_over_loop (c.values.invariant h) (avoids_kind is_value _ (λ k. false_true
-    (sym c.values-test.false ∙ c.is_value.ensures ∙ ap (λ p. is_value p.sign.kind) c.peek.ensures.next ∙ k)))
+returns c = λ h. loop_ends read_over_loop (c.values.invariant h) (search (rules, avoids_kind, false_true))

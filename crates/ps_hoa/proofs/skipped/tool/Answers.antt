@@ -1,3 +1,4 @@
+use Rattle.std.proofs.Common.{arith}
 use Rattle.std.proofs.lemmas.Bool.{iff_false}
 use Rattle.ps_text.proofs.Exits.{reads_then, reads_mapped, reads_give}
 use Rattle.ps_hoa.specs.Header.{string, unchanged}
@@ -10,9 +11,11 @@ pub returns-in_err-quoted : goal.returns-in_err-quoted
 returns-in_err-quoted c = λ h. exit _ _ _ _ (first (joint_strings h)) c.in_err-quoted.ensures c.from_residual.ensures.1
 
 pub returns-in_err-quoted-2 : goal.returns-in_err-quoted-2
-returns-in_err-quoted-2 c = λ h. exit _ _ _ _ (behind (joint_strings h) c.in_ok-quoted.ensures
-    (instead (string_serves h _ (c.is_at.ensures.0 c.if-is_at.true)) (under (unchanged h) string)))
-    c.in_err-quoted-2.ensures c.from_residual-in_err-quoted-2.ensures.1
+returns-in_err-quoted-2 c = λ h. grind (
+  arith,
+  behind (joint_strings h) c.in_ok-quoted.ensures
+      (instead (string_serves h _ (c.is_at.ensures.0 c.if-is_at.true)) (under (unchanged h) string)),
+)
 
 pub returns-in_ok-quoted-2 : goal.returns-in_ok-quoted-2
 returns-in_ok-quoted-2 c = λ h. reads_then (joint_strings h) c.in_ok-quoted.ensures

@@ -9,8 +9,7 @@ pub loop-vertex-preserved : goal.loop-vertex-preserved
 loop-vertex-preserved g c = by (has c.args.won.now c.loop-vertex.vertex) refl
   where
     Entries : List EntryData → Type 0
-    Entries entries =
-        AreEntries (g.A.Arena.game c.args.arena.now) c.args.won.now (move_at c.args.first.now)
+    Entries entries = AreEntries (g.A.Arena.game c.args.arena.now) c.args.won.now (move_at c.args.first.now)
         (move_at c.args.second.now) c.args.first_rows.now c.args.second_rows.now (c.loop-vertex.vertex + 1) entries
 
     by : (b : Bool) → has c.args.won.now c.loop-vertex.vertex ≡ b → Entries c.add_entry.new.entries

@@ -1,10 +1,5 @@
-use Rattle.std.proofs.Common.{subst}
+use Rattle.std.proofs.Common.{arith}
 use Rattle.std.proofs.lemmas.Result.{IfOk-weaker}
-use Rattle.ps_certificate.specs.Certificates.{Fits, IsValid}
-use Rattle.ps_machine.specs.BuiltBoards.{board_of}
-use Rattle.ps_machine.specs.Extracting.{IsMachineOf}
-use Rattle.ps_machine.specs.Keys.{mover_of}
-use Rattle.ps_machine.specs.Machines.{behaviour}
 use Rattle.ps_machine.proofs.Uniqueness.OneGame.{one_game_of}
 use Rattle.ps_machine.proofs.extracting.extract.Goals as goal
 
@@ -22,6 +17,7 @@ pub returns-clause-machine : goal.returns-clause-machine
 returns-clause-machine c =
     let made = c.in_ok-keyed.keyed in
     let certificate = c.args.certificate.now in
-    IfOk-weaker c.machine_of_certificate.result _ _
-    (λ m of keys is. (let one = one_game_of _ _ _ _ _ _ c.in_ok-keyed.ensures.game is in
-    rw one.0 at (rw one.1 at of))) c.machine_of_certificate.ensures.machine
+    IfOk-weaker c.machine_of_certificate.result _ _ (λ m of keys is. grind (
+      arith,
+      one_game_of _ _ _ _ _ _ c.in_ok-keyed.ensures.game is,
+    )) c.machine_of_certificate.ensures.machine

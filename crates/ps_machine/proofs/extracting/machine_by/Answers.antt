@@ -1,8 +1,4 @@
-use Rattle.std.proofs.Common.{arith, refl, subst}
-use Rattle.ps_machine.specs.BuiltBoards.{board_of}
-use Rattle.ps_machine.specs.Extracting.{IsMachineOf}
-use Rattle.ps_machine.specs.Keys.{mover_of}
-use Rattle.ps_machine.specs.Machines.{behaviour}
+use Rattle.std.proofs.Common.{rules, arith, refl}
 use Rattle.ps_machine.proofs.Machines.Extracted.{made, some_vertices}
 use Rattle.ps_machine.proofs.Lassos.LassosAreWon.{each_lasso_won}
 use Rattle.ps_machine.proofs.Uniqueness.OneGame.{one_game_of}
@@ -14,9 +10,8 @@ winner-player-requires c = omega (arith, some_vertices c.requires.plan.is_game, 
 pub new-requires : goal.new-requires
 new-requires c =
     let said = c.in_ok-propositions.ensures in
-    let m = made c.requires.plan c.winner-player.ensures c.in_ok-propositions.propositions
-    c.in_ok-diagrams.diagrams said.few said.sound said.names said.roles c.in_ok-diagrams.ensures.letters
-    c.in_ok-diagrams.ensures.drawn refl in
+    let m = made c.requires.plan c.winner-player.ensures c.in_ok-propositions.propositions c.in_ok-diagrams.diagrams
+    said.few said.sound said.names said.roles c.in_ok-diagrams.ensures.letters c.in_ok-diagrams.ensures.drawn refl in
     m.is_machine
 
 pub returns-clause-machine : goal.returns-clause-machine
@@ -33,5 +28,4 @@ returns-clause-won c file chain built =
     let m = made c.requires.plan c.winner-player.ensures c.in_ok-propositions.propositions
     c.in_ok-diagrams.diagrams said.few said.sound said.names said.roles c.in_ok-diagrams.ensures.letters
     c.in_ok-diagrams.ensures.drawn c.new.ensures in
-    each_lasso_won c.args.plan.now.order built c.requires.plan.is_game
-    c.requires.plan.fits c.requires.plan.valid m.is_machine.is_machine m.has m.of
+    search (rules, each_lasso_won)

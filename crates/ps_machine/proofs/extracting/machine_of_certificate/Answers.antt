@@ -1,10 +1,9 @@
-use Rattle.std.proofs.Common.{nat_eq, ap₂, ◌∙◌}
+use Rattle.std.proofs.Common.{arith}
 use Rattle.ps_machine.proofs.Machines.Extracted.{plan_is}
 use Rattle.ps_machine.proofs.extracting.machine_of_certificate.Goals as goal
 
 pub machine_by-requires-clause-plan : goal.machine_by-requires-clause-plan
 machine_by-requires-clause-plan c =
     let kept = c.in_ok-memories.ensures in
-    plan_is c.requires.game c.requires.fits c.requires.valid
-    (ap₂ nat_eq (c.number.ensures.number ∙ c.mover.ensures.mover) c.winner.ensures) c.game.ensures.game kept.1
+    plan_is c.requires.game c.requires.fits c.requires.valid (grind arith) c.game.ensures.game kept.1
     c.as_slice.ensures.keys kept.2

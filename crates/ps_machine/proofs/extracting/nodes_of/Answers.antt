@@ -7,7 +7,6 @@ loop-vertex-preserved c =
     let made = c.in_ok-node.ensures in
     record {
       letters = made.keeps.propositions ∙ c.loop-vertex.invariant.letters;
-      drawn =
-          drawn_more made.keeps made.same_rows made.rows made.drawn (ap (λ l. get_or l c.loop-vertex.vertex-index 0)
+      drawn = drawn_more made.keeps made.same_rows made.rows made.drawn (ap (λ l. get_or l c.loop-vertex.vertex-index 0)
           c.deref-vertex-items.ensures.value) c.in_ok-push.ensures.items c.loop-vertex.invariant.drawn;
     }

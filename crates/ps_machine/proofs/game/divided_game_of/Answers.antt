@@ -1,10 +1,8 @@
-use Rattle.std.proofs.Common.{◌∙◌, ap, nat_eq, subst, sym}
+use Rattle.std.proofs.Common.{◌∙◌, ap, nat_eq}
 use Rattle.std.proofs.lemmas.Option.{get_or_from_slice_get, slice_get_within}
 use Rattle.indexmap.specs.IndexMap.{get}
 use Rattle.ps_automaton.specs.Automata.{AutomatonData}
 use Rattle.ps_machine.specs.Dividing.{AreDivided}
-use Rattle.ps_machine.specs.Knowing.{HasAnswered}
-use Rattle.ps_machine.specs.declared.divided.Divided.{Divided}
 use Rattle.ps_machine.specs.declared.key.Key.TheVariants.{First}
 use Rattle.ps_machine.specs.declared.key.Order.{Order}
 use Rattle.ps_machine.proofs.Diagrams.ClassTables.{all_divided}

@@ -1,4 +1,4 @@
-use Rattle.std.proofs.Common.{◌≡◌, ◌∙◌, rules}
+use Rattle.std.proofs.Common.{rules}
 use Rattle.std.proofs.lemmas.Bool.{eqb-true}
 use Rattle.ps_measure.proofs.Rows.{filled_none}
 use Rattle.ps_measure.proofs.measuring.fill.Goals as goal

@@ -1,4 +1,4 @@
-use Rattle.std.proofs.Common.{◌≡◌, ◌<◌, ◌≤◌, ℕ, Bool, List, Option, arith, ap, refl, get_or, length, rules}
+use Rattle.std.proofs.Common.{◌≡◌, ◌<◌, ℕ, Bool, List, Option, arith, ap, refl, get_or, length, rules}
 use Rattle.std.proofs.lemmas.Result.{err_from_is_err_and}
 use Rattle.ps_game.specs.Games.{ParityGame, IsGame, vertex_count}
 use Rattle.ps_measure.specs.Filling.{AreLevels}
@@ -20,8 +20,7 @@ at_place {r = r} parts star priorities place is_game levels reverse within = sea
 pub loop-place-preserved : goal.loop-place-preserved
 loop-place-preserved g c =
     let at = at_place c.remaining.view_is c.args.back.now c.args.priorities.now c.loop-place.place
-    c.count-vertices.ensures.well_formed c.requires.levels c.requires.reverse
-    (omega (arith, c.loop-place-test.true)) in
+    c.count-vertices.ensures.well_formed c.requires.levels c.requires.reverse (omega (arith, c.loop-place-test.true)) in
     rw c.from-raises.ensures (column_done at c.in_ok-raised.ensures.filled c.loop-place.invariant)
 
 pub overflow_add-raises : goal.overflow_add-raises
@@ -30,17 +29,12 @@ overflow_add-raises g c =
     let vertices : c.count-vertices.result ≡ vertex_count c.args.remaining.now.game =
     rw games at c.count-vertices.ensures.vertices in
     let fits = ranked_fits (omega (arith, vertices, c.count-vertices.type_inv)) c.loop-place.invariant in
-    let few = filled_bound c.in_ok-raised.ensures.filled in
-    let count_is = c.requires.reverse.count in
-    record {
-      fits = search rules;
-    }
+    grind (arith, filled_bound)
 
 pub returns-in_err-raised-clause-cycle : goal.returns-in_err-raised-clause-cycle
 returns-in_err-raised-clause-cycle g c =
     let at = at_place c.remaining.view_is c.args.back.now c.args.priorities.now c.loop-place.place
-    c.count-vertices.ensures.well_formed c.requires.levels c.requires.reverse
-    (omega (arith, c.loop-place-test.true)) in
+    c.count-vertices.ensures.well_formed c.requires.levels c.requires.reverse (omega (arith, c.loop-place-test.true)) in
     let p = err_from_is_err_and c.from_residual.result c.from_residual.ensures.1 in
     rw (p.1, p.2) (refused at c.in_err-raised.field-0.0 c.requires.listed c.in_err-raised.ensures.cycle)
 
@@ -56,7 +50,6 @@ fill-requires-clause-group g c =
       levels = c.args.groups.now.levels;
       priority = get_or c.args.priorities.now c.loop-place.place 0;
     } in
-    group_at c.args.groups.now.levels c.args.priorities.now c.args.groups.now.members c.loop-place.place
-    low (rw (← ap (λ (r : RemainingData). r.region) c.remaining.view_is) at c.requires.groups)
-    (omega (arith, c.loop-place-test.true))
-    (omega (arith, c.requires.levels.each, c.requires.reverse.count)) refl refl
+    group_at c.args.groups.now.levels c.args.priorities.now c.args.groups.now.members c.loop-place.place low
+    (rw (← ap (λ (r : RemainingData). r.region) c.remaining.view_is) at c.requires.groups)
+    (omega (arith, c.loop-place-test.true)) (omega (arith, c.requires.levels.each, c.requires.reverse.count)) refl refl

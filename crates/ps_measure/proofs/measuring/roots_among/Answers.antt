@@ -7,13 +7,11 @@ use Rattle.ps_measure.proofs.measuring.roots_among.Goals.{else-weight-eq1-via-th
 use Rattle.ps_measure.proofs.measuring.roots_among.Goals.{else-weight-eq1-via-else-weight-eq1}
 
 pub weight-requires : goal.weight-requires
-weight-requires g c =
-    member_within c.loop-number.number c.requires.group
+weight-requires g c = member_within c.loop-number.number c.requires.group
     (omega (arith, c.degree-number-end.ensures, c.loop-number-test.true)) c.target-vertex.ensures.target
 
 pub leads_down-requires-clause-vertex : goal.leads_down-requires-clause-vertex
-leads_down-requires-clause-vertex g c =
-    member_within c.loop-number.number c.requires.group
+leads_down-requires-clause-vertex g c = member_within c.loop-number.number c.requires.group
     (omega (arith, c.degree-number-end.ensures, c.loop-number-test.true)) c.target-vertex.ensures.target
 
 pub loop-number-preserved : goal.loop-number-preserved
@@ -33,6 +31,4 @@ loop-number-preserved g c =
     ]
 
 pub returns : goal.returns
-returns g c =
-    roots_all (omega (arith, c.degree-number-end.ensures, c.loop-number-test.false)) c.count-vertices.ensures.within
-    c.requires.group c.loop-number.invariant
+returns g c = grind (arith, roots_all)

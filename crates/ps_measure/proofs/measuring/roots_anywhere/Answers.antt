@@ -21,6 +21,4 @@ loop-vertex-preserved g c = elim c.if-weight-eq1.branch [
 ]
 
 pub returns : goal.returns
-returns g c =
-    roots_everywhere (omega (arith, c.count-vertex-end.ensures.count, c.loop-vertex-test.false))
-    c.count-vertex-end.ensures.within c.loop-vertex.invariant
+returns g c = grind (arith, roots_everywhere)

@@ -1,9 +1,8 @@
-use Rattle.std.proofs.Common.{sym, ap, ap₂, subst, ◌∙◌}
-use Rattle.ps_text.specs.Answers.{Stream, offset_of}
-use Rattle.ps_pgsolver.specs.Answered.{ReadsAs, comma_answer}
-use Rattle.ps_pgsolver.specs.GameTexts.{comma}
+use Rattle.std.proofs.Common.{arith, sym, ap, subst}
+use Rattle.ps_text.specs.Answers.{offset_of}
+use Rattle.ps_pgsolver.specs.Answered.{comma_answer}
 use Rattle.ps_pgsolver.specs.Heads.{IsTaken}
-use Rattle.ps_pgsolver.specs.Signs.{Sign, Comma}
+use Rattle.ps_pgsolver.specs.Signs.{Comma}
 use Rattle.ps_pgsolver.proofs.SingleSigns.{reads_comma}
 use Rattle.ps_pgsolver.proofs.reader.comma.Goals as goal
 
@@ -14,9 +13,4 @@ returns-then-take_comma c =
     reads_comma old taken.1 (ap (λ o. comma_answer o (offset_of old.pieces old.end)) (sym taken.0))
 
 pub returns : goal.returns
-returns c =
-    let same = subst (λ b. IsTaken Comma c.args.tokens.now b c.take_comma.new.self) c.if-take_comma.false
-    c.take_comma.ensures in
-    subst (λ (s : Stream Sign). ReadsAs (λ u. u) comma s c.comma_of.result c.next.new.self) same
-    (reads_comma c.take_comma.new.self c.next.ensures.rest
-    (c.comma_of.ensures ∙ ap₂ comma_answer c.next.ensures.token.sign c.next.ensures.token.start))
+returns c = grind (arith, reads_comma)

@@ -1,8 +1,8 @@
-use Rattle.std.proofs.Common.{Some, sym, ◌∙◌, subst}
+use Rattle.std.proofs.Common.{arith, Some, sym, ◌∙◌, subst}
 use Rattle.std.specs.Option.{option_copied}
 use Rattle.ps_pgsolver.specs.GameTexts.{entry, entries}
 use Rattle.ps_pgsolver.proofs.Choices.{number_entered, number_avoided, entry_shrinks}
-use Rattle.ps_pgsolver.proofs.Exits.{Done, Halts, exit, stops_left, continues_start, continues_then, continues_many}
+use Rattle.ps_pgsolver.proofs.Exits.{Done, exit, stops_left, continues_start, continues_then, continues_many}
 use Rattle.ps_pgsolver.proofs.Exits.{many_halts, many_done}
 use Rattle.ps_pgsolver.proofs.GameLaws.{joint_entries, laws_entry}
 use Rattle.ps_pgsolver.proofs.reader.entries.Goals as goal
@@ -11,9 +11,7 @@ pub returns-in_err-entry-clause-part : goal.returns-in_err-entry-clause-part
 unfolding entries
 returns-in_err-entry-clause-part c =
     let known = option_copied c.args.known in
-    exit _ _ _ _ _ _ (stops_left (joint_entries known) _ _
-    (subst (λ nodes. Halts (entry known nodes) c.args.tokens.now c.in_err-entry.field-0.0) c.in_ok-nodes.ensures
-    c.in_err-entry.ensures.part)) c.from_residual-in_err-entry.ensures.1
+    exit _ _ _ _ _ _ (stops_left (joint_entries known) _ _ (grind arith)) c.from_residual-in_err-entry.ensures.1
 
 pub more-init : goal.more-init
 unfolding entries
@@ -55,6 +53,5 @@ returns-clause-part c =
     (number_avoided c.more.tokens (sym c.is_at_number.ensures ∙ c.more-test.false)))
 
 pub returns-clause-later : goal.returns-clause-later
-returns-clause-later c = λ ids each.
-    (c.more.invariant.1 ids each).done _ _ (many_done (entry (Some ids)) (laws_entry (Some ids)) (λ t h k. h) _ _
-    (number_avoided c.more.tokens (sym c.is_at_number.ensures ∙ c.more-test.false)))
+returns-clause-later c = λ ids each. (c.more.invariant.1 ids each).done _ _
+    (many_done (entry (Some ids)) (laws_entry (Some ids)) (λ t h k. h) _ _ (grind (arith, number_avoided)))

@@ -1,4 +1,4 @@
-use Rattle.std.proofs.Common.{◌≡◌, List, ℕ, [], ◌∷◌, ◌++◌, Some, sym, subst, ap, ◌∙◌}
+use Rattle.std.proofs.Common.{arith, ◌≡◌, List, ℕ, [], ◌∷◌, ◌++◌, Some, sym, subst, ap, ◌∙◌}
 use Rattle.std.specs.Option.{option_copied}
 use Rattle.ps_pgsolver.specs.GameTexts.{node, entry}
 use Rattle.ps_pgsolver.specs.Kept.{node_with}
@@ -17,9 +17,7 @@ pub returns-clause-part : goal.returns-clause-part
 unfolding entry
 returns-clause-part c =
     let nodes = c.args.nodes.now in
-    let made : c.push.new.self ≡ nodes ++ node_with c.in_ok-node.node c.node.new.list.items ∷ [] =
-    c.in_ok-push.ensures ∙ ap (λ (list : List ℕ). nodes ++ node_with c.in_ok-node.node list ∷ [])
-    c.deref.ensures.value in
+    let made : c.push.new.self ≡ nodes ++ node_with c.in_ok-node.node c.node.new.list.items ∷ [] = grind arith in
     done_value (entry (option_copied c.args.known) nodes) _ _ (sym made)
     (done_mapped (λ (n : NodeData). nodes ++ n ∷ []) (node (option_copied c.args.known) (ids_of nodes)) _ _
     (node_with c.in_ok-node.node c.node.new.list.items) c.in_ok-node.ensures.part)
@@ -29,9 +27,8 @@ unfolding entry
 returns-clause-later c = λ ids each.
     let nodes = c.args.nodes.now in
     let read = node_with c.in_ok-node.node c.node.new.list.items in
-    let made : c.push.new.self ≡ nodes ++ read ∷ [] =
-    c.in_ok-push.ensures ∙ ap (λ (list : List ℕ). nodes ++ node_with c.in_ok-node.node list ∷ [])
-    c.deref.ensures.value in
+    let made : c.push.new.self ≡ nodes ++ read ∷ [] = c.in_ok-push.ensures
+    ∙ ap (λ (list : List ℕ). nodes ++ node_with c.in_ok-node.node list ∷ []) c.deref.ensures.value in
     let all : KnowsAll ids (nodes ++ read ∷ []) = subst (KnowsAll ids) made each in (
       all_before (KnowsNode ids) nodes read all,
       done_value (entry (Some ids) nodes) _ _ (sym made)

@@ -11,9 +11,8 @@ pub returns-in_err-_parity-clause-answer : goal.returns-in_err-_parity-clause-an
 unfolding game
 returns-in_err-_parity-clause-answer c =
     let known = option_copied c.args.known in
-    subst (λ s. TextAnswers known s c.from_residual.result) c.new-tokens.ensures
-    (answer_exit known c.new-tokens.result _ _ (stops_left (joint_parity known) _ _ c.in_err-_parity.ensures)
-    c.from_residual.ensures.1)
+    subst (λ s. TextAnswers known s c.from_residual.result) c.new-tokens.ensures (answer_exit known c.new-tokens.result
+    _ _ (stops_left (joint_parity known) _ _ c.in_err-_parity.ensures) c.from_residual.ensures.1)
 
 pub returns-in_err-_start-clause-answer : goal.returns-in_err-_start-clause-answer
 unfolding game

@@ -1,4 +1,4 @@
-use Rattle.std.proofs.Common.{sym, subst, Some, ◌++◌, ◌∷◌, [], ℕ}
+use Rattle.std.proofs.Common.{rules, arith, sym, subst, Some, ◌++◌, ◌∷◌, [], ℕ}
 use Rattle.std.specs.List.{Contains}
 use Rattle.ps_pgsolver.specs.Nodes.{KnowsEach}
 use Rattle.ps_pgsolver.proofs.NodeLemmas.{all_before, all_last}
@@ -14,14 +14,12 @@ returns-clause-part c =
     let known = option_copied c.args.known in
     let list = c.args.list.now.items in
     done_value (more_successor known list) _ _ (sym c.in_ok-push.ensures.items)
-    (done_then (joint_more known list) _ _ _ _ _ c.in_ok-comma.ensures
-    (done_mapped (λ (n : ℕ). list ++ n ∷ []) (successor known) _ _ c.in_ok-id.id c.in_ok-id.ensures.part))
+    (done_then (joint_more known list) _ _ _ _ _ c.in_ok-comma.ensures (grind arith))
 
 pub returns-in_err-comma-clause-part : goal.returns-in_err-comma-clause-part
 unfolding more_successor
 returns-in_err-comma-clause-part c =
-    exit _ _ _ _ _ _ (stops_left (joint_more (option_copied c.args.known) c.args.list.now.items) _ _
-    c.in_err-comma.ensures) c.from_residual.ensures.1
+    exit _ _ _ _ _ _ (stops_left (search (rules, joint_more)) _ _ c.in_err-comma.ensures) c.from_residual.ensures.1
 
 pub returns-in_err-id-clause-part : goal.returns-in_err-id-clause-part
 unfolding more_successor

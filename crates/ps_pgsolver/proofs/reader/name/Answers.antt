@@ -1,6 +1,4 @@
-use Rattle.std.proofs.Common.{Some, sym, ap}
-use Rattle.ps_pgsolver.specs.GameTexts.{name}
-use Rattle.ps_pgsolver.proofs.Exits.{done_value}
+use Rattle.std.proofs.Common.{arith, sym}
 use Rattle.ps_pgsolver.proofs.Choices.{name_none, name_done}
 use Rattle.ps_pgsolver.proofs.reader.name.Goals as goal
 
@@ -8,6 +6,4 @@ pub returns-in_default-clause-part : goal.returns-in_default-clause-part
 returns-in_default-clause-part c = name_none _ (sym c.in_default.ensures.name)
 
 pub returns-clause-part : goal.returns-clause-part
-returns-clause-part c =
-    done_value name _ _ (ap Some (sym (c.in_ok-to_vec.ensures.items_if_clones_equal (λ x y e. e))))
-    (name_done _ (sym c.in-Some.ensures.name) c.next.ensures.rest)
+returns-clause-part c = grind (arith, name_done _ (sym c.in-Some.ensures.name) c.next.ensures.rest)

@@ -1,4 +1,4 @@
-use Rattle.std.proofs.Common.{ℕ, List, Option, Some}
+use Rattle.std.proofs.Common.{rules, arith, ℕ, List, Option, Some}
 use Rattle.std.specs.Option.{option_copied}
 use Rattle.ps_game.specs.Names.{name_bytes}
 use Rattle.ps_pgsolver.specs.GameTexts.{node, semicolon, successors}
@@ -29,17 +29,17 @@ behind_priority k c = continues_then (joint_priority k (ids_of c.args.nodes.now)
 behind_owner : (k : Known) (c : After-successors) → let ids = ids_of c.args.nodes.now in Continues (node k ids)
     (from_successors k ids c.in_ok-id.id c.in_ok-priority.priority c.in_ok-owner.owner) c.args.tokens.now
     c.owner.new.tokens
-behind_owner k c =
-    continues_then (joint_owner k (ids_of c.args.nodes.now) c.in_ok-id.id c.in_ok-priority.priority) _
+behind_owner k c = continues_then (joint_owner k (ids_of c.args.nodes.now) c.in_ok-id.id c.in_ok-priority.priority) _
     (behind_priority k (goal.at.After-successors c).After-owner) c.in_ok-owner.ensures.part
 
 behind_list : (k : Known) (c : After-name) → let list = c.successors.new.list.items in
     Done (successors k) c.owner.new.tokens list c.successors.new.tokens → Continues (node k (ids_of c.args.nodes.now))
     (from_name k (ids_of c.args.nodes.now) c.in_ok-id.id c.in_ok-priority.priority c.in_ok-owner.owner list)
     c.args.tokens.now c.successors.new.tokens
-behind_list k c done =
-    continues_then (joint_list k (ids_of c.args.nodes.now) c.in_ok-id.id c.in_ok-priority.priority c.in_ok-owner.owner)
-    _ (behind_owner k (goal.at.After-name c).After-successors) done
+behind_list k c done = continues_then (grind (
+  arith,
+  joint_list k (ids_of c.args.nodes.now) c.in_ok-id.id c.in_ok-priority.priority c.in_ok-owner.owner,
+)) _ (behind_owner k (goal.at.After-name c).After-successors) done
 
 abbrev made : After-semicolon → NodeData
 made c = record {
@@ -63,31 +63,37 @@ behind_name k c done =
 
 pub returns-in_err-id-clause-part : goal.returns-in_err-id-clause-part
 unfolding node
-returns-in_err-id-clause-part c = exit _ _ _ _ _ _
-    (stops_left (joint_id (option_copied c.args.known) (ids_of c.args.nodes.now)) _ _ c.in_err-id.ensures.part)
-    c.from_residual.ensures.1
+returns-in_err-id-clause-part c =
+    exit _ _ _ _ _ _ (stops_left (search (rules, joint_id)) _ _ c.in_err-id.ensures.part) c.from_residual.ensures.1
 
 pub returns-in_err-priority-clause-part : goal.returns-in_err-priority-clause-part
 returns-in_err-priority-clause-part c =
     let k = option_copied c.args.known in
-    let b = behind_id k (goal.at.returns-in_err-priority-clause-part c).After-number in
-    exit _ _ _ _ _ _ (b.stops _ (stops_left (joint_priority k (ids_of c.args.nodes.now) c.in_ok-id.id) _ _
-    c.in_err-priority.ensures)) c.from_residual-in_err-priority.ensures.1
+    grind (
+      arith,
+      behind_id k (goal.at.returns-in_err-priority-clause-part c).After-number,
+      stops_left (joint_priority k (ids_of c.args.nodes.now) c.in_ok-id.id) _ _ c.in_err-priority.ensures,
+    )
 
 pub returns-in_err-owner-clause-part : goal.returns-in_err-owner-clause-part
 returns-in_err-owner-clause-part c =
     let k = option_copied c.args.known in
-    let b = behind_priority k (goal.at.returns-in_err-owner-clause-part c).After-owner in
-    exit _ _ _ _ _ _ (b.stops _ (stops_left (joint_owner k (ids_of c.args.nodes.now) c.in_ok-id.id
-    c.in_ok-priority.priority) _ _ c.in_err-owner.ensures.part)) c.from_residual-in_err-owner.ensures.1
+    grind (
+      arith,
+      behind_priority k (goal.at.returns-in_err-owner-clause-part c).After-owner,
+      stops_left (joint_owner k
+          (ids_of c.args.nodes.now) c.in_ok-id.id c.in_ok-priority.priority) _ _ c.in_err-owner.ensures.part,
+    )
 
 pub returns-in_err-successors-clause-part : goal.returns-in_err-successors-clause-part
 returns-in_err-successors-clause-part c =
     let k = option_copied c.args.known in
-    let b = behind_owner k (goal.at.returns-in_err-successors-clause-part c).After-successors in
-    exit _ _ _ _ _ _ (b.stops _ (stops_left (joint_list k (ids_of c.args.nodes.now) c.in_ok-id.id
-    c.in_ok-priority.priority c.in_ok-owner.owner) _ _ c.in_err-successors.ensures.part))
-    c.from_residual-in_err-successors.ensures.1
+    grind (
+      arith,
+      behind_owner k (goal.at.returns-in_err-successors-clause-part c).After-successors,
+      stops_left (joint_list k (ids_of c.args.nodes.now) c.in_ok-id.id c.in_ok-priority.priority c.in_ok-owner.owner)
+          _ _ c.in_err-successors.ensures.part,
+    )
 
 pub returns-in_err-name-clause-part : goal.returns-in_err-name-clause-part
 returns-in_err-name-clause-part c =

@@ -1,4 +1,4 @@
-use Rattle.std.proofs.Common.{◌≡◌, true, false, Err, sym, ◌∙◌}
+use Rattle.std.proofs.Common.{arith, Err, sym, ◌∙◌}
 use Rattle.ps_pgsolver.proofs.NodeLemmas.{all_known, all_tested}
 use Rattle.ps_pgsolver.proofs.Answering.{first_exit, unknown_answer, answer, within_text}
 use Rattle.ps_pgsolver.proofs.reader.read.Goals as goal
@@ -11,14 +11,10 @@ pub returns-in_err-nodes-clause-within : goal.returns-in_err-nodes-clause-within
 returns-in_err-nodes-clause-within c = within_text c.args.text.now _ (returns-in_err-nodes-clause-answer c)
 
 pub unknown_successor-requires-clause-some : goal.unknown_successor-requires-clause-some
-unknown_successor-requires-clause-some c = λ known.
-    let both : true ≡ false = sym (all_tested _ _ known) ∙ sym c.know_successors.ensures
-    ∙ c.if-not-know_successors.true in cc
+unknown_successor-requires-clause-some c = grind (arith, all_tested)
 
 pub returns-then-not-know_successors-clause-answer : goal.returns-then-not-know_successors-clause-answer
-returns-then-not-know_successors-clause-answer c =
-    unknown_answer c.args.text.now c.if-text-gt-TEXT_LIMIT.false c.in_ok-nodes.nodes c.in_ok-nodes.ensures.answer
-    c.unknown_successor.result c.unknown_successor.ensures
+returns-then-not-know_successors-clause-answer c = grind (arith, unknown_answer)
 
 pub returns-then-not-know_successors-clause-within : goal.returns-then-not-know_successors-clause-within
 returns-then-not-know_successors-clause-within c =
@@ -28,10 +24,7 @@ pub named_game-requires : goal.named_game-requires
 named_game-requires c = all_known _ _ (sym c.know_successors.ensures ∙ c.if-not-know_successors.false)
 
 pub returns-clause-answer : goal.returns-clause-answer
-returns-clause-answer c =
-    answer c.args.text.now c.if-text-gt-TEXT_LIMIT.false c.in_ok-nodes.nodes c.in_ok-nodes.ensures.answer
-    (c.in_ok-nodes.ensures.later _ (all_known _ _ (sym c.know_successors.ensures ∙ c.if-not-know_successors.false))) _
-    c.named_game.ensures.value c.named_game.ensures.memory
+returns-clause-answer c = grind (arith, answer, all_known)
 
 pub returns-clause-within : goal.returns-clause-within
 returns-clause-within c = within_text c.args.text.now _ (returns-clause-answer c)

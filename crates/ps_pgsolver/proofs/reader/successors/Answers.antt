@@ -1,7 +1,4 @@
-use Rattle.std.proofs.Common.{[], ◌∷◌, ◌++◌, ◌≡◌, Some, sym, ◌∙◌, subst, arith, rules}
-use Rattle.std.specs.List.{Contains}
-use Rattle.ps_pgsolver.specs.Nodes.{KnowsEach}
-use Rattle.ps_pgsolver.proofs.NodeLemmas.{all_last}
+use Rattle.std.proofs.Common.{[], ◌∷◌, ◌≡◌, Some, sym, ◌∙◌, subst, arith, rules}
 use Rattle.std.specs.Option.{option_copied}
 use Rattle.ps_text.specs.Parts.{many}
 use Rattle.ps_pgsolver.specs.GameTexts.{successors, more_successor}
@@ -13,9 +10,8 @@ use Rattle.ps_pgsolver.proofs.reader.successors.Goals as goal
 
 pub returns-in_err-first_successor-clause-part : goal.returns-in_err-first_successor-clause-part
 unfolding successors
-returns-in_err-first_successor-clause-part c =
-    exit _ _ _ _ _ _ (stops_left (joint_successors (option_copied c.args.known)) _ _
-    c.in_err-first_successor.ensures.part) c.from_residual.ensures.1
+returns-in_err-first_successor-clause-part c = exit _ _ _ _ _ _
+    (stops_left (search (rules, joint_successors)) _ _ c.in_err-first_successor.ensures.part) c.from_residual.ensures.1
 
 pub more-init : goal.more-init
 unfolding successors
@@ -23,13 +19,13 @@ more-init c =
     let known = option_copied c.args.known in
     let one : c.push.new.self.items ≡ c.in_ok-first_successor.field-0 ∷ [] = search rules in (
       omega (arith, c.in_ok-push.ensures.len),
-      subst (λ xs. Continues (successors known) (many (more_successor known) xs) c.args.tokens.now
-          c.first_successor.new.tokens) (sym one) (continues_then (joint_successors known) _
-          (continues_start) c.in_ok-first_successor.ensures.part),
-      λ ids each. subst (λ xs. Continues (successors (Some ids)) (many (more_successor (Some ids)) xs) c.args.tokens.now
-          c.first_successor.new.tokens) (sym one) (continues_then (joint_successors (Some ids)) _ (continues_start)
-          (c.in_ok-first_successor.ensures.later ids (all_last (λ id. Contains ids id) []
-          c.in_ok-first_successor.field-0 (subst (KnowsEach ids) one each)))),
+      grind (
+        arith,
+        continues_then (joint_successors known) _ (continues_start) c.in_ok-first_successor.ensures.part,
+      ),
+      λ ids each. subst (λ xs. Continues (successors (Some ids)) (many (more_successor (Some ids)) xs)
+          c.args.tokens.now c.first_successor.new.tokens) (sym one)
+          (continues_then (joint_successors (Some ids)) _ (continues_start) (grind arith)),
     )
 
 pub more-smaller : goal.more-smaller
@@ -39,12 +35,11 @@ pub more-preserved : goal.more-preserved
 more-preserved c =
     let known = option_copied c.args.known in (
       omega (arith, c.more.invariant.0, c.in_ok-more_successor.ensures.longer),
-      continues_many (more_successor known) (laws_more known) (λ t h k. h) _ _
-          c.more.invariant.1 c.in_ok-more_successor.ensures.part,
+      continues_many (more_successor known)
+          (laws_more known) (λ t h k. h) _ _ c.more.invariant.1 c.in_ok-more_successor.ensures.part,
       λ ids each.
           let added = c.in_ok-more_successor.ensures.later ids each in
-          continues_many (more_successor (Some ids)) (laws_more (Some ids)) (λ t h k. h) _
-          _ (c.more.invariant.2 ids added.0) added.1,
+          continues_many (more_successor (Some ids)) (laws_more (Some ids)) (λ t h k. h) _ _ (grind arith) added.1,
     )
 
 pub returns-in_err-more_successor-clause-part : goal.returns-in_err-more_successor-clause-part
@@ -61,6 +56,5 @@ returns-clause-part c =
     (comma_avoided c.more.tokens (sym c.is_at_comma.ensures ∙ c.more-test.false)))
 
 pub returns-clause-later : goal.returns-clause-later
-returns-clause-later c = λ ids each.
-    (c.more.invariant.2 ids each).done _ _ (many_done (more_successor (Some ids)) (laws_more (Some ids)) (λ t h k. h) _
-    _ (comma_avoided c.more.tokens (sym c.is_at_comma.ensures ∙ c.more-test.false)))
+returns-clause-later c = λ ids each. (c.more.invariant.2 ids each).done _ _
+    (many_done (more_successor (Some ids)) (laws_more (Some ids)) (λ t h k. h) _ _ (grind (arith, comma_avoided)))

@@ -10,10 +10,4 @@ returns-clause-ahead c =
     let read = reads_split _ c.next_start-start.ensures.start c.next_start-start.ensures.within
     c.split_at.ensures.front c.split_at.ensures.back c.token_at-size.ensures.end c.token_at-size.ensures.sign
     c.token_at-size.ensures.size (returns-clause-blanks c) in
-    record {
-      head = read.head;
-      plain = c.token_at-size.ensures.plain;
-      rest = read.rest;
-      start = c.next_start-start.ensures.within;
-      within = search rules;
-    }
+    search rules

@@ -1,4 +1,4 @@
-use Rattle.std.proofs.Common.{arith, ap, sym, ◌≡◌, ◌<◌, ◌∙◌, length, append-nil, rules}
+use Rattle.std.proofs.Common.{arith, sym, ◌≡◌, ◌<◌, ◌∙◌, length, append-nil, rules}
 use Rattle.std.proofs.lemmas.List.Elements.{All-more}
 use Rattle.ps_game.specs.Games.{VertexData, vertex_count, priority_of, no_vertex}
 use Rattle.ps_pgsolver.specs.Written.{IsWord}
@@ -25,8 +25,7 @@ pub returns-clause-bytes : goal.returns-clause-bytes
 unfolding vertex_count
 returns-clause-bytes c =
     let game = c.args.game.now in
-    let count : c.count-vertex-end.result ≡ length game.game =
-    c.count-vertex-end.ensures.vertices ∙ ap length c.game.ensures.game in
+    let count : c.count-vertex-end.result ≡ length game.game = grind arith in
     sym (append-nil c.loop-vertex.out.items) ∙ lines_end game.ids game.names game.game c.loop-vertex.vertex
     c.loop-vertex.out.items (omega (arith, c.loop-vertex-test.false, count)) c.loop-vertex.invariant.bytes
 
@@ -35,18 +34,12 @@ unfolding vertex_count
 returns-clause-ids c =
     let game = c.args.game.now in
     let count : c.count-vertex-end.result ≡ length game.game = search rules in
-    all_taken_all IsWord game.ids c.loop-vertex.vertex (omega (
-      arith,
-      c.loop-vertex-test.false,
-      count,
-      c.game.ensures.well_formed.id_each,
-    )) c.loop-vertex.invariant.ids
+    all_taken_all IsWord game.ids c.loop-vertex.vertex (grind arith) c.loop-vertex.invariant.ids
 
 pub returns-clause-priorities : goal.returns-clause-priorities
 unfolding vertex_count
 returns-clause-priorities c =
     let game = c.args.game.now in
-    let count : c.count-vertex-end.result ≡ length game.game =
-    c.count-vertex-end.ensures.vertices ∙ ap length c.game.ensures.game in
+    let count : c.count-vertex-end.result ≡ length game.game = grind arith in
     all_taken_all (λ (x : VertexData). IsWord x.priority) game.game c.loop-vertex.vertex
     (omega (arith, c.loop-vertex-test.false, count)) c.loop-vertex.invariant.priorities

@@ -4,8 +4,7 @@ use Rattle.ps_program.proofs.CommandLemmas.{given_is}
 use Rattle.ps_program.proofs.command_line.is_given.Goals as goal
 
 pub returns-in-Some : goal.returns-in-Some
-returns-in-Some c =
-    c.eq.ensures ∙ given_is (found_of c.args.flags.now) c.args.name.now (Some c.in-Some.text.now)
+returns-in-Some c = c.eq.ensures ∙ given_is (found_of c.args.flags.now) c.args.name.now (Some c.in-Some.text.now)
     (rw c.in-Some.is at c.get_str.ensures)
 
 pub returns-in-None : goal.returns-in-None

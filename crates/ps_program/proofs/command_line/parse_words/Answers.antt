@@ -1,4 +1,4 @@
-use Rattle.std.proofs.Common.{◌≡◌, ◌∙◌, ap, subst, inl, map, []}
+use Rattle.std.proofs.Common.{arith, ◌≡◌, ◌∙◌, ap, subst, inl, map, []}
 use Rattle.clap.specs.Simple.{is_simple}
 use Rattle.clap.specs.Words.{App, app_of, fault_of, subcommand_of, subcommand_rows_of, is_simple_and_free}
 use Rattle.clap.specs.declared.error.kind.ErrorKind.{ErrorKind}
@@ -11,8 +11,7 @@ pub returns-in-Ok : goal.returns-in-Ok
 returns-in-Ok c =
     let words = map (λ word. word.now) c.args.words.now in
     let app = app_of c.in_ok-commands.field-0 in
-    let none : fault_of app words ≡ [] =
-    c.in-Ok.ensures.kinds (ap is_simple_and_free c.in_ok-commands.ensures ∙ table-free) in
+    let none : fault_of app words ≡ [] = c.in-Ok.ensures.kinds (grind (arith, table-free)) in
     let named : subcommand_rows_of c.in-Ok.matches ≡ subcommand_of app words =
     (c.in-Ok.ensures.matches (ap is_simple c.in_ok-commands.ensures ∙ table-simple)).1 in
     inl (

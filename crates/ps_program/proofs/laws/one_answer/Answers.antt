@@ -7,17 +7,14 @@ pub returns : goal.returns
 returns g c =
     let b = c.args.built_in.now in
     let r = c.args.replay.now in
-    let solvers : Solvers =
-    solvers_of (solver_of (g.S.Solver.is_sure b) (g.S.Solver.fed b) (g.S.Solver.may_answer b))
+    let solvers : Solvers = solvers_of (solver_of (g.S.Solver.is_sure b) (g.S.Solver.fed b) (g.S.Solver.may_answer b))
     (solver_of (g.T.Solver.is_sure r) (g.T.Solver.fed r) (g.T.Solver.may_answer r)) in
     record {
-      answer =
-          whole_one c.one_answer.ensures c.certificate_text_has_one_answer.ensures c.first_flaw_is_one.ensures
+      answer = whole_one c.one_answer.ensures c.certificate_text_has_one_answer.ensures c.first_flaw_is_one.ensures
           c.one_answer-2.ensures c.stimulus_text_has_one_answer.ensures c.one_answer-3.ensures
           c.refusal_is_one.ensures.one c.refusal_is_one.ensures.apart c.verdict_is_one.ensures
           c.circuit_has_one_values.ensures c.one_game_of_file.ensures c.winners_are_one.ensures solvers;
-      certified = λ replaying asked cert.
-          certified_one c.one_answer-3.ensures c.refusal_is_one.ensures.one c.refusal_is_one.ensures.apart
-          c.one_game_of_file.ensures c.certificate_text_has_one_answer.ensures
+      certified = λ replaying asked cert. certified_one c.one_answer-3.ensures c.refusal_is_one.ensures.one
+          c.refusal_is_one.ensures.apart c.one_game_of_file.ensures c.certificate_text_has_one_answer.ensures
           c.winners_circuit_is_one.ensures.one c.winners_circuit_is_one.ensures.apart solvers replaying asked cert;
     }

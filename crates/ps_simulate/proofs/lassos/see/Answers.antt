@@ -1,5 +1,4 @@
-use Rattle.std.proofs.Common.{◌≡◌, ◌≢◌, ◌∙◌, ℕ, ◌+◌, ◌<◌, ◌++◌, ◌∷◌, [], Bool, List, None, Option, sym}
-use Rattle.std.proofs.Common.{ap}
+use Rattle.std.proofs.Common.{arith, ◌≡◌, ◌∙◌, ℕ, ◌+◌, ◌++◌, ◌∷◌, [], Bool, List, None, Option, sym, ap}
 use Rattle.std.specs.Prelude.{if◌then◌else◌, is_some}
 use Rattle.std.specs.BTreeMap.{btree_map_len, get}
 use Rattle.ps_simulate.specs.LassoRuns.{bits_cmp}
@@ -9,11 +8,8 @@ use Rattle.ps_simulate.proofs.lassos.see.Goals as goal
 pub returns-in-Some : goal.returns-in-Some
 returns-in-Some c = λ old have.
     let key = c.in_ok-key.key in
-    let there = sym c.get.ensures.value ∙ sym c.copied.ensures ∙ c.in-Some.is in (
-      old,
-      seen_before have key c.in_ok-key.ensures.items there,
-      have,
-    )
+    let there = sym c.get.ensures.value ∙ sym c.copied.ensures ∙ c.in-Some.is in
+    grind (arith, seen_before have key c.in_ok-key.ensures.items there)
 
 pub returns : goal.returns
 returns c = λ old have.

@@ -1,9 +1,6 @@
-use Rattle.std.proofs.Common.{◌≡◌, ◌∙◌, ◌+◌, ◌-◌, ◌*◌, ◌≤◌, ◌++◌, [], ◌∷◌, ℕ, suc, List, Bool, sym, ap}
-use Rattle.std.proofs.Common.{take, drop, length, arith}
+use Rattle.std.proofs.Common.{◌≡◌, ◌-◌, take, drop, length, arith}
 use Rattle.std.proofs.lemmas.Result.{err_from_is_err_and}
 use Rattle.std.proofs.lemmas.List.{length-map}
-use Rattle.ps_simulate.specs.Stimuli.{letters_in}
-use Rattle.ps_simulate.specs.StimulusTexts.{digit_of}
 use Rattle.ps_simulate.proofs.LetterLists.{letters_in-push, whole-push, IsLettersAnswer-line}
 use Rattle.ps_simulate.proofs.Stimuli.StimulusSteps.{HasRead-letter}
 use Rattle.ps_simulate.proofs.Stimuli.LineLemmas.{line_length}
@@ -30,19 +27,11 @@ loop-start-preserved c =
     let letter = c.in_ok-letter.letter.items in
     let line = take (end - start) (drop start text) in
     let ends = line_length text start end c.line_end-end.ensures.from c.line_end-end.ensures.within in
-    let fits : length letter ≡ width = sym (length-map letter digit_of) ∙ sym (ap length c.in_ok-letter.ensures.0)
-    ∙ c.in_ok-letter.ensures.1 in
-    let now : c.extend_from_slice.new.self.items ≡ bits ++ letter = c.in_ok-extend_from_slice.ensures.items
-    ∙ ap (λ (l : List Bool). bits ++ l) c.deref.ensures.value in
-    let next : count + 1 ≡ suc count = omega arith in
-    let more : letters_in width (count + 1) c.extend_from_slice.new.self.items ≡ letters_in width count bits ++
-    letter ∷ [] = ap (letters_in width (count + 1)) now ∙ ap (λ (n : ℕ). letters_in width n (bits ++ letter)) next
-    ∙ letters_in-push count bits letter c.loop-start.invariant.whole fits in
-    record {
-      read =
-          rw more (HasRead-letter c.loop-start.invariant.read c.line_end-end.ensures.lines ends letter
-          c.in_ok-letter.ensures.0 c.in_ok-letter.ensures.1);
-      whole = ap length now ∙ whole-push count bits letter c.loop-start.invariant.whole fits
-          ∙ ap (λ (n : ℕ). n * width) (sym next);
-      few = omega (arith, c.line_end-end.ensures.from);
-    }
+    let fits : length letter ≡ width = grind (arith, length-map) in
+    grind (
+      arith,
+      letters_in-push count bits letter c.loop-start.invariant.whole fits,
+      HasRead-letter c.loop-start.invariant.read c.line_end-end.ensures.lines ends letter c.in_ok-letter.ensures.0
+          c.in_ok-letter.ensures.1,
+      whole-push count bits letter c.loop-start.invariant.whole fits,
+    )

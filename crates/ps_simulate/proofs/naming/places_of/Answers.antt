@@ -1,4 +1,4 @@
-use Rattle.std.proofs.Common.{◌≡◌, ◌≢◌, ◌<◌, ℕ, List, Bool, Bor, Option, map, length}
+use Rattle.std.proofs.Common.{ℕ, List, Bool, Bor, Option, map, length}
 use Rattle.std.specs.Option.{option_copied}
 use Rattle.std.proofs.lemmas.List.{length-map}
 use Rattle.ps_hoa.specs.Memory.{bytes_of}

@@ -1,4 +1,3 @@
-use Rattle.std.proofs.Common.{ℕ, Contains, subst, sym, take}
 use Rattle.ps_ids.proofs.Members.{absent_before}
 use Rattle.ps_simulate.proofs.places.ids_of.Goals as goal
 

@@ -40,9 +40,8 @@ loop-place-preserved c =
     let place = get_or order k 0 in
     let gate = c.index-gates-place.result in
     let is : gate ≡ get_or circuit.gates place no_gate = c.index-gates-place.is
-    ∙ ap (λ (gs : List Gate). get_or gs place gate) c.gates-gates.ensures.gates
-    ∙ get_or_default circuit.gates place gate no_gate (within (goal.at.loop-place-preserved c).After-order-order k
-    c.loop-place-test.true) in
+    ∙ ap (λ (gs : List Gate). get_or gs place gate) c.gates-gates.ensures.gates ∙ get_or_default circuit.gates place
+    gate no_gate (within (goal.at.loop-place-preserved c).After-order-order k c.loop-place-test.true) in
     let made : Wire → Wire → Wire → Row =
     λ own first second. record { target = own.place; first = first; second = second } in
     let g = get_or circuit.gates place no_gate in

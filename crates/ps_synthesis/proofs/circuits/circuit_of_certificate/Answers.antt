@@ -17,8 +17,7 @@ returns-clause-made c =
     let extracted : IsExtracted c.args.order a game.game.game c.args.certificate.now m = record {
       is_machine = (subst IsWholeMachine c.machine.view_is c.machine.invariant).is_machine;
       propositions = c.in_ok-machine.ensures.propositions;
-      machine_of =
-          λ keys is. subst (λ ks. IsMachineOf board mover ks game.game.game c.args.certificate.now m)
+      machine_of = λ keys is. subst (λ ks. IsMachineOf board mover ks game.game.game c.args.certificate.now m)
           (c.one_game.ensures board mover game.keys.keys keys game.game.game game.game.game c.requires.game is).0
           c.in_ok-machine.ensures.machine;
     } in
@@ -31,13 +30,11 @@ returns-clause-made c =
     }
 
 pub returns-clause-answers : goal.returns-clause-answers
-returns-clause-answers c = λ file chain built.
-    c.certified_circuit_answers.ensures file chain c.args.automaton.now c.args.order c.args.game.now.keys.keys
-    c.args.game.now.game.game c.args.certificate.now (behaviour c.in_ok-machine.machine) c.in_ok-circuit.circuit
-    built c.requires.game
-    c.requires.certified.fits c.requires.certified.valid (subst IsWholeMachine c.machine.view_is
-    c.machine.invariant).is_machine c.in_ok-machine.ensures.propositions c.in_ok-machine.ensures.machine
-    c.in_ok-circuit.ensures.encodes
+returns-clause-answers c = λ file chain built. c.certified_circuit_answers.ensures file chain c.args.automaton.now
+    c.args.order c.args.game.now.keys.keys c.args.game.now.game.game c.args.certificate.now
+    (behaviour c.in_ok-machine.machine) c.in_ok-circuit.circuit built c.requires.game c.requires.certified.fits
+    c.requires.certified.valid (subst IsWholeMachine c.machine.view_is c.machine.invariant).is_machine
+    c.in_ok-machine.ensures.propositions c.in_ok-machine.ensures.machine c.in_ok-circuit.ensures.encodes
 
 pub returns-in_err-circuit-clause-refused : goal.returns-in_err-circuit-clause-refused
 returns-in_err-circuit-clause-refused c =
@@ -49,8 +46,7 @@ returns-in_err-circuit-clause-refused c =
     let extracted : IsExtracted c.args.order a game.game.game c.args.certificate.now m = record {
       is_machine = (subst IsWholeMachine c.machine.view_is c.machine.invariant).is_machine;
       propositions = c.in_ok-machine.ensures.propositions;
-      machine_of =
-          λ keys is. subst (λ ks. IsMachineOf board mover ks game.game.game c.args.certificate.now m)
+      machine_of = λ keys is. subst (λ ks. IsMachineOf board mover ks game.game.game c.args.certificate.now m)
           (c.one_game.ensures board mover game.keys.keys keys game.game.game game.game.game c.requires.game is).0
           c.in_ok-machine.ensures.machine;
     } in

@@ -1,6 +1,5 @@
-use Rattle.ps_synthesis.specs.Stages.{IsCircuitFault}
-use Rattle.ps_synthesis.specs.declared.fault.SynthFault.TheVariants.{OutOfMemory}
-use Rattle.ps_synthesis.proofs.Reporting.{no_report, told_as}
+use Rattle.std.proofs.Common.{arith}
+use Rattle.ps_synthesis.proofs.Reporting.{no_report}
 use Rattle.ps_synthesis.proofs.problem.report_of_certificate.Goals as goal
 
 pub returns-clause-circuit : goal.returns-clause-circuit
@@ -12,15 +11,10 @@ returns-clause-circuit c = (
 )
 
 pub returns-in_err-circuit-clause-refused : goal.returns-in_err-circuit-clause-refused
-returns-in_err-circuit-clause-refused c =
-    told_as c.from_residual.result c.in_err-circuit.field-0.0 (IsCircuitFault c.args.order c.args.automaton.now
-    c.args.game.now.game.game c.args.certificate.now) c.in_err-circuit.ensures.refused c.from_residual.ensures.1
+returns-in_err-circuit-clause-refused c = grind arith
 
 pub returns-in_err-report_of-clause-refused : goal.returns-in_err-report_of-clause-refused
-returns-in_err-report_of-clause-refused c =
-    told_as c.from_residual-in_err-report_of.result OutOfMemory
-    (IsCircuitFault c.args.order c.args.automaton.now c.args.game.now.game.game c.args.certificate.now) tt
-    c.from_residual-in_err-report_of.ensures.1
+returns-in_err-report_of-clause-refused c = grind arith
 
 pub returns-in_err-circuit-clause-realizable : goal.returns-in_err-circuit-clause-realizable
 returns-in_err-circuit-clause-realizable c = no_report c.from_residual.result _ _ c.from_residual.ensures.1
@@ -35,17 +29,13 @@ pub returns-in_err-circuit-clause-certificate : goal.returns-in_err-circuit-clau
 returns-in_err-circuit-clause-certificate c = no_report c.from_residual.result _ _ c.from_residual.ensures.1
 
 pub returns-in_err-report_of-clause-realizable : goal.returns-in_err-report_of-clause-realizable
-returns-in_err-report_of-clause-realizable c =
-    no_report c.from_residual-in_err-report_of.result _ _ c.from_residual-in_err-report_of.ensures.1
+returns-in_err-report_of-clause-realizable c = grind (arith, no_report)
 
 pub returns-in_err-report_of-clause-circuit : goal.returns-in_err-report_of-clause-circuit
-returns-in_err-report_of-clause-circuit c =
-    no_report c.from_residual-in_err-report_of.result _ _ c.from_residual-in_err-report_of.ensures.1
+returns-in_err-report_of-clause-circuit c = grind (arith, no_report)
 
 pub returns-in_err-report_of-clause-game : goal.returns-in_err-report_of-clause-game
-returns-in_err-report_of-clause-game c =
-    no_report c.from_residual-in_err-report_of.result _ _ c.from_residual-in_err-report_of.ensures.1
+returns-in_err-report_of-clause-game c = grind (arith, no_report)
 
 pub returns-in_err-report_of-clause-certificate : goal.returns-in_err-report_of-clause-certificate
-returns-in_err-report_of-clause-certificate c =
-    no_report c.from_residual-in_err-report_of.result _ _ c.from_residual-in_err-report_of.ensures.1
+returns-in_err-report_of-clause-certificate c = grind (arith, no_report)

@@ -1,5 +1,5 @@
 -- The machine is that of its player, its words are won, and so the circuit is the player's answer.
-use Rattle.std.proofs.Common.{◌≡◌, ℕ, ◌==◌, subst, ◌∙◌, rules}
+use Rattle.std.proofs.Common.{◌≡◌, ℕ, ◌==◌, subst, rules}
 use Rattle.ps_machine.specs.Keys.{mover_of}
 use Rattle.ps_traces.specs.Answers.{IsWitness}
 use Rattle.ps_traces.proofs.Answering.{is_answer}

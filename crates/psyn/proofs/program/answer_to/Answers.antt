@@ -13,8 +13,7 @@ returns g c =
     let r = c.args.replay.now in
     let s = goal.Solver-dyn g (b.vtable, b.value) in
     let t = goal.Solver-dyn g (r.vtable, r.value) in
-    let solvers : Solvers =
-    solvers_of (solver_of (s.is_sure b.value) (s.fed b.value) (s.may_answer b.value))
+    let solvers : Solvers = solvers_of (solver_of (s.is_sure b.value) (s.fed b.value) (s.may_answer b.value))
     (solver_of (t.is_sure r.value) (t.fed r.value) (t.may_answer r.value)) in
     let line = c.in_ok-line.line in
     let input = c.args.input.now in

@@ -12,8 +12,7 @@ returns-in-Ok-answer_to-clause-answered g c =
     let r = c.args.replay in
     let s = goal.Solver-dyn g (b.vtable, b.value) in
     let t = goal.Solver-dyn g (r.vtable, r.value) in
-    let solvers : Solvers =
-    solvers_of (solver_of (s.is_sure b.value) (s.fed b.value) (s.may_answer b.value))
+    let solvers : Solvers = solvers_of (solver_of (s.is_sure b.value) (s.fed b.value) (s.may_answer b.value))
     (solver_of (t.is_sure r.value) (t.fed r.value) (t.may_answer r.value)) in
     let state = sink_state g.W.Sink.contents g.W.Sink.has_failed g.W.Sink.has_stalled g.W.Sink.is_flushed in
     let answer = c.in-Ok-answer_to.answer in

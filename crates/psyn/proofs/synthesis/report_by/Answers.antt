@@ -1,17 +1,13 @@
-use Rattle.std.proofs.Common.{Ok, subst}
+use Rattle.std.proofs.Common.{arith, Ok, subst}
 use Rattle.ps_game.specs.Games.{NamedGameData}
 use Rattle.ps_synthesis.specs.Asking.{Answered}
 use Rattle.ps_synthesis.specs.Promises.{MayAnswer}
-use Rattle.ps_synthesis.specs.Stages.{IsSolverFault}
-use Rattle.ps_synthesis.specs.SynthFaults.{IsSynthFault}
 use Rattle.ps_synthesis.proofs.Outcomes.{cause_in, report_in}
-use Rattle.ps_synthesis.proofs.Reporting.{told_as}
-use Rattle.psyn.proofs.SynthesiseLemmas.{fault_of, lacks_memory, outcome_by}
+use Rattle.psyn.proofs.SynthesiseLemmas.{outcome_by}
 use Rattle.psyn.proofs.synthesis.report_by.Goals as goal
 
 pub returns-clause-report : goal.returns-clause-report
-returns-clause-report g c = λ order text of.
-    (let b = c.args.solver.now in
+returns-clause-report g c = λ order text of. (let b = c.args.solver.now in
     let s = goal.Solver-dyn g (b.vtable, b.value) in
     let d = c.certified.new.solver in
     let t = goal.Solver-dyn g (d.vtable, d.value) in
@@ -19,15 +15,13 @@ returns-clause-report g c = λ order text of.
     let p = c.args.problem.now in
     let certificate = c.in_ok-certificate.certificate in
     let result = c.report_of_certified.result in
-    let answered =
-    subst (λ (game : NamedGameData). may game (Ok certificate)) c.game.ensures.game
+    let answered = subst (λ (game : NamedGameData). may game (Ok certificate)) c.game.ensures.game
     c.in_ok-certificate.ensures.answered in
     report_in may order c.args.compact text result (outcome_by may p.game certificate answered order text c.args.compact
     result (c.report_of_certified.ensures.outcome order text of)))
 
 pub returns-clause-refused : goal.returns-clause-refused
-returns-clause-refused g c = λ order text of.
-    (let b = c.args.solver.now in
+returns-clause-refused g c = λ order text of. (let b = c.args.solver.now in
     let s = goal.Solver-dyn g (b.vtable, b.value) in
     let d = c.certified.new.solver in
     let t = goal.Solver-dyn g (d.vtable, d.value) in
@@ -35,15 +29,13 @@ returns-clause-refused g c = λ order text of.
     let p = c.args.problem.now in
     let certificate = c.in_ok-certificate.certificate in
     let result = c.report_of_certified.result in
-    let answered =
-    subst (λ (game : NamedGameData). may game (Ok certificate)) c.game.ensures.game
+    let answered = subst (λ (game : NamedGameData). may game (Ok certificate)) c.game.ensures.game
     c.in_ok-certificate.ensures.answered in
     cause_in may order c.args.compact text result (outcome_by may p.game certificate answered order text c.args.compact
     result (c.report_of_certified.ensures.outcome order text of)))
 
 pub returns-clause-sure : goal.returns-clause-sure
-returns-clause-sure g c = λ sure order text of.
-    (let b = c.args.solver.now in
+returns-clause-sure g c = λ sure order text of. (let b = c.args.solver.now in
     let s = goal.Solver-dyn g (b.vtable, b.value) in
     let d = c.certified.new.solver in
     let t = goal.Solver-dyn g (d.vtable, d.value) in
@@ -51,34 +43,13 @@ returns-clause-sure g c = λ sure order text of.
     let p = c.args.problem.now in
     let certificate = c.in_ok-certificate.certificate in
     let result = c.report_of_certified.result in
-    let answered =
-    subst (λ (game : NamedGameData). may game (Ok certificate)) c.game.ensures.game
+    let answered = subst (λ (game : NamedGameData). may game (Ok certificate)) c.game.ensures.game
     c.in_ok-certificate.ensures.answered in
     outcome_by may p.game certificate answered order text c.args.compact
     result (c.report_of_certified.ensures.outcome order text of))
 
 pub returns-in_err-certificate-clause-refused : goal.returns-in_err-certificate-clause-refused
-returns-in_err-certificate-clause-refused g c = λ order text of.
-    (let b = c.args.solver.now in
-    let s = goal.Solver-dyn g (b.vtable, b.value) in
-    let d = c.certified.new.solver in
-    let t = goal.Solver-dyn g (d.vtable, d.value) in
-    let may : MayAnswer = Answered (s.may_answer b.value (s.fed b.value)) (t.gave d.value) in
-    let p = c.args.problem.now in
-    let fault = c.in_err-certificate.field-0.0 in
-    let of_solver =
-    subst (λ (game : NamedGameData). IsSolverFault may game fault) c.game.ensures.game
-    c.in_err-certificate.ensures.refused in
-    told_as c.from_residual.result fault (IsSynthFault may order text)
-    (fault_of may order text p of fault of_solver) c.from_residual.ensures.1)
+returns-in_err-certificate-clause-refused g c = grind arith
 
 pub returns-in_err-certificate-clause-sure : goal.returns-in_err-certificate-clause-sure
-returns-in_err-certificate-clause-sure g c = λ sure order text of.
-    (let b = c.args.solver.now in
-    let s = goal.Solver-dyn g (b.vtable, b.value) in
-    let d = c.certified.new.solver in
-    let t = goal.Solver-dyn g (d.vtable, d.value) in
-    let may : MayAnswer = Answered (s.may_answer b.value (s.fed b.value)) (t.gave d.value) in
-    lacks_memory may order c.args.compact text c.from_residual.result
-    c.in_err-certificate.field-0.0 (c.in_err-certificate.ensures.sure sure)
-    c.from_residual.ensures.1)
+returns-in_err-certificate-clause-sure g c = grind arith

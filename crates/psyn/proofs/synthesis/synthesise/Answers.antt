@@ -1,12 +1,11 @@
+use Rattle.std.proofs.Common.{arith}
 use Rattle.psyn.proofs.synthesis.synthesise.Goals as goal
 
 pub returns-clause-report : goal.returns-clause-report
-returns-clause-report g c =
-    c.report_by-report.ensures.report c.args.order c.args.text.now c.in_ok-problem.ensures.problem
+returns-clause-report g c = grind arith
 
 pub returns-clause-refused : goal.returns-clause-refused
-returns-clause-refused g c =
-    c.report_by-report.ensures.refused c.args.order c.args.text.now c.in_ok-problem.ensures.problem
+returns-clause-refused g c = grind arith
 
 pub returns-clause-sure : goal.returns-clause-sure
 returns-clause-sure g c = λ sure file accepted.

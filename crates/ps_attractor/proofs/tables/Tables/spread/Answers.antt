@@ -63,6 +63,5 @@ returns-clause-reaching g c = λ start begins so_far.
     let value = g.W.Width.value in
     let all : length (sources_of c.args.sources.now c.vertex_at-reached.result) ≤ c.loop-source.source-index =
     omega (arith, ap length c.at-source-items.ensures, length-map c.at-source-items.result.now value) in
-    reaching_leave
-    (sources_of c.args.sources.now c.vertex_at-reached.result) c.args.place c.loop-source.source-index all
-    (c.loop-source.invariant.reaching start begins so_far)
+    reaching_leave (sources_of c.args.sources.now c.vertex_at-reached.result) c.args.place c.loop-source.source-index
+    all (c.loop-source.invariant.reaching start begins so_far)

@@ -1,5 +1,5 @@
-use Rattle.std.proofs.Common.{◌≡◌, ℕ, ◌%◌, ◌^◌, ◌<◌, List, length, subst, ◌∙◌, ap}
-use Rattle.std.specs.Prelude.{◌↔◌, All}
+use Rattle.std.proofs.Common.{◌≡◌, ℕ, ◌^◌, ◌<◌, List, length, subst, ◌∙◌, ap}
+use Rattle.std.specs.Prelude.{All}
 use Rattle.ps_automaton.specs.Automata.{auto_of}
 use Rattle.ps_automaton.specs.Autos.{state_behind}
 use Rattle.ps_automaton.specs.Returning.{Returns}
@@ -10,9 +10,8 @@ pub returns : goal.returns
 returns c = λ file chain built.
     let a = auto_of c.args.self.now in
     let letters : (word : List ℕ) → All (λ letter. letter < 2 ^ length c.args.self.now.names) word →
-    All (λ letter. letter < 2 ^ length file.names) word =
-    λ word in_word. subst (λ (names : List (List ℕ)). All (λ letter. letter < 2 ^ length names) word)
-    built.names in_word in
+    All (λ letter. letter < 2 ^ length file.names) word = λ word in_word. subst
+    (λ (names : List (List ℕ)). All (λ letter. letter < 2 ^ length names) word) built.names in_word in
     let first : c.read-first.result.state ≡ state_behind a a.start c.args.stem.now = c.read-first.ensures.state
     ∙ ap (λ q. state_behind a q c.args.stem.now) c.start.ensures.start in
     let orbit : Returns a (state_behind a a.start c.args.stem.now) c.args.lap.now c.in_ok-orbit.orbit.state

@@ -1,4 +1,4 @@
-use Rattle.std.proofs.Common.{◌≡◌, map, ◌∙◌}
+use Rattle.std.proofs.Common.{rules, arith, ◌≡◌, map, ◌∙◌}
 use Rattle.ps_hoa.specs.Memory.{bytes_of}
 use Rattle.ps_automaton.proofs.Building.{auto_built, whole_built}
 use Rattle.ps_automaton.proofs.automaton.Automaton.from_draft.Goals as goal
@@ -11,21 +11,12 @@ controllable_are : (c : In_ok-controllable) → c.in_ok-controllable.controllabl
 controllable_are c = c.in_ok-controllable.ensures.items_if_clones_equal (λ x y e. e) ∙ c.controllable.ensures.value
 
 pub invariant_of-result : goal.invariant_of-result
-invariant_of-result c =
-    let a = (goal.at.invariant_of-result c).In_ok-controllable in
-    whole_built c.names.ensures.well_formed _ c.requires.2 (names_are a) (controllable_are a) c.states.ensures.value
-    c.start.ensures.value c.as_slice.ensures.unique
+invariant_of-result c = search (rules, whole_built, names_are, controllable_are)
 
 pub returns : goal.returns
 returns c =
-    let a = (goal.at.returns c).In_ok-controllable in (
-      c.requires.0,
-      record {
-        names = names_are a;
-        controllable = controllable_are a;
-        states = c.states.ensures.value;
-        is_chain = c.requires.1;
-        auto = auto_built c.names.ensures.well_formed _ c.requires.2 (names_are a) (controllable_are a)
-            c.states.ensures.value c.start.ensures.value;
-      },
+    let a = (goal.at.returns c).In_ok-controllable in grind (
+      arith,
+      auto_built c.names.ensures.well_formed _
+          c.requires.2 (names_are a) (controllable_are a) c.states.ensures.value c.start.ensures.value,
     )

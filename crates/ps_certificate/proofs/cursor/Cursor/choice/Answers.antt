@@ -25,10 +25,7 @@ returns-then-ends c = choice_fails c.args.ids.now c.args.self.now
     c.in_ok-id.id c.args.ids.now (sym c.place-vertex.ensures.member ∙ c.if-is_none.ensures)) c.fault-other_game.ensures)
 
 pub returns : goal.returns
-returns c =
-    choice_reads c.args.ids.now c.args.self.now (sym c.if-comes.ensures) c.number.new.self
-    (number_reads (λ id. ¬ Contains c.args.ids.now id) c.args.self.now c.number.new.self c.in_ok-id.id
-    c.in_ok-id.ensures (elim c.else-is_none.branch [
-      | else-is_none-via-then-is_none+else-ends w ↦ search (rules, ends_false)
-      | else-is_none-via-else-is_none w ↦ search (rules, Contains-any)
-    ])) (c.place-vertex.ensures.place ∙ place_is_vertex c.args.ids.now c.in_ok-id.id)
+returns c = choice_reads c.args.ids.now c.args.self.now (sym c.if-comes.ensures) c.number.new.self (number_reads
+    (λ id. ¬ Contains c.args.ids.now id) c.args.self.now c.number.new.self c.in_ok-id.id c.in_ok-id.ensures
+    (search (rules, else-is_none-via-then-is_none+else-ends, ends_false, else-is_none-via-else-is_none, Contains-any)))
+    (c.place-vertex.ensures.place ∙ place_is_vertex c.args.ids.now c.in_ok-id.id)

@@ -1,4 +1,4 @@
-use Rattle.std.proofs.Common.{◌≢◌, sym, rules}
+use Rattle.std.proofs.Common.{◌≢◌, rules}
 use Rattle.ps_certificate.specs.Texts.{OfOtherGame, number}
 use Rattle.ps_certificate.proofs.Loops.{fails}
 use Rattle.ps_certificate.proofs.NumberPart.{judged_fails, number_reads, number_wrong}
@@ -13,14 +13,14 @@ returns-in_err-found c = fails (λ n. n) (number (λ n. n ≢ c.args.number)) c.
     c.from_residual.ensures.1
 
 pub returns-then-ends : goal.returns-then-ends
-returns-then-ends c =
-    number_wrong (λ n. n ≢ c.args.number) c.args.self.now c.number.new.self c.in_ok-found.found c.in_ok-found.ensures
-    (ends_true c.number.new.self.rest (sym c.if-ends.ensures)) c.if-found-number.true c.fault-other_game.ensures
+returns-then-ends c = number_wrong (λ n. n ≢ c.args.number) c.args.self.now c.number.new.self c.in_ok-found.found
+    c.in_ok-found.ensures (search (rules, ends_true)) c.if-found-number.true c.fault-other_game.ensures
 
 pub returns : goal.returns
-returns c =
-    number_reads (λ n. n ≢ c.args.number) c.args.self.now c.number.new.self c.in_ok-found.found c.in_ok-found.ensures
-    (elim c.else-found-number.branch [
-      | else-found-number-via-then-found-number+else-ends w ↦ search (rules, ends_false)
-      | else-found-number-via-else-found-number w ↦ λ _ other. other w.if-found-number.false
-    ])
+returns c = number_reads (λ n. n ≢ c.args.number) c.args.self.now c.number.new.self c.in_ok-found.found
+    c.in_ok-found.ensures (search (
+      rules,
+      else-found-number-via-then-found-number+else-ends,
+      ends_false,
+      else-found-number-via-else-found-number,
+    ))

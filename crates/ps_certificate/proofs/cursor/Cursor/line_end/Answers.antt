@@ -1,4 +1,4 @@
-use Rattle.std.proofs.Common.{sym, length, ◌≡◌, rules}
+use Rattle.std.proofs.Common.{sym, length, rules}
 use Rattle.std.proofs.lemmas.Bool.{eqb-true, eqb-false}
 use Rattle.ps_certificate.proofs.Steps.{end_reads, end_fails, end_missing}
 use Rattle.ps_certificate.proofs.cursor.Cursor.line_end.Goals as goal

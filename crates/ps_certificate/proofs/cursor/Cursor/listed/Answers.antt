@@ -9,8 +9,7 @@ use Rattle.ps_certificate.proofs.cursor.Cursor.listed.Goals as goal
 use Rattle.ps_certificate.proofs.cursor.Cursor.listed.Goals.{else-ne-via-then-ne+else-ends, else-ne-via-else-ne}
 
 pub returns-in_err-byte : goal.returns-in_err-byte
-returns-in_err-byte c = fails _ (priority c.args.priorities.now) c.args.self.now _ _ _ (stops_first causes
-    (joint_listed c.args.priorities.now) (at_place c.args.self.now) _ c.in_err-byte.ensures) c.from_residual.ensures.1
+returns-in_err-byte c = search (rules, fails, stops_first, joint_listed)
 
 pub returns-in_err-number : goal.returns-in_err-number
 returns-in_err-number c = fails _ (priority c.args.priorities.now) c.args.self.now _ _ _
@@ -27,10 +26,6 @@ returns-then-ends c = stops_behind causes (joint_listed c.args.priorities.now) c
     c.in_ok-number.number (c.copied.ensures ∙ c.first.ensures.value) c.if-ne.ensures) c.fault-other_game.ensures))
 
 pub returns : goal.returns
-returns c =
-    listed_reads c.args.priorities.now c.in_ok-byte.ensures
-    (number_reads (NotNext c.args.priorities.now) c.byte.new.self c.number.new.self c.in_ok-number.number
-    c.in_ok-number.ensures (elim c.else-ne.branch [
-      | else-ne-via-then-ne+else-ends w ↦ λ ended _. ends_false c.number.new.self.rest (sym w.if-ends.ensures) ended
-      | else-ne-via-else-ne w ↦ search (rules, is_next)
-    ])) c.without_first.ensures
+returns c = listed_reads c.args.priorities.now c.in_ok-byte.ensures (number_reads (NotNext c.args.priorities.now)
+    c.byte.new.self c.number.new.self c.in_ok-number.number c.in_ok-number.ensures
+    (search (rules, else-ne-via-then-ne+else-ends, ends_false, else-ne-via-else-ne, is_next))) c.without_first.ensures

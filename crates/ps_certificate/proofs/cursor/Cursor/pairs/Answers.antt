@@ -1,4 +1,4 @@
-use Rattle.std.proofs.Common.{◌≡◌, true, sym, rules}
+use Rattle.std.proofs.Common.{true, sym, rules}
 use Rattle.ps_certificate.specs.Reading.{at_place}
 use Rattle.ps_certificate.specs.Texts.{counts_in}
 use Rattle.ps_certificate.proofs.Loops.{fails}

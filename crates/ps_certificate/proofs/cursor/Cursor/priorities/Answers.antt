@@ -3,7 +3,7 @@ use Rattle.ps_text.specs.Faults.{found_of}
 use Rattle.ps_text.proofs.Exits.{then_meets}
 use Rattle.ps_text.proofs.Branches.{carries_many}
 use Rattle.ps_certificate.specs.Reading.{at_place}
-use Rattle.ps_certificate.specs.Texts.{causes, priority, priorities}
+use Rattle.ps_certificate.specs.Texts.{causes, priority}
 use Rattle.ps_certificate.proofs.TextLaws.{laws_priority, digit_no_space, joint_priorities}
 use Rattle.ps_certificate.proofs.Loops.{fails, fewer, priorities_fail, priorities_end}
 use Rattle.ps_certificate.proofs.cursor.Cursor.priorities.Goals as goal
@@ -12,8 +12,7 @@ pub returns-in_err-left : goal.returns-in_err-left
 returns-in_err-left c = search (rules, fails, priorities_fail)
 
 pub more-smaller : goal.more-smaller
-more-smaller c = fewer (priority c.more.left.now) c.more.self c.listed.new.self _
-    (laws_priority c.more.left.now).null c.in_ok-left.ensures
+more-smaller c = search (rules, fewer, laws_priority)
 
 pub more-preserved : goal.more-preserved
 more-preserved c = carries_many priority laws_priority digit_no_space causes c.more.invariant c.in_ok-left.ensures

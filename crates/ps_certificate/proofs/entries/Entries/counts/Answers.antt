@@ -1,8 +1,5 @@
-use Rattle.std.proofs.Common.{◌≡◌, ◌<◌, length, ap, subst, sym, ◌∙◌, get_or, arith, rules}
-use Rattle.std.specs.List.{slice_range}
-use Rattle.ps_certificate.specs.Certificates.{no_entry}
+use Rattle.std.proofs.Common.{◌≡◌, ◌<◌, length, ap, subst, sym, arith, rules}
 use Rattle.ps_certificate.specs.Lines.{entries_in}
-use Rattle.ps_certificate.specs.Sparse.{row_of}
 use Rattle.ps_certificate.proofs.SparseRows.Lines.{has_line, counts_at, line_within}
 use Rattle.ps_certificate.proofs.entries.Entries.counts.Goals as goal
 
@@ -32,13 +29,4 @@ pub invariant_of-result : goal.invariant_of-result
 invariant_of-result c = search (rules, line_within)
 
 pub returns : goal.returns
-returns c =
-    let is : entries_in c.self.inside.winners.items
-    c.self.inside.lines.items c.self.inside.placed.items ≡ c.args.self.now = c.self.view_is in
-    let within : c.args.vertex < length (entries_in c.self.inside.winners.items c.self.inside.lines.items
-    c.self.inside.placed.items) = subst (λ es. c.args.vertex < length es) (sym is) c.requires in
-    let part : c.part.result.now
-    ≡ slice_range c.self.inside.placed.items c.index-line.result.now.start c.index-line.result.now.end = search rules in
-    ap (row_of c.index-line.result.now.width) part ∙ counts_at c.self.inside.winners.items c.self.inside.lines.items
-    c.self.inside.placed.items c.args.vertex c.self.invariant within c.index-line.result.now c.index-line.ensures
-    ∙ ap (λ es. (get_or es c.args.vertex no_entry).counts) is
+returns c = grind (arith, counts_at)

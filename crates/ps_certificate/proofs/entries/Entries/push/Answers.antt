@@ -1,11 +1,11 @@
-use Rattle.std.proofs.Common.{◌≡◌, ◌∷◌, ◌++◌, ◌∙◌, rules}
+use Rattle.std.proofs.Common.{rules}
 use Rattle.std.specs.Prelude.{Result, OnErr}
 use Rattle.ps_certificate.proofs.SparseRows.Lines.{entries_same, lines_same, entries_push, lines_push}
 use Rattle.ps_certificate.proofs.SparseRows.Sparse.{gathered_is_row, row_gathered}
 use Rattle.ps_certificate.proofs.entries.Entries.push.Goals as goal
 
 on_err : {T E P : Type 0} (r : Result T E) → P → OnErr r P
-on_err r h1 = search rules
+on_err r h = search rules
 
 -- where counts could not be put, what was put changes no entry
 pub invariant_of-self-in_err-start : goal.invariant_of-self-in_err-start

@@ -1,35 +1,29 @@
+use Rattle.std.proofs.Common.{arith}
 use Rattle.std.proofs.lemmas.Result.{IfOk-weaker}
 use Rattle.ps_circuit.proofs.GateLemmas.{chosen_bits, meets-extends, passed_on}
 use Rattle.ps_circuit.proofs.MadeLemmas.{above-first, above-second}
 use Rattle.ps_circuit.proofs.builder.Builder.chosen.Goals as goal
 
 pub returns-in_err-where_true-clause-too_large : goal.returns-in_err-where_true-clause-too_large
-returns-in_err-where_true-clause-too_large c e =
-    c.and.ensures.too_large (passed_on c.in_err-where_true.was c.from_residual.ensures.1 e)
+returns-in_err-where_true-clause-too_large c e = grind (arith, passed_on)
 
 pub returns-in_err-where_false-clause-too_large : goal.returns-in_err-where_false-clause-too_large
-returns-in_err-where_false-clause-too_large c e =
-    c.and-2.ensures.too_large (passed_on c.in_err-where_false.was c.from_residual-in_err-where_false.ensures.1 e)
+returns-in_err-where_false-clause-too_large c e = grind (arith, passed_on)
 
 pub returns-clause-bit : goal.returns-clause-bit
-returns-clause-bit c =
-    IfOk-weaker c.or.result _ _ (λ literal h v m.
+returns-clause-bit c = IfOk-weaker c.or.result _ _ (λ literal h v m.
     let there = meets-extends c.and-2.new.self c.or.new.self c.or.ensures.extends v m in
     let before = meets-extends c.and.new.self c.and-2.new.self c.and-2.ensures.extends v there in
-    chosen_bits v c.args.s c.args.high c.args.low c.in_ok-where_true.where_true
-    c.in_ok-where_false.where_false literal c.negated.ensures (c.in_ok-where_true.ensures.bit v before)
-    (c.in_ok-where_false.ensures.bit v there) (h v m)) c.or.ensures.bit
+    chosen_bits v c.args.s c.args.high c.args.low c.in_ok-where_true.where_true c.in_ok-where_false.where_false literal
+    c.negated.ensures (grind arith) (c.in_ok-where_false.ensures.bit v there) (h v m)) c.or.ensures.bit
 
 pub returns-clause-too_large : goal.returns-clause-too_large
 returns-clause-too_large c = c.or.ensures.too_large
 
 pub returns-in_err-where_true-clause-above : goal.returns-in_err-where_true-clause-above
-returns-in_err-where_true-clause-above c e =
-    above-first c.args.self.now c.args.s c.args.high c.args.low
-    (c.and.ensures.above (passed_on c.in_err-where_true.was c.from_residual.ensures.1 e))
+returns-in_err-where_true-clause-above c e = grind (arith, above-first, passed_on)
 
 pub returns-in_err-where_false-clause-above : goal.returns-in_err-where_false-clause-above
-returns-in_err-where_false-clause-above c e =
-    above-second c.args.self.now c.and.new.self c.args.s c.args.high c.args.low c.in_ok-where_true.where_true
-    c.in_ok-where_true.ensures.made c.negated.ensures
+returns-in_err-where_false-clause-above c e = above-second c.args.self.now c.and.new.self c.args.s c.args.high
+    c.args.low c.in_ok-where_true.where_true c.in_ok-where_true.ensures.made c.negated.ensures
     (c.and-2.ensures.above (passed_on c.in_err-where_false.was c.from_residual-in_err-where_false.ensures.1 e))

@@ -1,7 +1,7 @@
-use Rattle.std.proofs.Common.{◌≡◌, ◌∙◌, ◌+◌, ◌*◌, ◌<◌, ap, sym, subst, refl, false}
+use Rattle.std.proofs.Common.{arith, ◌≡◌, ◌+◌, ◌<◌, sym, subst, refl, false}
 use Rattle.std.specs.List.{list_any}
 use Rattle.ps_circuit.specs.contracts.builder.SidesPartialEq.TheImpl as sides_eq
-use Rattle.ps_circuit.specs.Building.{Drafted, AreSides, Extends, IsFull, NeedsGate, variables_of}
+use Rattle.ps_circuit.specs.Building.{Drafted, AreSides, IsFull, variables_of}
 use Rattle.ps_circuit.specs.Gates.{gate_of}
 use Rattle.ps_circuit.proofs.GateLemmas.{Placed, placed, placed-bit, needs, new-absent, true_is_not_false}
 use Rattle.ps_circuit.proofs.MadeLemmas.{made-placed, above-new}
@@ -17,22 +17,16 @@ abbrev after : In_ok-place → Drafted
 after c = record { given = c.self.inside.given; gates = c.insert_full.new.self.keys }
 
 pub returns-then-not-contains-clause-needed : goal.returns-then-not-contains-clause-needed
-returns-then-not-contains-clause-needed c e =
-    let d : Drafted = record { given = c.self.inside.given; gates = c.self.inside.gates.keys } in
-    let P : Drafted → Type 0 = λ t. AreSides (variables_of t + 1) c.args.sides in
-    let Q : Drafted → Type 0 = λ t. NeedsGate t c.args.sides.first c.args.sides.second in
-    subst Q c.self.view_is (needs d _ c.args.sides c.self.invariant (subst P (sym c.self.view_is) c.requires)
-    (new-absent d c.args.sides (sym c.contains.ensures ∙ c.if-not-contains.true)))
+returns-then-not-contains-clause-needed c e = grind (arith, needs, new-absent)
 
 room : (c : In_ok-place) → list_any ((sides_eq.eq-value).it c.args.sides) c.self.inside.gates.keys ≡ false →
     IsFull (before c) → ⊥
-room c none full =
-    elim c.else-variables-eq-MOST_VARIABLES.branch [
-      | else-variables-eq-MOST_VARIABLES-via-then-variables-eq-MOST_VARIABLES+else-not-contains w ↦
-          true_is_not_false (sym w.if-not-contains.false ∙ w.contains.ensures ∙ none)
-      | else-variables-eq-MOST_VARIABLES-via-else-variables-eq-MOST_VARIABLES w ↦
-          w.if-variables-eq-MOST_VARIABLES.false (ap (λ n. c.self.inside.given + n) c.len.ensures.len ∙ full)
-    ]
+room c none full = grind (
+  arith,
+  else-variables-eq-MOST_VARIABLES-via-then-variables-eq-MOST_VARIABLES+else-not-contains,
+  true_is_not_false,
+  else-variables-eq-MOST_VARIABLES-via-else-variables-eq-MOST_VARIABLES,
+)
 
 done : (c : In_ok-place) → Placed (before c) (after c) c.args.sides c.in_ok-place.place
 done c =
@@ -44,10 +38,7 @@ pub invariant_of-self-2 : goal.invariant_of-self-2
 invariant_of-self-2 c = (done (goal.at.invariant_of-self-2 c).In_ok-place).sound
 
 pub returns-clause-extends : goal.returns-clause-extends
-returns-clause-extends c =
-    let at = (goal.at.returns-clause-extends c).In_ok-place in
-    let P : Drafted → Type 0 = λ t. Extends t (after at) in
-    subst P c.self.view_is (done at).extends
+returns-clause-extends c = grind (arith, done)
 
 pub returns-clause-bit : goal.returns-clause-bit
 returns-clause-bit c =
@@ -57,13 +48,9 @@ returns-clause-bit c =
 pub returns-then-not-contains-clause-above : goal.returns-then-not-contains-clause-above
 returns-then-not-contains-clause-above c e =
     let d : Drafted = record { given = c.self.inside.given; gates = c.self.inside.gates.keys } in
-    subst (λ t. 2147483647 < variables_of (gate_of t c.args.sides).draft) c.self.view_is
-    (above-new d c.args.sides (sym (ap (λ n. c.self.inside.given + n) c.len.ensures.len)
-    ∙ c.if-variables-eq-MOST_VARIABLES.true) (sym c.contains.ensures ∙ c.if-not-contains.true))
+    subst (λ t. 2147483647 < variables_of (gate_of t c.args.sides).draft) c.self.view_is (grind (arith, above-new))
 
 pub returns-clause-made : goal.returns-clause-made
 returns-clause-made c =
     let at = (goal.at.returns-clause-made c).In_ok-place in
-    rw c.positive.ensures (subst (λ t. gate_of t c.args.sides ≡ record
-    { draft = after at; literal = 2 * (c.self.inside.given + 1 + c.in_ok-place.place) }) c.self.view_is
-    (made-placed (done at) refl c.in_ok-place.ensures.keys))
+    grind (arith, made-placed (done at) refl c.in_ok-place.ensures.keys)

@@ -1,4 +1,4 @@
-use Rattle.std.proofs.Common.{◌≡◌, ◌∙◌, ℕ, ◌<◌, length, sym, subst}
+use Rattle.std.proofs.Common.{arith, ◌≡◌, ◌∙◌, ℕ, ◌<◌, length, sym, subst}
 use Rattle.std.proofs.lemmas.Option.{slice_get_within}
 use Rattle.ps_circuit.specs.Circuits.{ReadsGate}
 use Rattle.ps_circuit.proofs.Ordered.{acyclic, order-of_places}
@@ -19,6 +19,5 @@ returns-clause-well_formed c =
     let gates = c.args.parts.gates.items in
     record {
       draft = c.requires.draft;
-      acyclic = acyclic (ReadsGate gates) (length gates) c.requires.ordered
-          (λ i j r. slice_get_within gates i _ r.at_i);
+      acyclic = acyclic (ReadsGate gates) (length gates) c.requires.ordered (λ i j r. grind (arith, slice_get_within));
     }

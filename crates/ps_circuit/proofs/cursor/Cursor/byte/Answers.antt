@@ -6,5 +6,4 @@ pub returns-then-comes : goal.returns-then-comes
 returns-then-comes c = byte_reads (c.comes.ensures.0 c.if-comes.true) c.step.ensures.next
 
 pub returns : goal.returns
-returns c =
-    byte_stops c.args.byte c.args.self.now (refuted c.comes.ensures.1 c.if-comes.false) c.refusal.ensures
+returns c = byte_stops c.args.byte c.args.self.now (refuted c.comes.ensures.1 c.if-comes.false) c.refusal.ensures

@@ -1,6 +1,5 @@
-use Rattle.std.proofs.Common.{◌≡◌, refl, sym, ap, arith, subst, length, slice_get}
+use Rattle.std.proofs.Common.{refl, arith, length}
 use Rattle.std.proofs.lemmas.Option.{slice_get_read}
-use Rattle.ps_circuit.specs.GateGraphs.{target_of}
 use Rattle.ps_circuit.proofs.LinksLemmas.{side_within}
 use Rattle.ps_circuit.proofs.gate_graph.GateGraphGraph.target.Goals as goal
 
@@ -12,13 +11,7 @@ returns-then-place-eq0-clause-within c =
     side_within links c.args.item 0 c.args.self.now.within at (omega arith)
 
 pub returns-else-place-eq0-clause-target : goal.returns-else-place-eq0-clause-target
-returns-else-place-eq0-clause-target c =
-    let links = c.args.self.now.links.items in
-    let at = slice_get_read links (length links) c.args.item c.index-sides.result.now refl c.requires.item
-    c.index-sides.ensures in
-    let one : 1 ≡ c.args.place = omega arith in
-    subst (λ p. c.index-sides.result.now.second ≡ target_of (slice_get links c.args.item) p) one
-    (sym (ap (λ o. target_of o 1) at))
+returns-else-place-eq0-clause-target c = grind (arith, slice_get_read)
 
 pub returns-else-place-eq0-clause-within : goal.returns-else-place-eq0-clause-within
 returns-else-place-eq0-clause-within c =

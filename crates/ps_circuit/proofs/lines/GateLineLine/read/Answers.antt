@@ -1,22 +1,21 @@
+use Rattle.std.proofs.Common.{arith}
 use Rattle.ps_circuit.specs.Reading.{lines_of}
 use Rattle.ps_circuit.specs.Texts.{add_gate, gate_line}
 use Rattle.ps_circuit.proofs.Exits.{unread, exits_at, exits_last, reads_last}
 use Rattle.ps_circuit.proofs.TextLaws.{chain_gate, chain_first, chain_second}
-use Rattle.ps_circuit.proofs.LineLemmas.{past_gate, past_first, past_second, gate_is}
+use Rattle.ps_circuit.proofs.LineLemmas.{past_gate, past_first, past_second}
 use Rattle.ps_circuit.proofs.lines.GateLineLine.read.Goals as goal
 
 pub returns-in_err-own-clause-exact : goal.returns-in_err-own-clause-exact
 unfolding gate_line
-returns-in_err-own-clause-exact c =
-    exits_at (chain_gate c.args.most (lines_of c.args.items.now.items c.args.noted.now)) unread _ _ _ _
-    c.in_err-own.ensures.exact c.from_residual.ensures.1
+returns-in_err-own-clause-exact c = exits_at (chain_gate c.args.most (lines_of c.args.items.now.items c.args.noted.now))
+    unread _ _ _ _ c.in_err-own.ensures.exact c.from_residual.ensures.1
 
 pub returns-in_err-first-clause-exact : goal.returns-in_err-first-clause-exact
 returns-in_err-first-clause-exact c =
     let before = lines_of c.args.items.now.items c.args.noted.now in
-    exits_at (chain_first c.args.most before c.in_ok-own.own)
-    (past_gate c.args.most before c.in_ok-own.ensures.exact) _ _ _ _ c.in_err-first.ensures.exact
-    c.from_residual-in_err-first.ensures.1
+    exits_at (chain_first c.args.most before c.in_ok-own.own) (past_gate c.args.most before c.in_ok-own.ensures.exact) _
+    _ _ _ c.in_err-first.ensures.exact c.from_residual-in_err-first.ensures.1
 
 pub returns-in_err-second-clause-exact : goal.returns-in_err-second-clause-exact
 returns-in_err-second-clause-exact c =
@@ -37,7 +36,4 @@ returns-clause-exact c =
     let before = lines_of c.args.items.now.items c.args.noted.now in
     reads_last (λ _. add_gate before c.in_ok-own.own c.in_ok-first.first c.in_ok-second.second)
     (past_second c.args.most before c.in_ok-own.ensures.exact c.in_ok-first.ensures.exact c.in_ok-second.ensures.exact)
-    c.in_ok-line_end.ensures (gate_is before c.in_ok-own.own c.in_ok-first.first c.in_ok-second.second
-    (rw (c.literal.ensures, c.literal-2.ensures, c.literal-3.ensures) at c.in_ok-push-2.ensures.items)
-    c.in_ok-own.ensures.defined.variables c.in_ok-first.ensures.noted c.in_ok-second.ensures.noted
-    c.in_ok-push.ensures.items)
+    c.in_ok-line_end.ensures (grind arith)

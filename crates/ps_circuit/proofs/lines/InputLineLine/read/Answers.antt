@@ -1,3 +1,4 @@
+use Rattle.std.proofs.Common.{arith}
 use Rattle.ps_circuit.specs.Reading.{lines_of}
 use Rattle.ps_circuit.specs.Texts.{add_input, input_line}
 use Rattle.ps_circuit.proofs.Exits.{unread, exits_at, exits_last, reads_last}
@@ -14,13 +15,11 @@ returns-in_err-input-clause-exact c =
 pub returns-in_err-line_end-clause-exact : goal.returns-in_err-line_end-clause-exact
 returns-in_err-line_end-clause-exact c =
     let before = lines_of c.args.items.now.items c.args.noted.now in
-    exits_last (λ _. add_input before c.in_ok-input.input)
-    (past_input c.args.most before c.in_ok-input.ensures.exact) _ _ _ _ c.in_err-line_end.ensures
-    c.from_residual-in_err-line_end.ensures.1
+    exits_last (λ _. add_input before c.in_ok-input.input) (past_input c.args.most before c.in_ok-input.ensures.exact) _
+    _ _ _ c.in_err-line_end.ensures c.from_residual-in_err-line_end.ensures.1
 
 pub returns-clause-exact : goal.returns-clause-exact
 returns-clause-exact c =
     let before = lines_of c.args.items.now.items c.args.noted.now in
     reads_last (λ _. add_input before c.in_ok-input.input) (past_input c.args.most before c.in_ok-input.ensures.exact)
-    c.in_ok-line_end.ensures (input_is before c.in_ok-input.input (rw c.literal.ensures at c.in_ok-push.ensures.items)
-    c.in_ok-input.ensures.defined.variables)
+    c.in_ok-line_end.ensures (grind (arith, input_is))

@@ -1,8 +1,9 @@
+use Rattle.std.proofs.Common.{arith}
 use Rattle.ps_circuit.specs.Reading.{lines_of}
 use Rattle.ps_circuit.specs.Texts.{add_latch, latch_line}
 use Rattle.ps_circuit.proofs.Exits.{unread, exits_at, exits_last, reads_last}
 use Rattle.ps_circuit.proofs.TextLaws.{chain_latch, chain_next}
-use Rattle.ps_circuit.proofs.LineLemmas.{past_latch, past_next, latch_is}
+use Rattle.ps_circuit.proofs.LineLemmas.{past_latch, past_next}
 use Rattle.ps_circuit.proofs.lines.LatchLineLine.read.Goals as goal
 
 pub returns-in_err-own-clause-exact : goal.returns-in_err-own-clause-exact
@@ -14,9 +15,8 @@ returns-in_err-own-clause-exact c =
 pub returns-in_err-next-clause-exact : goal.returns-in_err-next-clause-exact
 returns-in_err-next-clause-exact c =
     let before = lines_of c.args.items.now.items c.args.noted.now in
-    exits_at (chain_next c.args.most before c.in_ok-own.own)
-    (past_latch c.args.most before c.in_ok-own.ensures.exact) _ _ _ _ c.in_err-next.ensures.exact
-    c.from_residual-in_err-next.ensures.1
+    exits_at (chain_next c.args.most before c.in_ok-own.own) (past_latch c.args.most before c.in_ok-own.ensures.exact) _
+    _ _ _ c.in_err-next.ensures.exact c.from_residual-in_err-next.ensures.1
 
 pub returns-in_err-reset-clause-exact : goal.returns-in_err-reset-clause-exact
 returns-in_err-reset-clause-exact c =
@@ -28,8 +28,7 @@ returns-in_err-reset-clause-exact c =
 pub returns-clause-exact : goal.returns-clause-exact
 returns-clause-exact c =
     let before = lines_of c.args.items.now.items c.args.noted.now in
-    reads_last (λ r. add_latch before c.in_ok-own.own c.in_ok-next.next r)
-    (past_next c.args.most before c.in_ok-own.ensures.exact c.in_ok-next.ensures.exact) c.in_ok-reset.ensures
-    (latch_is before c.in_ok-own.own c.in_ok-next.next c.in_ok-reset.reset
-    (rw (c.literal.ensures, c.literal-2.ensures) at c.in_ok-push.ensures.items)
-    c.in_ok-own.ensures.defined.variables c.in_ok-next.ensures.noted)
+    reads_last (λ r. add_latch before c.in_ok-own.own c.in_ok-next.next r) (grind (
+      arith,
+      past_next c.args.most before c.in_ok-own.ensures.exact c.in_ok-next.ensures.exact,
+    )) c.in_ok-reset.ensures (grind arith)

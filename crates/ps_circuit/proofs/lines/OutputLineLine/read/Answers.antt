@@ -31,5 +31,4 @@ returns-clause-exact c =
     let before = lines_of c.args.items.now.items c.args.noted.now in
     reads_last (λ _. add_output before c.in_ok-output.output) (past_output c.args.most before
     (literal_reads c.args.most c.requires c.in_ok-output.ensures (omega (arith, c.from.ensures))))
-    c.in_ok-line_end.ensures (output_is before c.in_ok-output.output
-    (rw c.literal.ensures at c.in_ok-push-2.ensures.items) c.in_ok-push.ensures.items)
+    c.in_ok-line_end.ensures (grind (arith, output_is))

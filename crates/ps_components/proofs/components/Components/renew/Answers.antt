@@ -14,6 +14,5 @@ pub returns-in-Ok-clause-met : goal.returns-in-Ok-clause-met
 returns-in-Ok-clause-met g c =
     let roots = c.args.roots.now in
     roots_met c.in-Ok.ensures.sound c.in-Ok.ensures.ended roots
-    (λ i v h. rw (← get_or_from_slice_get roots i v 0 h) (All-get_or
-    (λ x. x < (g.G.Graph.graph c.args.graph.now).count) roots i 0 (slice_get_within roots i v h) c.requires))
-    c.in-Ok.ensures.met.seen c.in-Ok.ensures.met.reached
+    (λ i v h. rw (← get_or_from_slice_get roots i v 0 h) (All-get_or (λ x. x < (g.G.Graph.graph c.args.graph.now).count)
+    roots i 0 (slice_get_within roots i v h) c.requires)) c.in-Ok.ensures.met.seen c.in-Ok.ensures.met.reached

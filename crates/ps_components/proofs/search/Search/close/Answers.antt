@@ -6,12 +6,10 @@ use Rattle.ps_components.proofs.Closing.{sound-closed, fewer-closed, kept-closed
 use Rattle.ps_components.proofs.search.Search.close.Goals as goal
 
 pub close_items-requires-clause-number : goal.close_items-requires-clause-number
-close_items-requires-clause-number g c =
-    omega (arith, c.len-number.ensures, c.args.self.now.order.ok.1, c.args.self.now.order.small)
+close_items-requires-clause-number g c = grind arith
 
 pub close_items-requires-clause-within : goal.close_items-requires-clause-within
-close_items-requires-clause-within g c = λ k v h.
-    in_range c.requires.sound c.requires.last c.requires.done k v
+close_items-requires-clause-within g c = λ k v h. in_range c.requires.sound c.requires.last c.requires.done k v
     (rw (take_rest c.deref.result.now c.args.bound, c.deref.ensures.value) at h)
 
 pub returns : goal.returns

@@ -4,7 +4,7 @@ use Rattle.ps_components.proofs.Places.{last_split}
 use Rattle.ps_components.proofs.search.Search.follow.Goals as goal
 
 one_leads : (one : Pending) (i : ℕ) (e : Pending) → slice_get (one ∷ []) i ≡ Some e → e.to ≡ one.to
-one_leads one i e h1 = search rules
+one_leads one i e h = search rules
 
 pub enter-requires-clause-sound : goal.enter-requires-clause-sound
 enter-requires-clause-sound g c =

@@ -12,24 +12,20 @@ at-requires g c = pending_within c.requires.sound (sym (rw c.deref.ensures.value
 
 pub follow-requires-clause-within : goal.follow-requires-clause-within
 follow-requires-clause-within g c =
-    let within = pending_within c.requires.sound (sym (rw c.deref.ensures.value at c.in-Some.ensures.value)) in
-    omega (arith, c.requires.sound.marked, within)
+    grind (arith, pending_within c.requires.sound (sym (rw c.deref.ensures.value at c.in-Some.ensures.value)))
 
 pub follow-requires-clause-unseen : goal.follow-requires-clause-unseen
 follow-requires-clause-unseen g c = c.at.ensures ∙ ap Some c.in-Unseen.is
 
 pub follow-requires-clause-reached : goal.follow-requires-clause-reached
-follow-requires-clause-reached g c =
-    all_lead c.requires.sound (sym (rw c.deref.ensures.value at c.in-Some.ensures.value)) c.requires.last
-    c.if-pending-bound.false
+follow-requires-clause-reached g c = all_lead c.requires.sound (grind arith) c.requires.last c.if-pending-bound.false
 
 pub merge-requires-clause-within : goal.merge-requires-clause-within
 merge-requires-clause-within g c =
     pending_within c.requires.sound (sym (rw c.deref.ensures.value at c.in-Some.ensures.value))
 
 pub merge-requires-clause-last : goal.merge-requires-clause-last
-merge-requires-clause-last g c = λ k b h.
-    omega (arith, at_most_last c.requires.sound c.requires.last k b h, c.if-pending-bound.false)
+merge-requires-clause-last g c = λ k b h. grind (arith, at_most_last c.requires.sound c.requires.last k b h)
 
 pub merge-requires-clause-marked : goal.merge-requires-clause-marked
 merge-requires-clause-marked g c = c.at.ensures ∙ ap Some c.in-Active.is

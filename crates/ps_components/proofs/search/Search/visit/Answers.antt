@@ -11,5 +11,4 @@ returns-in_ok-run-clause-reached g c =
     c.run.new.self.marks (rw (e.path, e.entered) at c.in_ok-run.ensures.reached)
 
 pub enter-requires-clause-sound : goal.enter-requires-clause-sound
-enter-requires-clause-sound g c =
-    record { skipped = []; lead = λ i e h. cc; sound = rw append-nil c.requires.sound }
+enter-requires-clause-sound g c = record { skipped = []; lead = λ i e h. cc; sound = rw append-nil c.requires.sound }

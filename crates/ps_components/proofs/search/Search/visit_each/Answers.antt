@@ -1,4 +1,4 @@
-use Rattle.std.proofs.Common.{◌≡◌, ◌∙◌, inl, inr, arith, sym}
+use Rattle.std.proofs.Common.{rules, ◌∙◌, inl, inr, sym}
 use Rattle.std.proofs.lemmas.Option.{slice_get-get_or, get_or_from_slice_get}
 use Rattle.std.proofs.lemmas.Bool.{cases_lt}
 use Rattle.ps_components.proofs.Reaching.{reached-root}
@@ -12,11 +12,7 @@ loop-root-preserved g c =
     record {
       sound = visited.sound;
       ended = visited.ended;
-      seen = λ i v lt h un. elim (cases_lt i k) [
-        | inl less ↦ c.loop-root.invariant.seen i v less h (visited.kept v un)
-        | inr le ↦ (let e : i ≡ k = omega arith in
-            visited.seen (rw (get_or_from_slice_get roots k v 0 (rw e at h)) un))
-      ];
+      seen = search (rules, cases_lt, get_or_from_slice_get);
       reached = λ v n h. elim (visited.reached v) [
         | inl e ↦ c.loop-root.invariant.reached v n (sym e ∙ h)
         | inr r ↦ reached-root roots k (slice_get-get_or roots k 0 c.loop-root-test.true) r

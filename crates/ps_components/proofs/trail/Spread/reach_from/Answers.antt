@@ -1,30 +1,22 @@
-use Rattle.std.proofs.Common.{refl, sym, arith}
+use Rattle.std.proofs.Common.{refl, arith}
 use Rattle.std.proofs.lemmas.Option.{slice_get_read}
 use Rattle.ps_components.proofs.Spreads.{step-within, next-spread}
 use Rattle.ps_components.proofs.trail.Spread.reach_from.Goals as goal
 
 pub degree-number-end-requires : goal.degree-number-end-requires
-degree-number-end-requires g c =
-    step-within c.requires.spread c.args.place (slice_get_read c.args.self.now.steps.items _ _ _ refl c.requires.place
-    c.index.ensures)
+degree-number-end-requires g c = step-within c.requires.spread c.args.place
+    (slice_get_read c.args.self.now.steps.items _ _ _ refl c.requires.place c.index.ensures)
 
 pub target-requires-clause-item : goal.target-requires-clause-item
-target-requires-clause-item g c =
-    step-within c.requires.spread c.args.place (slice_get_read c.args.self.now.steps.items _ _ _ refl c.requires.place
-    c.index.ensures)
+target-requires-clause-item g c = step-within c.requires.spread c.args.place
+    (slice_get_read c.args.self.now.steps.items _ _ _ refl c.requires.place c.index.ensures)
 
 pub reach-requires-clause-linked : goal.reach-requires-clause-linked
 reach-requires-clause-linked g c =
-    let here =
-    slice_get_read c.args.self.now.steps.items _ c.args.place _ refl c.requires.place c.index.ensures in (
+    let here = slice_get_read c.args.self.now.steps.items _ c.args.place _ refl c.requires.place c.index.ensures in (
       c.index.result.now,
       c.loop-number.invariant.kept c.args.place c.index.result.now here,
-      record {
-        from = step-within c.requires.spread c.args.place here;
-        place = c.loop-number.number;
-        at = omega arith;
-        target = sym c.in-Some.ensures.target;
-      },
+      grind (arith, step-within c.requires.spread c.args.place here),
     )
 
 pub returns-clause-spread : goal.returns-clause-spread

@@ -17,29 +17,26 @@ pub returns-in-Some-clause-leaf : goal.returns-in-Some-clause-leaf
 returns-in-Some-clause-leaf t c = (c.requires.known c.args.node c.in-Some.made.now (sym c.in-Some.ensures.value)).2
 
 pub divided_test-requires-clause-low_later : goal.divided_test-requires-clause-low_later
-divided_test-requires-clause-low_later t c =
-    divided_blind c.allocator.ensures.sound c.args.split _ _ _ (divided_side c.divided-in-Test.ensures.keeps
-    c.args.split _ c.in_ok-low-in-Test.ensures.held c.in_ok-low-in-Test.ensures.leaf)
-    (sides_of_test c.in-Test.ensures.part).low_later
+divided_test-requires-clause-low_later t c = divided_blind c.allocator.ensures.sound c.args.split _ _ _
+    (divided_side c.divided-in-Test.ensures.keeps c.args.split _ c.in_ok-low-in-Test.ensures.held
+    c.in_ok-low-in-Test.ensures.leaf) (sides_of_test c.in-Test.ensures.part).low_later
 
 pub divided_test-requires-clause-high_later : goal.divided_test-requires-clause-high_later
 divided_test-requires-clause-high_later t c = divided_blind c.allocator.ensures.sound c.args.split _ _ _
     c.in_ok-high-in-Test.ensures.leaf (sides_of_test c.in-Test.ensures.part).high_later
 
 pub divided_test-requires-clause-low_leads : goal.divided_test-requires-clause-low_leads
-divided_test-requires-clause-low_leads t c =
-    divided_leads c.divided-in-Test.new.self c.args.split _ _ _ (divided_side c.divided-in-Test.ensures.keeps
-    c.args.split _ c.in_ok-low-in-Test.ensures.held c.in_ok-low-in-Test.ensures.leaf)
-    (sides_of_test c.in-Test.ensures.part).low_later
+divided_test-requires-clause-low_leads t c = divided_leads c.divided-in-Test.new.self c.args.split _ _ _
+    (divided_side c.divided-in-Test.ensures.keeps c.args.split _ c.in_ok-low-in-Test.ensures.held
+    c.in_ok-low-in-Test.ensures.leaf) (sides_of_test c.in-Test.ensures.part).low_later
 
 pub divided_test-requires-clause-high_leads : goal.divided_test-requires-clause-high_leads
 divided_test-requires-clause-high_leads t c = divided_leads c.divided-in-Test.new.self c.args.split _ _ _
     c.in_ok-high-in-Test.ensures.leaf (sides_of_test c.in-Test.ensures.part).high_later
 
 pub returns-in_err-made-in-Test-clause-known : goal.returns-in_err-made-in-Test-clause-known
-returns-in_err-made-in-Test-clause-known t c =
-    known_divided_kept c.args.other.now c.args.split (get nat_eq c.divided-in-Test.new.known)
-    c.divided_test.ensures.keeps c.divided-in-Test.ensures.known
+returns-in_err-made-in-Test-clause-known t c = known_divided_kept c.args.other.now c.args.split
+    (get nat_eq c.divided-in-Test.new.known) c.divided_test.ensures.keeps c.divided-in-Test.ensures.known
 
 pub returns-in_err-insert-in-Test-clause-keeps : goal.returns-in_err-insert-in-Test-clause-keeps
 returns-in_err-insert-in-Test-clause-keeps t c =
@@ -64,9 +61,8 @@ returns-in-Nothing-clause-leaf t c =
     (λ f. ap (λ x. leaf_at x f) c.in-Nothing.ensures.part)) c.place_of_leaf.ensures.leaf
 
 pub returns-in-Leaf-clause-known : goal.returns-in-Leaf-clause-known
-returns-in-Leaf-clause-known t c =
-    known_divided_kept c.args.other.now c.args.split (get nat_eq c.args.known.now) c.place_of_leaf-in-Leaf.ensures.keeps
-    c.requires.known
+returns-in-Leaf-clause-known t c = known_divided_kept c.args.other.now c.args.split (get nat_eq c.args.known.now)
+    c.place_of_leaf-in-Leaf.ensures.keeps c.requires.known
 
 pub returns-in-Leaf-clause-tests : goal.returns-in-Leaf-clause-tests
 returns-in-Leaf-clause-tests t c = tests_kept
@@ -92,7 +88,6 @@ returns-in_ok-insert-in-Test-clause-known t c =
     let s = c.args.other.now in
     let last = c.divided_test.new.self in
     knows_more (IsDivided last c.args.split) s last (get nat_eq c.divided-in-Test.new.known)
-    (get nat_eq c.insert.new.self) c.in_ok-insert-in-Test.ensures.updates.0
-    (known_divided_kept s c.args.split (get nat_eq c.divided-in-Test.new.known) c.divided_test.ensures.keeps
-    c.divided-in-Test.ensures.known) c.requires.held c.in_ok-made-in-Test.ensures.held
-    (returns-in_ok-insert-in-Test-clause-leaf t c)
+    (get nat_eq c.insert.new.self) c.in_ok-insert-in-Test.ensures.updates.0 (known_divided_kept s c.args.split
+    (get nat_eq c.divided-in-Test.new.known) c.divided_test.ensures.keeps c.divided-in-Test.ensures.known)
+    c.requires.held c.in_ok-made-in-Test.ensures.held (returns-in_ok-insert-in-Test-clause-leaf t c)

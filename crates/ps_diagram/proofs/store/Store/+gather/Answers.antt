@@ -1,5 +1,4 @@
-use Rattle.std.proofs.Common.{rules, ℕ, ◌+◌, ◌^◌, ◌<◌, ◌∙◌}
-use Rattle.std.proofs.Common.{nat_eq}
+use Rattle.std.proofs.Common.{rules, ℕ, nat_eq}
 use Rattle.indexmap.specs.IndexSet.{contains}
 use Rattle.indexmap.proofs.CallerLemmas.{insert_entry-new}
 use Rattle.ps_diagram.specs.Reached.{Gathers}
@@ -31,7 +30,6 @@ pub returns-in_ok-insert-in-Test-clause-found : goal.returns-in_ok-insert-in-Tes
 returns-in_ok-insert-in-Test-clause-found t c = found t c
 
 pub returns-in_ok-insert-in-Test-clause-seen : goal.returns-in_ok-insert-in-Test-clause-seen
-returns-in_ok-insert-in-Test-clause-seen t c =
-    seen_more c.args.self.now (contains nat_eq c.gather-in-Test.new.seen) (contains nat_eq c.insert-in-Test.new.self)
-    c.args.node c.gather-in-Test.new.found.entries c.in_ok-insert-in-Test.ensures.updates.0
-    c.in_ok-gather-in-Test-2.ensures.seen (found t c).whole
+returns-in_ok-insert-in-Test-clause-seen t c = seen_more c.args.self.now (contains nat_eq c.gather-in-Test.new.seen)
+    (contains nat_eq c.insert-in-Test.new.self) c.args.node c.gather-in-Test.new.found.entries
+    c.in_ok-insert-in-Test.ensures.updates.0 c.in_ok-gather-in-Test-2.ensures.seen (found t c).whole

@@ -1,7 +1,7 @@
-use Rattle.std.proofs.Common.{sym, ℕ, ◌+◌, nat_eq, Bool, true, false, rules, arith}
+use Rattle.std.proofs.Common.{sym, ℕ, nat_eq, Bool, true, false, rules, arith}
 use Rattle.std.specs.Option.{option_copied, unwrap_or}
 use Rattle.indexmap.specs.IndexMap.{get}
-use Rattle.ps_diagram.specs.Tree.{leaf_at, IsBlind}
+use Rattle.ps_diagram.specs.Tree.{leaf_at}
 use Rattle.ps_diagram.specs.Table.{tree_of}
 use Rattle.ps_diagram.specs.Known.{IsMapped}
 use Rattle.ps_diagram.proofs.Sides.{sides_of_test}
@@ -63,32 +63,19 @@ mapped_by-requires-in-Test g t c = λ κs b.
     )
 
 pub test-requires-clause-low_later : goal.test-requires-clause-low_later
-test-requires-clause-low_later g t c =
-    kept (IsBlind (c.in-Test.proposition + 1)) c.mapped_by-in-Test.ensures.keeps c.in_ok-low-in-Test.ensures.held
-    (mapped_blind (g.R.LeafRule.rule c.args.rule.now) _ _ _ c.in_ok-low-in-Test.ensures.leaf
-    (sides_of_test c.in-Test.ensures.part).low_later)
+test-requires-clause-low_later g t c = grind (arith, kept, mapped_blind, sides_of_test)
 
 pub test-requires-clause-high_later : goal.test-requires-clause-high_later
-test-requires-clause-high_later g t c =
-    let s = sides_of_test c.in-Test.ensures.part in
-    mapped_blind (g.R.LeafRule.rule c.args.rule.now) _ _ _ c.in_ok-high-in-Test.ensures.leaf
-    (kept (IsBlind (c.in-Test.proposition + 1)) (read_keeps (option_copied c.args.other) c.mapped_by.ensures.keeps)
-    s.high_held s.high_later)
+test-requires-clause-high_later g t c = grind (arith, sides_of_test, mapped_blind, kept, read_keeps)
 
 pub test-requires-clause-named : goal.test-requires-clause-named
-test-requires-clause-named g t c =
-    let below = c.in-Test.ensures.part.below in
-    let one = c.mapped_by.ensures.keeps.propositions in
-    let two = c.mapped_by-in-Test.ensures.keeps.propositions in
-    omega (arith, below, one, two, c.requires.few)
+test-requires-clause-named g t c = grind arith
 
 pub returns-in_err-changed-in-Test-clause-keeps : goal.returns-in_err-changed-in-Test-clause-keeps
-returns-in_err-changed-in-Test-clause-keeps g t c = keeps_trans
-    (keeps_trans c.mapped_by.ensures.keeps c.mapped_by-in-Test.ensures.keeps) c.test.ensures.keeps
+returns-in_err-changed-in-Test-clause-keeps g t c = search (rules, keeps_trans)
 
 pub returns-in_err-insert-in-Test-clause-keeps : goal.returns-in_err-insert-in-Test-clause-keeps
-returns-in_err-insert-in-Test-clause-keeps g t c = keeps_trans
-    (keeps_trans c.mapped_by.ensures.keeps c.mapped_by-in-Test.ensures.keeps) c.test.ensures.keeps
+returns-in_err-insert-in-Test-clause-keeps g t c = search (rules, keeps_trans)
 
 pub returns-in_ok-insert-in-Test-clause-known : goal.returns-in_ok-insert-in-Test-clause-known
 returns-in_ok-insert-in-Test-clause-known g t c =
@@ -98,12 +85,11 @@ returns-in_ok-insert-in-Test-clause-known g t c =
     let last = c.test.new.self in
     let j = read_keeps other (keeps_trans (keeps_trans c.mapped_by.ensures.keeps c.mapped_by-in-Test.ensures.keeps)
     c.test.ensures.keeps) in
-    knows_more (IsMapped rule) (unwrap_or other last) last (get nat_eq c.mapped_by-in-Test.new.known)
-    (get nat_eq c.insert.new.self) c.in_ok-insert-in-Test.ensures.updates.0
-    (knows_kept (IsMapped rule) (unwrap_or other mid) (unwrap_or other last) mid last
-    (get nat_eq c.mapped_by-in-Test.new.known) (read_keeps other c.test.ensures.keeps) c.test.ensures.keeps
-    c.mapped_by-in-Test.ensures.known) (j.held c.args.node c.requires.held) c.in_ok-changed-in-Test.ensures.held
-    (kept (λ u. IsMapped rule u (tree_of last c.in_ok-changed-in-Test.changed)) j c.requires.held
-    (mapped_sides rule last (read_keeps other c.mapped_by.ensures.keeps) c.mapped_by-in-Test.ensures.keeps _ _
-    (sides_of_test c.in-Test.ensures.part) c.in_ok-low-in-Test.ensures.held c.in_ok-low-in-Test.ensures.leaf
-    c.in_ok-high-in-Test.ensures.leaf c.in_ok-changed-in-Test.ensures.leaf))
+    knows_more (IsMapped rule) (unwrap_or other last) last (get nat_eq c.mapped_by-in-Test.new.known) (get nat_eq
+    c.insert.new.self) c.in_ok-insert-in-Test.ensures.updates.0 (knows_kept (IsMapped rule) (unwrap_or other mid)
+    (unwrap_or other last) mid last (get nat_eq c.mapped_by-in-Test.new.known) (read_keeps other c.test.ensures.keeps)
+    c.test.ensures.keeps c.mapped_by-in-Test.ensures.known) (j.held c.args.node c.requires.held)
+    c.in_ok-changed-in-Test.ensures.held (kept (λ u. IsMapped rule u (tree_of last c.in_ok-changed-in-Test.changed)) j
+    c.requires.held (mapped_sides rule last (read_keeps other c.mapped_by.ensures.keeps)
+    c.mapped_by-in-Test.ensures.keeps _ _ (sides_of_test c.in-Test.ensures.part) c.in_ok-low-in-Test.ensures.held
+    c.in_ok-low-in-Test.ensures.leaf c.in_ok-high-in-Test.ensures.leaf c.in_ok-changed-in-Test.ensures.leaf))

@@ -4,10 +4,7 @@ use Rattle.ps_diagram.proofs.Unions.{back_kept, one_truth, union_halves, union_t
 use Rattle.ps_diagram.proofs.store.Store.+union_of.Goals as goal
 
 pub union_of-requires-2 : goal.union_of-requires-2
-union_of-requires-2 t c = (
-  search rules,
-  back_kept c.args.nodes.now _ c.split_at.ensures.back c.in_ok-one.ensures.keeps c.requires.truths,
-)
+union_of-requires-2 t c = search (rules, back_kept)
 
 pub either-requires-clause-first_truth : goal.either-requires-clause-first_truth
 either-requires-clause-first_truth t c = one_truth c.args.nodes.now _ c.in_ok-other.other
@@ -16,8 +13,7 @@ either-requires-clause-first_truth t c = one_truth c.args.nodes.now _ c.in_ok-ot
 
 pub either-requires-clause-second_truth : goal.either-requires-clause-second_truth
 either-requires-clause-second_truth t c = λ letter.
-    let truth = union_truth c.union_of.new.self c.split_at.result.1.now letter
-    (back_kept c.args.nodes.now _ c.split_at.ensures.back c.in_ok-one.ensures.keeps c.requires.truths) in
+    let truth = union_truth c.union_of.new.self c.split_at.result.1.now letter (search (rules, back_kept)) in
     (truth.0, c.in_ok-other.ensures.leaf letter ∙ truth.1)
 
 pub returns-clause-leaf : goal.returns-clause-leaf

@@ -5,8 +5,7 @@ use Rattle.ps_diagram.proofs.Numbering.{leaves_differ}
 use Rattle.ps_diagram.proofs.store.Store.classes_from.Goals as goal
 
 pub classes_of_leaves-requires-clause-leaves : goal.classes_of_leaves-requires-clause-leaves
-classes_of_leaves-requires-clause-leaves c =
-    leaves_differ (rw (← c.deref.ensures.value) at c.in_ok-leaves.ensures)
+classes_of_leaves-requires-clause-leaves c = leaves_differ (rw (← c.deref.ensures.value) at c.in_ok-leaves.ensures)
 
 pub returns-clause-keeps : goal.returns-clause-keeps
 returns-clause-keeps c = keeps_trans c.rests.ensures.keeps c.classes_of_leaves.ensures.keeps

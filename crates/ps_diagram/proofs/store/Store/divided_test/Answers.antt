@@ -1,10 +1,10 @@
-use Rattle.std.proofs.Common.{sym, ◌≡◌, ◌∙◌, arith, true, false, ◌+◌}
+use Rattle.std.proofs.Common.{sym, ◌≡◌, ◌∙◌, arith, true, ◌+◌}
 use Rattle.std.proofs.lemmas.Result.{IfOk-weaker}
-use Rattle.std.proofs.lemmas.Bool.{eq-eqb, ne_eqb}
+use Rattle.std.proofs.lemmas.Bool.{eq-eqb}
 use Rattle.std.proofs.lemmas.Nat.Bits.{shr_and_one}
 use Rattle.ps_label.specs.Truth.{is_in}
 use Rattle.ps_diagram.specs.Table.{tree_of}
-use Rattle.ps_diagram.proofs.Dividing.{divided_in, divided_off, leads_kept}
+use Rattle.ps_diagram.proofs.Dividing.{divided_in, leads_kept}
 use Rattle.ps_diagram.proofs.store.Store.divided_test.Goals as goal
 
 pub overflow_shr-split : goal.overflow_shr-split
@@ -22,9 +22,4 @@ returns-then-split-proposition-eq1-clause-leaf c =
     (leads_kept k _ _ c.requires.low_leads) (leads_kept k _ _ c.requires.high_leads) e) c.test.ensures.leaf
 
 pub returns-clause-leaf : goal.returns-clause-leaf
-returns-clause-leaf c =
-    let isnt : is_in c.args.proposition c.args.split ≡ false =
-    ne_eqb _ 1 (λ e. c.if-split-proposition-eq1.false (shr_and_one c.args.split c.args.proposition ∙ e)) in
-    IfOk-weaker c.tested.result _ _ (λ made e. divided_off c.tested.new.self c.args.split c.args.proposition
-    (tree_of c.args.self.now c.args.low) (tree_of c.args.self.now c.args.high) (tree_of c.tested.new.self made) isnt
-    e) c.tested.ensures.leaf
+returns-clause-leaf c = grind (arith, shr_and_one c.args.split c.args.proposition)

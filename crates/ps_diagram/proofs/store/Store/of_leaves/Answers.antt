@@ -10,12 +10,12 @@ loop-proposition-init c =
     let none = c.in_ok-none.none in
     let nothing : HasLeaf t none None =
     has_leaf_kept c.leaf_nodes.ensures.keeps none None (c.in_ok-none.ensures.held, c.in_ok-none.ensures.leaf) in
-    let n = c.propositions-proposition.ensures.value in
-    record {
-      keeps = keeps_trans c.constant.ensures.keeps c.leaf_nodes.ensures.keeps;
-      row = rw n (first_row none nothing c.in_ok-nodes.ensures.nodes);
-      leads = rw n (first_leads none nothing c.in_ok-nodes.ensures.nodes);
-    }
+    grind (
+      arith,
+      keeps_trans c.constant.ensures.keeps c.leaf_nodes.ensures.keeps,
+      first_row none nothing c.in_ok-nodes.ensures.nodes,
+      first_leads none nothing c.in_ok-nodes.ensures.nodes,
+    )
 
 pub returns-in_err-nodes-2-clause-keeps : goal.returns-in_err-nodes-2-clause-keeps
 returns-in_err-nodes-2-clause-keeps c = keeps_trans c.loop-proposition.invariant.keeps c.halved.ensures.keeps

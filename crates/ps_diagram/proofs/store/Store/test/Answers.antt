@@ -5,8 +5,7 @@ use Rattle.ps_diagram.proofs.Canon.{Ready, ready}
 use Rattle.ps_diagram.proofs.store.Store.test.Goals as goal
 
 made_ready : (c : goal.After-intern-arg-1) → Ready c.args.self.now c.args.proposition c.args.low c.args.high
-made_ready c =
-    ready (rw c.self.view_is at c.self.invariant) c.args.proposition c.requires.named c.requires.low_held
+made_ready c = ready (rw c.self.view_is at c.self.invariant) c.args.proposition c.requires.named c.requires.low_held
     c.requires.high_held c.requires.low_later c.requires.high_later (sym c.eq.ensures ∙ c.if-eq.false)
 
 pub intern-requires : goal.intern-requires

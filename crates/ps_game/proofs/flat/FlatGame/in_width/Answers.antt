@@ -1,4 +1,4 @@
-use Rattle.std.proofs.Common.{◌∙◌, arith, rules}
+use Rattle.std.proofs.Common.{arith, rules}
 use Rattle.ps_game.proofs.FlatArrays.{offsets_fit, successors_fit}
 use Rattle.ps_game.proofs.flat.FlatGame.in_width.Goals as goal
 

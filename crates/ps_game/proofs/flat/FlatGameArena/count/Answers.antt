@@ -3,5 +3,4 @@ use Rattle.ps_game.proofs.FlatArrays.{owners_count}
 use Rattle.ps_game.proofs.flat.FlatGameArena.count.Goals as goal
 
 pub returns-clause-vertices : goal.returns-clause-vertices
-returns-clause-vertices g c =
-    omega (arith, c.len.ensures, c.self.inside.owners.ok.0, owners_count c.self.invariant.tell c.self.view_is)
+returns-clause-vertices g c = grind (arith, owners_count c.self.invariant.tell c.self.view_is)

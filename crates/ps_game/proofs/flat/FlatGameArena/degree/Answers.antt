@@ -3,10 +3,7 @@ use Rattle.ps_game.proofs.FlatArrays.{stands}
 use Rattle.ps_game.proofs.flat.FlatGameArena.degree.Goals as goal
 
 pub overflow_add-vertex : goal.overflow_add-vertex
-overflow_add-vertex g c =
-    let s = c.self.inside in
-    let at = stands c.self.invariant.tell c.self.view_is c.requires in
-    record { fits = omega (arith, s.owners.ok.0, s.owners.small) }
+overflow_add-vertex g c = grind (arith, stands c.self.invariant.tell c.self.view_is c.requires)
 
 pub at-requires : goal.at-requires
 at-requires g c = let at = stands c.self.invariant.tell c.self.view_is c.requires in omega arith
@@ -15,9 +12,7 @@ pub at-requires-2 : goal.at-requires-2
 at-requires-2 g c = let at = stands c.self.invariant.tell c.self.view_is c.requires in omega arith
 
 pub overflow_sub-result : goal.overflow_sub-result
-overflow_sub-result g c =
-    let at = stands c.self.invariant.tell c.self.view_is c.requires in omega (arith, c.at.ensures, c.at-2.ensures)
+overflow_sub-result g c = grind (arith, stands c.self.invariant.tell c.self.view_is c.requires)
 
 pub returns : goal.returns
-returns g c =
-    let at = stands c.self.invariant.tell c.self.view_is c.requires in omega (arith, c.at.ensures, c.at-2.ensures)
+returns g c = grind (arith, stands c.self.invariant.tell c.self.view_is c.requires)

@@ -1,14 +1,12 @@
-use Rattle.std.proofs.Common.{◌∙◌, arith}
+use Rattle.std.proofs.Common.{arith}
 use Rattle.std.proofs.lemmas.Grind.{get_or_default_zero}
 use Rattle.ps_game.proofs.FlatArrays.{stands}
 use Rattle.ps_game.proofs.flat.FlatGameArena.priority.Goals as goal
 
 pub index-requires : goal.index-requires
-index-requires g c =
-    let at = stands c.self.invariant.tell c.self.view_is c.requires in omega (arith, c.self.inside.priorities.ok.0)
+index-requires g c = grind (arith, stands c.self.invariant.tell c.self.view_is c.requires)
 
 pub returns : goal.returns
 returns g c =
     let at = stands c.self.invariant.tell c.self.view_is c.requires in
-    c.index.ensures ∙ get_or_default_zero c.self.inside.priorities.items c.args.vertex c.index.result.now at.ranked
-    ∙ at.priority_is
+    grind (arith, get_or_default_zero)

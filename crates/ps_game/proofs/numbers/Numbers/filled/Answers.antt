@@ -9,6 +9,5 @@ pub returns : goal.returns
 returns g c =
     let same =
     c.in_ok-items.ensures.items_if_clones_equal (λ y clone. g.met.W.Width.clones_equal c.of.result y clone) in
-    ap (map g.W.Width.value) same
-    ∙ map_replicate g.W.Width.value c.args.count c.of.result
+    ap (map g.W.Width.value) same ∙ map_replicate g.W.Width.value c.args.count c.of.result
     ∙ ap (replicate c.args.count) c.of.ensures

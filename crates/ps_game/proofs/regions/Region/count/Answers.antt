@@ -1,4 +1,4 @@
-use Rattle.std.proofs.Common.{◌∙◌, rules}
+use Rattle.std.proofs.Common.{rules}
 use Rattle.ps_game.proofs.WordSets.{count_is, count_fits}
 use Rattle.ps_game.proofs.regions.Region.count.Goals as goal
 

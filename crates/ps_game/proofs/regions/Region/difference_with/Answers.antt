@@ -1,4 +1,4 @@
-use Rattle.std.proofs.Common.{◌∙◌, ◌&&◌, not, rules}
+use Rattle.std.proofs.Common.{◌&&◌, not, rules}
 use Rattle.std.specs.Vec.{with_items}
 use Rattle.std.proofs.lemmas.List.{with_items_is}
 use Rattle.ps_game.proofs.WordSets.{IsMade, same_words, difference_made}
@@ -9,8 +9,7 @@ use Rattle.ps_game.proofs.regions.Region.difference_with.Goals.{After-subtract}
 made : (c : After-subtract) →
     IsMade c.self.inside.places (with_items c.self.inside.words c.subtract.new.words).items c.args.self.now
     c.args.other.now (λ a b. a && not b)
-made c =
-    rw (with_items_is c.self.inside.words c.subtract.new.words
+made c = rw (with_items_is c.self.inside.words c.subtract.new.words
     (search (rules, c.subtract.auto.words, c.deref_mut.ensures.len)))
     (search (rules, difference_made, c.self.invariant, c.self.view_is, c.other.invariant, c.other.view_is, c.requires))
 

@@ -1,4 +1,4 @@
-use Rattle.std.proofs.Common.{◌∙◌, rules}
+use Rattle.std.proofs.Common.{rules}
 use Rattle.ps_game.proofs.WordSets.{empty_is}
 use Rattle.ps_game.proofs.regions.Region.empty.Goals as goal
 

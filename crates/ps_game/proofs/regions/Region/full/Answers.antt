@@ -9,8 +9,7 @@ full c =
     let ones = c.in_ok-words.ensures.items_if_clones_equal (λ y e. e) in
     let few = c.ranges.places.fits in
     elim c.if-rest-gt0.branch [
-      | then-rest-gt0 w ↦ rw (w.words-is, ones)
-          (full_part c.args.places n few w.if-rest-gt0.true (omega (arith, c.div_ceil.ensures)))
+      | then-rest-gt0 w ↦ grind (arith, full_part)
       | else-rest-gt0 w ↦ rw (w.words-is, ones)
           (full_whole c.args.places n few (omega arith) (omega (arith, c.div_ceil.ensures)))
     ]

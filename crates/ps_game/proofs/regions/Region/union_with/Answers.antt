@@ -1,4 +1,4 @@
-use Rattle.std.proofs.Common.{◌∙◌, rules}
+use Rattle.std.proofs.Common.{rules}
 use Rattle.std.specs.Prelude.{◌||◌}
 use Rattle.std.specs.Vec.{with_items}
 use Rattle.std.proofs.lemmas.List.{with_items_is}
@@ -10,10 +10,8 @@ use Rattle.ps_game.proofs.regions.Region.union_with.Goals.{After-unite}
 made : (c : After-unite) →
     IsMade c.self.inside.places (with_items c.self.inside.words c.unite.new.words).items c.args.self.now
     c.args.other.now (λ a b. a || b)
-made c =
-    rw (with_items_is c.self.inside.words c.unite.new.words (search
-    (rules, c.unite.auto.words, c.deref_mut.ensures.len)))
-    (search (rules, union_made, c.self.invariant, c.self.view_is, c.other.invariant, c.other.view_is, c.requires))
+made c = rw (with_items_is c.self.inside.words c.unite.new.words
+    (search (rules, c.unite.auto.words, c.deref_mut.ensures.len))) (search (rules, union_made))
 
 pub unite-requires : goal.unite-requires
 unite-requires c = search (rules, same_words)

@@ -1,4 +1,4 @@
-use Rattle.std.proofs.Common.{◌∙◌, rules}
+use Rattle.std.proofs.Common.{rules}
 use Rattle.ps_game.proofs.MoveLists.{no_moves}
 use Rattle.ps_game.proofs.strategy.Strategy.empty.Goals as goal
 

@@ -13,6 +13,5 @@ returns-then-contains c =
     ∙ sym (move_read s.chosen s.moves.items c.self.view_is c.requires (sym c.contains.ensures ∙ c.if-contains.true))
 
 pub returns-else-contains : goal.returns-else-contains
-returns-else-contains c =
-    sym (move_read c.self.inside.chosen c.self.inside.moves.items c.self.view_is c.requires
+returns-else-contains c = sym (move_read c.self.inside.chosen c.self.inside.moves.items c.self.view_is c.requires
     (sym c.contains.ensures ∙ c.if-contains.false))

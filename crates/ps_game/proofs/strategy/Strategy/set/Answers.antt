@@ -1,4 +1,4 @@
-use Rattle.std.proofs.Common.{◌<◌, ◌∙◌, rules}
+use Rattle.std.proofs.Common.{rules}
 use Rattle.ps_game.proofs.MoveLists.{length-moves_of, one_moved}
 use Rattle.ps_game.proofs.strategy.Strategy.set.Goals as goal
 

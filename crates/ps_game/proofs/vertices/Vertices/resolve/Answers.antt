@@ -9,8 +9,7 @@ use Rattle.ps_game.proofs.vertices.Vertices.resolve.Goals as goal
 use Rattle.ps_game.proofs.vertices.Vertices.resolve.Goals.{After-places_in}
 
 pub places_in-requires : goal.places_in-requires
-places_in-requires c =
-    rw (c.deref_mut.ensures.value, c.self.invariant.tell.successors_are, c.self.view_is)
+places_in-requires c = rw (c.deref_mut.ensures.value, c.self.invariant.tell.successors_are, c.self.view_is)
     (All-successors (λ w. Contains c.args.ids.now w) c.args.self.now c.requires)
 
 placed : (c : After-places_in) →
@@ -25,8 +24,7 @@ placed c =
     let written : take s.successors.len (c.places_in.new.numbers ++
     drop (length c.places_in.new.numbers) s.successors.items) ≡ map (place_of ids) s.successors.items =
     grind (arith, common_steps) in
-    stand_for (tell_placed ids (rw c.self.view_is at c.self.invariant.tell) written)
-    (players-placed ids c.args.self.now (rw c.self.view_is at c.self.invariant.players))
+    stand_for (tell_placed ids (rw c.self.view_is at c.self.invariant.tell) written) (search (rules, players-placed))
 
 pub invariant_of-self : goal.invariant_of-self
 invariant_of-self c = search (rules, placed)

@@ -1,5 +1,5 @@
 -- One more name, and its number in the table.
-use Rattle.std.proofs.Common.{◌≡◌, cond, ◌++◌, ◌∷◌, [], None, Some, length, map, ap, sym, subst, ◌∙◌, arith}
+use Rattle.std.proofs.Common.{◌≡◌, cond, ◌++◌, ◌∷◌, [], None, Some, length, map, ap, ◌∙◌, arith}
 use Rattle.std.specs.Str.{bytes_eq}
 use Rattle.std.proofs.lemmas.Bool.{cond-true}
 use Rattle.std.proofs.lemmas.List.{map-append, length-map}
@@ -14,17 +14,12 @@ invariant_of-self-2 c = λ other.
     let old = c.self.inside.names.items in
     let name = c.args.name.now in
     let names = map (λ k. k.now) old in
-    let pushed : c.push.new.self.items ≡ old ++ c.args.name ∷ [] = c.push.ensures.items
-    ∙ cond-true _ _ _ (c.push.ensures.succeeds (omega (arith, c.in_ok-reserve.ensures.ok)))
-    ∙ ap (λ ns. ns ++ c.args.name ∷ []) c.in_ok-reserve.ensures.items in
+    let pushed : c.push.new.self.items ≡ old ++ c.args.name ∷ [] = grind (arith, cond-true) in
     let same : length c.reserve.new.self.items ≡ length old = ap length c.in_ok-reserve.ensures.items in
     let count : c.len.result ≡ length names =
     omega (arith, c.len.ensures, c.reserve.new.self.ok.0, same, length-map old (λ k. k.now)) in
-    let free : alias_number names name ≡ None =
-    subst (λ ns. alias_number ns name ≡ None) (sym c.self.view_is) c.requires in
+    let free : alias_number names name ≡ None = grind arith in
     btree_map_updates_str name c.self.inside.numbers c.insert.new.self (Some c.len.result)
     c.in_ok-insert.ensures.updates other ∙ (λ i. cond (bytes_eq name other) (Some (count i)) (c.self.invariant other i))
-    ∙ pushed_position (λ n. bytes_eq n other) names name (λ e.
-    subst (λ z. alias_number names z ≡ None) ((bytes_eq-Decides name other).0 e) free)
-    ∙ ap (λ ns. alias_number ns other) (sym (map-append (λ k. k.now) old (c.args.name ∷ []))
-    ∙ sym (ap (map (λ k. k.now)) pushed))
+    ∙ pushed_position (λ n. bytes_eq n other) names name (λ e. grind (arith, bytes_eq-Decides))
+    ∙ ap (λ ns. alias_number ns other) (grind (arith, map-append))

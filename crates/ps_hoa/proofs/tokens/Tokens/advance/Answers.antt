@@ -1,3 +1,4 @@
+use Rattle.std.proofs.Common.{arith}
 use Rattle.ps_hoa.proofs.Lexing.Streams.{kept_next, kept_rest, kept_span}
 use Rattle.ps_hoa.proofs.tokens.Tokens.advance.Goals as goal
 
@@ -8,5 +9,4 @@ pub returns-clause-text : goal.returns-clause-text
 returns-clause-text c = kept_span c.self.invariant c.self.view_is
 
 pub returns-clause-rest : goal.returns-clause-rest
-returns-clause-rest c = let l = c.first_lexeme-lexeme.ensures in
-    kept_rest c.self.invariant c.self.view_is c.token_of-self-inside.ensures.start c.pass.ensures l.from l.same
+returns-clause-rest c = grind (arith, kept_rest)

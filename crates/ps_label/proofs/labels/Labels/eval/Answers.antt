@@ -18,7 +18,6 @@ pub returns : goal.returns
 unfolding label_truth
 returns c =
     let items = ap length c.deref-alias-items.ensures.value in
-    let whole =
-    whole_table c.loop-k.scratch c.loop-k.k c.args.letter c.deref-alias-items.result.now _ c.loop-k.invariant.room
-    c.loop-k-test.false c.loop-k.invariant.known in
+    let whole = whole_table c.loop-k.scratch c.loop-k.k c.args.letter c.deref-alias-items.result.now _
+    c.loop-k.invariant.room c.loop-k-test.false c.loop-k.invariant.known in
     c.truth_by.ensures ∙ ap (λ (known : List Bool). truth known c.args.letter (expression c.args.label.now)) whole

@@ -1,7 +1,4 @@
-use Rattle.std.proofs.Common.{ℕ, List, sym, subst}
-use Rattle.ps_diagram.specs.Reached.{AreLeaves}
-use Rattle.ps_machine.specs.BuiltBoards.{board_of}
-use Rattle.ps_machine.specs.Drawing.{IsOwn}
+use Rattle.std.proofs.Common.{arith}
 use Rattle.ps_machine.specs.Planning.{IsDrawnBy}
 use Rattle.ps_machine.proofs.GameKeys.Exploring.{both_ok}
 use Rattle.ps_machine.proofs.Diagrams.FirstDrawing.{entered, all_noted, drawn_first}
@@ -9,15 +6,15 @@ use Rattle.ps_machine.proofs.Diagrams.ClassRests.{class_listed, left_behind, ren
 use Rattle.ps_machine.proofs.drawing.Drawing.first_node.Goals as goal
 
 pub rest_of-rest-requires : goal.rest_of-rest-requires
-rest_of-rest-requires c =
-    class_listed c.args.vertex c.requires.divided c.requires.stands.1 c.of.ensures c.deref.ensures.value
-    (c.letter_at-letter.ensures c.args.state c.requires.stands.0 c.requires.stands.1)
+rest_of-rest-requires c = class_listed c.args.vertex c.requires.divided c.requires.stands.1 c.of.ensures
+    c.deref.ensures.value (c.letter_at-letter.ensures c.args.state c.requires.stands.0 c.requires.stands.1)
 
 pub leaves-requires : goal.leaves-requires
-leaves-requires c =
-    let l = left_behind c.args.vertex c.requires.divided c.requires.stands.1 c.of.ensures c.deref.ensures.value
-    c.rest_of-rest.ensures in
-    record { held = l.is_rest.held }
+leaves-requires c = grind (
+  arith,
+  left_behind c.args.vertex c.requires.divided c.requires.stands.1 c.of.ensures
+      c.deref.ensures.value c.rest_of-rest.ensures,
+)
 
 pub place_rows-requires-clause-entered : goal.place_rows-requires-clause-entered
 place_rows-requires-clause-entered c =
@@ -33,10 +30,11 @@ place_rows-requires-clause-own c =
     rw c.requires.turn plays.is_class.here.0
 
 pub relabel_from-requires-clause-held : goal.relabel_from-requires-clause-held
-relabel_from-requires-clause-held c =
-    let l = left_behind c.args.vertex c.requires.divided c.requires.stands.1 c.of.ensures c.deref.ensures.value
-    c.rest_of-rest.ensures in
-    l.is_rest.held
+relabel_from-requires-clause-held c = grind (
+  arith,
+  left_behind c.args.vertex c.requires.divided c.requires.stands.1
+      c.of.ensures c.deref.ensures.value c.rest_of-rest.ensures,
+)
 
 pub relabel_from-requires-clause-within : goal.relabel_from-requires-clause-within
 relabel_from-requires-clause-within c =

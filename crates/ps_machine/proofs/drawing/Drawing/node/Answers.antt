@@ -1,4 +1,4 @@
-use Rattle.std.proofs.Common.{List, length, get_or, ap, sym, ◌∙◌, arith}
+use Rattle.std.proofs.Common.{List, get_or, ap, sym, ◌∙◌, arith}
 use Rattle.ps_machine.specs.declared.key.Key.{Key}
 use Rattle.ps_machine.specs.declared.key.Key.TheVariants.{First}
 use Rattle.ps_machine.proofs.Diagrams.DrawingLemmas.{kept_within, kept_stands, kept_not_second}
@@ -11,14 +11,7 @@ pub bounds-as_slice-vertex : goal.bounds-as_slice-vertex
 bounds-as_slice-vertex c = rw c.as_slice.ensures.keys (kept_within c.requires.plan c.args.vertex c.requires.kept)
 
 pub offset_bounds-as_slice-vertex : goal.offset_bounds-as_slice-vertex
-offset_bounds-as_slice-vertex c = record {
-  fits = omega (
-    arith,
-    kept_within c.requires.plan c.args.vertex c.requires.kept,
-    ap length c.as_slice.ensures.keys,
-    c.as_slice.type_inv.1,
-  );
-}
+offset_bounds-as_slice-vertex c = grind (arith, kept_within c.requires.plan c.args.vertex c.requires.kept)
 
 pub first_node-requires-clause-stands : goal.first_node-requires-clause-stands
 first_node-requires-clause-stands c = (
@@ -33,6 +26,5 @@ second_node-requires-clause-stands c = (
 )
 
 pub unreachable-requires : goal.unreachable-requires
-unreachable-requires c =
-    kept_not_second c.requires.plan c.args.vertex c.requires.kept
+unreachable-requires c = kept_not_second c.requires.plan c.args.vertex c.requires.kept
     (ap (λ (l : List Key). get_or l c.args.vertex (First 0 0)) (sym c.as_slice.ensures.keys) ∙ c.in-Second.is)

@@ -1,11 +1,6 @@
-use Rattle.std.proofs.Common.{◌≡◌, ◌<◌, ℕ, Some, length, get_or, ap, sym, subst, ◌∙◌, refl, arith}
+use Rattle.std.proofs.Common.{◌≡◌, ◌<◌, ℕ, Some, length, get_or, ap, sym, ◌∙◌, refl, arith}
 use Rattle.std.specs.List.{slice_get}
 use Rattle.std.proofs.lemmas.List.{get_or_default}
-use Rattle.ps_automaton.specs.declared.step.Step.{Step}
-use Rattle.ps_machine.specs.BuiltBoards.{board_of}
-use Rattle.ps_machine.specs.Extracting.{StandsFor}
-use Rattle.ps_machine.specs.Numbering.{StandsAt}
-use Rattle.ps_machine.specs.declared.key.Key.TheVariants.{First}
 use Rattle.ps_machine.specs.contracts.machine.RowPartialEq.TheImpl as row_eq
 use Rattle.ps_machine.specs.declared.machine.Row.{Row}
 use Rattle.ps_machine.proofs.Diagrams.FirstDrawing.{add_row, note_more}
@@ -14,13 +9,11 @@ use Rattle.ps_machine.proofs.drawing.Drawing.place_rows.Goals as goal
 
 pub returns-in_err-note-clause-same_rows : goal.returns-in_err-note-clause-same_rows
 returns-in_err-note-clause-same_rows c =
-    (add_row (row_eq.eq-value).it c.loop-leaf.invariant.noted c.in_ok-place.ensures.keys (record
-    { memory = c.memory_behind-memory.ensures.within; letter = c.requires.own })).same_rows
+    (add_row (row_eq.eq-value).it c.loop-leaf.invariant.noted c.in_ok-place.ensures.keys (grind arith)).same_rows
 
 pub returns-in_err-note-clause-rows : goal.returns-in_err-note-clause-rows
-returns-in_err-note-clause-rows c =
-    (add_row (row_eq.eq-value).it c.loop-leaf.invariant.noted c.in_ok-place.ensures.keys (record
-    { memory = c.memory_behind-memory.ensures.within; letter = c.requires.own })).each
+returns-in_err-note-clause-rows c = (add_row (row_eq.eq-value).it c.loop-leaf.invariant.noted c.in_ok-place.ensures.keys
+    (record { memory = c.memory_behind-memory.ensures.within; letter = c.requires.own })).each
 
 pub loop-leaf-preserved : goal.loop-leaf-preserved
 loop-leaf-preserved c =
@@ -30,14 +23,12 @@ loop-leaf-preserved c =
     let new = c.insert_full.new.self.keys in
     let row : Row = record { memory = c.memory_behind-memory.result; letter = c.args.letter } in
     let within : i < length leaves = omega (arith, c.loop-leaf-test.true) in
-    let added = add_row (row_eq.eq-value).it c.loop-leaf.invariant.noted c.in_ok-place.ensures.keys
-    (record { memory = c.memory_behind-memory.ensures.within; letter = c.requires.own }) in
+    let added = add_row (row_eq.eq-value).it c.loop-leaf.invariant.noted c.in_ok-place.ensures.keys (grind arith) in
     let stored = c.in_ok-place.ensures.stored in
     let at : slice_get new c.in_ok-place.place ≡ Some row = stored.1 ∙ ap (λ r. Some r) (sym (same_row stored.2)) in
     let next = rw c.pair-step.ensures.pair at c.memory_behind-memory.ensures.stands in
     record {
       store = c.loop-leaf.invariant.store;
-      noted =
-          note_more added (λ d. ap (λ (x : ℕ × ℕ). x.0) (get_or_default leaves i d (0, 0) within)) at refl next
+      noted = note_more added (λ d. ap (λ (x : ℕ × ℕ). x.0) (get_or_default leaves i d (0, 0) within)) at refl next
           c.in_ok-note.ensures.noted c.in_ok-note.ensures.others;
     }

@@ -8,8 +8,7 @@ use Rattle.ps_machine.proofs.Diagrams.SecondDrawing.{Names, answer_row, named_ne
 use Rattle.ps_machine.proofs.drawing.Drawing.rows_of_classes.Goals as goal
 
 pub returns-in_err-push-clause-same_rows : goal.returns-in_err-push-clause-same_rows
-returns-in_err-push-clause-same_rows c =
-    keeps_rows_trans c.loop-class.invariant.same_rows
+returns-in_err-push-clause-same_rows c = keeps_rows_trans c.loop-class.invariant.same_rows
     (keeps_rows (row_eq.eq-value).it c.in_ok-row.row c.in_ok-place.ensures.keys)
 
 pub returns-in_err-push-clause-rows : goal.returns-in_err-push-clause-rows
@@ -33,8 +32,7 @@ loop-class-preserved c =
       store = inv.store;
       same_rows =
           keeps_rows_trans inv.same_rows (keeps_rows (row_eq.eq-value).it c.in_ok-row.row c.in_ok-place.ensures.keys);
-      rows =
-          all_rows (IsRow plan.moves_first board kept) (row_eq.eq-value).it old c.in_ok-row.row
+      rows = all_rows (IsRow plan.moves_first board kept) (row_eq.eq-value).it old c.in_ok-row.row
           c.in_ok-place.ensures.keys inv.rows (answer_row c.requires.turn c.in_ok-row.ensures);
       values =
           named_next old new c.args.classes.now c.loop-class.class-index c.class-item.result c.loop-class.values.items

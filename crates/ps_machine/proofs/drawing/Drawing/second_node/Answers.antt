@@ -1,8 +1,6 @@
-use Rattle.std.proofs.Common.{List, sym, subst}
-use Rattle.std.specs.List.{All}
+use Rattle.std.proofs.Common.{rules, arith}
 use Rattle.ps_diagram.specs.declared.classes.Class.{Class}
-use Rattle.ps_machine.specs.Drawing.{IsDrawn}
-use Rattle.ps_machine.specs.Planning.{IsDrawnBy, IsRestBy, NamesAnswerBy, board_by}
+use Rattle.ps_machine.specs.Planning.{IsDrawnBy, NamesAnswerBy}
 use Rattle.ps_machine.proofs.BoardSteps.{class_rests}
 use Rattle.ps_machine.proofs.Diagrams.ClassTables.{classes_there}
 use Rattle.ps_machine.proofs.Diagrams.DrawingLemmas.{kept_used}
@@ -22,23 +20,16 @@ rows_of_classes-requires-clause-entered c = (
 )
 
 pub rows_of_classes-requires-clause-classes : goal.rows_of_classes-requires-clause-classes
-rows_of_classes-requires-clause-classes c =
-    rw c.deref.ensures.value (class_each c.requires.divided.fit
+rows_of_classes-requires-clause-classes c = rw c.deref.ensures.value (class_each c.requires.divided.fit
     (classes_there c.args.vertex c.requires.divided c.requires.stands.1 c.of-classes.ensures))
 
 pub rows_of_classes-requires-clause-rests : goal.rows_of_classes-requires-clause-rests
 rows_of_classes-requires-clause-rests c =
     let d = c.requires.divided in
-    rw c.deref.ensures.value (λ i x within. (
-      d.mask,
-      d.fit,
-      class_rests d.fit (classes_there c.args.vertex d c.requires.stands.1 c.of-classes.ensures) i x within,
-    ))
+    rw c.deref.ensures.value (λ i x within. search (rules, class_rests, classes_there))
 
 pub relabel_from-requires-clause-held : goal.relabel_from-requires-clause-held
-relabel_from-requires-clause-held c =
-    let of = classes_there c.args.vertex c.requires.divided c.requires.stands.1 c.of-classes.ensures in
-    of.are.held
+relabel_from-requires-clause-held c = grind (arith, classes_there)
 
 pub relabel_from-requires-clause-within : goal.relabel_from-requires-clause-within
 relabel_from-requires-clause-within c letter within =
@@ -47,8 +38,7 @@ relabel_from-requires-clause-within c letter within =
     let rows = c.rows_of_classes.new.self.rows.keys in
     places_within plan.keys.now.keys plan.memories.now.kept.items plan.certificate.now rows c.deref-2.result.now
     c.requires.divided.fit of
-    (named_as (λ (class : Class) value. NamesAnswerBy plan rows c.args.state class.letter value) c.deref.ensures.value
-    c.deref-2.ensures.value c.in_ok-values.ensures.values) letter
+    (grind arith) letter
 
 pub returns-clause-drawn : goal.returns-clause-drawn
 returns-clause-drawn c =
@@ -59,7 +49,6 @@ returns-clause-drawn c =
     c.deref.ensures.value c.deref-2.ensures.value c.in_ok-values.ensures.values in
     let u = c.relabel_from.new.self in
     both_ok _ _ (IsDrawnBy plan u rows c.args.vertex) c.relabel_from.result c.relabel_from.ensures.held
-    c.relabel_from.ensures.leaf (λ node held leaf.
-    rw c.requires.turn (drawn_second plan.keys.now.keys plan.memories.now.kept.items plan.certificate.now rows
-    c.deref-2.result.now
+    c.relabel_from.ensures.leaf (λ node held leaf. rw c.requires.turn
+    (drawn_second plan.keys.now.keys plan.memories.now.kept.items plan.certificate.now rows c.deref-2.result.now
     c.requires.divided.fit of named u node leaf c.args.vertex c.requires.stands.0 c.requires.stands.1 held))

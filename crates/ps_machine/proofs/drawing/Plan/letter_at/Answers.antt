@@ -1,4 +1,4 @@
-use Rattle.std.proofs.Common.{List, length, get_or, ap, sym, ◌∙◌, arith, is_some, rules}
+use Rattle.std.proofs.Common.{List, get_or, ap, sym, ◌∙◌, arith, rules}
 use Rattle.ps_machine.specs.declared.key.Key.{Key}
 use Rattle.ps_machine.specs.declared.key.Key.TheVariants.{First}
 use Rattle.ps_machine.proofs.Diagrams.DrawingLemmas.{kept_entry}
@@ -9,28 +9,23 @@ pub choice-requires : goal.choice-requires
 choice-requires c = search (rules, kept_entry)
 
 pub unwrap-chosen-requires : goal.unwrap-chosen-requires
-unwrap-chosen-requires c =
-    ap is_some c.choice.ensures ∙ has_choice c.requires.plan c.requires.turn c.args.vertex c.requires.kept
+unwrap-chosen-requires c = grind (arith, has_choice c.requires.plan c.requires.turn c.args.vertex c.requires.kept)
 
 pub bounds : goal.bounds
-bounds c =
-    rw c.as_slice.ensures.keys (chosen_within c.requires.plan c.requires.turn c.args.vertex
-    c.requires.kept (sym c.choice.ensures ∙ c.unwrap-chosen.ensures))
+bounds c = rw c.as_slice.ensures.keys (chosen_within c.requires.plan c.requires.turn c.args.vertex c.requires.kept
+    (sym c.choice.ensures ∙ c.unwrap-chosen.ensures))
 
 pub offset_bounds-as_slice-chosen : goal.offset_bounds-as_slice-chosen
-offset_bounds-as_slice-chosen c =
-    let below = chosen_within c.requires.plan c.requires.turn c.args.vertex c.requires.kept
-    (sym c.choice.ensures ∙ c.unwrap-chosen.ensures) in
-    record { fits = omega (arith, below, ap length c.as_slice.ensures.keys, c.as_slice.type_inv.1) }
+offset_bounds-as_slice-chosen c = grind (
+  arith,
+  chosen_within c.requires.plan c.requires.turn c.args.vertex
+      c.requires.kept (sym c.choice.ensures ∙ c.unwrap-chosen.ensures),
+)
 
 pub unreachable-requires : goal.unreachable-requires
-unreachable-requires c =
-    chosen_not_first c.requires.plan c.requires.turn c.args.vertex c.requires.kept
-    (sym c.choice.ensures ∙ c.unwrap-chosen.ensures)
+unreachable-requires c = chosen_not_first c.requires.plan c.requires.turn c.args.vertex c.requires.kept (grind arith)
     (ap (λ (l : List Key). get_or l c.unwrap-chosen.result (First 0 0)) (sym c.as_slice.ensures.keys) ∙ c.in-First.is)
 
 pub returns : goal.returns
-returns c =
-    plays_class c.requires.plan c.requires.turn c.args.vertex c.unwrap-chosen.result c.in-Second.state
-    c.in-Second.letter c.requires.kept (sym c.choice.ensures ∙ c.unwrap-chosen.ensures)
-    (cc (c.as_slice.ensures.keys, c.in-Second.is))
+returns c = plays_class c.requires.plan c.requires.turn c.args.vertex c.unwrap-chosen.result c.in-Second.state
+    c.in-Second.letter c.requires.kept (grind arith) (cc (c.as_slice.ensures.keys, c.in-Second.is))

@@ -1,4 +1,4 @@
-use Rattle.std.proofs.Common.{◌≡◌, Some, ap, sym, ◌∙◌, eqb, rules}
+use Rattle.std.proofs.Common.{◌≡◌, Some, sym, ◌∙◌, eqb, rules}
 use Rattle.std.specs.List.{slice_get}
 use Rattle.std.proofs.lemmas.Bool.{eqb-true}
 use Rattle.ps_machine.specs.Drawing.{mark_of}
@@ -23,9 +23,7 @@ unwrap-requires c =
     let same : c.requires.vertex ≡ c.unwrap-vertex.result = search (rules, one_place) in
     let m = plan.memories.found c.requires.vertex c.args.state c.args.priority
     ((plan.are_used c.requires.vertex).1 c.requires.is_used) c.requires.stands in
-    let marks = self.memories.now.marks.keys in
-    let mark : c.mark-mark.result ≡ mark_of self.moves_first c.requires.vertex c.args.state = search rules in
-    c.get_index_of-2.ensures.found ∙ has_mark marks m.memory (m.is_marked ∙ ap (λ n. Some n) (sym mark))
+    search (rules, has_mark)
 
 pub returns-clause-stands : goal.returns-clause-stands
 returns-clause-stands c v at =

@@ -1,6 +1,3 @@
-use Rattle.std.proofs.Common.{ℕ, List, sym, subst}
-use Rattle.ps_diagram.specs.Reached.{AreLeaves}
-use Rattle.ps_machine.specs.Extracting.{StandsFor}
 use Rattle.ps_machine.proofs.BoardMoves.{move_named}
 use Rattle.ps_machine.proofs.Diagrams.SecondDrawing.{leaf_there, answered}
 use Rattle.ps_machine.proofs.drawing.Plan.row_of_class.Goals as goal

@@ -13,9 +13,11 @@ number-requires c =
 pub overflow_add-value : goal.overflow_add-value
 overflow_add-value c =
     let r = c.requires in
-    let fits = step_fits c.args.low.now r.counting r.link r.number c.number.ensures c.unwrap_or-before.ensures
-    c.weight-weight.ensures c.index.ensures c.if-before-number.true in
-    omega (arith, fits, c.count-vertices.ensures.count, c.count-vertices.type_inv)
+    grind (
+      arith,
+      step_fits c.args.low.now r.counting r.link r.number c.number.ensures c.unwrap_or-before.ensures
+          c.weight-weight.ensures c.index.ensures c.if-before-number.true,
+    )
 
 pub returns-then-index-value-clause-counting : goal.returns-then-index-value-clause-counting
 returns-then-index-value-clause-counting c = search (rules, step_counting)

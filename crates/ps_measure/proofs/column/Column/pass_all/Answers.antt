@@ -22,12 +22,10 @@ loop-place-preserved c =
         counting = inv.counting;
         components = inv.components;
         grows = inv.grows;
-        passed = pass_none c.args.low.now c.loop-place.place inv.passed
-            (sym c.target.ensures.target ∙ w.in_default.is);
+        passed = pass_none c.args.low.now c.loop-place.place inv.passed (sym c.target.ensures.target ∙ w.in_default.is);
       })
     ]
 
 pub returns-clause-passed : goal.returns-clause-passed
-returns-clause-passed c = λ to link.
-    c.loop-place.invariant.passed to link
+returns-clause-passed c = λ to link. c.loop-place.invariant.passed to link
     (omega (arith, c.degree-place-end.ensures, c.loop-place-test.false, link.at))

@@ -14,9 +14,7 @@ the_vertex : (order items : List ℕ) (i : ℕ) → items ≡ order → i < leng
 the_vertex order items i same within = rw (← same) (slice_get-get_or items i 0 within)
 
 pub count-count-requires : goal.count-count-requires
-count-count-requires c =
-    item_within c.requires.components.1 c.loop-vertex.vertex-index _
-    (the_vertex _ c.order-vertex-items.result.now _ c.order-vertex-items.ensures c.loop-vertex-test.true)
+count-count-requires c = item_within c.requires.components.1 c.loop-vertex.vertex-index _ (grind (arith, the_vertex))
 
 pub put-requires-clause-vertex : goal.put-requires-clause-vertex
 put-requires-clause-vertex c =
@@ -27,8 +25,7 @@ put-requires-clause-vertex c =
 pub put-requires-clause-place : goal.put-requires-clause-place
 put-requires-clause-place c =
     let vertex = get_or c.order-vertex-items.result.now c.loop-vertex.vertex-index 0 in
-    let within = item_within c.requires.components.1 c.loop-vertex.vertex-index vertex
-    (the_vertex _ c.order-vertex-items.result.now _ c.order-vertex-items.ensures c.loop-vertex-test.true) in
+    let within = item_within c.requires.components.1 c.loop-vertex.vertex-index vertex (grind (arith, the_vertex)) in
     omega (arith, c.requires.wide vertex (omega (arith, within, c.requires.each)), c.loop-vertex.invariant.wide vertex)
 
 pub loop-vertex-preserved : goal.loop-vertex-preserved
@@ -41,8 +38,7 @@ loop-vertex-preserved c =
     elim c.if-count-gt0.branch [
       | then-count-gt0+in_ok-put w ↦
           let within = item_within c.requires.components.1 i _ at in
-          rw (w.table-is, w.raised-is)
-          (put_one c.loop-vertex.invariant at once (omega (arith, within, c.requires.each))
+          rw (w.table-is, w.raised-is) (put_one c.loop-vertex.invariant at once (omega (arith, within, c.requires.each))
           (rw c.count-count.ensures at w.if-count-gt0.true) (rw c.count-count.ensures at w.in_ok-put.ensures))
       | else-count-gt0 w ↦ rw (w.table-is, w.raised-is) (put_skip c.loop-vertex.invariant at once
           (omega (arith, w.if-count-gt0.false, c.count-count.ensures)))
@@ -51,6 +47,8 @@ loop-vertex-preserved c =
 pub returns : goal.returns
 returns c =
     let long = ap (λ (list : List ℕ). length list) c.order-vertex-items.ensures in
-    let done = put_all c.requires.components.1 c.args.self.now.values.items
-    (omega (arith, c.loop-vertex-test.false, long)) c.loop-vertex.invariant in
-    record { column = done.0; raised = done.1 }
+    grind (
+      arith,
+      put_all c.requires.components.1 c.args.self.now.values.items
+          (omega (arith, c.loop-vertex-test.false, long)) c.loop-vertex.invariant,
+    )

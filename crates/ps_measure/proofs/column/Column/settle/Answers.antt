@@ -3,7 +3,7 @@ use Rattle.std.specs.Prelude.{slice_get}
 use Rattle.std.proofs.lemmas.Option.{slice_get-get_or}
 use Rattle.ps_components.specs.ComponentLists.{ComponentsData}
 use Rattle.ps_measure.proofs.Passing.{grows_on}
-use Rattle.ps_measure.proofs.Steps.{settle_one, grows_within, order_met}
+use Rattle.ps_measure.proofs.Steps.{settle_one, grows_within}
 use Rattle.ps_measure.proofs.column.Column.settle.Goals as goal
 
 -- the vertex of a turn
@@ -34,9 +34,11 @@ pub loop-place-preserved : goal.loop-place-preserved
 loop-place-preserved c =
     let inv = c.loop-place.invariant in
     let comps = c.loop-place.self.components in
-    let at = vertex_at comps.order c.order.result.now (c.loop-place.place - 1) c.order.ensures
-    (omega (arith, c.loop-place-test.true, inv.within)) in
-    absurd (order_met (c.loop-place.place - 1) inv.counting.components at c.number.ensures c.in_default.not-Some)
+    grind (
+      arith,
+      vertex_at comps.order c.order.result.now (c.loop-place.place - 1) c.order.ensures
+          (omega (arith, c.loop-place-test.true, inv.within)),
+    )
 
 pub returns-clause-passed : goal.returns-clause-passed
 returns-clause-passed c =

@@ -4,11 +4,9 @@ use Rattle.ps_measure.proofs.Steps.{settled}
 use Rattle.ps_measure.proofs.column.Column.work_out.Goals as goal
 
 none_weaker : {X P Q : Type 0} (o : Option X) → (P → Q) → IfNone o P → IfNone o Q
-none_weaker o h1 h2 = search rules
+none_weaker o h k = search rules
 
 pub returns-clause-counts : goal.returns-clause-counts
 returns-clause-counts c =
     let begun = c.in_ok-begin.ensures in
-    let all = c.settle.ensures in
-    none_weaker c.settle.result (λ passed. settled c.args.low.now c.requires begun.met begun.raised all.components
-    all.counting all.grows passed) all.passed
+    search (rules, none_weaker, settled)

@@ -1,4 +1,4 @@
-use Rattle.std.proofs.Common.{◌≡◌, ◌∙◌, ◌<◌, rules}
+use Rattle.std.proofs.Common.{rules}
 use Rattle.ps_measure.proofs.Edges.{successor_within, below_places}
 use Rattle.ps_measure.proofs.remaining.RemainingGraph.target.Goals as goal
 

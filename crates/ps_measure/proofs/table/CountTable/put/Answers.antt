@@ -1,5 +1,4 @@
-use Rattle.std.proofs.Common.{arith, ◌≡◌, ◌<◌, ◌+◌, ◌++◌, ◌∷◌, [], List, ℕ, length, ap, Result, rules}
-use Rattle.std.proofs.Common.{OnOk, OnErr}
+use Rattle.std.proofs.Common.{arith, ◌≡◌, ◌<◌, ◌+◌, ◌++◌, ◌∷◌, [], List, ℕ, length, ap, Result, rules, OnOk, OnErr}
 use Rattle.std.specs.Prelude.{slice_set, slice_index}
 use Rattle.std.proofs.lemmas.List.{length_push}
 use Rattle.ps_measure.specs.declared.table.CountCell.{CountCell}
@@ -41,11 +40,11 @@ module _ {width : ℕ} {heads : List ℕ} {cells : List CountCell} {rows : List 
 
   pub kept_headed : {A E : Type 0} (r : Result A E) (now : List ℕ) → OnOk r (now ≡ heads') → OnErr r (now ≡ heads) →
       AreHeaded width now new_cells
-  kept_headed r now h1 h2 = search (rules, still_headed, long)
+  kept_headed r now h k = search (rules, still_headed, long)
 
   pub put_kept : {A E : Type 0} (r : Result A E) (now : List ℕ) → OnOk r (now ≡ heads') →
       OnOk r (HasPut rows (rows_in width now new_cells) vertex place count)
-  put_kept r now h1 = search (rules, was_put)
+  put_kept r now h = search (rules, was_put)
 
 pub invariant_of-self-2 : goal.invariant_of-self-2
 invariant_of-self-2 c =
@@ -53,6 +52,4 @@ invariant_of-self-2 c =
     c.in_ok-push.ensures.ok c.len.ensures c.set.result c.set.new.self c.set.ensures.ok c.set.ensures.err
 
 pub returns : goal.returns
-returns c =
-    put_kept c.args.count c.self.view_is c.self.invariant c.requires.vertex c.requires.place c.at-next.ensures
-    c.in_ok-push.ensures.ok c.len.ensures c.set.result c.set.new.self c.set.ensures.ok
+returns c = grind (arith, put_kept)

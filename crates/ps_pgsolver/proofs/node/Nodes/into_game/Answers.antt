@@ -1,11 +1,11 @@
-use Rattle.std.proofs.Common.{◌≡◌, refl, map, length, sym, subst, ap, ◌∙◌, rules}
+use Rattle.std.proofs.Common.{arith, ◌≡◌, refl, map, length, sym, subst, ap, ◌∙◌, rules}
 use Rattle.std.proofs.lemmas.List.{length-map}
 use Rattle.ps_game.specs.Drafts.{without_repeats, NoneBare, NoneUnknown}
 use Rattle.ps_game.specs.Games.{ParityGame, vertex_count}
-use Rattle.ps_game.specs.Names.{name_bytes, with_none}
+use Rattle.ps_game.specs.Names.{name_bytes}
 use Rattle.ps_pgsolver.specs.GamesOf.{draft_of, game_of}
 use Rattle.ps_pgsolver.specs.Nodes.{AreNodes, ids_of}
-use Rattle.ps_pgsolver.proofs.GameLemmas.{draft_bare, draft_known, named_count, same_named}
+use Rattle.ps_pgsolver.proofs.GameLemmas.{draft_bare, draft_known, named_count}
 use Rattle.ps_pgsolver.proofs.KeptLemmas.{ids_are, names_are, each_is_id, draft_is, few_names, plain_kept}
 use Rattle.ps_pgsolver.proofs.NodeLemmas.{names_plain}
 use Rattle.ps_pgsolver.proofs.node.Nodes.into_game.Goals as goal
@@ -47,7 +47,4 @@ with_first_names-requires-clause-names_plain c = let are = subst AreNodes c.self
     (names_plain (names_are _ _ _ c.self.invariant c.args.self c.self.view_is) are)
 
 pub returns : goal.returns
-returns c = let a = (goal.at.returns c).In_ok-game in same_named c.args.self
-    (c.with_first_names.ensures.game ∙ game a) (c.with_first_names.ensures.ids ∙ c.into_list.ensures.list ∙ ids a)
-    (c.with_first_names.ensures.names ∙ ap (λ k. with_none k (map name_bytes c.self.inside.names.items))
-    (count a) ∙ names_are _ _ _ c.self.invariant c.args.self c.self.view_is)
+returns c = let a = (goal.at.returns c).In_ok-game in grind (arith, game a, ids a, count, names_are)

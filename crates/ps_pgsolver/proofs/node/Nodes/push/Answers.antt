@@ -1,7 +1,4 @@
-use Rattle.std.proofs.Common.{◌≡◌, ◌+◌, ◌++◌, ◌∷◌, [], ℕ, List, Option, map, length, length-append, sym, ap, ap₂, ◌∙◌}
-use Rattle.std.proofs.Common.{arith, rules}
-use Rattle.std.specs.Prelude.{Vec}
-use Rattle.std.specs.Global.{Global}
+use Rattle.std.proofs.Common.{◌≡◌, ◌++◌, ◌∷◌, [], map, length, length-append, arith, rules}
 use Rattle.ps_game.specs.Games.{VertexData}
 use Rattle.ps_game.specs.Names.{name_bytes, with_none}
 use Rattle.ps_pgsolver.proofs.KeptLemmas.{ids_are, names_pushed, pushed_is, AreKept-push}
@@ -16,20 +13,7 @@ vertex_of c = record { owner = c.args.node.owner; priority = c.args.node.priorit
 
 names_kept : (c : After-keep_name) → with_none (length c.push-2.new.self) (map name_bytes c.keep_name.new.names.items) ≡
     with_none (length c.self.inside.ids) (map name_bytes c.self.inside.names.items) ++ name_bytes c.args.node.name ∷ []
-names_kept c =
-    let s = c.self.inside in
-    let name = c.args.node.name in
-    let count : c.len-count.result ≡ length s.ids = c.len-count.ensures ∙ sym c.self.invariant.id_each in
-    let longer : length c.push-2.new.self ≡ c.len-count.result + 1 =
-    omega (arith, ap length c.in_default.ensures.ok, length-append s.ids (c.args.node.id ∷ []), count) in
-    let pushed = names_pushed c.make_room.new.names.items s.names.items name
-    (omega (arith, c.make_room.ensures.few, c.make_room.new.names.ok.0)) (λ named. omega (
-      arith,
-      c.in_ok-make_room.ensures.full (c.is_some.ensures ∙ named),
-      c.make_room.new.names.ok.0,
-    )) c.make_room.ensures.same in
-    ap₂ (λ k (xs : List (Option (Vec ℕ Global))). with_none k (map name_bytes xs)) longer c.keep_name.ensures
-    ∙ pushed ∙ ap (λ k. with_none k (map name_bytes s.names.items) ++ name_bytes name ∷ []) count
+names_kept c = grind (arith, length-append, names_pushed)
 
 pub invariant_of-self-2 : goal.invariant_of-self-2
 invariant_of-self-2 c = let b = (goal.at.invariant_of-self-2 c).After-keep_name in AreKept-push _

@@ -1,9 +1,7 @@
-use Rattle.std.proofs.Common.{◌≡◌, ◌∙◌, ap, subst}
-use Rattle.ps_simulate.specs.LassoFaults.{Stands}
+use Rattle.std.proofs.Common.{arith, ◌≡◌, ◌∙◌, ap}
 use Rattle.ps_simulate.specs.Stimuli.{StimulusData, letters_of}
-use Rattle.ps_simulate.specs.declared.lassos.LassoFault.{LassoFault}
 use Rattle.ps_program.specs.Replies.{reply_of, text_reply}
-use Rattle.ps_program.proofs.LassoLemmas.{is_wide, tells}
+use Rattle.ps_program.proofs.LassoLemmas.{tells}
 use Rattle.ps_program.proofs.commands.lasso.tell.Goals as goal
 
 pub unreachable-requires : goal.unreachable-requires
@@ -14,10 +12,7 @@ unreachable-requires c =
     ∙ ap (λ (s : StimulusData). s.stem) c.stimulus.view_is in
     let same_lap : lap ≡ c.args.stimulus.now.lap = ap letters_of c.deref-2.ensures.value
     ∙ ap (λ (s : StimulusData). s.lap) c.stimulus.view_is in
-    is_wide c.args.role c.args.automaton.now c.args.circuit.now c.args.stimulus.now stem lap same_stem same_lap
-    c.requires.stem c.requires.lap
-    (subst (λ (fault : LassoFault). Stands c.args.role c.args.automaton.now c.args.circuit.now stem lap fault)
-    c.in-Err-Width.field-0-is c.in-Err-Width.ensures.fault)
+    grind arith
 
 pub returns-in_ok-verdict_line-in-Ok : goal.returns-in_ok-verdict_line-in-Ok
 returns-in_ok-verdict_line-in-Ok c = λ file chain built.
@@ -28,6 +23,5 @@ returns-in_ok-verdict_line-in-Ok c = λ file chain built.
     let same_lap : lap ≡ c.args.stimulus.now.lap = ap letters_of c.deref-2.ensures.value
     ∙ ap (λ (s : StimulusData). s.lap) c.stimulus.view_is in
     tells c.args.role file chain c.args.automaton.now c.args.circuit.now c.args.stimulus.now stem lap built same_stem
-    same_lap c.in-Ok.verdict (reply_of c.text.result)
-    c.requires.circuit c.in-Ok.ensures.sound (c.in-Ok.ensures.verdict file chain built)
-    (c.text.ensures ∙ ap text_reply c.in_ok-verdict_line-in-Ok.ensures)
+    same_lap c.in-Ok.verdict (reply_of c.text.result) c.requires.circuit c.in-Ok.ensures.sound
+    (c.in-Ok.ensures.verdict file chain built) (c.text.ensures ∙ ap text_reply c.in_ok-verdict_line-in-Ok.ensures)

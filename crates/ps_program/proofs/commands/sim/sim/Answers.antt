@@ -1,4 +1,4 @@
-use Rattle.std.proofs.Common.{Ok, inr, ap}
+use Rattle.std.proofs.Common.{arith, inr}
 use Rattle.ps_simulate.specs.Stimuli.{stem_of}
 use Rattle.ps_program.proofs.commands.sim.sim.Goals as goal
 
@@ -6,5 +6,5 @@ pub returns : goal.returns
 returns c = inr (
   (c.in_ok-circuit.circuit, stem_of c.in_ok-circuit.letters),
   c.in_ok-circuit.ensures.read,
-  (c.in_ok-circuit.ensures.circuit, (c.in_ok-text.text.items, c.in_ok-text.ensures, ap Ok c.text.ensures)),
+  grind arith,
 )

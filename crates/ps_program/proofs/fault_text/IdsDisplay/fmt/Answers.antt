@@ -8,7 +8,5 @@ pub loop-id-preserved : goal.loop-id-preserved
 loop-id-preserved g c p =
     let items = c.args.self.now.0.now in
     let index = c.loop-id.id-index in
-    has_written_of_eq _ _ _ _ _
-    (flat_map_more spaced [] (take index items) (get_or items index 0)
-    ∙ ap (flat_map spaced) (sym (take_more items index 0 (search rules))))
-    (has_written_append _ _ _ _ _ _ (c.loop-id.invariant p) (search rules))
+    has_written_of_eq _ _ _ _ _ (flat_map_more spaced [] (take index items) (get_or items index 0)
+    ∙ ap (flat_map spaced) (sym (take_more items index 0 (search rules)))) (search (rules, has_written_append))

@@ -1,10 +1,6 @@
-use Rattle.std.proofs.Common.{◌≡◌, ◌∙◌, ℕ, ◌+◌, ◌-◌, ◌^◌, ◌<◌, ◌≤◌, List, length, map, All, ap, ap₂, refl, subst, sym}
-use Rattle.std.proofs.Common.{rules}
-use Rattle.std.proofs.Common.{arith}
-use Rattle.ps_simulate.specs.declared.plan.Row.{Row}
-use Rattle.ps_simulate.specs.declared.plan.Wire.{Wire}
-use Rattle.ps_simulate.specs.LanePlans.{AreInOrder, AreMoved, move_row, move_wire}
-use Rattle.ps_simulate.specs.Plans.{IsWithin, variables}
+use Rattle.std.proofs.Common.{◌≡◌, ◌∙◌, ◌+◌, ◌-◌, ◌^◌, ◌<◌, length, All, ap, rules, arith}
+use Rattle.ps_simulate.specs.LanePlans.{AreInOrder, AreMoved}
+use Rattle.ps_simulate.specs.Plans.{variables}
 use Rattle.ps_simulate.proofs.RowLemmas.{length-variables}
 use Rattle.ps_simulate.proofs.StepLemmas.{rows_within, outputs_within, nexts_within}
 use Rattle.ps_simulate.proofs.LanePlanLemmas.{few_variables, few_rows, gate_rows_at, rows_once_at, AreMoved_at}
@@ -25,8 +21,7 @@ are_moved c = search (rules, AreMoved_at, length-variables)
 
 -- the places of the table have room in literals
 small : (c : After-deref-2) → All (λ p. p < 2 ^ 31) c.in_ok-places.places.items
-small c = moved_small (are_moved c)
-    (omega (arith, few_variables c.gates-gates.ensures.well_formed, c.in_ok-plan.ensures.size_is))
+small c = moved_small (are_moved c) (grind (arith, few_variables))
 
 many : (c : After-deref-2) → length c.in_ok-places.places.items ≡ length (variables c.args.circuit.now)
 many c = c.in_ok-places.ensures.size ∙ c.in_ok-plan.ensures.size_is
@@ -64,17 +59,8 @@ returns-clause-plan c =
     let a = (goal.at.returns-clause-plan c).After-deref in
     let p = c.in_ok-plan.plan in
     let f = p.size - length c.gates-gates.result.now in
-    let order : AreInOrder f c.deref-2.result.now c.deref-3.result.now =
-    rw (c.deref-2.ensures.value, c.deref-3.ensures.value, ← c.deref.ensures.value) c.in_ok-places.ensures.in_order in (
+    let order : AreInOrder f c.deref-2.result.now c.deref-3.result.now = grind arith in (
       p,
       c.in_ok-places.places.items,
-      record {
-        is_plan = c.in_ok-plan.ensures;
-        are_moved = are_moved b;
-        size_is = refl;
-        front_is = front_is a;
-        gates_are = rw (c.deref-2.ensures.value, c.deref-3.ensures.value) at (c.in_ok-gates_of.ensures f order);
-        outputs_are = rw (c.deref-4.ensures.value, c.deref-5.ensures.value) at c.in_ok-literals.ensures;
-        nexts_are = rw (c.deref-6.ensures.value, c.deref-7.ensures.value) at c.in_ok-literals-2.ensures;
-      },
+      grind (arith, are_moved, size_is, front_is),
     )

@@ -1,5 +1,4 @@
-use Rattle.std.proofs.Common.{◌≡◌, ◌∙◌, ◌++◌, ℕ, ◌/◌, ◌<◌, length, take, drop, ap, rules}
-use Rattle.std.proofs.Common.{sym, arith}
+use Rattle.std.proofs.Common.{◌≡◌, ◌∙◌, ◌++◌, ℕ, ◌<◌, length, take, drop, ap, rules, sym, arith}
 use Rattle.std.proofs.lemmas.List.{take_at}
 use Rattle.ps_simulate.specs.LanePlans.{rows_from}
 use Rattle.ps_simulate.specs.Lanes.{LaneSimulation, lane_of}
@@ -33,8 +32,7 @@ next_is : (c : After-read_words-2) → take c.self.inside.latches.len
 next_is c = search (rules, take_at)
 
 pub fill_words-requires-clause-within : goal.fill_words-requires-clause-within
-fill_words-requires-clause-within c =
-    rw (c.deref.ensures.value, c.deref_mut.ensures.value, c.self.invariant.values_each) (gates_within c.self.invariant)
+fill_words-requires-clause-within c = grind (arith, gates_within c.self.invariant)
 
 pub fill_words-requires-clause-fit : goal.fill_words-requires-clause-fit
 fill_words-requires-clause-fit c = search (rules, gates_fit)
@@ -42,39 +40,19 @@ fill_words-requires-clause-fit c = search (rules, gates_fit)
 pub fill_words-requires-clause-room : goal.fill_words-requires-clause-room
 fill_words-requires-clause-room c =
     let t = c.self.invariant in
-    omega (
-      arith,
-      c.requires.inputs_fit,
-      ap (λ (v : LaneSimulation). length v.circuit.inputs) c.self.view_is,
-      ap length c.deref-2.ensures.value,
-      latches_many t,
-      ap length c.deref_mut.ensures.value,
-      t.values_each,
-      room t,
-    )
+    grind (arith, latches_many t, room t)
 
 pub fill_words-requires-clause-constant : goal.fill_words-requires-clause-constant
-fill_words-requires-clause-constant c lane lt =
-    rw c.deref_mut.ensures.value (constant_there c.self.invariant lane lt)
+fill_words-requires-clause-constant c lane lt = rw c.deref_mut.ensures.value (constant_there c.self.invariant lane lt)
 
 pub read_words-requires-clause-within : goal.read_words-requires-clause-within
-read_words-requires-clause-within c =
-    let a = (goal.at.read_words-requires-clause-within c).After-fill_words in
-    rw (c.deref-3.ensures.value, c.deref-4.ensures.value, table_is a, table_size a) (outputs_in_table c.self.invariant)
+read_words-requires-clause-within c = grind (arith, outputs_in_table c.self.invariant)
 
 pub read_words-requires-clause-fit : goal.read_words-requires-clause-fit
-read_words-requires-clause-fit c = omega (
-  arith,
-  c.requires.outputs_fit,
-  ap (λ (v : LaneSimulation). length v.circuit.outputs) c.self.view_is,
-  ap length c.deref-3.ensures.value,
-  outputs_many c.self.invariant,
-)
+read_words-requires-clause-fit c = grind (arith, outputs_many c.self.invariant)
 
 pub read_words-requires-2-clause-within : goal.read_words-requires-2-clause-within
-read_words-requires-2-clause-within c =
-    let a = (goal.at.read_words-requires-2-clause-within c).After-fill_words in
-    rw (c.deref-5.ensures.value, c.deref-6.ensures.value, table_is a, table_size a) (nexts_in_table c.self.invariant)
+read_words-requires-2-clause-within c = grind (arith, nexts_in_table c.self.invariant)
 
 pub read_words-requires-2-clause-fit : goal.read_words-requires-2-clause-fit
 read_words-requires-2-clause-fit c =
@@ -97,9 +75,8 @@ invariant_of-self c =
       places = t.places;
       is_lane_plan = t.is_lane_plan;
       values_each = table_size a;
-      tables =
-          λ lane lt. IsTable-lane t c.args.inputs.now c.fill_words.new.values lane lt (letters_fit b) (worked a lane lt)
-          c.read_words-2.new.words (next_length b);
+      tables = λ lane lt. IsTable-lane t c.args.inputs.now c.fill_words.new.values lane lt (letters_fit b)
+          (worked a lane lt) c.read_words-2.new.words (next_length b);
     })
 
 pub returns-clause-steps : goal.returns-clause-steps
@@ -110,12 +87,4 @@ returns-clause-steps c lane lt =
     let next =
     take s.latches.len (c.read_words-2.new.words ++ drop (length c.read_words-2.new.words) s.latches.items) in
     rw (← c.self.view_is) (Steps-lane c.self.invariant c.args.inputs.now c.fill_words.new.values lane lt (letters_fit b)
-    (worked a lane lt) c.read_words.new.words next (rw (c.deref-4.ensures.value, table_is a, c.deref-3.ensures.value) at
-    (c.read_words.ensures lane lt)) (search (
-      rules,
-      next_is,
-      table_is,
-      c.deref-6.ensures.value,
-      c.deref-5.ensures.value,
-      c.read_words-2.ensures,
-    )))
+    (worked a lane lt) c.read_words.new.words next (grind (arith, table_is)) (grind (arith, next_is, table_is)))

@@ -1,9 +1,9 @@
-use Rattle.std.proofs.Common.{◌≡◌, ◌≢◌, ℕ, List, Option, map, length, ap, sym, ◌∙◌, arith, subst}
+use Rattle.std.proofs.Common.{◌≡◌, ◌≢◌, ℕ, List, map, length, ap, sym, ◌∙◌, arith}
 use Rattle.std.specs.Option.{option_copied}
 use Rattle.std.proofs.lemmas.List.{length-map}
 use Rattle.ps_hoa.specs.Memory.{bytes_of}
 use Rattle.ps_simulate.specs.Namings.{ArePlacesOf}
-use Rattle.ps_simulate.proofs.NamingLemmas.{apart, role_apart}
+use Rattle.ps_simulate.proofs.NamingLemmas.{apart}
 use Rattle.ps_simulate.proofs.naming.Naming.new.Goals as goal
 
 pub returns-clause-some : goal.returns-clause-some
@@ -16,14 +16,9 @@ returns-clause-some c =
     ap (map (option_copied {T = List ℕ})) c.deref.ensures.value ∙ c.in_ok-symbols.ensures.symbols in
     let at_outputs : map (option_copied {T = List ℕ}) c.deref-2.result.now ≡ c.args.circuit.now.output_names =
     ap (map (option_copied {T = List ℕ})) c.deref-2.ensures.value ∙ c.in_ok-symbols-2.ensures.symbols in
-    let a : ArePlacesOf names set reads c.args.circuit.now.input_names c.in-Some.inputs.items =
-    subst (λ (ss : List (Option (List ℕ))). ArePlacesOf names set reads ss c.in-Some.inputs.items) at_inputs
-    (rw c.in-Some.is at c.in_ok-inputs.ensures.places) in
-    let b : ArePlacesOf names set sets c.args.circuit.now.output_names c.in-Some-2.outputs.items =
-    subst (λ (ss : List (Option (List ℕ))). ArePlacesOf names set sets ss c.in-Some-2.outputs.items) at_outputs
-    (rw c.in-Some-2.is at c.in_ok-outputs.ensures.places) in
-    let differ : reads ≢ sets =
-    λ e. role_apart c.args.role (sym c.reads_controllable-reads.ensures ∙ e ∙ c.sets_controllable-sets.ensures) in
+    let a : ArePlacesOf names set reads c.args.circuit.now.input_names c.in-Some.inputs.items = grind arith in
+    let b : ArePlacesOf names set sets c.args.circuit.now.output_names c.in-Some-2.outputs.items = grind arith in
+    let differ : reads ≢ sets = grind arith in
     let back : sets ≢ reads = λ e. differ (sym e) in
     let size = length-map c.names-names.result.now bytes_of in
     record {

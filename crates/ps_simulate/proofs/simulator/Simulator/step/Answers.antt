@@ -1,8 +1,6 @@
-use Rattle.std.proofs.Common.{◌≡◌, ◌∙◌, ◌++◌, ◌<◌, length, take, drop, ap}
-use Rattle.std.proofs.Common.{sym, arith}
+use Rattle.std.proofs.Common.{◌≡◌, ◌∙◌, ◌++◌, length, take, drop, ap, arith}
 use Rattle.std.proofs.lemmas.List.{take_at}
 use Rattle.ps_simulate.specs.Plans.{IsWorkedOut, variables}
-use Rattle.ps_simulate.specs.Simulations.{Simulation}
 use Rattle.ps_simulate.proofs.StepLemmas.{rows_within, outputs_within, nexts_within, Steps-worked_out}
 use Rattle.ps_simulate.proofs.StepLemmas.{IsTable-worked_out}
 use Rattle.ps_simulate.proofs.simulator.Simulator.step.Goals as goal
@@ -11,8 +9,7 @@ use Rattle.ps_simulate.proofs.simulator.Simulator.step.Goals.{After-fill, After-
 -- the table behind the rows
 table_is : (c : After-fill) → take c.self.inside.values.len (c.fill.new.values ++
     drop (length c.fill.new.values) c.self.inside.values.items) ≡ c.fill.new.values
-table_is c =
-    take_at c.fill.new.values _ _ (omega (arith, c.fill.auto.values, c.deref_mut.ensures.len))
+table_is c = take_at c.fill.new.values _ _ (omega (arith, c.fill.auto.values, c.deref_mut.ensures.len))
 
 size_is : (c : After-fill) → length c.deref_mut.result.now ≡ length (variables c.self.inside.circuit.now)
 size_is c = ap length c.deref_mut.ensures.value ∙ c.self.invariant.values_each
@@ -26,24 +23,16 @@ worked c = rw (c.deref.ensures.value, c.deref-2.ensures.value, size_is c) at c.f
 
 next_is : (c : After-read_all-2) → take c.self.inside.latches.len
     (c.read_all-2.new.bits ++ drop (length c.read_all-2.new.bits) c.self.inside.latches.items) ≡ c.read_all-2.new.bits
-next_is c = take_at c.read_all-2.new.bits _ _
-    (omega (arith, c.read_all-2.auto.bits, c.deref_mut-2.ensures.len))
+next_is c = take_at c.read_all-2.new.bits _ _ (omega (arith, c.read_all-2.auto.bits, c.deref_mut-2.ensures.len))
 
 pub fill-requires-clause-within : goal.fill-requires-clause-within
-fill-requires-clause-within c = rw (c.deref.ensures.value, c.deref_mut.ensures.value, c.self.invariant.values_each)
-    (rows_within c.self.invariant.is_circuit c.self.invariant.is_plan)
+fill-requires-clause-within c = grind (arith, rows_within)
 
 pub read_all-requires-clause-within : goal.read_all-requires-clause-within
-read_all-requires-clause-within c =
-    let a = (goal.at.read_all-requires-clause-within c).After-fill in
-    rw (c.deref-3.ensures.value, c.deref-4.ensures.value, table_is a, table_size a)
-    (outputs_within c.self.invariant.is_circuit c.self.invariant.is_plan)
+read_all-requires-clause-within c = grind (arith, table_is, table_size, outputs_within)
 
 pub read_all-requires-2-clause-within : goal.read_all-requires-2-clause-within
-read_all-requires-2-clause-within c =
-    let a = (goal.at.read_all-requires-2-clause-within c).After-fill in
-    rw (c.deref-5.ensures.value, c.deref-6.ensures.value, table_is a, table_size a)
-    (nexts_within c.self.invariant.is_circuit c.self.invariant.is_plan)
+read_all-requires-2-clause-within c = grind (arith, table_is, table_size, nexts_within)
 
 next_length : (c : After-read_all-2) → length c.read_all-2.new.bits ≡ length c.self.inside.circuit.now.latches
 next_length c = c.read_all-2.auto.bits ∙ ap length c.deref_mut-2.ensures.value ∙ c.self.invariant.latches_each
@@ -60,8 +49,5 @@ returns-clause-steps c =
     let b = (goal.at.returns-clause-steps c).After-read_all-2 in
     let next = take c.self.inside.latches.len (c.read_all-2.new.bits ++
     drop (length c.read_all-2.new.bits) c.self.inside.latches.items) in
-    rw (← c.self.view_is) (Steps-worked_out c.self.invariant.is_circuit c.self.invariant.is_plan
-    (c.requires.inputs_fit ∙ sym (ap (λ (s : Simulation). length s.circuit.inputs) c.self.view_is))
-    c.self.invariant.latches_each (worked a) (rw (c.deref-4.ensures.value, table_is a, c.deref-3.ensures.value) at
-    c.read_all.ensures) (next_is b ∙ rw (c.deref-6.ensures.value, table_is a, c.deref-5.ensures.value) at
-    c.read_all-2.ensures))
+    rw (← c.self.view_is) (Steps-worked_out c.self.invariant.is_circuit c.self.invariant.is_plan (grind arith)
+    c.self.invariant.latches_each (worked a) (grind (arith, table_is a)) (grind (arith, next_is b, table_is a)))

@@ -1,4 +1,4 @@
-use Rattle.std.proofs.Common.{subst, sym}
+use Rattle.std.proofs.Common.{arith, subst, sym}
 use Rattle.ps_machine.specs.Solving.{IsCertified}
 use Rattle.ps_synthesis.specs.Problems.{Gives, IsProblemOf, ProblemData}
 use Rattle.ps_synthesis.specs.SynthFaults.{IsOutcome}
@@ -6,27 +6,17 @@ use Rattle.ps_synthesis.proofs.Reporting.{IsMade, problem_outcome}
 use Rattle.ps_synthesis.proofs.problem.Problem.report_of_certified.Goals as goal
 
 pub returns-clause-outcome : goal.returns-clause-outcome
-returns-clause-outcome c = λ order text.
-    (let i = c.self.inside in
+returns-clause-outcome c = λ order text. (let i = c.self.inside in
     let p : ProblemData =
     record { order = i.order; automaton = i.automaton; keys = i.game.keys.keys; game = i.game.game } in
     let certificate = c.args.certificate.now in
     let result = c.report_of_certificate.result in
     let said = c.report_of_certificate.ensures in
-    let made : IsMade p certificate c.args.compact result =
-    record {
-      realizable = said.realizable;
-      circuit = said.circuit;
-      game = said.game;
-      certificate_text = said.certificate;
-      refused = said.refused;
-    } in
+    let made : IsMade p certificate c.args.compact result = grind arith in
     let certified = subst (λ (q : ProblemData). IsCertified q.game certificate) (sym c.self.view_is) c.requires in
     let hold = c.valid_regions_are_held.ensures p.game.game certificate certified.fits certified.valid in
-    let outside =
-    c.no_strategy_wins_outside.ensures p.game.game certificate c.game.ensures.well_formed.is_game certified.fits
-    certified.valid in
-    subst (λ (q : ProblemData). IsProblemOf order text q → IsOutcome (Gives q.game certificate) order c.args.compact
-    text result) c.self.view_is
-    (λ of. problem_outcome p c.self.invariant.0 certificate c.args.compact result made certified order text of hold
-    outside))
+    let outside = c.no_strategy_wins_outside.ensures p.game.game certificate c.game.ensures.well_formed.is_game
+    certified.fits certified.valid in
+    subst (λ (q : ProblemData). IsProblemOf order text q →
+    IsOutcome (Gives q.game certificate) order c.args.compact text result) c.self.view_is (λ of. problem_outcome p
+    c.self.invariant.0 certificate c.args.compact result made certified order text of hold outside))

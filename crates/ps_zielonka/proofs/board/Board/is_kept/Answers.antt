@@ -1,4 +1,4 @@
-use Rattle.std.proofs.Common.{◌≡◌, get_or, sym, ap, ◌∙◌, arith, rules}
+use Rattle.std.proofs.Common.{◌≡◌, get_or, ◌∙◌, arith, rules}
 use Rattle.ps_zielonka.proofs.Boards.{moved_more, kept_more}
 use Rattle.ps_zielonka.proofs.board.Board.is_kept.Goals as goal
 
@@ -7,14 +7,11 @@ loop-place-preserved g c =
     let so_far = c.loop-place.invariant in
     let place = c.loop-place.place in
     let u = c.vertex_at-vertex.result in
-    let at : get_or c.args.self.now.tables.trail place 0 ≡ u = ap (λ xs. get_or xs place 0) (sym so_far.moved.trail)
-    ∙ sym c.vertex_at-vertex.ensures in
+    let at : get_or c.args.self.now.tables.trail place 0 ≡ u = grind arith in
     record {
       fits = c.keeps.ensures.fits;
       winner = c.keeps.ensures.winner ∙ so_far.winner;
-      moved = moved_more c.args.frame.now.turn c.args.frame.now.top place u
-          (omega (arith, c.loop-place.auto.place)) (omega (arith, c.loop-place-test.true)) at so_far.moved
-          c.keeps.ensures.moved;
+      moved = search (rules, moved_more);
       kept = kept_more place at c.keeps.ensures.moved
           (rw so_far.winner at (c.if-not-keeps.ensures.kept (search rules))) so_far.kept;
     }

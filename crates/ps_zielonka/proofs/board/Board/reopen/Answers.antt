@@ -1,8 +1,6 @@
-use Rattle.std.proofs.Common.{◌≡◌, ◌+◌, ◌<◌, length, get_or, sym, ap, ◌∙◌, arith, rules}
+use Rattle.std.proofs.Common.{◌≡◌, ◌<◌, length, get_or, sym, ap, ◌∙◌, arith, rules}
 use Rattle.std.proofs.lemmas.Bool.{eqb-true, eq-eqb, false≢true}
 use Rattle.std.proofs.lemmas.List.{get_or_read}
-use Rattle.std.specs.Prelude.{slice_set}
-use Rattle.ps_attractor.specs.Steps.{with_placed}
 use Rattle.ps_zielonka.specs.declared.board.Board.{Board}
 use Rattle.ps_zielonka.proofs.Boards.{reopened_free, reopened_lost, reopened_end}
 use Rattle.ps_zielonka.proofs.board.Board.reopen.Goals as goal
@@ -30,24 +28,21 @@ loop-place-preserved g c =
         spare = ap (λ (b : Board g.row.W.Denot). b.spare) w.self-is ∙ so_far.spare;
         winner = ap (λ (b : Board g.row.W.Denot). b.winner.items) w.self-is ∙ so_far.winner;
         reopened = rw w.self-is (reopened_free spare
-            place u w.set_level.new.self at within (who ∙ eqb-true _ _ (sym c.eq.ensures ∙ w.if-eq.true))
-            (w.set_level.ensures.level ∙ ap (slice_set mid.level u) w.mark.ensures) w.set_level.ensures.moves
+            place u w.set_level.new.self at within (who ∙ eqb-true _ _ (grind arith))
+            (grind arith) w.set_level.ensures.moves
             w.set_level.ensures.trail so_far.reopened);
       }
       | else-eq+in_ok-place w ↦ record {
         spare = ap (λ (b : Board g.row.W.Denot). b.spare) w.self-is ∙ so_far.spare;
         winner = ap (λ (b : Board g.row.W.Denot). b.winner.items) w.self-is ∙ so_far.winner;
         reopened = rw w.self-is (reopened_lost spare place u w.place.new.self at within (λ won. false≢true
-            (sym w.if-eq.false ∙ c.eq.ensures ∙ eq-eqb _ _ (sym who ∙ won)))
-            (w.in_ok-place.ensures.ok ∙ ap (with_placed mid u) w.mark-else-eq.ensures) so_far.reopened);
+            (sym w.if-eq.false ∙ c.eq.ensures ∙ eq-eqb _ _ (sym who ∙ won))) (grind arith) so_far.reopened);
       }
     ]
 
 pub returns-clause-reopened : goal.returns-clause-reopened
 returns-clause-reopened g c =
-    let at_end : c.loop-place.place ≡ length c.take_off.new.self.spare =
-    omega (arith, c.loop-place-test.false, c.len-place-end.ensures, c.loop-place.auto.place-end) in
-    reopened_end
-    c.loop-place.place c.args.self.now.tables
-    c.requires.turn c.take_off.ensures.level c.take_off.ensures.moves c.in_ok-take_off.ensures.trail
-    c.in_ok-take_off.ensures.spare at_end (rw c.take_off.ensures.winner at c.loop-place.invariant.reopened)
+    let at_end : c.loop-place.place ≡ length c.take_off.new.self.spare = grind arith in
+    reopened_end c.loop-place.place c.args.self.now.tables c.requires.turn c.take_off.ensures.level
+    c.take_off.ensures.moves c.in_ok-take_off.ensures.trail c.in_ok-take_off.ensures.spare at_end
+    (rw c.take_off.ensures.winner at c.loop-place.invariant.reopened)

@@ -1,5 +1,4 @@
-use Rattle.std.proofs.Common.{◌≡◌, ◌+◌, ◌*◌, length, refl, rules}
-use Rattle.std.proofs.Common.{◌∙◌, arith}
+use Rattle.std.proofs.Common.{◌≡◌, ◌+◌, ◌*◌, length, refl, rules, arith}
 use Rattle.std.proofs.lemmas.Result.{on_ok_weaker}
 use Rattle.std.proofs.lemmas.List.{length_push}
 use Rattle.ps_zielonka.proofs.Measure.{falls_kept}
@@ -8,8 +7,7 @@ use Rattle.ps_zielonka.proofs.Deep.{depth_climbs, depth_kept}
 use Rattle.ps_zielonka.proofs.nest.Nest.climb.Goals as goal
 
 pub go_on-requires-clause-nest : goal.go_on-requires-clause-nest
-go_on-requires-clause-nest g c =
-    rw c.is_kept.ensures.winner (moved_nest c.pop.new.self.items c.in-Some.frame
+go_on-requires-clause-nest g c = rw c.is_kept.ensures.winner (moved_nest c.pop.new.self.items c.in-Some.frame
     (rw (c.requires.done, c.in-Some.ensures.items) at c.requires.stack) c.is_kept.ensures.moved c.is_kept.ensures.fits)
 
 pub returns-then-is_kept-clause-stack : goal.returns-then-is_kept-clause-stack

@@ -1,20 +1,13 @@
-use Rattle.ps_game.specs.Games.{NamedGameData}
-use Rattle.ps_program.specs.Games.{AnswersCert, ReadsGameOf}
+use Rattle.std.proofs.Common.{arith}
+use Rattle.ps_program.specs.Games.{ReadsGameOf}
 use Rattle.ps_program.specs.Replies.{reply_of}
 use Rattle.ps_program.specs.Solvers.{SolverData, solver_of}
 use Rattle.ps_program.specs.Solving.{AnswersGame}
-use Rattle.ps_program.proofs.OutcomeLemmas.{gives_after, gives_failed, gives_passed}
+use Rattle.ps_program.proofs.OutcomeLemmas.{gives_after}
 use Rattle.psyn.proofs.commands.cert.cert.Goals as goal
 
 pub returns-in_err-game : goal.returns-in_err-game
-returns-in_err-game g c =
-    let b = c.args.solver.now in
-    let s = goal.Solver-dyn g (b.vtable, b.value) in
-    let solver : SolverData = solver_of (s.is_sure b.value) (s.fed b.value) (s.may_answer b.value) in
-    gives_passed reply_of (AnswersCert solver c.args.order c.args.compact c.args.text.now) c.from_residual.result
-    c.in_err-game.field-0.0 c.from_residual.ensures.1
-    (gives_failed (λ (x : NamedGameData). x) (ReadsGameOf c.args.order c.args.text.now) reply_of
-    (AnswersGame solver c.args.compact) c.in_err-game.field-0.0 c.in_err-game.ensures.game)
+returns-in_err-game g c = grind arith
 
 pub returns : goal.returns
 returns g c =

@@ -28,11 +28,9 @@ returns-in_err-report g c =
     let Prints : Report → Result Reply (List ℕ) → Type 0 =
     λ report outcome. outcome ≡ Ok (report_reply asked.full report) in
     gives_handed reply_of (AnswersReport solver asked c.args.text.now) c.from_residual.result (IsTold fault)
-    c.from_residual.ensures.1
-    (λ (refused : Refusal) told. gives_failed (λ (x : Report). x)
-    (Synthesises solver asked.order asked.compact c.args.text.now) reply_of Prints refused
-    (gives_told solver asked.order asked.compact text fault refused
-    (fault_more both may (λ game answer h. h.0) asked.order text fault c.in_err-report.ensures.refused)
+    c.from_residual.ensures.1 (λ (refused : Refusal) told. gives_failed (λ (x : Report). x) (Synthesises solver
+    asked.order asked.compact c.args.text.now) reply_of Prints refused (gives_told solver asked.order asked.compact text
+    fault refused (fault_more both may (λ game answer h. h.0) asked.order text fault c.in_err-report.ensures.refused)
     (λ sure file accepted. outcome_more both may (λ game answer h. h.0) asked.order text asked.compact (Err fault)
     (c.in_err-report.ensures.sure sure file accepted)) told))
 
