@@ -1,6 +1,6 @@
 -- The levels and the trail that the public function begins with, and what is read off at the end.
 use Rattle.std.proofs.Common.{◌≡◌, ◌≢◌, ℕ, ◌+◌, ◌<◌, ◌≤◌, ◌⊎◌, inl, inr, List, [], ◌∷◌, ◌++◌, Bool, false, IsTrue}
-use Rattle.std.proofs.Common.{Option, IsSome, length, get_or, drop, refl, rules, sym, ◌∙◌, arith}
+use Rattle.std.proofs.Common.{Option, None, IsSome, length, get_or, drop, refl, rules, sym, ◌∙◌, arith}
 use Rattle.std.specs.Prelude.{slice_set}
 use Rattle.std.proofs.lemmas.Bool.{cases_eq, cases_lt, false≢true, eq-eqb}
 use Rattle.std.proofs.lemmas.Bool.Decides.{nat_tests}
@@ -25,8 +25,18 @@ laid_more : {subgame target : List Bool} {n : ℕ} {old new : TablesData} → Ar
     (IsTrue (has target n) → StandsFrom new 0 n) → ((v : ℕ) → StandsFrom old 0 v → StandsFrom new 0 v) →
     ((j : ℕ) → j < length new.trail → IsTrue (has target (get_or new.trail j 0)) × (get_or new.trail j 0 < n + 1)) →
     AreLaidOut subgame target (n + 1) new
-laid_more {subgame = subgame} {target = target} {n = n} {new = new} laid kept placed free outside here stands trail =
-    search rules
+laid_more {n = n} laid kept placed free outside here stands trail = record {
+  targets = λ v below inside. grind (arith, cases_eq v n, kept v, laid.targets v);
+  frees = λ v below out inside. grind (arith, cases_eq v n, kept v, laid.frees v);
+  outside = λ v below out outer. grind (arith, cases_eq v n, kept v, laid.outside v);
+  later = λ v past. kept v (omega arith) ∙ laid.later v (omega arith);
+  stands = λ v below inside. elim (cases_eq v n) [
+    | inl same ↦ rw same (here (rw (sym same) inside))
+    | inr differ ↦ stands v (laid.stands v (omega arith) inside)
+  ];
+  only = λ j within. (trail j within).0;
+  before = λ j within. (trail j within).1;
+}
 
 pub laid_placed : {subgame target : List Bool} {n : ℕ} {old : TablesData} → n < length old.level → IsTrue (has target n)
     → AreLaidOut subgame target n old → AreLaidOut subgame target (n + 1) (with_placed old n PLACED)
@@ -110,7 +120,17 @@ module _ {game : ParityGame} {player : ℕ} {subgame target : List Bool} {new : 
 
   -- what is in the region stands in the trail, and is in the subgame
   stands_inside : (v : ℕ) → IsTrue (has region v) → StandsFrom new 0 v × IsTrue (has subgame v)
-  stands_inside v inside = search (rules, region_vertex, placed_target, stands_longer, stands_after, free_inside)
+  stands_inside v inside =
+      let made = answer.made in
+      let is_vertex = region_vertex v inside in
+      elim (made.grown.each v) [
+        | inl same ↦
+            let there = placed_target game v made.laid is_vertex (grind (arith, answer.placed.placed v)) in (
+              stands_longer made.grown.longer made.grown.front (made.laid.stands v is_vertex there),
+              answer.target_within v there,
+            )
+        | inr placed ↦ (grind (arith, stands_after), free_inside game v made.laid is_vertex placed.was_free)
+      ]
 
   taken : IsTaken (aim_of player) new (has subgame) (has region)
   taken = search (rules, stands_inside, region_vertex, in_or_not)
@@ -141,4 +161,19 @@ module _ {game : ParityGame} {player : ℕ} {subgame target : List Bool} {new : 
   -- only the player's vertices of the region outside the target have a move
   pub only_moves : {moves : List (Option ℕ)} → AreMovesTo game new player target (vertex_count game) moves →
       (v : ℕ) → IsSome (move_at moves v) → IsTrue (has region v) × (owner_of game v ≡ player) × (has target v ≡ false)
-  only_moves {moves = moves} given v some = search (rules, cases_lt, cases_eq, in_or_not, false≢true)
+  only_moves {moves = moves} given v some =
+      let none_some : move_at moves v ≡ None → ⊥ = λ none. (let no : IsTrue false = rw none at some in cc) in
+      elim (cases_lt v (vertex_count game)) [
+        | inr past ↦ absurd (none_some (given.later v past))
+        | inl is_vertex ↦ elim (cases_eq (level_of new v) PLACED) [
+          | inr not_placed ↦ absurd (none_some (given.only v is_vertex (λ is. not_placed is.placed)))
+          | inl placed ↦ elim (cases_eq (owner_of game v) player) [
+            | inr others ↦ absurd (none_some (given.only v is_vertex (λ is. others is.owns)))
+            | inl owns ↦ elim (in_or_not target v) [
+              | inl there ↦
+                  absurd (none_some (given.only v is_vertex (λ is. false≢true (sym is.outside ∙ there))))
+              | inr outside ↦ (answer.placed.all v is_vertex placed, owns, outside)
+            ]
+          ]
+        ]
+      ]

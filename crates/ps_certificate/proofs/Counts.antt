@@ -1,6 +1,6 @@
 -- The rule of counts at one edge, and the first edge of a vertex that breaks it.
 use Rattle.std.proofs.Common.{◌≡◌, ◌≢◌, ℕ, ◌%◌, ◌<◌, ◌≤◌, List, length, get_or, max, ◌⊎◌, inl, inr, sym, subst}
-use Rattle.std.proofs.Common.{arith, refl, None, Some, Option, rules}
+use Rattle.std.proofs.Common.{ap, ◌∙◌, arith, refl, None, Some, Option, rules}
 use Rattle.std.specs.Prelude.{slice_index, IfNone}
 use Rattle.std.specs.List.{Contains}
 use Rattle.std.specs.List.Sorted.{IsStrictlyIncreasing}
@@ -57,7 +57,28 @@ pub KeepsCount-compared : {game : ParityGame}
     game certificate v w priorities before after top start → FallsAtStart game v priorities before after start →
     k < length priorities → (start ≤ k → slice_index after k ≤ slice_index before k) → KeepsCount game certificate v w k
 KeepsCount-compared {game} {certificate} {v} {w} {priorities} {before} {after} {top} {start} k compared strict
-    within at_most = grind (arith, cases_lt, KeepsCount-lower, cases_eq, rising_far)
+    within at_most = elim (cases_lt k start) [
+      | inl early ↦ KeepsCount-lower k compared early
+      | inr late ↦
+          let is = ap (λ l. slice_index l k) compared.priorities_are in
+          let before_is = ap (λ l. slice_index l k) compared.before_are in
+          let after_is = ap (λ l. slice_index l k) compared.after_are in
+          record {
+            never_rises = λ own_at other_at. omega (arith, at_most late, before_is, after_is);
+            falls = λ own_is other_at. elim (cases_eq k start) [
+              | inl same ↦
+                  let own : slice_index priorities start ≡ priority_of game v = rw (sym same) (is ∙ sym own_is) in
+                  rw (sym before_is, sym after_is, same) (strict (omega (arith, same, within)) own)
+              | inr differ ↦ absurd (omega (
+                arith,
+                compared.top_is,
+                rising_far priorities compared.rising start k (omega (arith, differ, late)) within,
+                compared.higher start (omega (arith, differ)) (omega (arith, late, within)),
+                is,
+              ))
+            ];
+          }
+    ]
 
 -- a count that rises
 pub IsFirstBroken-behind : {game : ParityGame} {certificate : CertificateData} {v w : ℕ}
@@ -85,11 +106,12 @@ same_edge : {game : ParityGame} {certificate : CertificateData} {v w p p' : ℕ}
     IsFirstBroken game certificate v w p → BreaksCount game certificate v w p' →
     (Rank v w p ≡ Rank v w p') ⊎ Precedes game (Rank v w p) (Rank v w p')
 same_edge {certificate} {v} {w} fits first other = elim (cases_order other.place first.place) [
-  | inl same ↦ search rules
+  | inl same ↦ inl (ap (λ n. Rank v w n) (sym first.priority ∙ ap (λ n. opposing_at certificate v n) (sym same)
+      ∙ other.priority))
   | inr (inl below) ↦ absurd (other.broken (first.earlier other.place below))
   | inr (inr above) ↦
       let less : opposing_at certificate v first.place < opposing_at certificate v other.place =
-      search (rules, rising_far, opposing_rises) in
+      rising_far _ (opposing_rises (winner_of certificate v) fits) first.place other.place above other.within in
       inr (inr (refl, refl, omega (arith, less, first.priority, other.priority)))
 ]
 
@@ -149,8 +171,14 @@ kept_has_no_flaw game certificate flaw h k m = search rules
 pub first_unranked : {game : ParityGame} {certificate : CertificateData} {v : ℕ} {flaw : Flaw} →
     IsClosed game certificate → ((u : ℕ) → u < v → KeepsCountsAt game certificate u) →
     IsFirstFlawAt game certificate 1 v flaw → IsFirstFlaw game certificate flaw
-first_unranked {game} {certificate} {v} {flaw} closed kept at =
-    search (rules, stage_cases, closed_has_no_flaw, first_of_stage, kept_has_no_flaw)
+first_unranked {game} {certificate} closed kept at = record {
+  is_flaw = at.is_flaw;
+  first = λ other is_flaw. elim (stage_cases other) [
+    | inl early ↦ absurd (closed_has_no_flaw closed other is_flaw early)
+    | inr late ↦ first_of_stage at (λ o o_flaw o_stage o_below.
+        kept_has_no_flaw game certificate o (kept (vertex_of o) o_below) o_flaw o_stage) is_flaw late
+  ];
+}
 
 -- a valid certificate has no flaw
 pub valid_has_no_flaw : {game : ParityGame} {certificate : CertificateData} (flaw : Flaw) → IsValid game certificate →

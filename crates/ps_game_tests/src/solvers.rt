@@ -119,10 +119,15 @@ fn are_places<W: Width>(alloc: Global, wanted: &[usize]) -> Result<bool, AllocEr
 }
 
 #[test]
-fn lists_by_number(rt: HostRuntime) -> Result<(), Fail> {
+fn sources_of_a_vertex(rt: HostRuntime) -> Result<(), Fail> {
     let named = read(rt.alloc(), FORK)?;
     assert!(rt; are_sources::<u32>(rt.alloc(), named.game(), &[1, 3]));
     assert!(rt; are_sources::<usize>(rt.alloc(), named.game(), &[1, 3]));
+    Ok(())
+}
+
+#[test]
+fn lists_by_number(rt: HostRuntime) -> Result<(), Fail> {
     assert!(rt; are_places::<u32>(rt.alloc(), &[1, 3, 0, 2])?);
     assert!(rt; are_places::<usize>(rt.alloc(), &[1, 3, 0, 2])?);
     Ok(())
@@ -354,12 +359,21 @@ fn add_won<A: Arena>(
     arena: &A,
     found: &mut Vec<Option<u64>>,
 ) -> Result<(), MeasureFault> {
-    let mut counts = Counts::default();
-    let (won, first, second) = regions(alloc, arena, &mut counts)?;
-    add_table(found, &won, &first)?;
-    add_table(found, &won, &second)?;
-    let found_counts = ranks(alloc, arena, 0, &won, &first, &mut counts)?.counts;
-    add_counts(alloc, &found_counts, found)
+    let (won, first, second) = regions(alloc, arena, &mut Counts::default())?;
+    add_tables(found, &won, &first, &second)?;
+    let ranks = ranks(alloc, arena, 0, &won, &first, &mut Counts::default())?;
+    add_counts(alloc, &ranks.counts, found)
+}
+
+/// Adds the vertices of a region, and the moves of both players' tables.
+fn add_tables(
+    found: &mut Vec<Option<u64>>,
+    won: &Region,
+    first: &Strategy,
+    second: &Strategy,
+) -> Result<(), AllocError> {
+    add_table(found, won, first)?;
+    add_table(found, won, second)
 }
 
 /// Adds the counts of all vertices.
@@ -389,22 +403,36 @@ fn found_in<A: Arena>(alloc: Global, arena: &A) -> Result<Vec<Option<u64>>, Meas
 
 /// What is won of a game, and by which moves, by tables of a stated width.
 fn won_by_tables<W: Width>(alloc: Global, game: &Game) -> Result<Vec<Option<u64>>, AllocError> {
-    let mut found = Vec::new(alloc);
-    if has_room::<Game, W>(game) {
-        let mut counts = Counts::default();
-        let (won, first, second) = regions_in::<Game, W>(alloc, game, &mut counts)?;
-        add_table(&mut found, &won, &first)?;
-        add_table(&mut found, &won, &second)?;
+    if !has_room::<Game, W>(game) {
+        return Ok(Vec::new(alloc));
     }
+    let (won, first, second) = regions_in::<Game, W>(alloc, game, &mut Counts::default())?;
+    tables_of(alloc, &won, &first, &second)
+}
+
+/// The vertices of a region, and the moves of both players' tables.
+fn tables_of(
+    alloc: Global,
+    won: &Region,
+    first: &Strategy,
+    second: &Strategy,
+) -> Result<Vec<Option<u64>>, AllocError> {
+    let mut found = Vec::new(alloc);
+    add_tables(&mut found, won, first, second)?;
     Ok(found)
 }
 
 /// Whether tables of both widths have the same answers to the game of a text.
 fn are_same_by_tables(alloc: Global, text: &[u8]) -> Result<bool, Fail> {
     let named = read(alloc, text)?;
-    let narrow = won_by_tables::<u32>(alloc, named.game())?;
-    let wide = won_by_tables::<usize>(alloc, named.game())?;
-    Ok(narrow.len() > named.game().count() && wide == narrow)
+    Ok(is_same_by_tables(alloc, named.game())?)
+}
+
+/// Whether tables of both widths have the same answers to a game.
+fn is_same_by_tables(alloc: Global, game: &Game) -> Result<bool, AllocError> {
+    let narrow = won_by_tables::<u32>(alloc, game)?;
+    let wide = won_by_tables::<usize>(alloc, game)?;
+    Ok(narrow.len() > game.count() && wide == narrow)
 }
 
 #[test]
@@ -434,10 +462,17 @@ fn found_wide(alloc: Global, game: &Game) -> Result<Vec<Option<u64>>, MeasureFau
 /// Whether arrays of both widths have the answers that the game of a text has.
 fn are_same_in_arrays(alloc: Global, text: &[u8]) -> Result<bool, Fail> {
     let named = read(alloc, text)?;
-    let found = found_in(alloc, named.game())?;
-    let narrow = found_narrow(alloc, named.game())?;
-    let wide = found_wide(alloc, named.game())?;
-    Ok(found.len() > named.game().count() && narrow == found && wide == found)
+    Ok(is_same_in_arrays(alloc, named.game())?)
+}
+
+/// Whether arrays of both widths have the answers that a game has.
+fn is_same_in_arrays(alloc: Global, game: &Game) -> Result<bool, MeasureFault> {
+    let found = found_in(alloc, game)?;
+    Ok(
+        found.len() > game.count()
+            && found_narrow(alloc, game)? == found
+            && found_wide(alloc, game)? == found,
+    )
 }
 
 #[test]

@@ -74,7 +74,7 @@ module _ (board : Board) where
 
   pub agree_on : {mask x y : ℕ} → IsMaskOf board mask → IsFirstLetter board x → IsSecondLetter board y →
       AgreeOn mask x (x + y)
-  agree_on {mask} {x} {y} m hx hy p is = grind (arith, mask_below, sum_first)
+  agree_on {mask} m hx hy p is = (let lt = mask_below mask p m is in sym (sum_first p hx hy lt (sym (m.is p lt) ∙ is)))
 
   pub agree_off : {mask x y : ℕ} → IsMaskOf board mask → IsFirstLetter board x → IsSecondLetter board y →
       AgreeOff mask y (x + y)
@@ -119,7 +119,8 @@ module _ (board : Board) where
       AgreeOff mask u v → p < board.propositions → is_in p v ≡ is_in p (x + second_of u)
   as_other_sum u v p m hx on off lt = elim (bool_cases (board.is_first p)) [
     | inl is ↦ sym (on p (m.is p lt ∙ is)) ∙ sym (sum_first p hx (second_is u) lt is)
-    | inr isnt ↦ grind (arith, second_bit, sum_second, second_is)
+    | inr isnt ↦ sym (off p (m.is p lt ∙ isnt)) ∙ sym (second_bit u p lt isnt)
+        ∙ sym (sum_second p hx (second_is u) lt isnt)
   ]
 
   pub zero_second : IsSecondLetter board 0
@@ -159,7 +160,20 @@ not_false b h k = search rules
 pub compared : (n x y : ℕ) → x < 2 ^ n → y < 2 ^ n → (x ≡ y) ⊎ (IsBefore x y ⊎ IsBefore y x)
 compared n x y lx ly = elim (first_difference n) [
   | inl h ↦ inl (same_letter n x y lx ly h)
-  | inr d ↦ search (rules, bool_cases, not_true, not_false)
+  | inr d ↦ elim (bool_cases (is_in d.at x)) [
+    | inl is ↦ inr (inr (record {
+      first = d.at;
+      is_false = not_true (is_in d.at y) d.differ is;
+      is_true = is;
+      same = λ p lt. sym (d.same p lt);
+    }))
+    | inr isnt ↦ inr (inl (record {
+      first = d.at;
+      is_false = isnt;
+      is_true = not_false (is_in d.at y) d.differ isnt;
+      same = d.same;
+    }))
+  ]
 ]
 
 -- two letters neither of which comes before the other are one

@@ -1,6 +1,6 @@
 -- The rows of a circuit.
 use Rattle.std.proofs.Common.{◌≡◌, ℕ, suc, ◌+◌, ◌<◌, List, ◌++◌, map, length, rules}
-use Rattle.std.proofs.Common.{get_or, sym, ap, ◌∙◌, arith, Some, length-append}
+use Rattle.std.proofs.Common.{get_or, sym, subst, ap, ◌∙◌, arith, Some, length-append}
 use Rattle.std.proofs.lemmas.List.{length-map, get_or-map, get_or_append_left, get_or-append-add}
 use Rattle.std.proofs.lemmas.Option.{slice_get-get_or, get_or_from_slice_get, slice_get_within}
 use Rattle.ps_circuit.specs.declared.parts.Latch.{Latch}
@@ -76,7 +76,8 @@ module _ {c : CircuitData} (is : IsCircuit c) where
     reads : (k l literal : ℕ) → k < length rows → l < length rows → IsKnown (definitions c) literal
         → place_of c (variable literal) ≡ (row rows l).target → variable literal ≡ variable
         (get_or c.gates (gate_place l) no_gate).literal
-    reads k l literal hk hl known e = grind (arith, place_of-same, gate_known, gate_within, row_is)
+    reads k l literal hk hl known e = place_of-same literal _ known (gate_known is (gate_place l) no_gate
+        (gate_within l hl)) (e ∙ ap (λ (r : Row). r.target) (row_is l hl))
 
     at : (k : ℕ) → k < length rows → Rattle.std.specs.Prelude.slice_get are.order k ≡ Some (gate_place k)
     at k lt = slice_get-get_or are.order k 0 (omega (arith, length-rows))
@@ -96,4 +97,10 @@ module _ {c : CircuitData} (is : IsCircuit c) where
 
     -- rows stay within the table
     pub IsWithin-row : (k : ℕ) → k < length rows → IsWithin (length (variables c)) (row rows k)
-    IsWithin-row k lt = search (rules, sides_known, gate_within, row_is, place_known, gate_known)
+    IsWithin-row k lt =
+        let sides = sides_known is (gate_place k) no_gate (gate_within k lt) in
+        subst (IsWithin (length (variables c))) (sym (row_is k lt)) (record {
+          target = (place_known is _ (gate_known is (gate_place k) no_gate (gate_within k lt))).0;
+          first = (place_known is _ sides.0).0;
+          second = (place_known is _ sides.1).0;
+        })

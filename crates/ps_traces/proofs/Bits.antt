@@ -41,7 +41,9 @@ rest_apart x y h = record { apart = λ p. omega (arith, bit_at-suc x p, bit_at-s
 bit_of_sum : (p x y : ℕ) → AreApart x y → bit_at (x + y) p ≡ bit_at x p + bit_at y p
 bit_of_sum zero x y h = omega (arith, bit_at_lowest (x + y), low_apart x y h, bit_at_lowest x, bit_at_lowest y)
 bit_of_sum (suc p) x y h =
-    search (rules, low_apart, bit_at-suc, rest_apart, bit_of_sum p (x / 2) (y / 2) (rest_apart x y h))
+    let half : (x + y) / 2 ≡ x / 2 + y / 2 = omega (arith, low_apart x y h) in
+    let rest = bit_of_sum p (x / 2) (y / 2) (rest_apart x y h) in
+    rw (bit_at-suc (x + y) p, bit_at-suc x p, bit_at-suc y p, half) rest
 
 -- a proposition that is not in the one is in the sum where it is in the other
 pub in_sum_left : (p x y : ℕ) → AreApart x y → is_in p y ≡ false → is_in p (x + y) ≡ is_in p x

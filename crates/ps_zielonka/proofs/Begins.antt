@@ -35,8 +35,14 @@ module _ (b : Begun) where
   posed : IsPosed b.game b.aim b.mid (undecided b) (tops b)
   posed = record {
     is_subgame = subgame_below (2 * b.depth + 2) (agrees b) (omega arith) b.searches.alive;
-    split = grind (arith, was_open, placed_tops);
-    frees = grind (arith, is_open, differ);
+    split = λ v inside. elim (b.placed.grown.each v) [
+      | inl same ↦ inl (same.level ∙ was_open b v inside ∙ sym b.free)
+      | inr placed ↦ inr (placed_tops b placed)
+    ];
+    frees = λ v _ is_free. elim (b.placed.grown.each v) [
+      | inl same ↦ is_open b v (sym same.level ∙ is_free ∙ b.free)
+      | inr placed ↦ absurd (differ b (sym placed.level ∙ is_free))
+    ];
     target_within = λ v top. (placed_from b b.mid v top).0;
     target_placed = λ v top is_free. (let placed = tops_placed b v top in differ b (sym placed.level ∙ is_free));
     target_stands = λ v top. stands_after (tops_placed b v top).stands (omega (arith, b.begin));
@@ -176,11 +182,15 @@ module _ (b : Begun) where
       record {
         within = omega arith;
         above = λ j after within. elim (cases_lt j (length b.old.trail)) [
-          | inl less ↦ search (rules, AgreesAt, agrees_at, agrees)
-          | inr more ↦ search rules
+          | inl less ↦
+              let at = agrees_at (a + 2) (agrees b) (omega arith) (get_or b.old.trail j 0) in
+              rw (grown.front j less) (at.up (waits.segment.above j after less))
+          | inr more ↦ let placed = grown.behind j more within in omega (arith, placed.level, b.mark)
         ];
         stands = λ v high low. elim (grown.each v) [
-          | inl same ↦ search (rules, stands_longer)
+          | inl same ↦
+              let was : level_of b.new v ≡ level_of b.old v = same.level in
+              stands_longer grown.longer grown.front (waits.segment.stands v (omega arith) (omega arith))
           | inr placed ↦ stands_after placed.stands waits.segment.within
         ];
       }
@@ -192,7 +202,10 @@ module _ (b : Begun) where
       search (rules, waits_below, agrees, segment_later)
 
   sound_now : IsSoundBoard b.game b.new b.winner_now b.order
-  sound_now = search (rules, sound_on, grown_all, low)
+  sound_now = sound_on b.new b.sound b.fits b.winners (λ v. elim ((grown_all b).each v) [
+    | inl same ↦ inl same.level
+    | inr placed ↦ inr (omega (arith, placed.level, b.mark), omega (arith, placed.level, b.mark, low b))
+  ])
 
   pub begun_nest : (frames : List Frame) (solved : Bool) → length frames ≡ b.depth → solved ≡ false
       → ((i : ℕ) → i < length frames → Waits b.game b.old b.winner b.order (2 * i) (frame_at frames i))

@@ -1,7 +1,7 @@
 -- The last call that waited goes on: what the other player won in the next one, and all from where it can lead there,
 -- is decided.
 use Rattle.std.proofs.Common.{◌≡◌, ◌≢◌, ℕ, ◌+◌, ◌-◌, ◌*◌, ◌<◌, ◌≤◌, ◌⊎◌, inl, inr, List, Bool, length, get_or, rules}
-use Rattle.std.proofs.Common.{Some, ap, ◌∙◌, arith}
+use Rattle.std.proofs.Common.{Some, ap, sym, ◌∙◌, arith}
 use Rattle.std.specs.Prelude.{IsTrue}
 use Rattle.std.proofs.lemmas.Bool.{cases_eq, cases_lt, false≢true}
 use Rattle.ps_game.specs.Games.{ParityGame, IsGame, vertex_count, owner_of}
@@ -54,7 +54,18 @@ module _ {game : ParityGame} {a : ℕ} {frame : Frame} {old mid new : TablesData
 
   -- a vertex that stands in the trail from the turn on was open
   pub stands_open : {v : ℕ} → StandsFrom new frame.turn v → a + 2 ≤ level_of old v
-  stands_open {v} stands = search (rules, cases_lt, was_open, mid_still)
+  stands_open {v} stands = elim (cases_lt stands.place (length mid.trail)) [
+    | inl less ↦
+        let high = was_open (going.reopened.behind stands.place stands.after less).0 in
+        omega (arith, ap (λ x. level_of old x) (sym (going.grown.front stands.place less) ∙ stands.is))
+    | inr more ↦
+        let placed = going.grown.behind stands.place more stands.within in
+        let was_free : level_of mid v ≡ UNPLACED = ap (λ x. level_of mid x) (sym stands.is) ∙ placed.was_free in
+        elim (cases_lt (level_of old v) (a + 2)) [
+          | inl low ↦ absurd (omega (arith, mid_still v low, going.placed v))
+          | inr high ↦ high
+        ]
+  ]
 
   -- a vertex that was not open is as it was
   pub going_still : (v : ℕ) → level_of old v < a + 2 → IsStill old new winner winner_now v
@@ -66,7 +77,10 @@ module _ {game : ParityGame} {a : ℕ} {frame : Frame} {old mid new : TablesData
   going_lost v high lost = going.reopened.lost v (stood v high) lost
 
   lost_new : (v : ℕ) → level_of mid v ≡ a + 1 → (level_of new v ≡ a + 1) × (get_or new.moves v 0 ≡ get_or mid.moves v 0)
-  lost_new v there = search rules
+  lost_new v there = elim (going.grown.each v) [
+    | inl same ↦ (same.level ∙ there, same.move)
+    | inr placed ↦ absurd (omega (arith, placed.was_free, going.low))
+  ]
 
   stands_on : {v : ℕ} → StandsFrom mid frame.turn v → StandsFrom new frame.turn v
   stands_on stands = stands_longer going.grown.longer going.grown.front stands
@@ -110,7 +124,11 @@ module _ {game : ParityGame} {a : ℕ} {frame : Frame} {old mid new : TablesData
   is_lost v high lost = loses.all v (to_from old.level (a + 2) v high) (λ won. lost (keeps.won v won))
 
   lost_is : (v : ℕ) → IsTrue (the_lost v) → (a + 2 ≤ level_of old v) × (get_or winner v 0 ≢ frame.player)
-  lost_is v there = search (rules, from_at, false≢true)
+  lost_is v there =
+      let inside = loses.within v there in (
+        from_at old.level (a + 2) v inside,
+        λ won. loses.outside v there (keeps.all v inside (λ h. false≢true h) won),
+      )
 
   gone_parts : IsWithout open_then the_gone open_now
   gone_parts = search (rules, from_at, cases_lt, going_still, to_from)

@@ -1,4 +1,4 @@
-use Rattle.std.proofs.Common.{arith, ◌≡◌, ◌∙◌, ℕ, ◌+◌, ◌*◌, false, ◌<◌, List, sym, subst, rules, nat_eq}
+use Rattle.std.proofs.Common.{arith, length, ◌≡◌, ◌∙◌, ℕ, ◌+◌, ◌*◌, false, ◌<◌, List, sym, subst, rules, nat_eq}
 use Rattle.std.proofs.lemmas.Result.{IfOk-weaker}
 use Rattle.ps_hoa.specs.Files.{is_among}
 use Rattle.indexmap.specs.IndexMap.{get}
@@ -14,16 +14,23 @@ use Rattle.ps_aiger.proofs.WiredLemmas.{choice-made, choice-above, choice-above_
 use Rattle.ps_aiger.proofs.functions.+over_inputs.Goals as goal
 
 pub overflow_cast-place : goal.overflow_cast-place
-overflow_cast-place t c = search (rules, place_small)
+overflow_cast-place t c =
+    omega (arith, place_small _ _ _ _ c.inputs.ensures.inputs c.in-Some.ensures.found, c.requires.small)
 
 pub overflow_add-place : goal.overflow_add-place
-overflow_add-place t c = search (rules, place_small)
+overflow_add-place t c =
+    omega (arith, place_small _ _ _ _ c.inputs.ensures.inputs c.in-Some.ensures.found, c.requires.small)
 
 pub positive-input-requires : goal.positive-input-requires
-positive-input-requires t c = search (rules, place_small)
+positive-input-requires t c =
+    omega (arith, place_small _ _ _ _ c.inputs.ensures.inputs c.in-Some.ensures.found, c.requires.small)
 
 pub mux-requires-clause-chooses : goal.mux-requires-clause-chooses
-mux-requires-clause-chooses t c = search (rules, held_place, place_small)
+mux-requires-clause-chooses t c =
+    let given = c.over_inputs-in-Test-2.ensures.extends.given ∙ c.over_inputs-in-Test.ensures.extends.given in
+    let small = place_small _ _ _ _ c.inputs.ensures.inputs c.in-Some.ensures.found in
+    rw c.positive-input.ensures (held_place c.over_inputs-in-Test-2.new.builder (length c.args.machine.now.inputs)
+    c.in-Some.place small (rw given c.requires.given))
 
 pub returns-in-Nothing-clause-made : goal.returns-in-Nothing-clause-made
 returns-in-Nothing-clause-made t c = search (rules, made-nothing)

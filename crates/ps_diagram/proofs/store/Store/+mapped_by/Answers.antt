@@ -72,10 +72,12 @@ pub test-requires-clause-named : goal.test-requires-clause-named
 test-requires-clause-named g t c = grind arith
 
 pub returns-in_err-changed-in-Test-clause-keeps : goal.returns-in_err-changed-in-Test-clause-keeps
-returns-in_err-changed-in-Test-clause-keeps g t c = search (rules, keeps_trans)
+returns-in_err-changed-in-Test-clause-keeps g t c =
+    keeps_trans (keeps_trans c.mapped_by.ensures.keeps c.mapped_by-in-Test.ensures.keeps) c.test.ensures.keeps
 
 pub returns-in_err-insert-in-Test-clause-keeps : goal.returns-in_err-insert-in-Test-clause-keeps
-returns-in_err-insert-in-Test-clause-keeps g t c = search (rules, keeps_trans)
+returns-in_err-insert-in-Test-clause-keeps g t c =
+    keeps_trans (keeps_trans c.mapped_by.ensures.keeps c.mapped_by-in-Test.ensures.keeps) c.test.ensures.keeps
 
 pub returns-in_ok-insert-in-Test-clause-known : goal.returns-in_ok-insert-in-Test-clause-known
 returns-in_ok-insert-in-Test-clause-known g t c =

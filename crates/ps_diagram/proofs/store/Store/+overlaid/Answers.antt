@@ -21,7 +21,7 @@ returns-in_err-low-clause-clash t c =
     (clash_side s.first_sides s.second_sides false _ c.in_err-low.ensures.clash)
 
 pub returns-in_err-high-clause-keeps : goal.returns-in_err-high-clause-keeps
-returns-in_err-high-clause-keeps t c = search (rules, keeps_trans)
+returns-in_err-high-clause-keeps t c = keeps_trans c.overlaid.ensures.keeps c.overlaid-2.ensures.keeps
 
 pub returns-in_err-high-clause-clash : goal.returns-in_err-high-clause-clash
 returns-in_err-high-clause-clash t c =
@@ -32,19 +32,22 @@ returns-in_err-high-clause-clash t c =
     (rw (← k.same _ a.high_held, ← k.same _ b.high_held) c.in_err-high.ensures.clash))
 
 pub returns-in_err-node-clause-keeps : goal.returns-in_err-node-clause-keeps
-returns-in_err-node-clause-keeps t c = search (rules, keeps_trans)
+returns-in_err-node-clause-keeps t c =
+    keeps_trans (keeps_trans c.overlaid.ensures.keeps c.overlaid-2.ensures.keeps) c.test.ensures.keeps
 
 pub returns-in_err-node-clause-known : goal.returns-in_err-node-clause-known
 returns-in_err-node-clause-known t c = search (rules, pairs_kept)
 
 pub returns-in_err-insert-clause-keeps : goal.returns-in_err-insert-clause-keeps
-returns-in_err-insert-clause-keeps t c = search (rules, keeps_trans)
+returns-in_err-insert-clause-keeps t c =
+    keeps_trans (keeps_trans c.overlaid.ensures.keeps c.overlaid-2.ensures.keeps) c.test.ensures.keeps
 
 pub returns-in_err-insert-clause-known : goal.returns-in_err-insert-clause-known
 returns-in_err-insert-clause-known t c = search (rules, pairs_kept)
 
 pub returns-clause-keeps : goal.returns-clause-keeps
-returns-clause-keeps t c = search (rules, keeps_trans)
+returns-clause-keeps t c =
+    keeps_trans (keeps_trans c.overlaid.ensures.keeps c.overlaid-2.ensures.keeps) c.test.ensures.keeps
 
 joins : (t : ℕ) (c : goal.In_ok-insert t) → IsOverlay (tree_of c.args.self.now c.args.first)
     (tree_of c.args.self.now c.args.second) (tree_of c.test.new.self c.in_ok-node.node)

@@ -93,14 +93,16 @@ pub returns-in_err-made-clause-tests : goal.returns-in_err-made-clause-tests
 returns-in_err-made-clause-tests t c = search (rules, tests_kept)
 
 pub returns-in_err-insert-clause-keeps : goal.returns-in_err-insert-clause-keeps
-returns-in_err-insert-clause-keeps t c = search (rules, keeps_trans)
+returns-in_err-insert-clause-keeps t c =
+    keeps_trans (keeps_trans c.tested.ensures.keeps c.tested-2.ensures.keeps) c.test.ensures.keeps
 
 pub returns-in_err-insert-clause-tests : goal.returns-in_err-insert-clause-tests
 returns-in_err-insert-clause-tests t c = rw c.in_err-insert.ensures.err
     (tests_kept (get test_eq c.tested-2.new.tests) c.test.ensures.keeps c.tested-2.ensures.tests)
 
 pub returns-clause-keeps : goal.returns-clause-keeps
-returns-clause-keeps t c = search (rules, keeps_trans)
+returns-clause-keeps t c =
+    keeps_trans (keeps_trans c.tested.ensures.keeps c.tested-2.ensures.keeps) c.test.ensures.keeps
 
 pub returns-clause-leaf : goal.returns-clause-leaf
 returns-clause-leaf t c =
@@ -113,6 +115,7 @@ pub returns-clause-tests : goal.returns-clause-tests
 returns-clause-tests t c =
     let k = keeps_trans (keeps_trans c.tested.ensures.keeps c.tested-2.ensures.keeps) c.test.ensures.keeps in
     tests_more (get test_eq c.tested-2.new.tests) (get test_eq c.insert.new.self) c.args.proposition
-    c.in_ok-insert.ensures.updates.0 (search (rules, tests_kept)) (k.held c.args.low c.requires.low_held)
+    c.in_ok-insert.ensures.updates.0 (tests_kept (get test_eq c.tested-2.new.tests) c.test.ensures.keeps
+    c.tested-2.ensures.tests) (k.held c.args.low c.requires.low_held)
     (k.held c.args.high c.requires.high_held) c.in_ok-made.ensures.held
     (rw (k.same _ c.requires.low_held, k.same _ c.requires.high_held) (returns-clause-leaf t c))
