@@ -1,4 +1,5 @@
-use Rattle.std.proofs.Common.{rules}
+use Rattle.std.proofs.lemmas.Grind.{elements}
+use Rattle.std.proofs.Common.{arith, rules}
 use Rattle.ps_attractor.proofs.LaidOut.{answer_of, region_within, region_attracted, answer_falls, only_moves}
 use Rattle.ps_attractor.proofs.attractor.attract_in.Goals as goal
 
@@ -25,3 +26,6 @@ returns-clause-moves g c =
 
 pub returns-clause-falls : goal.returns-clause-falls
 returns-clause-falls g c = search (rules, answer_of, answer_falls)
+
+pub first_places-requires : goal.first_places-requires
+first_places-requires c κs within = grind (arith, elements)

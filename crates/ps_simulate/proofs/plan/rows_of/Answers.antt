@@ -1,4 +1,5 @@
-use Rattle.std.proofs.Common.{◌≡◌, ℕ, ◌<◌, ◌∙◌, ◌++◌, ◌∷◌, [], List, ap, ap₂, sym, map, take, length, get_or}
+use Rattle.std.proofs.lemmas.Grind.{common_steps, elements}
+use Rattle.std.proofs.Common.{arith, ◌≡◌, ℕ, ◌<◌, ◌∙◌, ◌++◌, ◌∷◌, [], List, ap, ap₂, sym, map, take, length, get_or}
 use Rattle.std.proofs.lemmas.List.{get_or_default, map-append, take_more}
 use Rattle.std.proofs.lemmas.Option.{slice_get-get_or}
 use Rattle.ps_circuit.specs.Circuits.{CircuitData}
@@ -57,3 +58,12 @@ loop-place-preserved c =
     ∙ ap (λ (rows : List Row). rows ++ row_at circuit place ∷ []) c.loop-place.invariant
     ∙ sym (ap (map (row_at circuit)) (take_more order k 0 c.loop-place-test.true)
     ∙ map-append (row_at circuit) (take k order) (place ∷ []))
+
+pub returns : goal.returns
+returns c = grind (arith, common_steps)
+
+pub offset_bounds-gates-place : goal.offset_bounds-gates-place
+offset_bounds-gates-place c = grind (arith, elements)
+
+pub bounds-gates-place : goal.bounds-gates-place
+bounds-gates-place c = grind (arith, elements)

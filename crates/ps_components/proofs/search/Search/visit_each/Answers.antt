@@ -1,4 +1,5 @@
-use Rattle.std.proofs.Common.{rules, ◌∙◌, inl, inr, sym}
+use Rattle.std.proofs.lemmas.Grind.{common_steps, elements}
+use Rattle.std.proofs.Common.{arith, rules, ◌∙◌, inl, inr, sym}
 use Rattle.std.proofs.lemmas.Option.{slice_get-get_or, get_or_from_slice_get}
 use Rattle.std.proofs.lemmas.Bool.{cases_lt}
 use Rattle.ps_components.proofs.Reaching.{reached-root}
@@ -18,3 +19,18 @@ loop-root-preserved g c =
         | inr r ↦ reached-root roots k (slice_get-get_or roots k 0 c.loop-root-test.true) r
       ];
     }
+
+pub visit-requires-clause-ended : goal.visit-requires-clause-ended
+visit-requires-clause-ended c κs = grind (arith, common_steps)
+
+pub visit-requires-clause-sound : goal.visit-requires-clause-sound
+visit-requires-clause-sound c κs = grind (arith, common_steps)
+
+pub visit-requires-clause-within : goal.visit-requires-clause-within
+visit-requires-clause-within c κs = grind (arith, common_steps)
+
+pub returns-clause-met : goal.returns-clause-met
+returns-clause-met c = grind (arith, elements)
+
+pub loop-root-init : goal.loop-root-init
+loop-root-init c = grind (arith, elements)
