@@ -24,7 +24,10 @@ pub ends_in-last : (p : ℕ → Bool) (text : List ℕ) → 0 < length text →
     ends_in p text ≡ p (get_or text (length text - 1) 0)
 ends_in-last p [] h = absurd (omega arith)
 ends_in-last p (b ∷ []) h = refl
-ends_in-last p (b ∷ c ∷ cs) h = grind (arith, ends_in-last p (c ∷ cs) (omega arith))
+ends_in-last p (b ∷ c ∷ cs) h =
+    let e : suc (suc (length cs)) - 1 ≡ suc (length cs) = omega arith in
+    let e' : suc (length cs) - 1 ≡ length cs = omega arith in
+    ends_in-last p (c ∷ cs) (omega arith) ∙ rw (e, e') refl
 
 pub at_digit : (before : List ℕ) (b : ℕ) (bs : List ℕ) {rest : List ℕ} → rest ≡ b ∷ bs → is_digit b ≡ true →
     (first_sign before rest ≡ number_sign before rest) × (first_size rest ≡ prefix_len is_digit rest)
