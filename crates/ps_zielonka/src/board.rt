@@ -1,7 +1,7 @@
 //! What is decided of each vertex, and the steps on it: attract, keep, take back.
 
 ghost use Rattle.std.specs.Prelude.{◌≡◌, ◌≢◌, ◌+◌, ◌-◌, ◌<◌, ◌≤◌, ℕ, Bool, false, IfSome, IfNone, OnOk, IsTrue, length};
-ghost use Rattle.std.specs.Prelude.{take, slice_index};
+ghost use Rattle.std.specs.Prelude.{take, slice_index, replicate, IfOk, []};
 ghost use Rattle.ps_game.specs.Games.{IsGame, vertex_count, HasEdge};
 ghost use Rattle.ps_attractor.specs.Sources.{IsSourcesOf};
 ghost use Rattle.ps_attractor.specs.Tables.{FitsGame, level_of, moves_of};
@@ -15,7 +15,7 @@ use crate::frame::Frame;
 use crate::level::Level;
 use ps_attractor::{Sources, Tables};
 use ps_game::{Arena, Numbers, Player, Width};
-use std::alloc::AllocError;
+use std::alloc::{AllocError, Global};
 
 /// What is decided of each vertex.
 #[derive(Drop)]
@@ -29,6 +29,25 @@ pub struct Board<W: Width> {
 }
 
 impl<W: Width> Board<W> {
+    /// No vertex of so many is decided.
+    ///
+    /// # Errors
+    ///
+    /// Fails where a growth was refused.
+    pub fn undecided(alloc: Global, count: usize) -> Result<Board<W>, AllocError>
+        requires { count ≤ W.LIMIT }
+        ensures levels { IfOk result (λ board. board.tables.level ≡ replicate count (mark_of Level.Unplaced)) }
+        ensures moves { IfOk result (λ board. board.tables.moves ≡ replicate count 0) }
+        ensures trail { IfOk result (λ board. board.tables.trail ≡ []) }
+        ensures winners { IfOk result (λ board. board.winner.items ≡ replicate count 0) }
+    {
+        Ok(Board {
+            tables: Tables::new(alloc, count, Level::Unplaced.mark())?,
+            winner: vec![in alloc; Player::EVEN; count]?,
+            spare: Numbers::with_capacity(alloc, 0)?,
+        })
+    }
+
     /// Attracts to the vertices that stand in the trail from a place on, and gives all that then stand there to the
     /// player.
     ///

@@ -16,7 +16,7 @@ use crate::board::Board;
 use crate::frame::Frame;
 use crate::level::Level;
 use crate::order::{falling_order, first_unplaced, place_tops};
-use ps_attractor::{Sources, Tables};
+use ps_attractor::Sources;
 use ps_game::{Arena, Numbers, Player, Width};
 use std::alloc::{AllocError, Global};
 
@@ -48,18 +48,9 @@ impl<W: Width> Nest<W> {
         ensures stack { IfOk result (IsStack (A.game arena.now)) }
         ensures deep { IfOk result (IsDeep (A.game arena.now)) }
     {
-        let count = arena.count();
-        let order = falling_order(alloc, arena)?;
-        let tables = Tables::new(alloc, count, Level::Unplaced.mark())?;
-        let winner = vec![in alloc; Player::EVEN; count]?;
-        let board = Board {
-            tables,
-            winner,
-            spare: Numbers::with_capacity(alloc, 0)?,
-        };
         Ok(Nest {
-            board,
-            order,
+            board: Board::undecided(alloc, arena.count())?,
+            order: falling_order(alloc, arena)?,
             frames: Vec::new(alloc),
             cursor: 0,
             solved: false,
@@ -68,6 +59,22 @@ impl<W: Width> Nest<W> {
     }
 
     /// Decides each vertex.
+    ///
+    /// # Errors
+    ///
+    /// Fails where a growth was refused.
+    pub fn decide<A: Arena>(&mut self, alloc: Global, arena: &A) -> Result<(), AllocError>
+        requires room { HasRoom (A.game arena.now) W.LIMIT }
+        requires stack { IsStack (A.game arena.now) self.old }
+        requires deep { IsDeep (A.game arena.now) self.old }
+        ensures solved { OnOk result (IsSolvedBy (A.game arena.now) self.new.board.tables self.new.board.winner.items) }
+        ensures depth { OnOk result (IsDepth (A.game arena.now) self.new.depth) }
+    {
+        let sources = Sources::of(alloc, arena)?;
+        self.solve(arena, &sources)
+    }
+
+    /// Decides each vertex, where the edges to each are known.
     ///
     /// # Errors
     ///

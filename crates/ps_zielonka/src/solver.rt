@@ -12,7 +12,7 @@ ghost use Rattle.ps_zielonka.specs.Stacks.{IsSolvedBy};
 use crate::answer::{region_of, strategy_of};
 use crate::board::Board;
 use crate::nest::Nest;
-use ps_attractor::{Sources, has_room, no_room};
+use ps_attractor::{has_room, no_room};
 use ps_game::{Arena, Counts, Player, Region, Strategy, Width};
 use std::alloc::{AllocError, Global};
 
@@ -78,9 +78,8 @@ fn solved_nest<A: Arena, W: Width>(alloc: Global, arena: &A) -> Result<Nest<W>, 
     ensures solved { IfOk result (λ nest. IsSolvedBy (A.game arena.now) nest.board.tables nest.board.winner.items) }
     ensures depth { IfOk result (λ nest. IsDepth (A.game arena.now) nest.depth) }
 {
-    let sources = Sources::of(alloc, arena)?;
     let mut nest = Nest::new(alloc, arena)?;
-    nest.solve(arena, &sources)?;
+    nest.decide(alloc, arena)?;
     Ok(nest)
 }
 
