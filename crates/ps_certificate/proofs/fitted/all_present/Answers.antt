@@ -1,3 +1,4 @@
+use Rattle.std.proofs.lemmas.Grind.{common_steps}
 use Rattle.std.proofs.Common.{◌-◌, arith, drop, false, refl}
 use Rattle.std.proofs.lemmas.Bool.{both_ways}
 use Rattle.std.proofs.lemmas.List.Elements.{All-take, All-drop, All-from_get_or}
@@ -27,3 +28,6 @@ returns g c = (
       (λ k within. c.loop-start.invariant.present k (omega arith))),
   λ _. refl,
 )
+
+pub loop-start-smaller : goal.loop-start-smaller
+loop-start-smaller c = grind (arith, common_steps)
