@@ -1,6 +1,6 @@
 -- The last call that waits has its answer, or gets moves for it: nothing more is lost.
 use Rattle.std.proofs.Common.{◌≡◌, ◌≢◌, ℕ, ◌+◌, ◌-◌, ◌*◌, ◌<◌, ◌≤◌, ◌⊎◌, inl, inr, List, [], ◌∷◌, ◌++◌, true, length}
-use Rattle.std.proofs.Common.{get_or, refl, sym, ap, arith, rules}
+use Rattle.std.proofs.Common.{Some, get_or, refl, sym, ap, arith, rules}
 use Rattle.std.specs.Prelude.{IsTrue}
 use Rattle.std.proofs.lemmas.Bool.{cases_eq, cases_lt, false≢true}
 use Rattle.ps_game.specs.Games.{ParityGame}
@@ -43,7 +43,10 @@ kept_nest {game} {old} {new} {winner} {order} frames frame {cursor} nest moved f
     let progress_now = Progress-same (winner_of winner) (moves_of new) (λ v inside decided. refl)
     (λ v inside decided. still v (λ top. decided (tops_open v top))) waits.progress in
     let wins = λ (w : ℕ) (inside : IsTrue (from old.level (a + 2) w)). (
-    let below : get_or winner w 0 < 2 = search (rules, in_part_or_rest, false≢true) in
+    let below : get_or winner w 0 < 2 = elim (in_part_or_rest turned.left w inside) [
+      | inl pulled ↦ omega (arith, turned.given w pulled)
+      | inr left ↦ solved.winners w left (λ h. false≢true h)
+    ] in
     below) in
     let answer : Solved game (from old.level (a + 1)) (winner_of winner) (moves_of new) =
     frame_kept nest.sound.is_game waits.alive progress_now turned_now solved_now
@@ -85,7 +88,10 @@ still_moves : {game : ParityGame} {old : TablesData} (moves : List ℕ) {winner 
     (waits : Waits game old winner order a frame) → ((v : ℕ) →
     (get_or moves v 0 ≡ get_or old.moves v 0) ⊎ StandsBetween old frame.turn frame.top v) → (v : ℕ) →
     ¬ IsTrue (waits.prepared.tops v) → moves_of (with_moves old moves) v ≡ moves_of old v
-still_moves moves waits moved v not_top = search rules
+still_moves moves waits moved v not_top = elim (moved v) [
+  | inl same ↦ ap Some same
+  | inr stands ↦ absurd (not_top (waits.only_tops v stands))
+]
 
 moved_waits : {game : ParityGame} {old : TablesData} (moves : List ℕ) {winner order : List ℕ} {a : ℕ} {frame : Frame} →
     ((v : ℕ) → (get_or moves v 0 ≡ get_or old.moves v 0) ⊎ StandsBetween old frame.turn frame.top v) →

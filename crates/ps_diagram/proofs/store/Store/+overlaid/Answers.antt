@@ -36,14 +36,16 @@ returns-in_err-node-clause-keeps t c =
     keeps_trans (keeps_trans c.overlaid.ensures.keeps c.overlaid-2.ensures.keeps) c.test.ensures.keeps
 
 pub returns-in_err-node-clause-known : goal.returns-in_err-node-clause-known
-returns-in_err-node-clause-known t c = search (rules, pairs_kept)
+returns-in_err-node-clause-known t c =
+    pairs_kept IsOverlay (get pair_eq c.overlaid-2.new.known) c.test.ensures.keeps c.overlaid-2.ensures.known
 
 pub returns-in_err-insert-clause-keeps : goal.returns-in_err-insert-clause-keeps
 returns-in_err-insert-clause-keeps t c =
     keeps_trans (keeps_trans c.overlaid.ensures.keeps c.overlaid-2.ensures.keeps) c.test.ensures.keeps
 
 pub returns-in_err-insert-clause-known : goal.returns-in_err-insert-clause-known
-returns-in_err-insert-clause-known t c = search (rules, pairs_kept)
+returns-in_err-insert-clause-known t c = rw c.in_err-insert.ensures.err
+    (pairs_kept IsOverlay (get pair_eq c.overlaid-2.new.known) c.test.ensures.keeps c.overlaid-2.ensures.known)
 
 pub returns-clause-keeps : goal.returns-clause-keeps
 returns-clause-keeps t c =
@@ -51,7 +53,10 @@ returns-clause-keeps t c =
 
 joins : (t : ℕ) (c : goal.In_ok-insert t) → IsOverlay (tree_of c.args.self.now c.args.first)
     (tree_of c.args.self.now c.args.second) (tree_of c.test.new.self c.in_ok-node.node)
-joins t c = search (rules, overlay_sides)
+joins t c =
+    let s = c.in-Some-split.ensures in
+    overlay_sides c.test.new.self c.overlaid.ensures.keeps c.overlaid-2.ensures.keeps _ _ s.first_sides s.second_sides
+    c.in_ok-low.ensures.held c.in_ok-low.ensures.leaf c.in_ok-high.ensures.leaf c.in_ok-node.ensures.leaf
 
 pub returns-clause-known : goal.returns-clause-known
 returns-clause-known t c =
