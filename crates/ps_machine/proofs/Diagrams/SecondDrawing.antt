@@ -141,7 +141,8 @@ module _ {order : Order} {a : AutomatonData} {mask : ℕ} {t : Table} {keys : Li
       ((v : ℕ) → StandsAt keys v (First step.state step.priority) → StandsFor false keys kept memory v step.state) →
       IsReplyRow (board_of order a) keys kept certificate q x (record { memory = memory; letter = letter })
   answer_by {kept} letter memory class move is stands v =
-      let goes : GoesTo keys (board_of order a) q (x + letter) reply.chosen = search rules in
+      let goes : GoesTo keys (board_of order a) q (x + letter) reply.chosen =
+      record { stands = rw is reply.entered } in
       record {
         played = record {
           class = x;
@@ -153,12 +154,17 @@ module _ {order : Order} {a : AutomatonData} {mask : ℕ} {t : Table} {keys : Li
           choice = reply.choice;
           least = record {
             here = (move.here.0, goes);
-            none_before = search (rules, step_of_key, same_some);
+            none_before = λ z other before.
+                let same = step_of_key (same_some (sym other.1.stands ∙ goes.stands)) in
+                move.none_before z (other.0, record {
+                  state = ap (λ (s : Step). s.state) same;
+                  priority = ap (λ (s : Step). s.priority) same;
+                }) before;
           };
         };
         entered = reply.chosen;
         goes = goes;
-        next = search rules;
+        next = rw is (stands reply.chosen reply.entered);
       }
 
   pub answered : {kept : List ℕ} (letter memory : ℕ) → IsClass (board_of order a) q x →
@@ -183,7 +189,10 @@ pub answer_row : {is_first : Bool} {board : Board} {keys : List Key} {kept : Lis
     IsRow is_first board kept row
 answer_row {board} {kept} {row} turn answer =
     let at = answer 0 in
-    search (rules, slice_get_within)
+    rw turn (record {
+      memory = slice_get_within kept row.memory at.next.vertex at.next.is_kept;
+      letter = at.played.least.here.0;
+    })
 
 module _ (board : Board) (keys : List Key) (kept : List ℕ) (certificate : CertificateData) (q : ℕ) where
   abbrev pub Names : List Row → Class → ℕ → Type 0
@@ -214,7 +223,27 @@ module _ {board : Board} {keys : List Key} {kept : List ℕ} {certificate : Cert
   -- letters that step alike have one row
   alike_row : {v x c : ℕ} {row : Row} → SameSteps board q x c → IsRowAt false board keys kept certificate v q c row →
       IsRowAt false board keys kept certificate v q x row
-  alike_row {v} {x} {c} {row} same r = search rules
+  alike_row {v} {x} {c} {row} same r =
+      let played = r.played in
+      let step = same row.letter played.least.here.0 in
+      record {
+        played = record {
+          class = played.class;
+          is_class = played.is_class;
+          same = λ y second. record {
+            state = (same y second).state ∙ (played.same y second).state;
+            priority = (same y second).priority ∙ (played.same y second).priority;
+          };
+          at = played.at;
+          stands = played.stands;
+          chosen = played.chosen;
+          choice = played.choice;
+          least = played.least;
+        };
+        entered = r.entered;
+        goes = record { stands = rw (step.state, step.priority) r.goes.stands };
+        next = rw step.state r.next;
+      }
 
 -- ## The diagram
 
