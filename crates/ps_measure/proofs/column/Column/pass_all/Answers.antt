@@ -1,3 +1,4 @@
+use Rattle.std.proofs.lemmas.Grind.{elements}
 use Rattle.std.proofs.Common.{arith, ◌∙◌, sym}
 use Rattle.std.proofs.lemmas.Bool.{OnFalse_at}
 use Rattle.ps_measure.proofs.Passing.{grows_on}
@@ -29,3 +30,6 @@ loop-place-preserved c =
 pub returns-clause-passed : goal.returns-clause-passed
 returns-clause-passed c = λ to link. c.loop-place.invariant.passed to link
     (omega (arith, c.degree-place-end.ensures, c.loop-place-test.false, link.at))
+
+pub degree-place-end-requires : goal.degree-place-end-requires
+degree-place-end-requires c = grind (arith, elements)
