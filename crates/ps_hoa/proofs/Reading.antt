@@ -7,7 +7,7 @@ pub mod MarkReading
 pub mod IntSigns
 pub mod RowReading
 pub mod NestedRows
-pub mod OperandReading
+pub mod InfixReading
 pub mod LabelReading
 pub mod CondRows
 pub mod ConditionReading

@@ -3,13 +3,14 @@
 -- `&` binds tighter than `|`. The operands of several `&` are one conjunction, and so with `|`; a condition in
 -- parentheses stands for itself.
 --     condition room      a condition at a place where `(` may nest so many deep; those of `Inf` and `Fin` don't count
-use Rattle.std.specs.Prelude.{ℕ, ◌≡◌, ◌<◌, zero, suc, Bool, true, false, List, [], ◌∷◌, codes, if◌then◌else◌, Option}
+use Rattle.std.specs.Prelude.{ℕ, ◌≡◌, ◌<◌, Bool, true, false, List, [], ◌∷◌, codes, if◌then◌else◌, Option}
 use Rattle.std.specs.Prelude.{None, Some}
 use Rattle.std.specs.Str.{bytes_eq}
 use Rattle.ps_text.specs.Digits.{decimal_value}
 use Rattle.ps_text.specs.Parts.{Part, NoBad, one, then_by, either}
 use Rattle.ps_hoa.specs.Labels.{boolean_in}
-use Rattle.ps_hoa.specs.Operands.{is_not, is_left, mark, inner, rows, closed, number_limit}
+use Rattle.ps_hoa.specs.Operands.{InfixGrammar, is_not, is_left, mark, rows, closed, operand as operand_of}
+use Rattle.ps_hoa.specs.Operands.{number_limit}
 use Rattle.ps_hoa.specs.Tokens.{Sign}
 use Rattle.ps_hoa.specs.declared.connective.Connective.{Connective}
 use Rattle.ps_hoa.specs.declared.connective.Connective.TheVariants as connectives
@@ -111,9 +112,12 @@ abbrev pub together : Connective → List Condition → Condition
 together connectives.And cs = all_hold (row_of cs)
 together connectives.Or cs = any_holds (row_of cs)
 
-unfoldable pub operand : ℕ → Part Sign Condition HoaCause
-operand zero = atom 0
-operand (suc room) = either (atom (suc room)) (inner (rows together connectives.Or (operand room)))
+-- an operand is an atom or is in parentheses, and `!` stands before none
+abbrev pub grammar : InfixGrammar Condition
+grammar = record { leaf = atom; negated = None; together = together }
+
+abbrev pub operand : ℕ → Part Sign Condition HoaCause
+operand = operand_of grammar
 
 abbrev pub condition : ℕ → Part Sign Condition HoaCause
 condition room = rows together connectives.Or (operand room)

@@ -4,13 +4,13 @@
 -- in parentheses stands for itself.
 --     label scope room      a label at a place where `!` and `(` may nest so many deep
 --     operand scope room      what may stand on either side of `&`
-use Rattle.std.specs.Prelude.{ℕ, ◌≡◌, ◌≤◌, ◌<◌, ◌⊎◌, zero, suc, Bool, true, false, List, codes, if◌then◌else◌, Option}
+use Rattle.std.specs.Prelude.{ℕ, ◌≡◌, ◌≤◌, ◌<◌, ◌⊎◌, Bool, true, false, List, codes, if◌then◌else◌, Option}
 use Rattle.std.specs.Prelude.{None, Some, position}
 use Rattle.std.specs.Str.{bytes_eq}
 use Rattle.ps_label.specs.Expression.{Expression, constant, proposition, alias, not_of, all_of, any_of, row_of}
 use Rattle.ps_text.specs.Digits.{decimal_value}
-use Rattle.ps_text.specs.Parts.{Part, one, then_by, either, mapped}
-use Rattle.ps_hoa.specs.Operands.{is_not, mark, inner, rows, number_limit}
+use Rattle.ps_text.specs.Parts.{Part, one}
+use Rattle.ps_hoa.specs.Operands.{InfixGrammar, operand as operand_of, rows, number_limit}
 use Rattle.ps_hoa.specs.Tokens.{Sign}
 use Rattle.ps_hoa.specs.declared.connective.Connective.{Connective}
 use Rattle.ps_hoa.specs.declared.connective.Connective.TheVariants as connectives
@@ -77,14 +77,12 @@ abbrev pub together : Connective → List Expression → Expression
 together connectives.And es = all_of (row_of es)
 together connectives.Or es = any_of (row_of es)
 
-abbrev pub negation : Part Sign Expression HoaCause → Part Sign Expression HoaCause
-negation operand = then_by (mark is_not) (λ _. mapped not_of operand)
+-- an operand is of one sign, is behind `!` or is in parentheses
+abbrev pub grammar : ScopeData → InfixGrammar Expression
+grammar scope = record { leaf = leaf scope; negated = Some not_of; together = together }
 
-unfoldable pub operand : ScopeData → ℕ → Part Sign Expression HoaCause
-operand scope zero = leaf scope 0
-operand scope (suc room) =
-    either (leaf scope (suc room)) (either (negation (operand scope room))
-    (inner (rows together connectives.Or (operand scope room))))
+abbrev pub operand : ScopeData → ℕ → Part Sign Expression HoaCause
+operand scope = operand_of (grammar scope)
 
 abbrev pub label : ScopeData → ℕ → Part Sign Expression HoaCause
 label scope room = rows together connectives.Or (operand scope room)

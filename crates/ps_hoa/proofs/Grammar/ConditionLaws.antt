@@ -1,22 +1,23 @@
--- The laws of acceptance conditions, and which form of an operand stands by its first sign.
+-- The laws of acceptance conditions.
 use Rattle.std.proofs.Common.{rules, ◌≡◌, ℕ, zero, suc, Bool, true, false, List, [], codes, refl, arith}
 use Rattle.std.proofs.lemmas.Slice.Eq.{bytes_eq-Decides}
 use Rattle.ps_text.specs.Parts.{Part, one, then_by}
 use Rattle.ps_text.proofs.Following.{laws_tight}
 use Rattle.ps_text.proofs.Laws.{Laws, Joint, Nothing, Or, Within, Apart}
-use Rattle.ps_text.proofs.Combined.{wider_first, laws_first, laws_forms, joint_tight}
+use Rattle.ps_text.proofs.Combined.{laws_first, laws_forms, joint_tight}
 use Rattle.ps_text.proofs.Simple.{Taken, BadSign, none_is_some, laws_one, laws_mapped}
+use Rattle.ps_hoa.specs.Inner.Leaves.{is_single, is_start, AreLeaves}
 use Rattle.ps_hoa.specs.Tokens.{Sign}
 use Rattle.ps_hoa.specs.Operands.{is_not, is_left, mark}
 use Rattle.ps_hoa.specs.Conditions.{Condition, constant_in, often_in, IsBadSet, set, any_set, closed_set, often_or_not}
-use Rattle.ps_hoa.specs.Conditions.{visit, IsBadStart, BadStart, atom, together, operand, condition}
+use Rattle.ps_hoa.specs.Conditions.{visit, IsBadStart, BadStart, atom, together, grammar, operand, condition}
 use Rattle.ps_hoa.specs.declared.fault.HoaCause.{HoaCause}
 use Rattle.ps_hoa.specs.declared.tokens.Kind.{Kind}
 use Rattle.ps_hoa.specs.declared.tokens.Kind.TheVariants.{Word, Int}
-use Rattle.ps_hoa.proofs.Grammar.KindSets.{taken, within, within_both, apart, plain, laws_sign}
+use Rattle.ps_hoa.proofs.Grammar.KindSets.{taken, within, apart, plain, laws_sign}
 use Rattle.ps_hoa.proofs.Grammar.OperandLaws.{Odd, Of, laws_behind, Tight}
-use Rattle.ps_hoa.proofs.Grammar.LabelLaws.{is_start, laws_not, laws_left, laws_right, AndOrMore, laws_rows}
-use Rattle.ps_hoa.proofs.Grammar.LabelLaws.{laws_nested}
+use Rattle.ps_hoa.proofs.Grammar.InfixLaws.{AndOrMore, laws_not, laws_left, laws_right}
+use Rattle.ps_hoa.proofs.Grammar.InfixLaws.{laws_rows, laws_operand}
 
 abbrev pub is_word : Kind → Bool
 is_word Word = true
@@ -100,23 +101,15 @@ laws_atom : (room : ℕ) (test : Kind → Bool) → Within (Of is_word) (Of test
     Within (BadSign (BadStart room)) (Of test) → Tight (atom room) test
 laws_atom room test word bad = grind (arith, laws_forms (laws_constant room) laws_visit (atom_often room))
 
-pub laws_word : (room : ℕ) → Tight (atom (suc room)) is_word
-laws_word room = laws_atom (suc room) is_word (λ t h. h) (λ t h. absurd (none_bad room t.kind h.0 h.1))
-
-pub word_left : Apart (Of is_word) (Of is_left)
-word_left = apart is_word is_left refl
-
-pub laws_operand : (room : ℕ) → Tight (operand room) is_start
-unfolding operand
-laws_operand zero = laws_atom 0 is_start (within is_word is_start refl) (λ t h. grind (arith, within, left_bad))
-laws_operand (suc room) = wider_first (laws_forms (laws_word room) (grind (
-  arith,
-  laws_nested (operand room) together (laws_operand room),
-  laws_operand room,
-)) word_left) (within_both is_word is_left is_start refl refl)
+pub condition_leaves : AreLeaves atom
+condition_leaves = record {
+  last = laws_atom 0 is_start (within is_word is_start refl) (λ t h. grind (arith, within, left_bad));
+  more = λ room. laws_atom (suc room) is_single (within is_word is_single refl)
+      (λ t h. absurd (none_bad room t.kind h.0 h.1));
+}
 
 pub laws_condition : (room : ℕ) → Laws Odd (condition room) (Of is_start) AndOrMore ⊥
-laws_condition room = laws_rows (operand room) together (laws_operand room)
+laws_condition room = laws_rows (operand room) together (laws_operand grammar condition_leaves room)
 
 pub one_condition : (room : ℕ) (text : List Sign) (v w : Condition) → (condition room).IsText text v →
     (condition room).IsText text w → v ≡ w

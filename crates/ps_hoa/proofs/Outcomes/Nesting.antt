@@ -11,6 +11,7 @@ use Rattle.ps_hoa.specs.Nesting.{Grammar, IsOperand, atom, negated, in_parenthes
 use Rattle.ps_hoa.specs.Nesting.{conjunction, More, no_more, one_more, IsRow, row, label_grammar, IsLabel}
 use Rattle.ps_hoa.specs.Nesting.{condition_grammar, IsCondition, Within}
 use Rattle.ps_hoa.specs.Operands.{is_not, is_left, is_right, is_sign_of, inner, joined, further, between, rows}
+use Rattle.ps_hoa.specs.Operands.{operand as operand_of}
 use Rattle.ps_hoa.specs.Tokens.{Sign}
 use Rattle.ps_hoa.specs.declared.connective.Connective.{Connective}
 use Rattle.ps_hoa.specs.declared.connective.Connective.TheVariants.{And, Or}
@@ -147,7 +148,7 @@ module _ {V : Type 0} (g : Grammar V) (part : ℕ → Part Sign V HoaCause) (is 
 -- ## Labels and conditions
 
 label_operands : (scope : ScopeData) → Operands (label_grammar scope.names) (label_operand scope)
-unfolding label_operand
+unfolding operand_of
 label_operands scope = record {
   atoms = atoms;
   negations = negations;
@@ -181,7 +182,7 @@ label_nesting scope room text v =
     bounded (label_grammar scope.names) (label_operand scope) (label_operands scope) room text v
 
 condition_operands : Operands condition_grammar condition_operand
-unfolding condition_operand
+unfolding operand_of
 condition_operands = search rules
 
 pub condition_nesting : (room : ℕ) (text : List Sign) (v : Condition) →

@@ -1,6 +1,4 @@
--- How acceptance conditions are read: the forms of an operand, and sets.
---     condition_operands      what is needed of the operands
---     atom_serves      an operand that is not in parentheses
+-- How the leaves of acceptance conditions are read, and sets.
 --     visit_unopened, visit_fails, visit_stays_open, visit_reads      the exits behind `Inf` or `Fin`
 --     constant_serves      an operand without them
 --     complement_meets, set_serves      a set behind `!`, or without
@@ -14,24 +12,20 @@ use Rattle.ps_text.proofs.Exits.{reads_then, reads_mapped, then_meets}
 use Rattle.ps_text.proofs.Branches.{left_entered, right_entered, left_otherwise}
 use Rattle.ps_hoa.specs.Causes.{HoaFault, hoa_causes, found_of}
 use Rattle.ps_hoa.specs.Conditions.{SetData, constant_in, often_in, visits, set_in, BadSet, set, any_set, closed_set}
-use Rattle.ps_hoa.specs.Conditions.{often_or_not, visit, BadStart, atom, together, operand}
-use Rattle.ps_hoa.specs.Operands.{is_not, is_left, is_right, mark, inner, rows, before}
+use Rattle.ps_hoa.specs.Conditions.{often_or_not, visit, BadStart, atom}
+use Rattle.ps_hoa.specs.Operands.{is_not, is_left, is_right, mark, before}
 use Rattle.ps_hoa.specs.Scan.{next_of, behind_next}
 use Rattle.ps_hoa.specs.Tokens.{Sign}
-use Rattle.ps_hoa.specs.declared.connective.Connective.TheVariants as connectives
 use Rattle.ps_hoa.specs.declared.fault.HoaCause.{HoaCause}
 use Rattle.ps_hoa.specs.declared.tokens.Kind.TheVariants.{Word, Int, Not, LeftParen}
 use Rattle.ps_hoa.proofs.Grammar.OperandLaws.{Odd, Of, joint_mark}
-use Rattle.ps_hoa.proofs.Grammar.LabelLaws.{laws_not, laws_left, laws_rows, laws_nested, apart_right}
+use Rattle.ps_hoa.proofs.Grammar.InfixLaws.{laws_not, laws_left}
 use Rattle.ps_hoa.proofs.Grammar.ConditionLaws.{laws_set, laws_complement, not_int, laws_often, laws_closed_set}
 use Rattle.ps_hoa.proofs.Grammar.ConditionLaws.{joint_closed_set, joint_visit, laws_visit, laws_constant, atom_often}
-use Rattle.ps_hoa.proofs.Grammar.ConditionLaws.{laws_word, word_left, laws_operand}
-use Rattle.ps_hoa.proofs.Reading.Exits.{Serves, serves_as, itself, serves_meets, Leads, first, behind, under, instead}
+use Rattle.ps_hoa.proofs.Reading.Exits.{Serves, serves_as, serves_meets, Leads, first, behind, under, instead}
 use Rattle.ps_hoa.proofs.Reading.Exits.{entered}
 use Rattle.ps_hoa.proofs.Reading.SingleSigns.{IsOfSigns, signs_of, reads_one}
 use Rattle.ps_hoa.proofs.Reading.MarkReading.{tests_not, tests_left, mark_read, mark_begins, mark_elsewhere}
-use Rattle.ps_hoa.proofs.Reading.MarkReading.{inner_begins}
-use Rattle.ps_hoa.proofs.Reading.OperandReading.{Operands}
 
 pub constant_signs : (room : ℕ) → IsOfSigns constant_in (BadStart room)
 constant_signs room = signs_of Word (codes "t") refl refl (λ f b. b)
@@ -41,29 +35,6 @@ set_signs complemented = signs_of Int [] refl refl (λ f b. b)
 
 pub often_signs : IsOfSigns often_in (NoBad {F = HoaCause})
 often_signs = signs_of Word (codes "Inf") refl refl (λ f b. b)
-
--- ## Operands in parentheses
-
-module _ (room : ℕ) where
-  laws_held : Laws Odd (inner (rows together connectives.Or (operand room))) (Of is_left) Nothing ⊥
-  laws_held = laws_nested (operand room) together (laws_operand room)
-
-  serves_paren : (old : Stream Sign) → (next_of old).sign.kind ≡ LeftParen →
-      Serves old (inner (rows together connectives.Or (operand room))) (operand (suc room))
-  unfolding operand
-  serves_paren old e = serves_as old (right_entered (laws_word room) laws_held (there_of old) word_left
-      (inner_begins (laws_rows (operand room) together (laws_operand room)) apart_right old e))
-
-pub condition_operands : Operands together operand
-condition_operands = record { laws = laws_operand; serves = serves_paren }
-
--- no `(` stands there, or no more may nest
-pub atom_serves : (room : ℕ) (old : Stream Sign) → (0 < room → (next_of old).sign.kind ≡ LeftParen → ⊥) →
-    Serves old (atom room) (operand room)
-unfolding operand
-atom_serves zero old no_left = itself
-atom_serves (suc room) old no_left = let some : 0 < suc room = omega arith in
-    serves_as old (grind (arith, left_otherwise, laws_word, laws_held, mark_elsewhere, tests_left))
 
 -- ## `Inf` and `Fin`
 

@@ -25,7 +25,7 @@ use Rattle.ps_hoa.specs.Inner.Signs.{IsTestOf}
 use Rattle.ps_hoa.proofs.Grammar.ConditionLaws.{is_int}
 use Rattle.ps_hoa.proofs.Grammar.HeaderSigns.{signs_mark}
 use Rattle.ps_hoa.proofs.Grammar.KindSets.{test_of}
-use Rattle.ps_hoa.proofs.Grammar.LabelLaws.{laws_left, laws_right}
+use Rattle.ps_hoa.proofs.Grammar.InfixLaws.{laws_left, laws_right}
 use Rattle.ps_hoa.proofs.Grammar.OperandLaws.{Odd, Of, joint_mark, joint_closed, laws_held}
 use Rattle.ps_hoa.proofs.Grammar.SignLaws.{is_string}
 use Rattle.ps_hoa.proofs.Reading.Exits.{Leads, first, behind, under, entered}

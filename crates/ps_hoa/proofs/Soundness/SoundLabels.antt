@@ -15,6 +15,7 @@ use Rattle.ps_hoa.specs.Header.{SpeaksBeyond, SomeSpeaksBeyond}
 use Rattle.ps_hoa.specs.Labels.{ScopeData, leaf_value, leaf_in, IsBeyond, IsBadLeaf, BadLeaf, leaf, together, operand}
 use Rattle.ps_hoa.specs.Labels.{label}
 use Rattle.ps_hoa.specs.Operands.{is_not, is_left, mark, single, joined, further, operands, row, rows}
+use Rattle.ps_hoa.specs.Operands.{operand as operand_of}
 use Rattle.ps_hoa.specs.Sound.{IsLabel, AreLabels}
 use Rattle.ps_hoa.specs.Tokens.{Sign}
 use Rattle.ps_hoa.specs.declared.connective.Connective.{Connective}
@@ -117,7 +118,7 @@ module _ (scope : ScopeData) where
   keeps_rows k = search (rules, keeps_row, together_sound)
 
   keeps_operand : (room : ℕ) → Keeps (operand scope room) (InScope scope)
-  unfolding operand
+  unfolding operand_of
   keeps_operand zero = keeps_leaf 0
   keeps_operand (suc room) = let k = keeps_operand room in
       keeps_either (keeps_leaf (suc room)) (keeps_either (keeps_behind (mark is_not) (λ _. keeps_mapped _ not_of

@@ -1,0 +1,88 @@
+-- The laws of grammars with connectives: rows of operands, and operands, whose forms stand by their first signs.
+--     laws_not, .., laws_right      signs by themselves
+--     laws_both, laws_rows, laws_nested      rows of operands, and those in parentheses
+--     laws_negation, laws_holding, laws_operand      an operand behind `!`, one that holds others, and any
+use Rattle.std.proofs.Common.{rules, ℕ, zero, suc, Bool, List, Option, None, Some, refl, inr}
+use Rattle.ps_text.specs.Parts.{Part}
+use Rattle.ps_text.proofs.Laws.{Laws, Nothing, Or, Apart}
+use Rattle.ps_text.proofs.Combined.{both_within, wider_first, wider_more, laws_forms}
+use Rattle.ps_text.proofs.Simple.{laws_mapped}
+use Rattle.ps_hoa.specs.Inner.Leaves.{is_single, is_start, AreLeaves}
+use Rattle.ps_hoa.specs.Tokens.{Sign}
+use Rattle.ps_hoa.specs.Operands.{is_not, is_and, is_or, is_left, is_right, mark, inner, rows, InfixGrammar, negation}
+use Rattle.ps_hoa.specs.Operands.{holding, operand}
+use Rattle.ps_hoa.specs.declared.connective.Connective.{Connective}
+use Rattle.ps_hoa.specs.declared.connective.Connective.TheVariants as connectives
+use Rattle.ps_hoa.specs.declared.fault.HoaCause.{HoaCause}
+use Rattle.ps_hoa.specs.declared.tokens.Kind.{Kind}
+use Rattle.ps_hoa.specs.declared.tokens.Kind.TheVariants.{Not, And, Or as OrSign, LeftParen, RightParen}
+use Rattle.ps_hoa.proofs.Grammar.KindSets.{union, within, within_both, apart, laws_mark}
+use Rattle.ps_hoa.proofs.Grammar.OperandLaws.{Odd, Of, nothing_apart, laws_behind, laws_held, laws_row, Tight}
+
+-- the signs with which an operand begins that holds others, and those between operands
+abbrev nests : Kind → Bool
+nests = union is_not is_left
+
+abbrev pub is_connective : Kind → Bool
+is_connective = union is_and is_or
+
+pub laws_not : Tight (mark is_not) is_not
+laws_not = laws_mark is_not Not refl (λ _. refl)
+
+pub laws_and : Tight (mark is_and) is_and
+laws_and = laws_mark is_and And refl (λ _. refl)
+
+pub laws_or : Tight (mark is_or) is_or
+laws_or = laws_mark is_or OrSign refl (λ _. refl)
+
+pub laws_left : Tight (mark is_left) is_left
+laws_left = laws_mark is_left LeftParen refl (λ _. refl)
+
+pub laws_right : Tight (mark is_right) is_right
+laws_right = laws_mark is_right RightParen refl (λ _. refl)
+
+pub not_left : Apart (Of is_not) (Of is_left)
+not_left = apart is_not is_left refl
+
+pub single_nested : Apart (Of is_single) (Or (Of is_not) (Of is_left))
+single_nested t h k = apart is_single nests refl t h (within_both is_not is_left nests refl refl t k)
+
+-- what may stand behind the operands of a row, and of rows of rows
+abbrev pub AndMore : Sign → Type 0
+AndMore = Of is_and
+
+abbrev pub AndOrMore : Sign → Type 0
+AndOrMore = Of is_connective
+
+pub apart_or : Apart AndMore (Of is_or)
+apart_or = apart is_and is_or refl
+
+pub apart_right : Apart AndOrMore (Of is_right)
+apart_right = apart is_connective is_right refl
+
+module _ {V : Type 0} {F : Sign → Type 0} (P : Part Sign V HoaCause) (together : Connective → List V → V)
+    (l : Laws Odd P F Nothing ⊥) where
+  pub laws_both : Laws Odd (rows together connectives.And P) F AndMore ⊥
+  laws_both = wider_more (search (rules, laws_row, laws_and, nothing_apart)) (both_within (λ t h. absurd h) (λ t h. h))
+
+  pub laws_rows : Laws Odd (rows together connectives.Or P) F AndOrMore ⊥
+  laws_rows = wider_more (laws_row is_or (rows together connectives.And P) laws_or laws_both apart_or
+      (together connectives.Or)) (within_both is_and is_or is_connective refl refl)
+
+  pub laws_nested : Tight (inner (rows together connectives.Or P)) is_left
+  laws_nested = laws_behind is_left laws_left (laws_held laws_right laws_rows apart_right)
+
+  pub laws_negation : (negated : V → V) → Laws Odd (negation negated P) (Of is_not) Nothing ⊥
+  laws_negation negated = laws_behind is_not laws_not (laws_mapped _ _ l)
+
+  pub laws_holding : (negated : Option (V → V)) →
+      Laws Odd (holding negated P (inner (rows together connectives.Or P))) (Or (Of is_not) (Of is_left)) Nothing ⊥
+  laws_holding None = wider_first laws_nested (λ t h. inr h)
+  laws_holding (Some negated) = laws_forms (laws_negation negated) laws_nested not_left
+
+pub laws_operand : {V : Type 0} (g : InfixGrammar V) → AreLeaves g.leaf → (room : ℕ) → Tight (operand g room) is_start
+unfolding operand
+laws_operand g is zero = is.last
+laws_operand g is (suc room) = wider_first
+    (laws_forms (is.more room) (laws_holding (operand g room) g.together (laws_operand g is room) g.negated)
+    single_nested) (both_within (within is_single is_start refl) (within_both is_not is_left is_start refl refl))

@@ -1,0 +1,130 @@
+//! The reading of operands with connectives between them: of labels, and of acceptance conditions.
+
+ghost use Rattle.std.specs.Prelude.{◌≡◌, Option, IfOk, IfSome, is_some, map};
+ghost use Rattle.ps_hoa.specs.Operands.{InfixGrammar, between, nesting_limit, operand as operand_of, rows};
+ghost use Rattle.ps_hoa.specs.Inner.Reads.{ReadsAs};
+ghost use Rattle.ps_hoa.specs.Inner.Leaves.{AreLeaves};
+
+use crate::connective::{Connective, is_at};
+use crate::fault::HoaFault;
+use crate::signs::mark;
+use crate::tokens::{Kind, Tokens};
+use std::alloc::{AllocError, Global};
+
+/// `!` and `(` may nest as many deep.
+const NESTING_LIMIT: usize = 256;
+
+/// A grammar of operands with connectives between them.
+pub(crate) trait Infix {
+    /// What is made of an operand.
+    type Value: Drop;
+
+    /// What such values mean.
+    ghost Meaning: { Type 0 };
+
+    /// What a value means.
+    ghost meaning: { Self.Value → Self.Meaning };
+
+    /// What the grammar has of its own.
+    ghost grammar: { Self → InfixGrammar Self.Meaning };
+
+    /// Reads an operand without `!` or `(` in front.
+    fn leaf(&self, tokens: &mut Tokens, room: usize) -> Result<Self::Value, HoaFault>
+        ensures { ReadsAs meaning ((grammar self.now).leaf room) tokens.old result tokens.new };
+
+    /// Whether `!` may stand in front of an operand.
+    fn negates(&self) -> bool
+        ensures { result ≡ is_some (grammar self.now).negated };
+
+    /// What `!` in front makes of an operand.
+    fn negated(&self, alloc: Global, operand: Self::Value) -> Result<Self::Value, AllocError>
+        ensures { IfOk result
+            (λ v. IfSome (grammar self.now).negated (λ negated. meaning v ≡ negated (meaning operand))) };
+
+    /// What operands with a connective between them are together.
+    fn together(&self, connective: Connective, operands: Vec<Self::Value>) -> Self::Value
+        ensures { meaning result ≡ (grammar self.now).together connective (map meaning operands.items) };
+}
+
+/// Reads operands with connectives between them.
+pub(crate) fn read<G: Infix>(
+    alloc: Global,
+    tokens: &mut Tokens,
+    grammar: &G,
+) -> Result<G::Value, HoaFault>
+    requires { AreLeaves (G.grammar grammar.now).leaf }
+    ensures { ReadsAs G.meaning (rows (G.grammar grammar.now).together Connective.Or
+        (operand_of (G.grammar grammar.now) nesting_limit)) tokens.old result tokens.new }
+{
+    row(alloc, tokens, grammar, NESTING_LIMIT, Connective::Or)
+}
+
+/// Reads operands with a connective between them, where `!` and `(` may nest so many deep.
+#[cycle(infix)]
+fn row<G: Infix>(
+    alloc: Global,
+    tokens: &mut Tokens,
+    grammar: &G,
+    room: usize,
+    connective: Connective,
+) -> Result<G::Value, HoaFault>
+    requires { AreLeaves (G.grammar grammar.now).leaf }
+    ensures { ReadsAs G.meaning (rows (G.grammar grammar.now).together connective
+        (operand_of (G.grammar grammar.now) room)) tokens.old result tokens.new }
+{
+    let first = part(alloc, tokens, grammar, room, connective)?;
+    if !is_at(tokens, connective) {
+        return Ok(first);
+    }
+    let mut operands = Vec::with_capacity(alloc, 2)?;
+    operands.push(first)?;
+    'more: while is_at(tokens, connective) {
+        tokens.advance();
+        operands.push(part(alloc, tokens, grammar, room, connective)?)?;
+    }
+    Ok(grammar.together(connective, operands))
+}
+
+/// Reads what stands between such connectives.
+#[cycle(infix)]
+fn part<G: Infix>(
+    alloc: Global,
+    tokens: &mut Tokens,
+    grammar: &G,
+    room: usize,
+    connective: Connective,
+) -> Result<G::Value, HoaFault>
+    requires { AreLeaves (G.grammar grammar.now).leaf }
+    ensures { ReadsAs G.meaning (between (G.grammar grammar.now).together connective
+        (operand_of (G.grammar grammar.now) room)) tokens.old result tokens.new }
+{
+    match connective {
+        Connective::And => operand(alloc, tokens, grammar, room),
+        Connective::Or => row(alloc, tokens, grammar, room, Connective::And),
+    }
+}
+
+/// Reads an operand.
+#[cycle(infix)]
+fn operand<G: Infix>(
+    alloc: Global,
+    tokens: &mut Tokens,
+    grammar: &G,
+    room: usize,
+) -> Result<G::Value, HoaFault>
+    requires { AreLeaves (G.grammar grammar.now).leaf }
+    ensures { ReadsAs G.meaning (operand_of (G.grammar grammar.now) room) tokens.old result tokens.new }
+{
+    if room > 0 && grammar.negates() && tokens.is_at(Kind::Not) {
+        tokens.advance();
+        let negated = operand(alloc, tokens, grammar, room - 1)?;
+        return Ok(grammar.negated(alloc, negated)?);
+    }
+    if room > 0 && tokens.is_at(Kind::LeftParen) {
+        tokens.advance();
+        let inner = row(alloc, tokens, grammar, room - 1, Connective::Or)?;
+        mark(tokens, Kind::RightParen)?;
+        return Ok(inner);
+    }
+    grammar.leaf(tokens, room)
+}
