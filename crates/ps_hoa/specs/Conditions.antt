@@ -96,16 +96,8 @@ often_or_not = one often_in NoBad
 abbrev pub visit : Part Sign Condition HoaCause
 visit = then_by often_or_not (λ often. then_by (mark is_left) (λ _. then_by any_set (closed_set often)))
 
--- what may be wrong with the first sign of an operand: a `(` where no more may nest
-abbrev pub IsBadStart : ℕ → Kind → HoaCause → Type 0
-IsBadStart room kinds.LeftParen f = (room ≡ 0) × (f ≡ causes.Limit)
-IsBadStart room kind f = ⊥
-
-abbrev pub BadStart : ℕ → Sign → HoaCause → Type 0
-BadStart room sign f = IsBadStart room sign.kind f
-
-abbrev pub atom : ℕ → Part Sign Condition HoaCause
-atom room = either (one constant_in (BadStart room)) visit
+abbrev pub atom : Part Sign Condition HoaCause
+atom = either (one constant_in NoBad) visit
 
 -- what operands with a connective between them are together
 abbrev pub together : Connective → List Condition → Condition

@@ -55,22 +55,20 @@ abbrev pub IsBeyond : Option ℕ → ℕ → Type 0
 IsBeyond None n = ⊥
 IsBeyond (Some count) n = count ≤ n
 
--- what may be wrong with the first sign of an operand: an INT above the greatest one, or that is no proposition; an
--- alias that is not known; and a `!` or `(` where no more may nest
-abbrev pub IsBadLeaf : ScopeData → ℕ → Kind → List ℕ → HoaCause → Type 0
-IsBadLeaf scope room kinds.Int text f =
+-- what may be wrong with such an operand: an INT above the greatest one, or that is no proposition; an alias that is not
+-- known
+abbrev pub IsBadLeaf : ScopeData → Kind → List ℕ → HoaCause → Type 0
+IsBadLeaf scope kinds.Int text f =
     ((number_limit < decimal_value text) × (f ≡ causes.Limit)) ⊎
     (IsBeyond scope.propositions (decimal_value text) × (f ≡ causes.Range))
-IsBadLeaf scope room kinds.AliasName text f = (alias_number scope.names text ≡ None) × (f ≡ causes.Alias)
-IsBadLeaf scope room kinds.Not text f = (room ≡ 0) × (f ≡ causes.Limit)
-IsBadLeaf scope room kinds.LeftParen text f = (room ≡ 0) × (f ≡ causes.Limit)
-IsBadLeaf scope room kind text f = ⊥
+IsBadLeaf scope kinds.AliasName text f = (alias_number scope.names text ≡ None) × (f ≡ causes.Alias)
+IsBadLeaf scope kind text f = ⊥
 
-abbrev pub BadLeaf : ScopeData → ℕ → Sign → HoaCause → Type 0
-BadLeaf scope room sign f = IsBadLeaf scope room sign.kind sign.text f
+abbrev pub BadLeaf : ScopeData → Sign → HoaCause → Type 0
+BadLeaf scope sign f = IsBadLeaf scope sign.kind sign.text f
 
-abbrev pub leaf : ScopeData → ℕ → Part Sign Expression HoaCause
-leaf scope room = one (leaf_in scope.names) (BadLeaf scope room)
+abbrev pub leaf : ScopeData → Part Sign Expression HoaCause
+leaf scope = one (leaf_in scope.names) (BadLeaf scope)
 
 -- what operands with a connective between them are together
 abbrev pub together : Connective → List Expression → Expression

@@ -6,12 +6,13 @@
 --               all at once
 --     rows together connective operand      operands with a connective between them, where `&` binds tighter than `|`
 --     operand g room      an operand of such a grammar, where `!` and `(` may nest so many deep
-use Rattle.std.specs.Prelude.{ℕ, zero, suc, Bool, true, false, List, [], ◌∷◌, ◌++◌, if◌then◌else◌, Option, None, Some}
-use Rattle.ps_text.specs.Parts.{Part, NoBad, one, then_by, either, many, mapped}
+use Rattle.std.specs.Prelude.{ℕ, ◌≡◌, zero, suc, Bool, true, false, List, [], ◌∷◌, ◌++◌, if◌then◌else◌, Option, None, Some}
+use Rattle.ps_text.specs.Parts.{Part, NoBad, give, one, then_by, either, many, mapped, barred}
 use Rattle.ps_hoa.specs.Tokens.{Sign}
 use Rattle.ps_hoa.specs.declared.connective.Connective.{Connective}
 use Rattle.ps_hoa.specs.declared.connective.Connective.TheVariants as connectives
 use Rattle.ps_hoa.specs.declared.fault.HoaCause.{HoaCause}
+use Rattle.ps_hoa.specs.declared.fault.HoaCause.TheVariants as causes
 use Rattle.ps_hoa.specs.declared.tokens.Kind.{Kind}
 use Rattle.ps_hoa.specs.declared.tokens.Kind.TheVariants as kinds
 
@@ -93,25 +94,37 @@ rows together connective operand =
 
 -- what each of the two grammars has of its own
 pub record InfixGrammar (V : Type 0) : Type 1 where
-  -- an operand without `!` or `(` in front, and what may be wrong with one where these may nest so many deep
-  pub leaf : ℕ → Part Sign V HoaCause
+  -- an operand without `!` or `(` in front
+  pub leaf : Part Sign V HoaCause
   -- what `!` in front makes of an operand, where it may stand there
   pub negated : Option (V → V)
   -- what operands with a connective between them are together
   pub together : Connective → List V → V
 
+-- with such a sign an operand begins that holds another one
+abbrev pub holds : {V : Type 0} → Option (V → V) → Kind → Bool
+holds (Some negated) kinds.Not = true
+holds negated kind = is_left kind
+
+abbrev pub IsTooDeep : {V : Type 0} → Option (V → V) → Sign → HoaCause → Type 0
+IsTooDeep negated sign f = (holds negated sign.kind ≡ true) × (f ≡ causes.Limit)
+
+-- no such operand stands here, since no more may nest
+abbrev pub bar : {V : Type 0} → Option (V → V) → Part Sign (Unit {0}) HoaCause
+bar negated = barred (give tt) (λ _. IsTooDeep negated)
+
 abbrev pub negation : {V : Type 0} → (V → V) → Part Sign V HoaCause → Part Sign V HoaCause
 negation negated operand = then_by (mark is_not) (λ _. mapped negated operand)
 
--- an operand that holds others: behind `!`, where that may stand there, or in parentheses
+-- an operand that holds another one: behind `!`, where that may stand there, or in parentheses
 abbrev pub holding : {V : Type 0} → Option (V → V) → Part Sign V HoaCause → Part Sign V HoaCause → Part Sign V HoaCause
 holding None operand held = held
 holding (Some negated) operand held = either (negation negated operand) held
 
 unfoldable pub operand : {V : Type 0} → InfixGrammar V → ℕ → Part Sign V HoaCause
-operand g zero = g.leaf 0
-operand g (suc room) = either (g.leaf (suc room))
-    (holding g.negated (operand g room) (inner (rows g.together connectives.Or (operand g room))))
+operand g zero = then_by (bar g.negated) (λ _. g.leaf)
+operand g (suc room) =
+    either g.leaf (holding g.negated (operand g room) (inner (rows g.together connectives.Or (operand g room))))
 
 -- the greatest INT
 abbrev pub number_limit : ℕ

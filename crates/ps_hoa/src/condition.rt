@@ -1,7 +1,7 @@
 //! Acceptance conditions, and the reading of them.
 
 ghost use Rattle.std.specs.Prelude.{◌≡◌, map};
-ghost use Rattle.ps_text.specs.Parts.{one};
+ghost use Rattle.ps_text.specs.Parts.{NoBad, one};
 ghost use Rattle.ps_hoa.specs.Conditions as conditions;
 ghost use Rattle.ps_hoa.specs.Operands.{nesting_limit};
 ghost use Rattle.ps_hoa.specs.Inner.Reads.{ReadsAs, Takes};
@@ -62,12 +62,12 @@ impl Infix for Conditions {
 
     ghost grammar = { λ _. conditions.grammar };
 
-    fn leaf(&self, tokens: &mut Tokens, room: usize) -> Result<Cond, HoaFault> {
-        atom(tokens, room)
+    fn leaf(&self, tokens: &mut Tokens) -> Result<Cond, HoaFault> {
+        atom(tokens)
     }
 
-    fn negates(&self) -> bool {
-        false
+    fn holds(&self, kind: Kind) -> bool {
+        matches!(kind, Kind::LeftParen)
     }
 
     fn negated(&self, _alloc: Global, operand: Cond) -> Result<Cond, AllocError> {
@@ -85,11 +85,11 @@ impl Infix for Conditions {
 }
 
 /// Reads an operand that is not in parentheses.
-fn atom(tokens: &mut Tokens, room: usize) -> Result<Cond, HoaFault>
-    ensures { ReadsAs condition_of (conditions.atom room) tokens.old result tokens.new }
+fn atom(tokens: &mut Tokens) -> Result<Cond, HoaFault>
+    ensures { ReadsAs condition_of conditions.atom tokens.old result tokens.new }
 {
     let Some(often) = often_of(tokens.peek()) else {
-        return constant(tokens, room);
+        return constant(tokens);
     };
     tokens.advance();
     mark(tokens, Kind::LeftParen)?;
@@ -121,22 +121,20 @@ fn often_of(token: Token) -> Option<bool>
 }
 
 /// Reads `t` or `f`.
-fn constant(tokens: &mut Tokens, room: usize) -> Result<Cond, HoaFault>
-    ensures { ReadsAs condition_of (one conditions.constant_in (conditions.BadStart room)) tokens.old
-        result tokens.new }
+fn constant(tokens: &mut Tokens) -> Result<Cond, HoaFault>
+    ensures { ReadsAs condition_of (one conditions.constant_in NoBad) tokens.old result tokens.new }
 {
     let token = tokens.advance();
-    constant_of(token, room)
+    constant_of(token)
 }
 
 /// The constant that a token is.
-fn constant_of(token: Token, room: usize) -> Result<Cond, HoaFault>
-    ensures { Takes condition_of conditions.constant_in (conditions.BadStart room) (piece_of token.entry) result }
+fn constant_of(token: Token) -> Result<Cond, HoaFault>
+    ensures { Takes condition_of conditions.constant_in NoBad (piece_of token.entry) result }
 {
     match token.kind {
         Kind::Word if is_same(token.text, b"t") => Ok(Cond::Always),
         Kind::Word if is_same(token.text, b"f") => Ok(Cond::Never),
-        Kind::LeftParen if room == 0 => Err(fault_at(token, HoaCause::Limit)),
         _ => Err(refused(token)),
     }
 }

@@ -1,13 +1,14 @@
 //! The reading of operands with connectives between them: of labels, and of acceptance conditions.
 
-ghost use Rattle.std.specs.Prelude.{◌≡◌, Option, IfOk, IfSome, is_some, map};
-ghost use Rattle.ps_hoa.specs.Operands.{InfixGrammar, between, nesting_limit, operand as operand_of, rows};
+ghost use Rattle.std.specs.Prelude.{◌≡◌, IfOk, IfSome, map};
+ghost use Rattle.ps_hoa.specs.Operands.{InfixGrammar, between, holds as holds_at, nesting_limit, operand as operand_of, rows};
 ghost use Rattle.ps_hoa.specs.Inner.Reads.{ReadsAs};
-ghost use Rattle.ps_hoa.specs.Inner.Leaves.{AreLeaves};
+ghost use Rattle.ps_hoa.specs.Inner.Leaves.{IsLeaf};
 
 use crate::connective::{Connective, is_at};
-use crate::fault::HoaFault;
-use crate::signs::mark;
+use crate::fault::{HoaCause, HoaFault};
+use crate::refusal::fault_at;
+use crate::signs::{is_kind, mark};
 use crate::tokens::{Kind, Tokens};
 use std::alloc::{AllocError, Global};
 
@@ -29,12 +30,12 @@ pub(crate) trait Infix {
     ghost grammar: { Self → InfixGrammar Self.Meaning };
 
     /// Reads an operand without `!` or `(` in front.
-    fn leaf(&self, tokens: &mut Tokens, room: usize) -> Result<Self::Value, HoaFault>
-        ensures { ReadsAs meaning ((grammar self.now).leaf room) tokens.old result tokens.new };
+    fn leaf(&self, tokens: &mut Tokens) -> Result<Self::Value, HoaFault>
+        ensures { ReadsAs meaning (grammar self.now).leaf tokens.old result tokens.new };
 
-    /// Whether `!` may stand in front of an operand.
-    fn negates(&self) -> bool
-        ensures { result ≡ is_some (grammar self.now).negated };
+    /// Whether with such a sign an operand begins that holds another one.
+    fn holds(&self, kind: Kind) -> bool
+        ensures { result ≡ holds_at (grammar self.now).negated kind };
 
     /// What `!` in front makes of an operand.
     fn negated(&self, alloc: Global, operand: Self::Value) -> Result<Self::Value, AllocError>
@@ -52,7 +53,7 @@ pub(crate) fn read<G: Infix>(
     tokens: &mut Tokens,
     grammar: &G,
 ) -> Result<G::Value, HoaFault>
-    requires { AreLeaves (G.grammar grammar.now).leaf }
+    requires { IsLeaf (G.grammar grammar.now).leaf }
     ensures { ReadsAs G.meaning (rows (G.grammar grammar.now).together Connective.Or
         (operand_of (G.grammar grammar.now) nesting_limit)) tokens.old result tokens.new }
 {
@@ -68,7 +69,7 @@ fn row<G: Infix>(
     room: usize,
     connective: Connective,
 ) -> Result<G::Value, HoaFault>
-    requires { AreLeaves (G.grammar grammar.now).leaf }
+    requires { IsLeaf (G.grammar grammar.now).leaf }
     ensures { ReadsAs G.meaning (rows (G.grammar grammar.now).together connective
         (operand_of (G.grammar grammar.now) room)) tokens.old result tokens.new }
 {
@@ -94,7 +95,7 @@ fn part<G: Infix>(
     room: usize,
     connective: Connective,
 ) -> Result<G::Value, HoaFault>
-    requires { AreLeaves (G.grammar grammar.now).leaf }
+    requires { IsLeaf (G.grammar grammar.now).leaf }
     ensures { ReadsAs G.meaning (between (G.grammar grammar.now).together connective
         (operand_of (G.grammar grammar.now) room)) tokens.old result tokens.new }
 {
@@ -112,19 +113,22 @@ fn operand<G: Infix>(
     grammar: &G,
     room: usize,
 ) -> Result<G::Value, HoaFault>
-    requires { AreLeaves (G.grammar grammar.now).leaf }
+    requires { IsLeaf (G.grammar grammar.now).leaf }
     ensures { ReadsAs G.meaning (operand_of (G.grammar grammar.now) room) tokens.old result tokens.new }
 {
-    if room > 0 && grammar.negates() && tokens.is_at(Kind::Not) {
-        tokens.advance();
+    let token = tokens.peek();
+    if !grammar.holds(token.kind) {
+        return grammar.leaf(tokens);
+    }
+    if room == 0 {
+        return Err(fault_at(token, HoaCause::Limit));
+    }
+    tokens.advance();
+    if is_kind(token, Kind::Not) {
         let negated = operand(alloc, tokens, grammar, room - 1)?;
         return Ok(grammar.negated(alloc, negated)?);
     }
-    if room > 0 && tokens.is_at(Kind::LeftParen) {
-        tokens.advance();
-        let inner = row(alloc, tokens, grammar, room - 1, Connective::Or)?;
-        mark(tokens, Kind::RightParen)?;
-        return Ok(inner);
-    }
-    grammar.leaf(tokens, room)
+    let inner = row(alloc, tokens, grammar, room - 1, Connective::Or)?;
+    mark(tokens, Kind::RightParen)?;
+    Ok(inner)
 }

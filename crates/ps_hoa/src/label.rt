@@ -36,13 +36,13 @@ impl Infix for Scope<'_, '_> {
 
     ghost grammar = { labels.grammar };
 
-    fn leaf(&self, tokens: &mut Tokens, room: usize) -> Result<Label, HoaFault> {
+    fn leaf(&self, tokens: &mut Tokens) -> Result<Label, HoaFault> {
         let token = tokens.advance();
-        leaf_of(token, self, room)
+        leaf_of(token, self)
     }
 
-    fn negates(&self) -> bool {
-        true
+    fn holds(&self, kind: Kind) -> bool {
+        matches!(kind, Kind::Not | Kind::LeftParen)
     }
 
     fn negated(&self, alloc: Global, operand: Label) -> Result<Label, AllocError> {
@@ -60,8 +60,8 @@ impl Infix for Scope<'_, '_> {
 }
 
 /// The operand that a token is.
-fn leaf_of(token: Token, scope: &Scope, room: usize) -> Result<Label, HoaFault>
-    ensures { Takes expression (labels.leaf_in scope.now.names) (labels.BadLeaf scope.now room)
+fn leaf_of(token: Token, scope: &Scope) -> Result<Label, HoaFault>
+    ensures { Takes expression (labels.leaf_in scope.now.names) (labels.BadLeaf scope.now)
         (piece_of token.entry) result }
 {
     match token.kind {
@@ -78,8 +78,6 @@ fn leaf_of(token: Token, scope: &Scope, room: usize) -> Result<Label, HoaFault>
             None => Err(fault_at(token, HoaCause::Alias)),
             Some(number) => Ok(Label::Named(number)),
         },
-        Kind::Not if room == 0 => Err(fault_at(token, HoaCause::Limit)),
-        Kind::LeftParen if room == 0 => Err(fault_at(token, HoaCause::Limit)),
         _ => Err(refused(token)),
     }
 }

@@ -15,7 +15,6 @@ use Rattle.ps_text.proofs.Joined.{joint}
 use Rattle.ps_text.proofs.Combined.{both_within, wider_first, laws_forms, laws_option, laws_all, laws_last, joint_tight}
 use Rattle.ps_text.proofs.Simple.{laws_give, laws_mapped, laws_then}
 use Rattle.ps_text.proofs.Barred.{Bar}
-use Rattle.ps_hoa.specs.Inner.Leaves.{is_start}
 use Rattle.ps_hoa.specs.Tokens.{Sign}
 use Rattle.ps_hoa.specs.Operands.{nesting_limit, is_and, mark}
 use Rattle.ps_hoa.specs.Labels.{label}
@@ -32,6 +31,7 @@ use Rattle.ps_hoa.specs.declared.tokens.Kind.TheVariants.{Int, LeftBracket, Righ
 use Rattle.ps_hoa.proofs.Grammar.ConditionLaws.{is_int}
 use Rattle.ps_hoa.proofs.Grammar.KindSets.{union, within, within_both, apart, laws_sign, laws_value, laws_mark}
 use Rattle.ps_hoa.proofs.Grammar.OperandLaws.{Odd, Of, Known, Tight}
+use Rattle.ps_hoa.proofs.Grammar.InfixLaws.{is_start}
 use Rattle.ps_hoa.proofs.Grammar.LabelLaws.{laws_label}
 use Rattle.ps_hoa.proofs.Grammar.SignLaws.{laws_alternating}
 

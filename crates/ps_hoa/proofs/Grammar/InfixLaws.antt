@@ -1,27 +1,33 @@
 -- The laws of grammars with connectives: rows of operands, and operands, whose forms stand by their first signs.
 --     laws_not, .., laws_right      signs by themselves
 --     laws_both, laws_rows, laws_nested      rows of operands, and those in parentheses
---     laws_negation, laws_holding, laws_operand      an operand behind `!`, one that holds others, and any
-use Rattle.std.proofs.Common.{rules, ℕ, zero, suc, Bool, List, Option, None, Some, refl, inr}
-use Rattle.ps_text.specs.Parts.{Part}
-use Rattle.ps_text.proofs.Laws.{Laws, Nothing, Or, Apart}
+--     laws_negation, laws_holding, laws_operand      an operand behind `!`, one that holds another one, and any
+--     joint_bar      a leaf where no more may nest
+use Rattle.std.proofs.Common.{rules, arith, ◌≡◌, ℕ, zero, suc, Bool, true, List, Option, None, Some, refl, inr}
+use Rattle.ps_text.specs.Parts.{Part, then_by}
+use Rattle.ps_text.proofs.Barred.{laws_barred}
+use Rattle.ps_text.proofs.Joined.{joint}
+use Rattle.ps_text.proofs.Laws.{Laws, Joint, Nothing, Or, Apart, weaker}
 use Rattle.ps_text.proofs.Combined.{both_within, wider_first, wider_more, laws_forms}
-use Rattle.ps_text.proofs.Simple.{laws_mapped}
-use Rattle.ps_hoa.specs.Inner.Leaves.{is_single, is_start, AreLeaves}
+use Rattle.ps_text.proofs.Simple.{laws_give, laws_mapped, laws_then}
+use Rattle.ps_hoa.specs.Inner.Leaves.{is_single, IsLeaf}
 use Rattle.ps_hoa.specs.Tokens.{Sign}
 use Rattle.ps_hoa.specs.Operands.{is_not, is_and, is_or, is_left, is_right, mark, inner, rows, InfixGrammar, negation}
-use Rattle.ps_hoa.specs.Operands.{holding, operand}
+use Rattle.ps_hoa.specs.Operands.{holds, IsTooDeep, bar, holding, operand}
 use Rattle.ps_hoa.specs.declared.connective.Connective.{Connective}
 use Rattle.ps_hoa.specs.declared.connective.Connective.TheVariants as connectives
 use Rattle.ps_hoa.specs.declared.fault.HoaCause.{HoaCause}
 use Rattle.ps_hoa.specs.declared.tokens.Kind.{Kind}
 use Rattle.ps_hoa.specs.declared.tokens.Kind.TheVariants.{Not, And, Or as OrSign, LeftParen, RightParen}
-use Rattle.ps_hoa.proofs.Grammar.KindSets.{union, within, within_both, apart, laws_mark}
+use Rattle.ps_hoa.proofs.Grammar.KindSets.{union, within, within_both, apart, plain, laws_mark}
 use Rattle.ps_hoa.proofs.Grammar.OperandLaws.{Odd, Of, nothing_apart, laws_behind, laws_held, laws_row, Tight}
 
--- the signs with which an operand begins that holds others, and those between operands
-abbrev nests : Kind → Bool
+-- the signs with which an operand may begin that holds another one, with which any may, and those between operands
+abbrev pub nests : Kind → Bool
 nests = union is_not is_left
+
+abbrev pub is_start : Kind → Bool
+is_start = union is_single nests
 
 abbrev pub is_connective : Kind → Bool
 is_connective = union is_and is_or
@@ -80,9 +86,29 @@ module _ {V : Type 0} {F : Sign → Type 0} (P : Part Sign V HoaCause) (together
   laws_holding None = wider_first laws_nested (λ t h. inr h)
   laws_holding (Some negated) = laws_forms (laws_negation negated) laws_nested not_left
 
-pub laws_operand : {V : Type 0} (g : InfixGrammar V) → AreLeaves g.leaf → (room : ℕ) → Tight (operand g room) is_start
+-- where no more may nest
+module _ {V : Type 0} (negated : Option (V → V)) where
+  nests_holding : (kind : Kind) → holds negated kind ≡ true → nests kind ≡ true
+  nests_holding kind h = grind arith
+
+  laws_bar : Laws Odd (bar negated) (Of nests) (Of nests) (Unit {0})
+  laws_bar = weaker (laws_barred (λ _. IsTooDeep negated) (laws_give Odd tt)
+      (λ t h. plain nests (λ _. refl) t (nests_holding t.kind h.2.0)))
+      (both_within (λ t h. absurd h) (λ t h. nests_holding t.kind h.1.2.0))
+      (both_within (λ t h. absurd h) (λ t h. nests_holding t.kind h.2.0)) (λ n. n)
+
+  module _ {leaf : Part Sign V HoaCause} (is : IsLeaf leaf) where
+    pub joint_bar : Joint (bar negated) (λ _. leaf)
+    joint_bar = joint laws_bar (λ _. is) (apart nests is_single refl)
+
+    laws_barred_leaf : Tight (then_by (bar negated) (λ _. leaf)) is_start
+    laws_barred_leaf = weaker (laws_then laws_bar (λ _. is) (apart nests is_single refl))
+        (both_within (within nests is_start refl) (λ t h. within is_single is_start refl t h.1))
+        (both_within (λ t h. h) (λ t h. h.0)) (λ n. n.1)
+
+pub laws_operand : {V : Type 0} (g : InfixGrammar V) → IsLeaf g.leaf → (room : ℕ) → Tight (operand g room) is_start
 unfolding operand
-laws_operand g is zero = is.last
+laws_operand g is zero = laws_barred_leaf g.negated is
 laws_operand g is (suc room) = wider_first
-    (laws_forms (is.more room) (laws_holding (operand g room) g.together (laws_operand g is room) g.negated)
-    single_nested) (both_within (within is_single is_start refl) (within_both is_not is_left is_start refl refl))
+    (laws_forms is (laws_holding (operand g room) g.together (laws_operand g is room) g.negated) single_nested)
+    (both_within (within is_single is_start refl) (within_both is_not is_left is_start refl refl))

@@ -1,8 +1,8 @@
 -- The laws of labels.
-use Rattle.std.proofs.Common.{◌≡◌, ℕ, suc, true, List, [], refl, arith}
+use Rattle.std.proofs.Common.{◌≡◌, ℕ, true, List, [], refl, arith}
 use Rattle.ps_label.specs.Expression.{Expression}
 use Rattle.ps_text.proofs.Laws.{Laws}
-use Rattle.ps_hoa.specs.Inner.Leaves.{is_single, is_start, AreLeaves}
+use Rattle.ps_hoa.specs.Inner.Leaves.{is_single, IsLeaf}
 use Rattle.ps_hoa.specs.Tokens.{Sign}
 use Rattle.ps_hoa.specs.Labels.{ScopeData, IsBadLeaf, leaf, together, grammar, operand, label}
 use Rattle.ps_hoa.specs.declared.fault.HoaCause.{HoaCause}
@@ -10,25 +10,18 @@ use Rattle.ps_hoa.specs.declared.tokens.Kind.{Kind}
 use Rattle.ps_hoa.specs.declared.tokens.Kind.TheVariants.{Int}
 use Rattle.ps_hoa.proofs.Grammar.KindSets.{laws_sign}
 use Rattle.ps_hoa.proofs.Grammar.OperandLaws.{Odd, Of}
-use Rattle.ps_hoa.proofs.Grammar.InfixLaws.{AndOrMore, laws_rows, laws_operand}
+use Rattle.ps_hoa.proofs.Grammar.InfixLaws.{is_start, AndOrMore, laws_rows, laws_operand}
 
-start_bad : (scope : ScopeData) (room : ℕ) (kind : Kind) (text : List ℕ) (f : HoaCause) →
-    IsBadLeaf scope room kind text f → is_start kind ≡ true
-start_bad scope room kind text f h = grind arith
+single_bad : (scope : ScopeData) (kind : Kind) (text : List ℕ) (f : HoaCause) → IsBadLeaf scope kind text f →
+    is_single kind ≡ true
+single_bad scope kind text f h = grind arith
 
-single_bad : (scope : ScopeData) (room : ℕ) (kind : Kind) (text : List ℕ) (f : HoaCause) →
-    IsBadLeaf scope (suc room) kind text f → is_single kind ≡ true
-single_bad scope room kind text f h = grind arith
-
-pub label_leaves : (scope : ScopeData) → AreLeaves (leaf scope)
-label_leaves scope = record {
-  last = laws_sign is_start Int [] _ refl (λ _. refl) (λ t h. start_bad scope 0 t.kind t.text h.0 h.1);
-  more = λ room. laws_sign is_single Int [] _ refl (λ _. refl) (λ t h. grind (arith, single_bad));
-}
+pub label_leaf : (scope : ScopeData) → IsLeaf (leaf scope)
+label_leaf scope = laws_sign is_single Int [] _ refl (λ _. refl) (λ t h. grind (arith, single_bad))
 
 pub laws_label : (scope : ScopeData) (room : ℕ) → Laws Odd (label scope room) (Of is_start) AndOrMore ⊥
 laws_label scope room =
-    laws_rows (operand scope room) together (laws_operand (grammar scope) (label_leaves scope) room)
+    laws_rows (operand scope room) together (laws_operand (grammar scope) (label_leaf scope) room)
 
 pub one_label : (scope : ScopeData) (room : ℕ) (text : List Sign) (v w : Expression) →
     (label scope room).IsText text v → (label scope room).IsText text w → v ≡ w

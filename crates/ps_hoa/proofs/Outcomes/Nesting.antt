@@ -5,13 +5,13 @@ use Rattle.std.proofs.Common.{◌≡◌, ◌↔◌, ◌⊎◌, ℕ, zero, suc, �
 use Rattle.std.proofs.Common.{inl, inr, ◌∙◌, arith, rules}
 use Rattle.ps_label.specs.Expression.{Expression}
 use Rattle.ps_text.specs.Parts.{Part, times}
-use Rattle.ps_hoa.specs.Conditions.{Condition, operand as condition_operand, condition}
-use Rattle.ps_hoa.specs.Labels.{ScopeData, operand as label_operand, label}
+use Rattle.ps_hoa.specs.Conditions.{Condition, grammar as condition_parts, operand as condition_operand, condition}
+use Rattle.ps_hoa.specs.Labels.{ScopeData, grammar, operand as label_operand, label}
 use Rattle.ps_hoa.specs.Nesting.{Grammar, IsOperand, atom, negated, in_parentheses, IsPart, operand as operand_part}
 use Rattle.ps_hoa.specs.Nesting.{conjunction, More, no_more, one_more, IsRow, row, label_grammar, IsLabel}
 use Rattle.ps_hoa.specs.Nesting.{condition_grammar, IsCondition, Within}
 use Rattle.ps_hoa.specs.Operands.{is_not, is_left, is_right, is_sign_of, inner, joined, further, between, rows}
-use Rattle.ps_hoa.specs.Operands.{operand as operand_of}
+use Rattle.ps_hoa.specs.Operands.{InfixGrammar, operand as operand_of}
 use Rattle.ps_hoa.specs.Tokens.{Sign}
 use Rattle.ps_hoa.specs.declared.connective.Connective.{Connective}
 use Rattle.ps_hoa.specs.declared.connective.Connective.TheVariants.{And, Or}
@@ -147,20 +147,28 @@ module _ {V : Type 0} (g : Grammar V) (part : ℕ → Part Sign V HoaCause) (is 
 
 -- ## Labels and conditions
 
+-- an atom is an operand whatever the room, and only that where there is none
+module _ {V : Type 0} (g : InfixGrammar V) where
+  atom_text : (room : ℕ) (text : List Sign) (v : V) → g.leaf.IsText text v → (operand_of g room).IsText text v
+  unfolding operand_of
+  atom_text zero text v a =
+      record { left = []; right = text; value = tt; split = refl; is_left = (refl, refl); is_right = a }
+  atom_text (suc room) text v a = inl a
+
+  text_atom : (text : List Sign) (v : V) → (operand_of g 0).IsText text v → g.leaf.IsText text v
+  unfolding operand_of
+  text_atom text v i = subst (λ z. g.leaf.IsText z v) (sym (i.split ∙ ap (λ z. z ++ i.right) i.is_left.0)) i.is_right
+
 label_operands : (scope : ScopeData) → Operands (label_grammar scope.names) (label_operand scope)
 unfolding operand_of
 label_operands scope = record {
-  atoms = atoms;
+  atoms = atom_text (grammar scope);
   negations = negations;
   parentheses = λ room text v i. inr (inr i);
-  none = λ text v i. i;
+  none = text_atom (grammar scope);
   some = some;
 }
   where
-    atoms : (room : ℕ) (text : List Sign) (v : Expression) → (label_grammar scope.names).IsAtom text v →
-        (label_operand scope room).IsText text v
-    atoms room text v a = grind arith
-
     negations : (room : ℕ) (text : List Sign) (v : Expression) → Negation (label_grammar scope.names)
         (label_operand scope room) text v → (label_operand scope (suc room)).IsText text v
     negations room text v (t, rest, w, e, n, k, o) = inr (inl (record {
@@ -183,7 +191,13 @@ label_nesting scope room text v =
 
 condition_operands : Operands condition_grammar condition_operand
 unfolding operand_of
-condition_operands = search rules
+condition_operands = record {
+  atoms = atom_text condition_parts;
+  negations = λ room text v h. absurd h.5;
+  parentheses = λ room text v i. inr i;
+  none = text_atom condition_parts;
+  some = λ room text v h. elim h [ inl a ↦ inl a | inr i ↦ inr (inr i) ];
+}
 
 pub condition_nesting : (room : ℕ) (text : List Sign) (v : Condition) →
     (condition room).IsText text v ↔ Within room IsCondition text v

@@ -1,7 +1,6 @@
 -- What the reading of operands asks of a grammar's leaves.
---     AreLeaves leaf      a leaf begins with a sign of its own and goes on with none that stands behind it; a `!` or `(`
---               where no more may nest is wrong there
-use Rattle.std.specs.Prelude.{ℕ, ◌≡◌, zero, suc, Bool, true, false}
+--     IsLeaf leaf      a leaf begins with a sign of its own, and no text of one goes on with any sign
+use Rattle.std.specs.Prelude.{◌≡◌, Bool, true, false}
 use Rattle.ps_text.specs.Parts.{Part}
 use Rattle.ps_text.proofs.Laws.{Laws, Nothing}
 use Rattle.ps_text.proofs.Whole.{Own}
@@ -11,18 +10,11 @@ use Rattle.ps_hoa.specs.declared.fault.HoaCause.{HoaCause}
 use Rattle.ps_hoa.specs.declared.tokens.Kind.{Kind}
 use Rattle.ps_hoa.specs.declared.tokens.Kind.TheVariants as kinds
 
--- the signs with which a leaf may begin, and an operand
 abbrev pub is_single : Kind → Bool
 is_single kinds.Word = true
 is_single kinds.Int = true
 is_single kinds.AliasName = true
 is_single kind = false
 
-abbrev pub is_start : Kind → Bool
-is_start kinds.Not = true
-is_start kinds.LeftParen = true
-is_start kind = is_single kind
-
-pub record AreLeaves {V : Type 0} (leaf : ℕ → Part Sign V HoaCause) : Type 0 where
-  pub last : Laws (Own hoa_causes) (leaf 0) (λ t. is_start t.kind ≡ true) Nothing ⊥
-  pub more : (room : ℕ) → Laws (Own hoa_causes) (leaf (suc room)) (λ t. is_single t.kind ≡ true) Nothing ⊥
+abbrev pub IsLeaf : {V : Type 0} → Part Sign V HoaCause → Type 0
+IsLeaf leaf = Laws (Own hoa_causes) leaf (λ t. is_single t.kind ≡ true) Nothing ⊥

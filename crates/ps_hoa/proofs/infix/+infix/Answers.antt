@@ -1,18 +1,14 @@
-use Rattle.std.proofs.Common.{rules, sym, ◌∙◌, arith}
+use Rattle.std.proofs.Common.{rules, sym, ap, ◌∙◌, arith}
 use Rattle.std.proofs.lemmas.Bool.{iff_false}
-use Rattle.ps_hoa.specs.Operands.{is_right}
+use Rattle.ps_hoa.specs.Operands.{is_right, holds}
 use Rattle.ps_hoa.proofs.Reading.RowReading.{first_value, last_value, first_fails, first_alone, row_starts, row_more}
 use Rattle.ps_hoa.proofs.Reading.RowReading.{row_fails, row_done, row_shrinks}
 use Rattle.ps_hoa.proofs.Reading.Exits.{exit, serves_meets, value_is}
 use Rattle.ps_hoa.proofs.Reading.MarkReading.{tests_right}
-use Rattle.ps_hoa.proofs.Reading.InfixReading.{operand_row, not_reads, not_fails, paren_reads, paren_fails}
-use Rattle.ps_hoa.proofs.Reading.InfixReading.{paren_stays_open, leaf_serves}
+use Rattle.ps_hoa.proofs.Reading.NextSign.{start_there}
+use Rattle.ps_hoa.proofs.Reading.InfixReading.{operand_row, leaf_serves, too_deep, other_holds}
+use Rattle.ps_hoa.proofs.Reading.InfixReading.{not_reads, not_fails, paren_reads, paren_fails, paren_stays_open}
 use Rattle.ps_hoa.proofs.infix.+infix.Goals as goal
-use Rattle.ps_hoa.proofs.infix.+infix.Goals.{operand-else-room-gt0-via-then-room-gt0+then-negates+else-is_at}
-use Rattle.ps_hoa.proofs.infix.+infix.Goals.{operand-else-room-gt0-via-then-room-gt0+else-negates}
-use Rattle.ps_hoa.proofs.infix.+infix.Goals.{operand-else-room-gt0-via-else-room-gt0}
-use Rattle.ps_hoa.proofs.infix.+infix.Goals.{operand-else-room-gt0-2-via-then-room-gt0-2+else-is_at-2}
-use Rattle.ps_hoa.proofs.infix.+infix.Goals.{operand-else-room-gt0-2-via-else-room-gt0-2}
 
 pub row-returns-in_err-first : goal.row-returns-in_err-first
 row-returns-in_err-first g t c =
@@ -54,47 +50,58 @@ row-more-smaller g t c =
     let row = operand_row (g.G.Infix.grammar c.args.grammar.now) c.requires c.args.room c.args.connective in
     row_shrinks row _ c.advance.ensures.rest c.in_ok-part.ensures
 
+pub operand-returns-then-not-holds : goal.operand-returns-then-not-holds
+operand-returns-then-not-holds g t c =
+    let grammar = g.G.Infix.grammar c.args.grammar.now in
+    serves_meets g.G.Infix.meaning _ c.leaf.result (leaf_serves grammar c.requires _ c.args.room
+    (ap (λ p. holds grammar.negated p.sign.kind) (sym c.peek-token.ensures.next) ∙ sym c.holds.ensures ∙
+    c.if-not-holds.true)) c.leaf.ensures
+
+pub operand-returns-then-room-eq0 : goal.operand-returns-then-room-eq0
+operand-returns-then-room-eq0 g t c =
+    let grammar = g.G.Infix.grammar c.args.grammar.now in
+    too_deep grammar c.requires _ c.args.room c.if-room-eq0.true
+    (ap (λ p. holds grammar.negated p.sign.kind) (sym c.peek-token.ensures.next) ∙ sym c.holds.ensures ∙
+    c.if-not-holds.false) _ (grind (arith, start_there))
+
 pub operand-returns-in_err-negated : goal.operand-returns-in_err-negated
-operand-returns-in_err-negated g t c = exit g.G.Infix.meaning _ _ _
-    (not_fails (g.G.Infix.grammar c.args.grammar.now) c.requires c.args.room c.if-room-gt0.true c.advance.ensures.rest
-    (c.is_at.ensures.0 c.if-is_at.true) (sym c.negates.ensures ∙ c.if-negates.true)) c.in_err-negated.ensures
+operand-returns-in_err-negated g t c =
+    let grammar = g.G.Infix.grammar c.args.grammar.now in
+    let is = c.is_kind.ensures.0 c.if-is_kind.true in
+    exit g.G.Infix.meaning _ _ _ (not_fails grammar c.requires c.args.room c.if-room-eq0.false c.advance.ensures.rest
+    (ap (λ p. p.sign.kind) (sym c.peek-token.ensures.next) ∙ is)
+    (ap (holds grammar.negated) (sym is) ∙ sym c.holds.ensures ∙ c.if-not-holds.false)) c.in_err-negated.ensures
     c.from_residual.ensures.1
 
-pub operand-returns-then-is_at : goal.operand-returns-then-is_at
-operand-returns-then-is_at g t c =
-    not_reads (g.G.Infix.grammar c.args.grammar.now) c.requires c.args.room c.if-room-gt0.true c.advance.ensures.rest
-    (c.is_at.ensures.0 c.if-is_at.true) (sym c.negates.ensures ∙ c.if-negates.true) c.in_ok-negated.ensures
+pub operand-returns-then-is_kind : goal.operand-returns-then-is_kind
+operand-returns-then-is_kind g t c =
+    let grammar = g.G.Infix.grammar c.args.grammar.now in
+    let is = c.is_kind.ensures.0 c.if-is_kind.true in
+    not_reads grammar c.requires c.args.room c.if-room-eq0.false c.advance.ensures.rest
+    (ap (λ p. p.sign.kind) (sym c.peek-token.ensures.next) ∙ is)
+    (ap (holds grammar.negated) (sym is) ∙ sym c.holds.ensures ∙ c.if-not-holds.false) c.in_ok-negated.ensures
     c.in_ok-negated-2.ensures
 
 pub operand-returns-in_err-inner : goal.operand-returns-in_err-inner
-operand-returns-in_err-inner g t c = exit g.G.Infix.meaning _ _ _
-    (paren_fails (g.G.Infix.grammar c.args.grammar.now) c.requires c.args.room c.if-room-gt0-2.true
-    c.advance-then-is_at-2.ensures.rest (c.is_at-then-room-gt0-2.ensures.0 c.if-is_at-2.true)) c.in_err-inner.ensures
-    c.from_residual-in_err-inner.ensures.1
+operand-returns-in_err-inner g t c =
+    let grammar = g.G.Infix.grammar c.args.grammar.now in
+    exit g.G.Infix.meaning _ _ _ (paren_fails grammar c.requires c.args.room c.if-room-eq0.false c.advance.ensures.rest
+    (ap (λ p. p.sign.kind) (sym c.peek-token.ensures.next) ∙ other_holds grammar.negated _
+    (sym c.holds.ensures ∙ c.if-not-holds.false) (iff_false c.is_kind.ensures c.if-is_kind.false)))
+    c.in_err-inner.ensures c.from_residual-in_err-inner.ensures.1
 
 pub operand-returns-in_err-mark : goal.operand-returns-in_err-mark
-operand-returns-in_err-mark g t c = exit g.G.Infix.meaning _ _ _
-    (paren_stays_open (g.G.Infix.grammar c.args.grammar.now) c.requires c.args.room c.if-room-gt0-2.true
-    c.advance-then-is_at-2.ensures.rest (c.is_at-then-room-gt0-2.ensures.0 c.if-is_at-2.true) c.in_ok-inner.ensures)
-    (c.in_err-mark.ensures is_right tests_right.is) c.from_residual-in_err-mark.ensures.1
-
-pub operand-returns-then-is_at-2 : goal.operand-returns-then-is_at-2
-operand-returns-then-is_at-2 g t c =
-    paren_reads (g.G.Infix.grammar c.args.grammar.now) c.requires c.args.room c.if-room-gt0-2.true
-    c.advance-then-is_at-2.ensures.rest (c.is_at-then-room-gt0-2.ensures.0 c.if-is_at-2.true) c.in_ok-inner.ensures
-    (c.in_ok-mark.ensures is_right tests_right.is)
+operand-returns-in_err-mark g t c =
+    let grammar = g.G.Infix.grammar c.args.grammar.now in
+    exit g.G.Infix.meaning _ _ _ (paren_stays_open grammar c.requires c.args.room c.if-room-eq0.false
+    c.advance.ensures.rest (ap (λ p. p.sign.kind) (sym c.peek-token.ensures.next) ∙ other_holds grammar.negated _
+    (sym c.holds.ensures ∙ c.if-not-holds.false) (iff_false c.is_kind.ensures c.if-is_kind.false))
+    c.in_ok-inner.ensures) (c.in_err-mark.ensures is_right tests_right.is) c.from_residual-in_err-mark.ensures.1
 
 pub operand-returns : goal.operand-returns
-operand-returns g t c = serves_meets g.G.Infix.meaning _ c.leaf.result
-    (leaf_serves (g.G.Infix.grammar c.args.grammar.now) c.requires c.args.room _ (λ some s e. grind (
-      arith,
-      operand-else-room-gt0-via-then-room-gt0+then-negates+else-is_at,
-      operand-else-room-gt0-via-then-room-gt0+else-negates,
-      iff_false,
-      operand-else-room-gt0-via-else-room-gt0,
-    )) (λ some e. grind (
-      arith,
-      operand-else-room-gt0-2-via-then-room-gt0-2+else-is_at-2,
-      iff_false,
-      operand-else-room-gt0-2-via-else-room-gt0-2,
-    ))) c.leaf.ensures
+operand-returns g t c =
+    let grammar = g.G.Infix.grammar c.args.grammar.now in
+    paren_reads grammar c.requires c.args.room c.if-room-eq0.false c.advance.ensures.rest
+    (ap (λ p. p.sign.kind) (sym c.peek-token.ensures.next) ∙ other_holds grammar.negated _
+    (sym c.holds.ensures ∙ c.if-not-holds.false) (iff_false c.is_kind.ensures c.if-is_kind.false))
+    c.in_ok-inner.ensures (c.in_ok-mark.ensures is_right tests_right.is)
