@@ -3,7 +3,6 @@
 pub mod Ahead
 pub mod Flaws
 pub mod Items
-pub mod Leaves
 pub mod Reads
 pub mod RowPlaces
 pub mod Rows

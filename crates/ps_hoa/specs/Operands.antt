@@ -6,7 +6,7 @@
 --               all at once
 --     rows together connective operand      operands with a connective between them, where `&` binds tighter than `|`
 --     operand g room      an operand of such a grammar, where `!` and `(` may nest so many deep
-use Rattle.std.specs.Prelude.{ℕ, ◌≡◌, zero, suc, Bool, true, false, List, [], ◌∷◌, ◌++◌, if◌then◌else◌, Option, None, Some}
+use Rattle.std.specs.Prelude.{ℕ, ◌≡◌, zero, suc, Bool, true, false, List, [], ◌∷◌, ◌++◌, if◌then◌else◌, Option, None, Some, is_some}
 use Rattle.ps_text.specs.Parts.{Part, NoBad, give, one, then_by, either, many, mapped, barred}
 use Rattle.ps_hoa.specs.Tokens.{Sign}
 use Rattle.ps_hoa.specs.declared.connective.Connective.{Connective}
@@ -103,7 +103,7 @@ pub record InfixGrammar (V : Type 0) : Type 1 where
 
 -- with such a sign an operand begins that holds another one
 abbrev pub holds : {V : Type 0} → Option (V → V) → Kind → Bool
-holds (Some negated) kinds.Not = true
+holds negated kinds.Not = is_some negated
 holds negated kind = is_left kind
 
 abbrev pub IsTooDeep : {V : Type 0} → Option (V → V) → Sign → HoaCause → Type 0

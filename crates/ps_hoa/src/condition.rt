@@ -63,7 +63,14 @@ impl Infix for Conditions {
     ghost grammar = { λ _. conditions.grammar };
 
     fn leaf(&self, tokens: &mut Tokens) -> Result<Cond, HoaFault> {
-        atom(tokens)
+        let Some(often) = often_of(tokens.peek()) else {
+            return constant(tokens);
+        };
+        tokens.advance();
+        mark(tokens, Kind::LeftParen)?;
+        let set = any_set(tokens)?;
+        mark(tokens, Kind::RightParen)?;
+        Ok(visits(often, set))
     }
 
     fn holds(&self, kind: Kind) -> bool {
@@ -82,20 +89,6 @@ impl Infix for Conditions {
             Connective::Or => Cond::Any(operands),
         }
     }
-}
-
-/// Reads an operand that is not in parentheses.
-fn atom(tokens: &mut Tokens) -> Result<Cond, HoaFault>
-    ensures { ReadsAs condition_of conditions.atom tokens.old result tokens.new }
-{
-    let Some(often) = often_of(tokens.peek()) else {
-        return constant(tokens);
-    };
-    tokens.advance();
-    mark(tokens, Kind::LeftParen)?;
-    let set = any_set(tokens)?;
-    mark(tokens, Kind::RightParen)?;
-    Ok(visits(often, set))
 }
 
 /// The condition that a set is visited infinitely often, or that it is not.

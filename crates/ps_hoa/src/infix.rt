@@ -3,7 +3,7 @@
 ghost use Rattle.std.specs.Prelude.{◌≡◌, IfOk, IfSome, map};
 ghost use Rattle.ps_hoa.specs.Operands.{InfixGrammar, between, holds as holds_at, nesting_limit, operand as operand_of, rows};
 ghost use Rattle.ps_hoa.specs.Inner.Reads.{ReadsAs};
-ghost use Rattle.ps_hoa.specs.Inner.Leaves.{IsLeaf};
+ghost use Rattle.ps_hoa.specs.Inner.Signs.{IsLeaf};
 
 use crate::connective::{Connective, is_at};
 use crate::fault::{HoaCause, HoaFault};

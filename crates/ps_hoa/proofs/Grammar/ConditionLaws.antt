@@ -1,12 +1,12 @@
 -- The laws of acceptance conditions.
-use Rattle.std.proofs.Common.{rules, ◌≡◌, ℕ, zero, suc, Bool, true, false, List, [], codes, refl, arith}
+use Rattle.std.proofs.Common.{◌≡◌, ℕ, Bool, true, false, List, [], codes, refl, arith}
 use Rattle.std.proofs.lemmas.Slice.Eq.{bytes_eq-Decides}
 use Rattle.ps_text.specs.Parts.{Part, NoBad, one, then_by}
 use Rattle.ps_text.proofs.Following.{laws_tight}
 use Rattle.ps_text.proofs.Laws.{Laws, Joint, Nothing, Or, Within, Apart}
 use Rattle.ps_text.proofs.Combined.{both_within, wider_first, laws_first, laws_forms, joint_tight}
-use Rattle.ps_text.proofs.Simple.{Taken, BadSign, none_is_some, laws_one, laws_mapped}
-use Rattle.ps_hoa.specs.Inner.Leaves.{is_single, IsLeaf}
+use Rattle.ps_text.proofs.Simple.{Taken, none_is_some, laws_mapped}
+use Rattle.ps_hoa.specs.Inner.Signs.{is_single, IsLeaf}
 use Rattle.ps_hoa.specs.Tokens.{Sign}
 use Rattle.ps_hoa.specs.Operands.{is_not, is_left, mark}
 use Rattle.ps_hoa.specs.Conditions.{Condition, constant_in, often_in, IsBadSet, set, any_set, closed_set, often_or_not}

@@ -3,14 +3,14 @@
 --     laws_both, laws_rows, laws_nested      rows of operands, and those in parentheses
 --     laws_negation, laws_holding, laws_operand      an operand behind `!`, one that holds another one, and any
 --     joint_bar      a leaf where no more may nest
-use Rattle.std.proofs.Common.{rules, arith, ◌≡◌, ℕ, zero, suc, Bool, true, List, Option, None, Some, refl, inr}
+use Rattle.std.proofs.Common.{rules, arith, ◌≡◌, ℕ, zero, suc, Bool, true, List, Option, None, Some, refl}
 use Rattle.ps_text.specs.Parts.{Part, then_by}
 use Rattle.ps_text.proofs.Barred.{laws_barred}
 use Rattle.ps_text.proofs.Joined.{joint}
-use Rattle.ps_text.proofs.Laws.{Laws, Joint, Nothing, Or, Apart, weaker}
+use Rattle.ps_text.proofs.Laws.{Laws, Joint, Nothing, Within, Apart, weaker}
 use Rattle.ps_text.proofs.Combined.{both_within, wider_first, wider_more, laws_forms}
 use Rattle.ps_text.proofs.Simple.{laws_give, laws_mapped, laws_then}
-use Rattle.ps_hoa.specs.Inner.Leaves.{is_single, IsLeaf}
+use Rattle.ps_hoa.specs.Inner.Signs.{is_single, IsLeaf}
 use Rattle.ps_hoa.specs.Tokens.{Sign}
 use Rattle.ps_hoa.specs.Operands.{is_not, is_and, is_or, is_left, is_right, mark, inner, rows, InfixGrammar, negation}
 use Rattle.ps_hoa.specs.Operands.{holds, IsTooDeep, bar, holding, operand}
@@ -20,7 +20,7 @@ use Rattle.ps_hoa.specs.declared.fault.HoaCause.{HoaCause}
 use Rattle.ps_hoa.specs.declared.tokens.Kind.{Kind}
 use Rattle.ps_hoa.specs.declared.tokens.Kind.TheVariants.{Not, And, Or as OrSign, LeftParen, RightParen}
 use Rattle.ps_hoa.proofs.Grammar.KindSets.{union, within, within_both, apart, plain, laws_mark}
-use Rattle.ps_hoa.proofs.Grammar.OperandLaws.{Odd, Of, nothing_apart, laws_behind, laws_held, laws_row, Tight}
+use Rattle.ps_hoa.proofs.Grammar.OperandLaws.{Odd, Of, nothing_apart, laws_behind, laws_held, laws_row, Known, Tight}
 
 -- the signs with which an operand may begin that holds another one, with which any may, and those between operands
 abbrev pub nests : Kind → Bool
@@ -50,8 +50,15 @@ laws_right = laws_mark is_right RightParen refl (λ _. refl)
 pub not_left : Apart (Of is_not) (Of is_left)
 not_left = apart is_not is_left refl
 
-pub single_nested : Apart (Of is_single) (Or (Of is_not) (Of is_left))
-single_nested t h k = apart is_single nests refl t h (within_both is_not is_left nests refl refl t k)
+module _ {V : Type 0} (negated : Option (V → V)) where
+  holds_nests : Within (Of (holds negated)) (Of nests)
+  holds_nests t h = go t.kind h
+    where
+      go : (kind : Kind) → holds negated kind ≡ true → nests kind ≡ true
+      go kind h = grind arith
+
+  pub single_holds : Apart (Of is_single) (Of (holds negated))
+  single_holds t h k = apart is_single nests refl t h (holds_nests t k)
 
 -- what may stand behind the operands of a row, and of rows of rows
 abbrev pub AndMore : Sign → Type 0
@@ -82,33 +89,31 @@ module _ {V : Type 0} {F : Sign → Type 0} (P : Part Sign V HoaCause) (together
   laws_negation negated = laws_behind is_not laws_not (laws_mapped _ _ l)
 
   pub laws_holding : (negated : Option (V → V)) →
-      Laws Odd (holding negated P (inner (rows together connectives.Or P))) (Or (Of is_not) (Of is_left)) Nothing ⊥
-  laws_holding None = wider_first laws_nested (λ t h. inr h)
-  laws_holding (Some negated) = laws_forms (laws_negation negated) laws_nested not_left
+      Tight (holding negated P (inner (rows together connectives.Or P))) (holds negated)
+  laws_holding None = laws_nested
+  laws_holding (Some negated) = wider_first (laws_forms (laws_negation negated) laws_nested not_left)
+      (within_both is_not is_left (holds (Some negated)) refl refl)
 
 -- where no more may nest
 module _ {V : Type 0} (negated : Option (V → V)) where
-  nests_holding : (kind : Kind) → holds negated kind ≡ true → nests kind ≡ true
-  nests_holding kind h = grind arith
-
-  laws_bar : Laws Odd (bar negated) (Of nests) (Of nests) (Unit {0})
+  laws_bar : Known (bar negated) nests nests (Unit {0})
   laws_bar = weaker (laws_barred (λ _. IsTooDeep negated) (laws_give Odd tt)
-      (λ t h. plain nests (λ _. refl) t (nests_holding t.kind h.2.0)))
-      (both_within (λ t h. absurd h) (λ t h. nests_holding t.kind h.1.2.0))
-      (both_within (λ t h. absurd h) (λ t h. nests_holding t.kind h.2.0)) (λ n. n)
+      (λ t h. plain nests (λ _. refl) t (holds_nests negated t h.2.0)))
+      (both_within (λ t h. absurd h) (λ t h. holds_nests negated t h.1.2.0))
+      (both_within (λ t h. absurd h) (λ t h. holds_nests negated t h.2.0)) (λ n. n)
 
   module _ {leaf : Part Sign V HoaCause} (is : IsLeaf leaf) where
     pub joint_bar : Joint (bar negated) (λ _. leaf)
     joint_bar = joint laws_bar (λ _. is) (apart nests is_single refl)
 
-    laws_barred_leaf : Tight (then_by (bar negated) (λ _. leaf)) is_start
-    laws_barred_leaf = weaker (laws_then laws_bar (λ _. is) (apart nests is_single refl))
+    laws_behind_bar : Tight (then_by (bar negated) (λ _. leaf)) is_start
+    laws_behind_bar = weaker (laws_then laws_bar (λ _. is) (apart nests is_single refl))
         (both_within (within nests is_start refl) (λ t h. within is_single is_start refl t h.1))
         (both_within (λ t h. h) (λ t h. h.0)) (λ n. n.1)
 
 pub laws_operand : {V : Type 0} (g : InfixGrammar V) → IsLeaf g.leaf → (room : ℕ) → Tight (operand g room) is_start
 unfolding operand
-laws_operand g is zero = laws_barred_leaf g.negated is
-laws_operand g is (suc room) = wider_first
-    (laws_forms is (laws_holding (operand g room) g.together (laws_operand g is room) g.negated) single_nested)
-    (both_within (within is_single is_start refl) (within_both is_not is_left is_start refl refl))
+laws_operand g is zero = laws_behind_bar g.negated is
+laws_operand g is (suc room) = wider_first (laws_forms is
+    (laws_holding (operand g room) g.together (laws_operand g is room) g.negated) (single_holds g.negated))
+    (both_within (within is_single is_start refl) (λ t h. within nests is_start refl t (holds_nests g.negated t h)))

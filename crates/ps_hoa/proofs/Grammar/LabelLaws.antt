@@ -2,7 +2,7 @@
 use Rattle.std.proofs.Common.{◌≡◌, ℕ, true, List, [], refl, arith}
 use Rattle.ps_label.specs.Expression.{Expression}
 use Rattle.ps_text.proofs.Laws.{Laws}
-use Rattle.ps_hoa.specs.Inner.Leaves.{is_single, IsLeaf}
+use Rattle.ps_hoa.specs.Inner.Signs.{is_single, IsLeaf}
 use Rattle.ps_hoa.specs.Tokens.{Sign}
 use Rattle.ps_hoa.specs.Labels.{ScopeData, IsBadLeaf, leaf, together, grammar, operand, label}
 use Rattle.ps_hoa.specs.declared.fault.HoaCause.{HoaCause}

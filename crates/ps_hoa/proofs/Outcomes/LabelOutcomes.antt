@@ -8,7 +8,7 @@ use Rattle.ps_text.specs.Outcomes.{HasOutcomes}
 use Rattle.ps_text.proofs.Laws.{Laws, Nothing, Apart}
 use Rattle.ps_text.proofs.Outcomes.{has_give, has_one, has_mapped, has_then, has_either, has_many, has_barred}
 use Rattle.ps_text.proofs.Simple.{laws_give, laws_mapped}
-use Rattle.ps_hoa.specs.Inner.Leaves.{IsLeaf}
+use Rattle.ps_hoa.specs.Inner.Signs.{IsLeaf}
 use Rattle.ps_hoa.specs.Tokens.{Sign}
 use Rattle.ps_hoa.specs.Causes.{hoa_causes}
 use Rattle.ps_hoa.specs.Operands.{is_not, is_and, is_or, is_left, is_right, mark, before, closed, inner, single}
@@ -24,7 +24,7 @@ use Rattle.ps_hoa.specs.declared.tokens.Kind.{Kind}
 use Rattle.ps_hoa.proofs.Grammar.OperandLaws.{Odd, Of, nothing_apart, laws_behind, joint_mark, joint_closed}
 use Rattle.ps_hoa.proofs.Grammar.OperandLaws.{joint_operands, laws_held}
 use Rattle.ps_hoa.proofs.Grammar.InfixLaws.{is_start, joint_bar, laws_not, laws_and, laws_or, laws_left, laws_right}
-use Rattle.ps_hoa.proofs.Grammar.InfixLaws.{not_left, single_nested, apart_or, apart_right, laws_both, laws_rows}
+use Rattle.ps_hoa.proofs.Grammar.InfixLaws.{not_left, single_holds, apart_or, apart_right, laws_both, laws_rows}
 use Rattle.ps_hoa.proofs.Grammar.InfixLaws.{laws_nested, laws_negation, laws_holding, laws_operand}
 use Rattle.ps_hoa.proofs.Grammar.LabelLaws.{label_leaf}
 use Rattle.ps_hoa.proofs.Grammar.ConditionLaws.{laws_set, not_int, laws_complement, laws_closed_set, joint_closed_set}
@@ -96,7 +96,7 @@ module _ {V : Type 0} (g : InfixGrammar V) (is : IsLeaf g.leaf) (leaf : Has g.le
   has_operand zero = has_then hoa_causes (joint_bar g.negated is) (has_barred hoa_causes (λ _. IsTooDeep g.negated)
       (laws_give Odd tt) (nothing_apart _) (λ _. judge_deep g.negated) (has_give hoa_causes tt)) (λ _. leaf)
   has_operand (suc room) = has_either hoa_causes is
-      (laws_holding (operand g room) g.together (laws_operand g is room) g.negated) single_nested leaf
+      (laws_holding (operand g room) g.together (laws_operand g is room) g.negated) (single_holds g.negated) leaf
       (has_holding (operand g room) (laws_operand g is room) (has_operand room) g.negated)
 
   has_infix : (room : ℕ) → Has (rows g.together connectives.Or (operand g room))

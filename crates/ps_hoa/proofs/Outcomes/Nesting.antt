@@ -2,7 +2,7 @@
 -- that nesting.
 --     to_operand, of_operand      for a grammar whose operands with more room are those with less in one more form
 use Rattle.std.proofs.Common.{◌≡◌, ◌↔◌, ◌⊎◌, ℕ, zero, suc, ◌≤◌, max, true, List, [], ◌∷◌, ◌++◌, refl, sym, ap, subst}
-use Rattle.std.proofs.Common.{inl, inr, ◌∙◌, arith, rules}
+use Rattle.std.proofs.Common.{inl, inr, ◌∙◌, arith}
 use Rattle.ps_label.specs.Expression.{Expression}
 use Rattle.ps_text.specs.Parts.{Part, times}
 use Rattle.ps_hoa.specs.Conditions.{Condition, grammar as condition_parts, operand as condition_operand, condition}

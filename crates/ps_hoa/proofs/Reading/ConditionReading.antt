@@ -2,14 +2,14 @@
 --     visit_unopened, visit_fails, visit_stays_open, visit_reads      the exits behind `Inf` or `Fin`
 --     constant_serves      an operand without them
 --     complement_meets, set_serves      a set behind `!`, or without
-use Rattle.std.proofs.Common.{◌≡◌, ℕ, zero, suc, ◌<◌, Bool, true, false, [], codes, None, Some, Result, Ok, refl, arith}
+use Rattle.std.proofs.Common.{◌≡◌, Bool, true, false, [], codes, None, Some, Result, Ok, refl, arith}
 use Rattle.ps_text.specs.Answers.{Stream, signs, next_of as there_of}
 use Rattle.ps_text.specs.Parts.{NoBad, one, then_by}
 use Rattle.ps_text.specs.Readers.{Reads, Meets}
-use Rattle.ps_text.proofs.Laws.{Laws, Joint, Nothing}
+use Rattle.ps_text.proofs.Laws.{Joint}
 use Rattle.ps_text.proofs.Covered.{enters_read}
 use Rattle.ps_text.proofs.Exits.{reads_then, reads_mapped, then_meets}
-use Rattle.ps_text.proofs.Branches.{left_entered, right_entered, left_otherwise}
+use Rattle.ps_text.proofs.Branches.{left_entered, right_entered}
 use Rattle.ps_hoa.specs.Causes.{HoaFault, hoa_causes, found_of}
 use Rattle.ps_hoa.specs.Conditions.{SetData, constant_in, often_in, visits, set_in, BadSet, set, any_set, closed_set}
 use Rattle.ps_hoa.specs.Conditions.{often_or_not, visit, atom}
@@ -17,15 +17,15 @@ use Rattle.ps_hoa.specs.Operands.{is_not, is_left, is_right, mark, before}
 use Rattle.ps_hoa.specs.Scan.{next_of, behind_next}
 use Rattle.ps_hoa.specs.Tokens.{Sign}
 use Rattle.ps_hoa.specs.declared.fault.HoaCause.{HoaCause}
-use Rattle.ps_hoa.specs.declared.tokens.Kind.TheVariants.{Word, Int, Not, LeftParen}
-use Rattle.ps_hoa.proofs.Grammar.OperandLaws.{Odd, Of, joint_mark}
+use Rattle.ps_hoa.specs.declared.tokens.Kind.TheVariants.{Word, Int, Not}
+use Rattle.ps_hoa.proofs.Grammar.OperandLaws.{joint_mark}
 use Rattle.ps_hoa.proofs.Grammar.InfixLaws.{laws_not, laws_left}
 use Rattle.ps_hoa.proofs.Grammar.ConditionLaws.{laws_set, laws_complement, not_int, laws_often, laws_closed_set}
 use Rattle.ps_hoa.proofs.Grammar.ConditionLaws.{joint_closed_set, joint_visit, laws_visit, laws_constant, constant_often}
 use Rattle.ps_hoa.proofs.Reading.Exits.{Serves, serves_as, serves_meets, Leads, first, behind, under, instead}
 use Rattle.ps_hoa.proofs.Reading.Exits.{entered}
 use Rattle.ps_hoa.proofs.Reading.SingleSigns.{IsOfSigns, signs_of, reads_one}
-use Rattle.ps_hoa.proofs.Reading.MarkReading.{tests_not, tests_left, mark_read, mark_begins, mark_elsewhere}
+use Rattle.ps_hoa.proofs.Reading.MarkReading.{tests_not, mark_read, mark_begins, mark_elsewhere}
 
 pub constant_signs : IsOfSigns constant_in (NoBad {F = HoaCause})
 constant_signs = signs_of Word (codes "t") refl refl (λ f b. b)

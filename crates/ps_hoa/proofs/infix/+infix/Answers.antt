@@ -1,12 +1,12 @@
-use Rattle.std.proofs.Common.{rules, sym, ap, ◌∙◌, arith}
+use Rattle.std.proofs.Common.{rules, sym, ◌∙◌, arith}
 use Rattle.std.proofs.lemmas.Bool.{iff_false}
-use Rattle.ps_hoa.specs.Operands.{is_right, holds}
+use Rattle.ps_hoa.specs.Operands.{is_right}
 use Rattle.ps_hoa.proofs.Reading.RowReading.{first_value, last_value, first_fails, first_alone, row_starts, row_more}
 use Rattle.ps_hoa.proofs.Reading.RowReading.{row_fails, row_done, row_shrinks}
 use Rattle.ps_hoa.proofs.Reading.Exits.{exit, serves_meets, value_is}
 use Rattle.ps_hoa.proofs.Reading.MarkReading.{tests_right}
 use Rattle.ps_hoa.proofs.Reading.NextSign.{start_there}
-use Rattle.ps_hoa.proofs.Reading.InfixReading.{operand_row, leaf_serves, too_deep, other_holds}
+use Rattle.ps_hoa.proofs.Reading.InfixReading.{operand_row, leaf_serves, too_deep}
 use Rattle.ps_hoa.proofs.Reading.InfixReading.{not_reads, not_fails, paren_reads, paren_fails, paren_stays_open}
 use Rattle.ps_hoa.proofs.infix.+infix.Goals as goal
 
@@ -52,56 +52,47 @@ row-more-smaller g t c =
 
 pub operand-returns-then-not-holds : goal.operand-returns-then-not-holds
 operand-returns-then-not-holds g t c =
-    let grammar = g.G.Infix.grammar c.args.grammar.now in
-    serves_meets g.G.Infix.meaning _ c.leaf.result (leaf_serves grammar c.requires _ c.args.room
-    (ap (λ p. holds grammar.negated p.sign.kind) (sym c.peek-token.ensures.next) ∙ sym c.holds.ensures ∙
-    c.if-not-holds.true)) c.leaf.ensures
+    serves_meets g.G.Infix.meaning _ c.leaf.result (leaf_serves (g.G.Infix.grammar c.args.grammar.now) c.requires
+    c.args.room _ c.peek-token.ensures.next (sym c.holds.ensures ∙ c.if-not-holds.true))
+    c.leaf.ensures
 
 pub operand-returns-then-room-eq0 : goal.operand-returns-then-room-eq0
 operand-returns-then-room-eq0 g t c =
-    let grammar = g.G.Infix.grammar c.args.grammar.now in
-    too_deep grammar c.requires _ c.args.room c.if-room-eq0.true
-    (ap (λ p. holds grammar.negated p.sign.kind) (sym c.peek-token.ensures.next) ∙ sym c.holds.ensures ∙
-    c.if-not-holds.false) _ (grind (arith, start_there))
+    too_deep (g.G.Infix.grammar c.args.grammar.now) c.requires c.args.room _
+    c.peek-token.ensures.next (sym c.holds.ensures ∙ c.if-not-holds.false)
+    c.if-room-eq0.true _ (grind (arith, start_there))
 
 pub operand-returns-in_err-negated : goal.operand-returns-in_err-negated
 operand-returns-in_err-negated g t c =
-    let grammar = g.G.Infix.grammar c.args.grammar.now in
-    let is = c.is_kind.ensures.0 c.if-is_kind.true in
-    exit g.G.Infix.meaning _ _ _ (not_fails grammar c.requires c.args.room c.if-room-eq0.false c.advance.ensures.rest
-    (ap (λ p. p.sign.kind) (sym c.peek-token.ensures.next) ∙ is)
-    (ap (holds grammar.negated) (sym is) ∙ sym c.holds.ensures ∙ c.if-not-holds.false)) c.in_err-negated.ensures
+    exit g.G.Infix.meaning _ _ _ (not_fails (g.G.Infix.grammar c.args.grammar.now) c.requires c.args.room _
+    c.peek-token.ensures.next (sym c.holds.ensures ∙ c.if-not-holds.false)
+    c.if-room-eq0.false c.advance.ensures.rest (c.is_kind.ensures.0 c.if-is_kind.true)) c.in_err-negated.ensures
     c.from_residual.ensures.1
 
 pub operand-returns-then-is_kind : goal.operand-returns-then-is_kind
 operand-returns-then-is_kind g t c =
-    let grammar = g.G.Infix.grammar c.args.grammar.now in
-    let is = c.is_kind.ensures.0 c.if-is_kind.true in
-    not_reads grammar c.requires c.args.room c.if-room-eq0.false c.advance.ensures.rest
-    (ap (λ p. p.sign.kind) (sym c.peek-token.ensures.next) ∙ is)
-    (ap (holds grammar.negated) (sym is) ∙ sym c.holds.ensures ∙ c.if-not-holds.false) c.in_ok-negated.ensures
+    not_reads (g.G.Infix.grammar c.args.grammar.now) c.requires c.args.room _
+    c.peek-token.ensures.next (sym c.holds.ensures ∙ c.if-not-holds.false)
+    c.if-room-eq0.false c.advance.ensures.rest (c.is_kind.ensures.0 c.if-is_kind.true) c.in_ok-negated.ensures
     c.in_ok-negated-2.ensures
 
 pub operand-returns-in_err-inner : goal.operand-returns-in_err-inner
 operand-returns-in_err-inner g t c =
-    let grammar = g.G.Infix.grammar c.args.grammar.now in
-    exit g.G.Infix.meaning _ _ _ (paren_fails grammar c.requires c.args.room c.if-room-eq0.false c.advance.ensures.rest
-    (ap (λ p. p.sign.kind) (sym c.peek-token.ensures.next) ∙ other_holds grammar.negated _
-    (sym c.holds.ensures ∙ c.if-not-holds.false) (iff_false c.is_kind.ensures c.if-is_kind.false)))
-    c.in_err-inner.ensures c.from_residual-in_err-inner.ensures.1
+    exit g.G.Infix.meaning _ _ _ (paren_fails (g.G.Infix.grammar c.args.grammar.now) c.requires c.args.room _
+    c.peek-token.ensures.next (sym c.holds.ensures ∙ c.if-not-holds.false)
+    c.if-room-eq0.false c.advance.ensures.rest (iff_false c.is_kind.ensures c.if-is_kind.false)) c.in_err-inner.ensures
+    c.from_residual-in_err-inner.ensures.1
 
 pub operand-returns-in_err-mark : goal.operand-returns-in_err-mark
 operand-returns-in_err-mark g t c =
-    let grammar = g.G.Infix.grammar c.args.grammar.now in
-    exit g.G.Infix.meaning _ _ _ (paren_stays_open grammar c.requires c.args.room c.if-room-eq0.false
-    c.advance.ensures.rest (ap (λ p. p.sign.kind) (sym c.peek-token.ensures.next) ∙ other_holds grammar.negated _
-    (sym c.holds.ensures ∙ c.if-not-holds.false) (iff_false c.is_kind.ensures c.if-is_kind.false))
-    c.in_ok-inner.ensures) (c.in_err-mark.ensures is_right tests_right.is) c.from_residual-in_err-mark.ensures.1
+    exit g.G.Infix.meaning _ _ _ (paren_stays_open (g.G.Infix.grammar c.args.grammar.now) c.requires c.args.room _
+    c.peek-token.ensures.next (sym c.holds.ensures ∙ c.if-not-holds.false)
+    c.if-room-eq0.false c.advance.ensures.rest (iff_false c.is_kind.ensures c.if-is_kind.false) c.in_ok-inner.ensures)
+    (c.in_err-mark.ensures is_right tests_right.is) c.from_residual-in_err-mark.ensures.1
 
 pub operand-returns : goal.operand-returns
 operand-returns g t c =
-    let grammar = g.G.Infix.grammar c.args.grammar.now in
-    paren_reads grammar c.requires c.args.room c.if-room-eq0.false c.advance.ensures.rest
-    (ap (λ p. p.sign.kind) (sym c.peek-token.ensures.next) ∙ other_holds grammar.negated _
-    (sym c.holds.ensures ∙ c.if-not-holds.false) (iff_false c.is_kind.ensures c.if-is_kind.false))
-    c.in_ok-inner.ensures (c.in_ok-mark.ensures is_right tests_right.is)
+    paren_reads (g.G.Infix.grammar c.args.grammar.now) c.requires c.args.room _
+    c.peek-token.ensures.next (sym c.holds.ensures ∙ c.if-not-holds.false)
+    c.if-room-eq0.false c.advance.ensures.rest (iff_false c.is_kind.ensures c.if-is_kind.false) c.in_ok-inner.ensures
+    (c.in_ok-mark.ensures is_right tests_right.is)

@@ -6,7 +6,7 @@ use Rattle.ps_hoa.proofs.Reading.Exits.{exit, serves_meets, value_is}
 use Rattle.ps_hoa.proofs.Reading.MarkReading.{tests_left, tests_right}
 use Rattle.ps_hoa.proofs.Reading.ConditionReading.{visit_unopened, visit_fails, visit_stays_open, visit_reads}
 use Rattle.ps_hoa.proofs.Reading.ConditionReading.{constant_serves}
-use Rattle.ps_hoa.proofs.condition.atom.Goals as goal
+use Rattle.ps_hoa.proofs.condition.ConditionsInfix.leaf.Goals as goal
 
 pub returns-in_default : goal.returns-in_default
 returns-in_default c = serves_meets condition_of _ c.constant.result (grind (arith, constant_serves)) c.constant.ensures
