@@ -8,9 +8,8 @@ pub mod IntSigns
 pub mod RowReading
 pub mod NestedRows
 pub mod InfixReading
-pub mod LabelReading
 pub mod CondRows
-pub mod ConditionReading
+pub mod LeafReading
 pub mod NewAliases
 pub mod HeaderExits
 pub mod HeaderLoops

@@ -31,9 +31,9 @@ use Rattle.ps_hoa.proofs.Grammar.ConditionLaws.{laws_set, not_int, laws_compleme
 use Rattle.ps_hoa.proofs.Grammar.ConditionLaws.{joint_visit, laws_visit, laws_constant, constant_often}
 use Rattle.ps_hoa.proofs.Grammar.ConditionLaws.{condition_leaf}
 use Rattle.ps_hoa.proofs.Grammar.HeaderSigns.{signs_mark}
-use Rattle.ps_hoa.proofs.Reading.ConditionReading.{constant_signs, set_signs, often_signs}
+use Rattle.ps_hoa.proofs.Reading.LeafReading.{constant_signs, set_signs, often_signs}
 use Rattle.ps_hoa.proofs.Reading.Exits.{Loop}
-use Rattle.ps_hoa.proofs.Reading.LabelReading.{leaf_signs}
+use Rattle.ps_hoa.proofs.Reading.LeafReading.{leaf_signs}
 use Rattle.ps_hoa.proofs.Reading.MarkReading.{Tests, tests_not, tests_and, tests_or, tests_left, tests_right}
 use Rattle.ps_hoa.proofs.Reading.SingleSigns.{IsOfSigns}
 use Rattle.ps_hoa.proofs.Outcomes.Judging.{JudgesAll, no_bad, judge_deep, judge_leaf, judge_set}

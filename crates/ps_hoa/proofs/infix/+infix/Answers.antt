@@ -57,10 +57,7 @@ operand-returns-then-not-holds g t c =
     c.leaf.ensures
 
 pub operand-returns-then-room-eq0 : goal.operand-returns-then-room-eq0
-operand-returns-then-room-eq0 g t c =
-    too_deep (g.G.Infix.grammar c.args.grammar.now) c.requires c.args.room _
-    c.peek-token.ensures.next (sym c.holds.ensures ∙ c.if-not-holds.false)
-    c.if-room-eq0.true _ (grind (arith, start_there))
+operand-returns-then-room-eq0 g t c = grind (arith, too_deep, start_there)
 
 pub operand-returns-in_err-negated : goal.operand-returns-in_err-negated
 operand-returns-in_err-negated g t c =

@@ -4,8 +4,8 @@ use Rattle.ps_hoa.specs.Operands.{is_left, is_right}
 use Rattle.ps_hoa.specs.Values.{condition_of}
 use Rattle.ps_hoa.proofs.Reading.Exits.{exit, serves_meets, value_is}
 use Rattle.ps_hoa.proofs.Reading.MarkReading.{tests_left, tests_right}
-use Rattle.ps_hoa.proofs.Reading.ConditionReading.{visit_unopened, visit_fails, visit_stays_open, visit_reads}
-use Rattle.ps_hoa.proofs.Reading.ConditionReading.{constant_serves}
+use Rattle.ps_hoa.proofs.Reading.LeafReading.{visit_unopened, visit_fails, visit_stays_open, visit_reads}
+use Rattle.ps_hoa.proofs.Reading.LeafReading.{constant_serves}
 use Rattle.ps_hoa.proofs.condition.ConditionsInfix.leaf.Goals as goal
 
 pub returns-in_default : goal.returns-in_default

@@ -1,4 +1,5 @@
--- How the leaves of acceptance conditions are read, and sets.
+-- How the leaves of labels and of acceptance conditions are read, and sets.
+--     leaf_signs      a leaf of a label
 --     visit_unopened, visit_fails, visit_stays_open, visit_reads      the exits behind `Inf` or `Fin`
 --     constant_serves      an operand without them
 --     complement_meets, set_serves      a set behind `!`, or without
@@ -13,6 +14,7 @@ use Rattle.ps_text.proofs.Branches.{left_entered, right_entered}
 use Rattle.ps_hoa.specs.Causes.{HoaFault, hoa_causes, found_of}
 use Rattle.ps_hoa.specs.Conditions.{SetData, constant_in, often_in, visits, set_in, BadSet, set, any_set, closed_set}
 use Rattle.ps_hoa.specs.Conditions.{often_or_not, visit, atom}
+use Rattle.ps_hoa.specs.Labels.{ScopeData, leaf_in, BadLeaf}
 use Rattle.ps_hoa.specs.Operands.{is_not, is_left, is_right, mark, before}
 use Rattle.ps_hoa.specs.Scan.{next_of, behind_next}
 use Rattle.ps_hoa.specs.Tokens.{Sign}
@@ -26,6 +28,9 @@ use Rattle.ps_hoa.proofs.Reading.Exits.{Serves, serves_as, serves_meets, Leads, 
 use Rattle.ps_hoa.proofs.Reading.Exits.{entered}
 use Rattle.ps_hoa.proofs.Reading.SingleSigns.{IsOfSigns, signs_of, reads_one}
 use Rattle.ps_hoa.proofs.Reading.MarkReading.{tests_not, mark_read, mark_begins, mark_elsewhere}
+
+pub leaf_signs : (scope : ScopeData) → IsOfSigns (leaf_in scope.names) (BadLeaf scope)
+leaf_signs scope = signs_of Int [] refl refl (λ f b. b)
 
 pub constant_signs : IsOfSigns constant_in (NoBad {F = HoaCause})
 constant_signs = signs_of Word (codes "t") refl refl (λ f b. b)
