@@ -3,6 +3,7 @@
 pub mod SignLaws
 pub mod OperandLaws
 pub mod KindSets
+pub mod InfixLaws
 pub mod LabelLaws
 pub mod ConditionLaws
 pub mod HeaderSigns

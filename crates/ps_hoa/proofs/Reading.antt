@@ -7,10 +7,9 @@ pub mod MarkReading
 pub mod IntSigns
 pub mod RowReading
 pub mod NestedRows
-pub mod OperandReading
-pub mod LabelReading
+pub mod InfixReading
 pub mod CondRows
-pub mod ConditionReading
+pub mod LeafReading
 pub mod NewAliases
 pub mod HeaderExits
 pub mod HeaderLoops

@@ -3,13 +3,14 @@
 -- `&` binds tighter than `|`. The operands of several `&` are one conjunction, and so with `|`; a condition in
 -- parentheses stands for itself.
 --     condition room      a condition at a place where `(` may nest so many deep; those of `Inf` and `Fin` don't count
-use Rattle.std.specs.Prelude.{ℕ, ◌≡◌, ◌<◌, zero, suc, Bool, true, false, List, [], ◌∷◌, codes, if◌then◌else◌, Option}
+use Rattle.std.specs.Prelude.{ℕ, ◌≡◌, ◌<◌, Bool, true, false, List, [], ◌∷◌, codes, if◌then◌else◌, Option}
 use Rattle.std.specs.Prelude.{None, Some}
 use Rattle.std.specs.Str.{bytes_eq}
 use Rattle.ps_text.specs.Digits.{decimal_value}
 use Rattle.ps_text.specs.Parts.{Part, NoBad, one, then_by, either}
 use Rattle.ps_hoa.specs.Labels.{boolean_in}
-use Rattle.ps_hoa.specs.Operands.{is_not, is_left, mark, inner, rows, closed, number_limit}
+use Rattle.ps_hoa.specs.Operands.{InfixGrammar, is_not, is_left, mark, rows, closed, operand as operand_of}
+use Rattle.ps_hoa.specs.Operands.{number_limit}
 use Rattle.ps_hoa.specs.Tokens.{Sign}
 use Rattle.ps_hoa.specs.declared.connective.Connective.{Connective}
 use Rattle.ps_hoa.specs.declared.connective.Connective.TheVariants as connectives
@@ -95,25 +96,20 @@ often_or_not = one often_in NoBad
 abbrev pub visit : Part Sign Condition HoaCause
 visit = then_by often_or_not (λ often. then_by (mark is_left) (λ _. then_by any_set (closed_set often)))
 
--- what may be wrong with the first sign of an operand: a `(` where no more may nest
-abbrev pub IsBadStart : ℕ → Kind → HoaCause → Type 0
-IsBadStart room kinds.LeftParen f = (room ≡ 0) × (f ≡ causes.Limit)
-IsBadStart room kind f = ⊥
-
-abbrev pub BadStart : ℕ → Sign → HoaCause → Type 0
-BadStart room sign f = IsBadStart room sign.kind f
-
-abbrev pub atom : ℕ → Part Sign Condition HoaCause
-atom room = either (one constant_in (BadStart room)) visit
+abbrev pub atom : Part Sign Condition HoaCause
+atom = either (one constant_in NoBad) visit
 
 -- what operands with a connective between them are together
 abbrev pub together : Connective → List Condition → Condition
 together connectives.And cs = all_hold (row_of cs)
 together connectives.Or cs = any_holds (row_of cs)
 
-unfoldable pub operand : ℕ → Part Sign Condition HoaCause
-operand zero = atom 0
-operand (suc room) = either (atom (suc room)) (inner (rows together connectives.Or (operand room)))
+-- an operand is an atom or is in parentheses, and `!` stands before none
+abbrev pub grammar : InfixGrammar Condition
+grammar = record { leaf = atom; negated = None; together = together }
+
+abbrev pub operand : ℕ → Part Sign Condition HoaCause
+operand = operand_of grammar
 
 abbrev pub condition : ℕ → Part Sign Condition HoaCause
 condition room = rows together connectives.Or (operand room)

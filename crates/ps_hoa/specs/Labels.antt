@@ -4,13 +4,13 @@
 -- in parentheses stands for itself.
 --     label scope room      a label at a place where `!` and `(` may nest so many deep
 --     operand scope room      what may stand on either side of `&`
-use Rattle.std.specs.Prelude.{ℕ, ◌≡◌, ◌≤◌, ◌<◌, ◌⊎◌, zero, suc, Bool, true, false, List, codes, if◌then◌else◌, Option}
+use Rattle.std.specs.Prelude.{ℕ, ◌≡◌, ◌≤◌, ◌<◌, ◌⊎◌, Bool, true, false, List, codes, if◌then◌else◌, Option}
 use Rattle.std.specs.Prelude.{None, Some, position}
 use Rattle.std.specs.Str.{bytes_eq}
 use Rattle.ps_label.specs.Expression.{Expression, constant, proposition, alias, not_of, all_of, any_of, row_of}
 use Rattle.ps_text.specs.Digits.{decimal_value}
-use Rattle.ps_text.specs.Parts.{Part, one, then_by, either, mapped}
-use Rattle.ps_hoa.specs.Operands.{is_not, mark, inner, rows, number_limit}
+use Rattle.ps_text.specs.Parts.{Part, one}
+use Rattle.ps_hoa.specs.Operands.{InfixGrammar, operand as operand_of, rows, number_limit}
 use Rattle.ps_hoa.specs.Tokens.{Sign}
 use Rattle.ps_hoa.specs.declared.connective.Connective.{Connective}
 use Rattle.ps_hoa.specs.declared.connective.Connective.TheVariants as connectives
@@ -55,36 +55,32 @@ abbrev pub IsBeyond : Option ℕ → ℕ → Type 0
 IsBeyond None n = ⊥
 IsBeyond (Some count) n = count ≤ n
 
--- what may be wrong with the first sign of an operand: an INT above the greatest one, or that is no proposition; an
--- alias that is not known; and a `!` or `(` where no more may nest
-abbrev pub IsBadLeaf : ScopeData → ℕ → Kind → List ℕ → HoaCause → Type 0
-IsBadLeaf scope room kinds.Int text f =
+-- what may be wrong with such an operand: an INT above the greatest one, or that is no proposition; an alias that is not
+-- known
+abbrev pub IsBadLeaf : ScopeData → Kind → List ℕ → HoaCause → Type 0
+IsBadLeaf scope kinds.Int text f =
     ((number_limit < decimal_value text) × (f ≡ causes.Limit)) ⊎
     (IsBeyond scope.propositions (decimal_value text) × (f ≡ causes.Range))
-IsBadLeaf scope room kinds.AliasName text f = (alias_number scope.names text ≡ None) × (f ≡ causes.Alias)
-IsBadLeaf scope room kinds.Not text f = (room ≡ 0) × (f ≡ causes.Limit)
-IsBadLeaf scope room kinds.LeftParen text f = (room ≡ 0) × (f ≡ causes.Limit)
-IsBadLeaf scope room kind text f = ⊥
+IsBadLeaf scope kinds.AliasName text f = (alias_number scope.names text ≡ None) × (f ≡ causes.Alias)
+IsBadLeaf scope kind text f = ⊥
 
-abbrev pub BadLeaf : ScopeData → ℕ → Sign → HoaCause → Type 0
-BadLeaf scope room sign f = IsBadLeaf scope room sign.kind sign.text f
+abbrev pub BadLeaf : ScopeData → Sign → HoaCause → Type 0
+BadLeaf scope sign f = IsBadLeaf scope sign.kind sign.text f
 
-abbrev pub leaf : ScopeData → ℕ → Part Sign Expression HoaCause
-leaf scope room = one (leaf_in scope.names) (BadLeaf scope room)
+abbrev pub leaf : ScopeData → Part Sign Expression HoaCause
+leaf scope = one (leaf_in scope.names) (BadLeaf scope)
 
 -- what operands with a connective between them are together
 abbrev pub together : Connective → List Expression → Expression
 together connectives.And es = all_of (row_of es)
 together connectives.Or es = any_of (row_of es)
 
-abbrev pub negation : Part Sign Expression HoaCause → Part Sign Expression HoaCause
-negation operand = then_by (mark is_not) (λ _. mapped not_of operand)
+-- an operand is of one sign, is behind `!` or is in parentheses
+abbrev pub grammar : ScopeData → InfixGrammar Expression
+grammar scope = record { leaf = leaf scope; negated = Some not_of; together = together }
 
-unfoldable pub operand : ScopeData → ℕ → Part Sign Expression HoaCause
-operand scope zero = leaf scope 0
-operand scope (suc room) =
-    either (leaf scope (suc room)) (either (negation (operand scope room))
-    (inner (rows together connectives.Or (operand scope room))))
+abbrev pub operand : ScopeData → ℕ → Part Sign Expression HoaCause
+operand scope = operand_of (grammar scope)
 
 abbrev pub label : ScopeData → ℕ → Part Sign Expression HoaCause
 label scope room = rows together connectives.Or (operand scope room)

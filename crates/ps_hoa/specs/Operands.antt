@@ -1,16 +1,18 @@
--- What labels and acceptance conditions have in common: signs by themselves, an operand in parentheses, and rows of
--- operands.
+-- What labels and acceptance conditions have in common: signs by themselves, an operand in parentheses, rows of
+-- operands, and operands of which some hold others.
 --     mark test      a sign of such a kind, by itself
 --     inner part      the part between parentheses
 --     row sign join operand      operands with that sign between them: one stands for itself, and several are joined,
 --               all at once
 --     rows together connective operand      operands with a connective between them, where `&` binds tighter than `|`
-use Rattle.std.specs.Prelude.{ℕ, Bool, true, false, List, [], ◌∷◌, ◌++◌, if◌then◌else◌, Option, None, Some}
-use Rattle.ps_text.specs.Parts.{Part, NoBad, one, then_by, many, mapped}
+--     operand g room      an operand of such a grammar, where `!` and `(` may nest so many deep
+use Rattle.std.specs.Prelude.{ℕ, ◌≡◌, zero, suc, Bool, true, false, List, [], ◌∷◌, ◌++◌, if◌then◌else◌, Option, None, Some, is_some}
+use Rattle.ps_text.specs.Parts.{Part, NoBad, give, one, then_by, either, many, mapped, barred}
 use Rattle.ps_hoa.specs.Tokens.{Sign}
 use Rattle.ps_hoa.specs.declared.connective.Connective.{Connective}
 use Rattle.ps_hoa.specs.declared.connective.Connective.TheVariants as connectives
 use Rattle.ps_hoa.specs.declared.fault.HoaCause.{HoaCause}
+use Rattle.ps_hoa.specs.declared.fault.HoaCause.TheVariants as causes
 use Rattle.ps_hoa.specs.declared.tokens.Kind.{Kind}
 use Rattle.ps_hoa.specs.declared.tokens.Kind.TheVariants as kinds
 
@@ -87,6 +89,42 @@ between together connectives.Or operand = row is_and (together connectives.And) 
 abbrev pub rows : {V : Type 0} → (Connective → List V → V) → Connective → Part Sign V HoaCause → Part Sign V HoaCause
 rows together connective operand =
     row (is_sign_of connective) (together connective) (between together connective operand)
+
+-- ## Operands
+
+-- what each of the two grammars has of its own
+pub record InfixGrammar (V : Type 0) : Type 1 where
+  -- an operand without `!` or `(` in front
+  pub leaf : Part Sign V HoaCause
+  -- what `!` in front makes of an operand, where it may stand there
+  pub negated : Option (V → V)
+  -- what operands with a connective between them are together
+  pub together : Connective → List V → V
+
+-- with such a sign an operand begins that holds another one
+abbrev pub holds : {V : Type 0} → Option (V → V) → Kind → Bool
+holds negated kinds.Not = is_some negated
+holds negated kind = is_left kind
+
+abbrev pub IsTooDeep : {V : Type 0} → Option (V → V) → Sign → HoaCause → Type 0
+IsTooDeep negated sign f = (holds negated sign.kind ≡ true) × (f ≡ causes.Limit)
+
+-- no such operand stands here, since no more may nest
+abbrev pub bar : {V : Type 0} → Option (V → V) → Part Sign (Unit {0}) HoaCause
+bar negated = barred (give tt) (λ _. IsTooDeep negated)
+
+abbrev pub negation : {V : Type 0} → (V → V) → Part Sign V HoaCause → Part Sign V HoaCause
+negation negated operand = then_by (mark is_not) (λ _. mapped negated operand)
+
+-- an operand that holds another one: behind `!`, where that may stand there, or in parentheses
+abbrev pub holding : {V : Type 0} → Option (V → V) → Part Sign V HoaCause → Part Sign V HoaCause → Part Sign V HoaCause
+holding None operand held = held
+holding (Some negated) operand held = either (negation negated operand) held
+
+unfoldable pub operand : {V : Type 0} → InfixGrammar V → ℕ → Part Sign V HoaCause
+operand g zero = then_by (bar g.negated) (λ _. g.leaf)
+operand g (suc room) =
+    either g.leaf (holding g.negated (operand g room) (inner (rows g.together connectives.Or (operand g room))))
 
 -- the greatest INT
 abbrev pub number_limit : ℕ

@@ -1,20 +1,20 @@
 //! Acceptance conditions, and the reading of them.
 
 ghost use Rattle.std.specs.Prelude.{◌≡◌, map};
-ghost use Rattle.ps_text.specs.Parts.{one};
+ghost use Rattle.ps_text.specs.Parts.{NoBad, one};
 ghost use Rattle.ps_hoa.specs.Conditions as conditions;
-ghost use Rattle.ps_hoa.specs.Operands.{between, nesting_limit, rows};
+ghost use Rattle.ps_hoa.specs.Operands.{nesting_limit};
 ghost use Rattle.ps_hoa.specs.Inner.Reads.{ReadsAs, Takes};
 ghost use Rattle.ps_hoa.specs.Spans.{piece_of};
 ghost use Rattle.ps_hoa.specs.Values.{condition_of, set_data};
 
-use crate::connective::{Connective, is_at};
+use crate::connective::Connective;
 use crate::fault::{HoaCause, HoaFault};
-use crate::label::NESTING_LIMIT;
+use crate::infix::{self, Infix};
 use crate::refusal::{fault_at, refused};
 use crate::signs::{int_of, mark};
 use crate::tokens::{Kind, Token, Tokens, is_same};
-use std::alloc::Global;
+use std::alloc::{AllocError, Global};
 
 /// An acceptance condition (HOA v1, acceptance): some sets of edges are visited infinitely often, and some finitely
 /// often.
@@ -45,86 +45,50 @@ struct Set {
 pub(crate) fn condition(alloc: Global, tokens: &mut Tokens) -> Result<Cond, HoaFault>
     ensures { ReadsAs condition_of (conditions.condition nesting_limit) tokens.old result tokens.new }
 {
-    row(alloc, tokens, NESTING_LIMIT, Connective::Or)
+    infix::read(alloc, tokens, &Conditions)
 }
 
-/// Reads operands with a connective between them, where `(` may nest so many deep.
-#[cycle(condition)]
-fn row(
-    alloc: Global,
-    tokens: &mut Tokens,
-    room: usize,
-    connective: Connective,
-) -> Result<Cond, HoaFault>
-    ensures { ReadsAs condition_of (rows conditions.together connective (conditions.operand room)) tokens.old
-        result tokens.new }
-{
-    let first = part(alloc, tokens, room, connective)?;
-    if !is_at(tokens, connective) {
-        return Ok(first);
-    }
-    let mut operands = Vec::new(alloc);
-    operands.push(first)?;
-    'more: while is_at(tokens, connective) {
+/// The grammar of acceptance conditions.
+struct Conditions;
+
+impl Infix for Conditions {
+    ghost use Rattle.ps_hoa.specs.Conditions.{Condition};
+
+    type Value = Cond;
+
+    ghost Meaning = { Condition };
+
+    ghost meaning = { condition_of };
+
+    ghost grammar = { λ _. conditions.grammar };
+
+    fn leaf(&self, tokens: &mut Tokens) -> Result<Cond, HoaFault> {
+        let Some(often) = often_of(tokens.peek()) else {
+            return constant(tokens);
+        };
         tokens.advance();
-        operands.push(part(alloc, tokens, room, connective)?)?;
-    }
-    Ok(together(connective, operands))
-}
-
-/// Reads what stands between such connectives.
-#[cycle(condition)]
-fn part(
-    alloc: Global,
-    tokens: &mut Tokens,
-    room: usize,
-    connective: Connective,
-) -> Result<Cond, HoaFault>
-    ensures { ReadsAs condition_of (between conditions.together connective (conditions.operand room)) tokens.old
-        result tokens.new }
-{
-    match connective {
-        Connective::And => operand(alloc, tokens, room),
-        Connective::Or => row(alloc, tokens, room, Connective::And),
-    }
-}
-
-/// What operands with a connective between them are together.
-fn together(connective: Connective, operands: Vec<Cond>) -> Cond
-    ensures { condition_of result ≡ conditions.together connective (map condition_of operands.items) }
-{
-    match connective {
-        Connective::And => Cond::All(operands),
-        Connective::Or => Cond::Any(operands),
-    }
-}
-
-/// Reads an operand.
-#[cycle(condition)]
-fn operand(alloc: Global, tokens: &mut Tokens, room: usize) -> Result<Cond, HoaFault>
-    ensures { ReadsAs condition_of (conditions.operand room) tokens.old result tokens.new }
-{
-    if room > 0 && tokens.is_at(Kind::LeftParen) {
-        tokens.advance();
-        let inner = row(alloc, tokens, room - 1, Connective::Or)?;
+        mark(tokens, Kind::LeftParen)?;
+        let set = any_set(tokens)?;
         mark(tokens, Kind::RightParen)?;
-        return Ok(inner);
+        Ok(visits(often, set))
     }
-    atom(tokens, room)
-}
 
-/// Reads an operand that is not in parentheses.
-fn atom(tokens: &mut Tokens, room: usize) -> Result<Cond, HoaFault>
-    ensures { ReadsAs condition_of (conditions.atom room) tokens.old result tokens.new }
-{
-    let Some(often) = often_of(tokens.peek()) else {
-        return constant(tokens, room);
-    };
-    tokens.advance();
-    mark(tokens, Kind::LeftParen)?;
-    let set = any_set(tokens)?;
-    mark(tokens, Kind::RightParen)?;
-    Ok(visits(often, set))
+    fn holds(&self, kind: Kind) -> bool {
+        matches!(kind, Kind::LeftParen)
+    }
+
+    fn negated(&self, _alloc: Global, operand: Cond) -> Result<Cond, AllocError> {
+        Ok(operand)
+    }
+
+    fn together(&self, connective: Connective, operands: Vec<Cond>) -> Cond
+        ensures { condition_of result ≡ conditions.together connective (map condition_of operands.items) }
+    {
+        match connective {
+            Connective::And => Cond::All(operands),
+            Connective::Or => Cond::Any(operands),
+        }
+    }
 }
 
 /// The condition that a set is visited infinitely often, or that it is not.
@@ -150,22 +114,20 @@ fn often_of(token: Token) -> Option<bool>
 }
 
 /// Reads `t` or `f`.
-fn constant(tokens: &mut Tokens, room: usize) -> Result<Cond, HoaFault>
-    ensures { ReadsAs condition_of (one conditions.constant_in (conditions.BadStart room)) tokens.old
-        result tokens.new }
+fn constant(tokens: &mut Tokens) -> Result<Cond, HoaFault>
+    ensures { ReadsAs condition_of (one conditions.constant_in NoBad) tokens.old result tokens.new }
 {
     let token = tokens.advance();
-    constant_of(token, room)
+    constant_of(token)
 }
 
 /// The constant that a token is.
-fn constant_of(token: Token, room: usize) -> Result<Cond, HoaFault>
-    ensures { Takes condition_of conditions.constant_in (conditions.BadStart room) (piece_of token.entry) result }
+fn constant_of(token: Token) -> Result<Cond, HoaFault>
+    ensures { Takes condition_of conditions.constant_in NoBad (piece_of token.entry) result }
 {
     match token.kind {
         Kind::Word if is_same(token.text, b"t") => Ok(Cond::Always),
         Kind::Word if is_same(token.text, b"f") => Ok(Cond::Never),
-        Kind::LeftParen if room == 0 => Err(fault_at(token, HoaCause::Limit)),
         _ => Err(refused(token)),
     }
 }

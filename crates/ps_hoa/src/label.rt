@@ -4,117 +4,64 @@ ghost use Rattle.std.specs.Prelude.{◌≡◌, ◌↔◌, true};
 ghost use Rattle.ps_label.specs.Expression.{expression};
 ghost use Rattle.ps_label.specs.Truth.{expressions};
 ghost use Rattle.ps_hoa.specs.Labels as labels;
-ghost use Rattle.ps_hoa.specs.Operands.{between, nesting_limit, rows};
+ghost use Rattle.ps_hoa.specs.Operands.{nesting_limit};
 ghost use Rattle.ps_hoa.specs.Inner.Reads.{ReadsAs, Takes};
 ghost use Rattle.ps_hoa.specs.Spans.{piece_of};
 
-use crate::connective::{Connective, is_at};
+use crate::connective::Connective;
 use crate::fault::{HoaCause, HoaFault};
+use crate::infix::{self, Infix};
 use crate::names::Scope;
 use crate::refusal::{fault_at, refused};
-use crate::signs::{int_of, mark};
+use crate::signs::int_of;
 use crate::tokens::{Kind, Token, Tokens, is_same};
 use ps_label::Label;
-use std::alloc::Global;
-
-/// `!` and `(` may nest as many deep.
-pub(crate) const NESTING_LIMIT: usize = 256;
+use std::alloc::{AllocError, Global};
 
 /// Reads a label.
 pub(crate) fn label(alloc: Global, tokens: &mut Tokens, scope: &Scope) -> Result<Label, HoaFault>
     ensures { ReadsAs expression (labels.label scope.now nesting_limit) tokens.old result tokens.new }
 {
-    row(alloc, tokens, scope, NESTING_LIMIT, Connective::Or)
+    infix::read(alloc, tokens, scope)
 }
 
-/// Reads operands with a connective between them, where `!` and `(` may nest so many deep.
-#[cycle(label)]
-fn row(
-    alloc: Global,
-    tokens: &mut Tokens,
-    scope: &Scope,
-    room: usize,
-    connective: Connective,
-) -> Result<Label, HoaFault>
-    ensures { ReadsAs expression (rows labels.together connective (labels.operand scope.now room)) tokens.old
-        result tokens.new }
-{
-    let first = part(alloc, tokens, scope, room, connective)?;
-    if !is_at(tokens, connective) {
-        return Ok(first);
-    }
-    let mut operands = Vec::with_capacity(alloc, 2)?;
-    operands.push(first)?;
-    'more: while is_at(tokens, connective) {
-        tokens.advance();
-        operands.push(part(alloc, tokens, scope, room, connective)?)?;
-    }
-    Ok(together(connective, operands))
-}
+impl Infix for Scope<'_, '_> {
+    ghost use Rattle.ps_label.specs.Expression.{Expression};
 
-/// Reads what stands between such connectives.
-#[cycle(label)]
-fn part(
-    alloc: Global,
-    tokens: &mut Tokens,
-    scope: &Scope,
-    room: usize,
-    connective: Connective,
-) -> Result<Label, HoaFault>
-    ensures { ReadsAs expression (between labels.together connective (labels.operand scope.now room)) tokens.old
-        result tokens.new }
-{
-    match connective {
-        Connective::And => operand(alloc, tokens, scope, room),
-        Connective::Or => row(alloc, tokens, scope, room, Connective::And),
-    }
-}
+    type Value = Label;
 
-/// What operands with a connective between them are together.
-fn together(connective: Connective, operands: Vec<Label>) -> Label
-    ensures { expression result ≡ labels.together connective (expressions operands.items) }
-{
-    match connective {
-        Connective::And => Label::Both(operands),
-        Connective::Or => Label::Either(operands),
-    }
-}
+    ghost Meaning = { Expression };
 
-/// Reads an operand.
-#[cycle(label)]
-fn operand(
-    alloc: Global,
-    tokens: &mut Tokens,
-    scope: &Scope,
-    room: usize,
-) -> Result<Label, HoaFault>
-    ensures { ReadsAs expression (labels.operand scope.now room) tokens.old result tokens.new }
-{
-    if room > 0 && tokens.is_at(Kind::Not) {
-        tokens.advance();
-        let negated = operand(alloc, tokens, scope, room - 1)?;
-        return Ok(Label::Neg(Box::new(alloc, negated)?));
-    }
-    if room > 0 && tokens.is_at(Kind::LeftParen) {
-        tokens.advance();
-        let inner = row(alloc, tokens, scope, room - 1, Connective::Or)?;
-        mark(tokens, Kind::RightParen)?;
-        return Ok(inner);
-    }
-    leaf(tokens, scope, room)
-}
+    ghost meaning = { expression };
 
-/// Reads an operand of one sign.
-fn leaf(tokens: &mut Tokens, scope: &Scope, room: usize) -> Result<Label, HoaFault>
-    ensures { ReadsAs expression (labels.leaf scope.now room) tokens.old result tokens.new }
-{
-    let token = tokens.advance();
-    leaf_of(token, scope, room)
+    ghost grammar = { labels.grammar };
+
+    fn leaf(&self, tokens: &mut Tokens) -> Result<Label, HoaFault> {
+        let token = tokens.advance();
+        leaf_of(token, self)
+    }
+
+    fn holds(&self, kind: Kind) -> bool {
+        matches!(kind, Kind::Not | Kind::LeftParen)
+    }
+
+    fn negated(&self, alloc: Global, operand: Label) -> Result<Label, AllocError> {
+        Ok(Label::Neg(Box::new(alloc, operand)?))
+    }
+
+    fn together(&self, connective: Connective, operands: Vec<Label>) -> Label
+        ensures { expression result ≡ labels.together connective (expressions operands.items) }
+    {
+        match connective {
+            Connective::And => Label::Both(operands),
+            Connective::Or => Label::Either(operands),
+        }
+    }
 }
 
 /// The operand that a token is.
-fn leaf_of(token: Token, scope: &Scope, room: usize) -> Result<Label, HoaFault>
-    ensures { Takes expression (labels.leaf_in scope.now.names) (labels.BadLeaf scope.now room)
+fn leaf_of(token: Token, scope: &Scope) -> Result<Label, HoaFault>
+    ensures { Takes expression (labels.leaf_in scope.now.names) (labels.BadLeaf scope.now)
         (piece_of token.entry) result }
 {
     match token.kind {
@@ -131,8 +78,6 @@ fn leaf_of(token: Token, scope: &Scope, room: usize) -> Result<Label, HoaFault>
             None => Err(fault_at(token, HoaCause::Alias)),
             Some(number) => Ok(Label::Named(number)),
         },
-        Kind::Not if room == 0 => Err(fault_at(token, HoaCause::Limit)),
-        Kind::LeftParen if room == 0 => Err(fault_at(token, HoaCause::Limit)),
         _ => Err(refused(token)),
     }
 }

@@ -32,6 +32,7 @@ pub mod file;
 mod flaws;
 mod header;
 mod indices;
+mod infix;
 mod items;
 mod label;
 mod laws;

@@ -31,7 +31,8 @@ use Rattle.ps_hoa.specs.declared.tokens.Kind.TheVariants.{Int, LeftBracket, Righ
 use Rattle.ps_hoa.proofs.Grammar.ConditionLaws.{is_int}
 use Rattle.ps_hoa.proofs.Grammar.KindSets.{union, within, within_both, apart, laws_sign, laws_value, laws_mark}
 use Rattle.ps_hoa.proofs.Grammar.OperandLaws.{Odd, Of, Known, Tight}
-use Rattle.ps_hoa.proofs.Grammar.LabelLaws.{is_start, laws_label}
+use Rattle.ps_hoa.proofs.Grammar.InfixLaws.{is_start}
+use Rattle.ps_hoa.proofs.Grammar.LabelLaws.{laws_label}
 use Rattle.ps_hoa.proofs.Grammar.SignLaws.{laws_alternating}
 
 -- the signs with which an edge goes on

@@ -1,22 +1,23 @@
--- The laws of acceptance conditions, and which form of an operand stands by its first sign.
-use Rattle.std.proofs.Common.{rules, ◌≡◌, ℕ, zero, suc, Bool, true, false, List, [], codes, refl, arith}
+-- The laws of acceptance conditions.
+use Rattle.std.proofs.Common.{◌≡◌, ℕ, Bool, true, false, List, [], codes, refl, arith}
 use Rattle.std.proofs.lemmas.Slice.Eq.{bytes_eq-Decides}
-use Rattle.ps_text.specs.Parts.{Part, one, then_by}
+use Rattle.ps_text.specs.Parts.{Part, NoBad, one, then_by}
 use Rattle.ps_text.proofs.Following.{laws_tight}
 use Rattle.ps_text.proofs.Laws.{Laws, Joint, Nothing, Or, Within, Apart}
-use Rattle.ps_text.proofs.Combined.{wider_first, laws_first, laws_forms, joint_tight}
-use Rattle.ps_text.proofs.Simple.{Taken, BadSign, none_is_some, laws_one, laws_mapped}
+use Rattle.ps_text.proofs.Combined.{both_within, wider_first, laws_first, laws_forms, joint_tight}
+use Rattle.ps_text.proofs.Simple.{Taken, none_is_some, laws_mapped}
+use Rattle.ps_hoa.specs.Inner.Signs.{is_single, IsLeaf}
 use Rattle.ps_hoa.specs.Tokens.{Sign}
 use Rattle.ps_hoa.specs.Operands.{is_not, is_left, mark}
 use Rattle.ps_hoa.specs.Conditions.{Condition, constant_in, often_in, IsBadSet, set, any_set, closed_set, often_or_not}
-use Rattle.ps_hoa.specs.Conditions.{visit, IsBadStart, BadStart, atom, together, operand, condition}
+use Rattle.ps_hoa.specs.Conditions.{visit, atom, together, grammar, operand, condition}
 use Rattle.ps_hoa.specs.declared.fault.HoaCause.{HoaCause}
 use Rattle.ps_hoa.specs.declared.tokens.Kind.{Kind}
 use Rattle.ps_hoa.specs.declared.tokens.Kind.TheVariants.{Word, Int}
-use Rattle.ps_hoa.proofs.Grammar.KindSets.{taken, within, within_both, apart, plain, laws_sign}
+use Rattle.ps_hoa.proofs.Grammar.KindSets.{taken, within, apart, plain, laws_sign}
 use Rattle.ps_hoa.proofs.Grammar.OperandLaws.{Odd, Of, laws_behind, Tight}
-use Rattle.ps_hoa.proofs.Grammar.LabelLaws.{is_start, laws_not, laws_left, laws_right, AndOrMore, laws_rows}
-use Rattle.ps_hoa.proofs.Grammar.LabelLaws.{laws_nested}
+use Rattle.ps_hoa.proofs.Grammar.InfixLaws.{is_start, AndOrMore, laws_not, laws_left, laws_right}
+use Rattle.ps_hoa.proofs.Grammar.InfixLaws.{laws_rows, laws_operand}
 
 abbrev pub is_word : Kind → Bool
 is_word Word = true
@@ -34,12 +35,6 @@ word_often = taken is_word often_in (λ _. refl)
 
 int_bad : (kind : Kind) (text : List ℕ) (f : HoaCause) → IsBadSet kind text f → is_int kind ≡ true
 int_bad kind text f h = grind arith
-
-left_bad : (room : ℕ) (kind : Kind) (f : HoaCause) → IsBadStart room kind f → is_left kind ≡ true
-left_bad room kind f h = grind arith
-
-none_bad : (room : ℕ) (kind : Kind) (f : HoaCause) → IsBadStart (suc room) kind f → ⊥
-none_bad room kind f h = grind arith
 
 -- ## Sets
 
@@ -86,37 +81,16 @@ laws_visit = laws_tight laws_often laws_behind_often
 pub constant_often : Apart (Taken constant_in) (Taken often_in)
 constant_often t h k = grind (arith, codes, none_is_some, bytes_eq-Decides)
 
-abbrev pub FirstAtom : ℕ → Sign → Type 0
-FirstAtom room = Or (Taken constant_in) (BadSign (BadStart room))
+pub laws_constant : Laws Odd (one constant_in (NoBad {F = HoaCause})) (Taken constant_in) Nothing ⊥
+laws_constant = laws_first (record { kind = Word; text = codes "t" }) _ refl
+    (λ t h. plain is_word (λ _. refl) t (word_constant t h)) (λ t h. h) (λ t h. absurd h.1)
 
-pub laws_constant : (room : ℕ) → Laws Odd (one constant_in (BadStart room)) (FirstAtom room) Nothing ⊥
-laws_constant room = laws_one constant_in (BadStart room) Odd (record { kind = Word; text = codes "t" }) _ refl
-    (λ t h. grind (arith, word_constant t h)) (λ t h. grind (arith, plain, left_bad))
-
-pub atom_often : (room : ℕ) → Apart (FirstAtom room) (Taken often_in)
-atom_often room t h3 k = search (rules, constant_often, apart, left_bad, word_often)
-
-laws_atom : (room : ℕ) (test : Kind → Bool) → Within (Of is_word) (Of test) →
-    Within (BadSign (BadStart room)) (Of test) → Tight (atom room) test
-laws_atom room test word bad = grind (arith, laws_forms (laws_constant room) laws_visit (atom_often room))
-
-pub laws_word : (room : ℕ) → Tight (atom (suc room)) is_word
-laws_word room = laws_atom (suc room) is_word (λ t h. h) (λ t h. absurd (none_bad room t.kind h.0 h.1))
-
-pub word_left : Apart (Of is_word) (Of is_left)
-word_left = apart is_word is_left refl
-
-pub laws_operand : (room : ℕ) → Tight (operand room) is_start
-unfolding operand
-laws_operand zero = laws_atom 0 is_start (within is_word is_start refl) (λ t h. grind (arith, within, left_bad))
-laws_operand (suc room) = wider_first (laws_forms (laws_word room) (grind (
-  arith,
-  laws_nested (operand room) together (laws_operand room),
-  laws_operand room,
-)) word_left) (within_both is_word is_left is_start refl refl)
+pub condition_leaf : IsLeaf atom
+condition_leaf = wider_first (laws_forms laws_constant laws_visit constant_often)
+    (λ t h. within is_word is_single refl t (both_within word_constant word_often t h))
 
 pub laws_condition : (room : ℕ) → Laws Odd (condition room) (Of is_start) AndOrMore ⊥
-laws_condition room = laws_rows (operand room) together (laws_operand room)
+laws_condition room = laws_rows (operand room) together (laws_operand grammar condition_leaf room)
 
 pub one_condition : (room : ℕ) (text : List Sign) (v w : Condition) → (condition room).IsText text v →
     (condition room).IsText text w → v ≡ w

@@ -22,7 +22,8 @@ use Rattle.ps_hoa.specs.declared.fault.HoaCause.{HoaCause}
 use Rattle.ps_hoa.specs.declared.tokens.Kind.TheVariants.{Header, Word}
 use Rattle.ps_hoa.proofs.Grammar.KindSets.{within, laws_sign}
 use Rattle.ps_hoa.proofs.Grammar.OperandLaws.{Odd, Of, Known, Tight}
-use Rattle.ps_hoa.proofs.Grammar.LabelLaws.{AndOrMore, laws_label}
+use Rattle.ps_hoa.proofs.Grammar.InfixLaws.{AndOrMore}
+use Rattle.ps_hoa.proofs.Grammar.LabelLaws.{laws_label}
 use Rattle.ps_hoa.proofs.Grammar.ConditionLaws.{is_int, laws_condition}
 use Rattle.ps_hoa.proofs.Grammar.SignLaws.{is_string, is_alias, Named, Other, some_there, is_unknown, plain_named}
 use Rattle.ps_hoa.proofs.Grammar.SignLaws.{plain_other, laws_name, laws_int, laws_string, laws_proposition_name}

@@ -24,7 +24,7 @@ use Rattle.ps_hoa.specs.declared.tokens.Kind.{Kind}
 use Rattle.ps_hoa.specs.declared.tokens.Kind.TheVariants.{Header, Body}
 use Rattle.ps_hoa.proofs.Grammar.KindSets.{union, within, apart, laws_sign}
 use Rattle.ps_hoa.proofs.Grammar.OperandLaws.{Odd, Of, Tight}
-use Rattle.ps_hoa.proofs.Grammar.LabelLaws.{is_connective}
+use Rattle.ps_hoa.proofs.Grammar.InfixLaws.{is_connective}
 use Rattle.ps_hoa.proofs.Grammar.ConditionLaws.{is_int}
 use Rattle.ps_hoa.proofs.Grammar.ItemNames.{StartsWith, begins}
 use Rattle.ps_hoa.proofs.Grammar.SignLaws.{header_apart, laws_int, laws_alternating, is_string, is_body, laws_name}

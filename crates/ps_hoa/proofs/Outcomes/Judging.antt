@@ -12,10 +12,9 @@ use Rattle.ps_text.proofs.Decisions.{Decided, decide_true, decide_none, decide_n
 use Rattle.ps_text.proofs.Decisions.{decide_below, judge_none, judge_cause, judge_one, judge_as, judge_if, judge_also}
 use Rattle.ps_text.proofs.Simple.{none_is_some, same_some}
 use Rattle.ps_hoa.specs.Causes.{cause_number}
-use Rattle.ps_hoa.specs.Operands.{number_limit}
+use Rattle.ps_hoa.specs.Operands.{holds, IsTooDeep, number_limit}
 use Rattle.ps_hoa.specs.Labels.{ScopeData, alias_number, IsBeyond, IsBadLeaf, BadLeaf}
 use Rattle.ps_hoa.specs.Conditions as conditions
-use Rattle.ps_hoa.specs.Conditions.{IsBadStart, BadStart}
 use Rattle.ps_hoa.specs.Files.{RowData}
 use Rattle.ps_hoa.specs.Header.{HeaderData, state_limit, name_value, int_in, IsAbove, IsSecondStart, IsAlternating}
 use Rattle.ps_hoa.specs.Header.{IsBadName, IsBadAlias}
@@ -27,7 +26,7 @@ use Rattle.ps_hoa.specs.declared.edges.Labelling.TheVariants.{ByPlace}
 use Rattle.ps_hoa.specs.declared.fault.HoaCause.{HoaCause}
 use Rattle.ps_hoa.specs.declared.fault.HoaCause.TheVariants as causes
 use Rattle.ps_hoa.specs.declared.tokens.Kind.{Kind}
-use Rattle.ps_hoa.specs.declared.tokens.Kind.TheVariants.{AliasName, Int, LeftParen, Not}
+use Rattle.ps_hoa.specs.declared.tokens.Kind.TheVariants.{AliasName, Int}
 use Rattle.ps_hoa.specs.Inner.Signs.{IsTestOf}
 use Rattle.ps_hoa.proofs.Grammar.KindSets.{test_of}
 
@@ -54,18 +53,15 @@ decide_beyond : (count : Option ℕ) (n : ℕ) → Decided (IsBeyond count n)
 decide_beyond None n = inr (λ h. h)
 decide_beyond (Some count) n = decide_below count n
 
--- where no more may nest
-no_room : (room : ℕ) → Judged cause_number (λ f. (room ≡ 0) × (f ≡ causes.Limit))
-no_room room = judge_cause cause_number causes.Limit (cases_eq room 0)
+pub judge_deep : {V : Type 0} (negated : Option (V → V)) → JudgesAll (IsTooDeep negated)
+judge_deep negated t = judge_cause cause_number causes.Limit (decide_true (holds negated t.kind))
 
-pub judge_leaf : (scope : ScopeData) (room : ℕ) → JudgesAll (BadLeaf scope room)
-judge_leaf scope room t = go t.kind t.text
+pub judge_leaf : (scope : ScopeData) → JudgesAll (BadLeaf scope)
+judge_leaf scope t = go t.kind t.text
   where
-    go : (kind : Kind) (text : List ℕ) → Judged cause_number (IsBadLeaf scope room kind text)
+    go : (kind : Kind) (text : List ℕ) → Judged cause_number (IsBadLeaf scope kind text)
     go Int text = search (rules, judge_one, large, judge_cause, decide_beyond)
     go AliasName text = judge_cause cause_number causes.Alias (decide_none (alias_number scope.names text))
-    go Not text = no_room room
-    go LeftParen text = no_room room
     go kind text = judge_none cause_number
 
 pub judge_set : JudgesAll conditions.BadSet
@@ -74,13 +70,6 @@ judge_set t = go t.kind t.text
     go : (kind : Kind) (text : List ℕ) → Judged cause_number (conditions.IsBadSet kind text)
     go Int text = large number_limit (decimal_value text)
     go kind text = judge_none cause_number
-
-pub judge_start : (room : ℕ) → JudgesAll (BadStart room)
-judge_start room t = go t.kind
-  where
-    go : (kind : Kind) → Judged cause_number (IsBadStart room kind)
-    go LeftParen = no_room room
-    go kind = judge_none cause_number
 
 -- ## The header
 

@@ -1,17 +1,18 @@
 -- Labels and acceptance conditions have an outcome from each list of signs: they are read, or have a first fault.
 --     has_signs, has_mark, has_loop      a part of one sign, a sign of a kind by itself, and a loop
+--     has_infix      rows of the operands of a grammar
 --     has_label, has_condition      the outcomes
-use Rattle.std.proofs.Common.{rules, arith, Option, ℕ, zero, suc, Bool, true, false, List}
-use Rattle.ps_label.specs.Expression.{not_of}
+use Rattle.std.proofs.Common.{arith, Option, None, Some, ℕ, zero, suc, Bool, true, false, List}
 use Rattle.ps_text.specs.Parts.{Part, one, many}
 use Rattle.ps_text.specs.Outcomes.{HasOutcomes}
 use Rattle.ps_text.proofs.Laws.{Laws, Nothing, Apart}
-use Rattle.ps_text.proofs.Outcomes.{has_one, has_mapped, has_then, has_either, has_many}
-use Rattle.ps_text.proofs.Simple.{laws_mapped}
+use Rattle.ps_text.proofs.Outcomes.{has_give, has_one, has_mapped, has_then, has_either, has_many, has_barred}
+use Rattle.ps_text.proofs.Simple.{laws_give, laws_mapped}
+use Rattle.ps_hoa.specs.Inner.Signs.{IsLeaf}
 use Rattle.ps_hoa.specs.Tokens.{Sign}
 use Rattle.ps_hoa.specs.Causes.{hoa_causes}
 use Rattle.ps_hoa.specs.Operands.{is_not, is_and, is_or, is_left, is_right, mark, before, closed, inner, single}
-use Rattle.ps_hoa.specs.Operands.{with_last, joined, further, operands, row, rows}
+use Rattle.ps_hoa.specs.Operands.{with_last, joined, further, operands, row, rows, InfixGrammar, holding, IsTooDeep, operand}
 use Rattle.ps_hoa.specs.Labels as labels
 use Rattle.ps_hoa.specs.Labels.{ScopeData}
 use Rattle.ps_hoa.specs.Conditions as conditions
@@ -22,20 +23,20 @@ use Rattle.ps_hoa.specs.declared.fault.HoaCause.{HoaCause}
 use Rattle.ps_hoa.specs.declared.tokens.Kind.{Kind}
 use Rattle.ps_hoa.proofs.Grammar.OperandLaws.{Odd, Of, nothing_apart, laws_behind, joint_mark, joint_closed}
 use Rattle.ps_hoa.proofs.Grammar.OperandLaws.{joint_operands, laws_held}
-use Rattle.ps_hoa.proofs.Grammar.LabelLaws.{laws_not, laws_and, laws_or, laws_left, laws_right, not_left, single_nested}
-use Rattle.ps_hoa.proofs.Grammar.LabelLaws.{apart_or, apart_right, laws_both, laws_rows, laws_nested, laws_negation}
-use Rattle.ps_hoa.proofs.Grammar.LabelLaws.{laws_deep, laws_single, laws_operand}
-use Rattle.ps_hoa.proofs.Grammar.ConditionLaws as conditions_laws
+use Rattle.ps_hoa.proofs.Grammar.InfixLaws.{is_start, joint_bar, laws_not, laws_and, laws_or, laws_left, laws_right}
+use Rattle.ps_hoa.proofs.Grammar.InfixLaws.{not_left, single_holds, apart_or, apart_right, laws_both, laws_rows}
+use Rattle.ps_hoa.proofs.Grammar.InfixLaws.{laws_nested, laws_negation, laws_holding, laws_operand}
+use Rattle.ps_hoa.proofs.Grammar.LabelLaws.{label_leaf}
 use Rattle.ps_hoa.proofs.Grammar.ConditionLaws.{laws_set, not_int, laws_complement, laws_closed_set, joint_closed_set}
-use Rattle.ps_hoa.proofs.Grammar.ConditionLaws.{joint_visit, laws_visit, laws_constant, atom_often, laws_word}
-use Rattle.ps_hoa.proofs.Grammar.ConditionLaws.{word_left}
+use Rattle.ps_hoa.proofs.Grammar.ConditionLaws.{joint_visit, laws_visit, laws_constant, constant_often}
+use Rattle.ps_hoa.proofs.Grammar.ConditionLaws.{condition_leaf}
 use Rattle.ps_hoa.proofs.Grammar.HeaderSigns.{signs_mark}
-use Rattle.ps_hoa.proofs.Reading.ConditionReading.{constant_signs, set_signs, often_signs}
+use Rattle.ps_hoa.proofs.Reading.LeafReading.{constant_signs, set_signs, often_signs}
 use Rattle.ps_hoa.proofs.Reading.Exits.{Loop}
-use Rattle.ps_hoa.proofs.Reading.LabelReading.{leaf_signs}
+use Rattle.ps_hoa.proofs.Reading.LeafReading.{leaf_signs}
 use Rattle.ps_hoa.proofs.Reading.MarkReading.{Tests, tests_not, tests_and, tests_or, tests_left, tests_right}
 use Rattle.ps_hoa.proofs.Reading.SingleSigns.{IsOfSigns}
-use Rattle.ps_hoa.proofs.Outcomes.Judging.{JudgesAll, no_bad, judge_leaf, judge_set, judge_start}
+use Rattle.ps_hoa.proofs.Outcomes.Judging.{JudgesAll, no_bad, judge_deep, judge_leaf, judge_set}
 
 abbrev pub Has : {V : Type 0} → Part Sign V HoaCause → Type 0
 Has part = HasOutcomes hoa_causes part
@@ -80,27 +81,30 @@ module _ {V : Type 0} {F : Sign → Type 0} (P : Part Sign V HoaCause) (together
       (laws_held laws_right (laws_rows P together l) apart_right)) (has_mark tests_left) (λ _. has_then hoa_causes
       (joint_closed laws_right (laws_rows P together l) apart_right) has_rows (λ v. has_closed v))
 
--- ## Labels
+-- ## Operands
 
-has_operand : (scope : ScopeData) (room : ℕ) → Has (labels.operand scope room)
-unfolding labels.operand
-has_operand scope zero = has_signs (leaf_signs scope 0) (judge_leaf scope 0)
-has_operand scope (suc room) =
-    let P = labels.operand scope room in
-    let l = laws_operand scope room in
-    let p = has_operand scope room in
-    has_either hoa_causes (laws_single scope room) (laws_deep P l) single_nested (search (
-      rules,
-      has_signs,
-      leaf_signs,
-      judge_leaf,
-    )) (has_either hoa_causes (laws_negation P l) (laws_nested P labels.together l) not_left
-    (has_then hoa_causes (joint_mark is_not laws_not (laws_mapped not_of P l)) (has_mark tests_not)
-    (λ _. has_mapped hoa_causes not_of P p)) (has_nested P labels.together l p))
+module _ {V : Type 0} (g : InfixGrammar V) (is : IsLeaf g.leaf) (leaf : Has g.leaf) where
+  has_holding : (P : Part Sign V HoaCause) → Laws Odd P (Of is_start) Nothing ⊥ → Has P → (n : Option (V → V)) →
+      Has (holding n P (inner (rows g.together connectives.Or P)))
+  has_holding P l p None = has_nested P g.together l p
+  has_holding P l p (Some negated) = has_either hoa_causes (laws_negation P g.together l negated)
+      (laws_nested P g.together l) not_left (has_then hoa_causes (joint_mark is_not laws_not (laws_mapped negated P l))
+      (has_mark tests_not) (λ _. has_mapped hoa_causes negated P p)) (has_nested P g.together l p)
+
+  has_operand : (room : ℕ) → Has (operand g room)
+  unfolding operand
+  has_operand zero = has_then hoa_causes (joint_bar g.negated is) (has_barred hoa_causes (λ _. IsTooDeep g.negated)
+      (laws_give Odd tt) (nothing_apart _) (λ _. judge_deep g.negated) (has_give hoa_causes tt)) (λ _. leaf)
+  has_operand (suc room) = has_either hoa_causes is
+      (laws_holding (operand g room) g.together (laws_operand g is room) g.negated) (single_holds g.negated) leaf
+      (has_holding (operand g room) (laws_operand g is room) (has_operand room) g.negated)
+
+  has_infix : (room : ℕ) → Has (rows g.together connectives.Or (operand g room))
+  has_infix room = has_rows (operand g room) g.together (laws_operand g is room) (has_operand room)
 
 pub has_label : (scope : ScopeData) (room : ℕ) → Has (labels.label scope room)
-has_label scope room = has_rows (labels.operand scope room) labels.together (laws_operand scope room)
-    (has_operand scope room)
+has_label scope =
+    has_infix (labels.grammar scope) (label_leaf scope) (has_signs (leaf_signs scope) (judge_leaf scope))
 
 -- ## Acceptance conditions
 
@@ -114,19 +118,8 @@ has_visit = has_then hoa_causes joint_visit (has_signs often_signs no_bad) (λ o
     has_then hoa_causes (joint_mark is_left laws_left (laws_closed_set often)) (has_mark tests_left) (λ _.
     has_then hoa_causes (joint_closed_set often) has_any_set (λ s. has_closed (visits often s))))
 
-has_atom : (room : ℕ) → Has (atom room)
-has_atom room = has_either hoa_causes (laws_constant room) laws_visit (atom_often room)
-    (has_signs (constant_signs room) (judge_start room)) has_visit
-
-has_condition_operand : (room : ℕ) → Has (conditions.operand room)
-unfolding conditions.operand
-has_condition_operand zero = has_atom 0
-has_condition_operand (suc room) =
-    let P = conditions.operand room in
-    let l = conditions_laws.laws_operand room in
-    has_either hoa_causes (laws_word room) (laws_nested P conditions.together l) word_left (has_atom (suc room))
-    (has_nested P conditions.together l (has_condition_operand room))
+has_atom : Has atom
+has_atom = has_either hoa_causes laws_constant laws_visit constant_often (has_signs constant_signs no_bad) has_visit
 
 pub has_condition : (room : ℕ) → Has (conditions.condition room)
-has_condition room = has_rows (conditions.operand room) conditions.together (conditions_laws.laws_operand room)
-    (has_condition_operand room)
+has_condition = has_infix conditions.grammar condition_leaf has_atom

@@ -4,7 +4,7 @@
 --     mark_read, mark_begins, mark_elsewhere      the sign stands there: it was taken, and begins a part; it does not
 --               stand there
 --     tests_not, .., tests_string      the tests of the grammar
---     inner_begins, inner_reads, inner_fails, inner_stays_open      a part in parentheses, and its exits behind its `(`
+--     inner_reads, inner_fails, inner_stays_open      the exits of a part in parentheses behind its `(`
 use Rattle.std.proofs.Common.{◌≡◌, ◌≤◌, Bool, true, cond, length, Option, None, Some, Ok, refl, sym, ap, subst, ◌∙◌}
 use Rattle.std.proofs.Common.{inl, rules}
 use Rattle.ps_text.specs.Answers.{Stream, next_of as there_of}
@@ -25,10 +25,10 @@ use Rattle.ps_hoa.specs.Inner.Signs.{IsTestOf}
 use Rattle.ps_hoa.proofs.Grammar.ConditionLaws.{is_int}
 use Rattle.ps_hoa.proofs.Grammar.HeaderSigns.{signs_mark}
 use Rattle.ps_hoa.proofs.Grammar.KindSets.{test_of}
-use Rattle.ps_hoa.proofs.Grammar.LabelLaws.{laws_left, laws_right}
+use Rattle.ps_hoa.proofs.Grammar.InfixLaws.{laws_left, laws_right}
 use Rattle.ps_hoa.proofs.Grammar.OperandLaws.{Odd, Of, joint_mark, joint_closed, laws_held}
 use Rattle.ps_hoa.proofs.Grammar.SignLaws.{is_string}
-use Rattle.ps_hoa.proofs.Reading.Exits.{Leads, first, behind, under, entered}
+use Rattle.ps_hoa.proofs.Reading.Exits.{Leads, first, behind, under}
 use Rattle.ps_hoa.proofs.Reading.NextSign.{next_there, next_same}
 use Rattle.ps_hoa.proofs.Reading.SingleSigns.{reads_one}
 
@@ -117,9 +117,6 @@ module _ {V : Type 0} {P : Part Sign V HoaCause} {First More : Sign → Type 0} 
 
   joint_right : Joint P (λ v. closed v)
   joint_right = joint_closed laws_right l apart
-
-  pub inner_begins : (s : Stream Sign) → (next_of s).sign.kind ≡ LeftParen → Enters (inner P) (there_of s)
-  inner_begins s e = entered joint_left s (mark_begins tests_left s e)
 
   pub inner_reads : {old mid next new : Stream Sign} {v : V} → Reads (mark is_left) old tt mid → Reads P mid v next →
       Reads (mark is_right) next tt new → Reads (inner P) old v new

@@ -15,6 +15,7 @@ use Rattle.ps_hoa.specs.Header.{SpeaksBeyond, SomeSpeaksBeyond}
 use Rattle.ps_hoa.specs.Labels.{ScopeData, leaf_value, leaf_in, IsBeyond, IsBadLeaf, BadLeaf, leaf, together, operand}
 use Rattle.ps_hoa.specs.Labels.{label}
 use Rattle.ps_hoa.specs.Operands.{is_not, is_left, mark, single, joined, further, operands, row, rows}
+use Rattle.ps_hoa.specs.Operands.{bar, operand as operand_of}
 use Rattle.ps_hoa.specs.Sound.{IsLabel, AreLabels}
 use Rattle.ps_hoa.specs.Tokens.{Sign}
 use Rattle.ps_hoa.specs.declared.connective.Connective.{Connective}
@@ -84,14 +85,14 @@ abbrev pub InScope : ScopeData → Expression → Type 0
 InScope scope e = NamesBelow (length scope.names) e ×
     ((count : ℕ) → scope.propositions ≡ Some count → SpeaksBeyond count e → ⊥)
 
-leaf_sound : (scope : ScopeData) (room : ℕ) (kind : Kind) (text : List ℕ) (e : Expression) →
+leaf_sound : (scope : ScopeData) (kind : Kind) (text : List ℕ) (e : Expression) →
     leaf_value scope.names kind text ≡ Some e →
-    ((f : HoaCause) → IsBadLeaf scope room kind text f → ⊥) → InScope scope e
-leaf_sound scope room Word text e is good = search (rules, none_is_some, same_some)
-leaf_sound scope room Int text e is good = subst (InScope scope) (same_some (proposition (decimal_value text)) e is)
+    ((f : HoaCause) → IsBadLeaf scope kind text f → ⊥) → InScope scope e
+leaf_sound scope Word text e is good = search (rules, none_is_some, same_some)
+leaf_sound scope Int text e is good = subst (InScope scope) (same_some (proposition (decimal_value text)) e is)
     (tt, λ count p h. good causes.Range (inr (subst (λ o. IsBeyond o (decimal_value text)) (sym p) h, refl)))
-leaf_sound scope room AliasName text e is good = search (rules, none_is_some, same_some, position-Some)
-leaf_sound scope room kind text e is good = absurd (none_is_some e is)
+leaf_sound scope AliasName text e is good = search (rules, none_is_some, same_some, position-Some)
+leaf_sound scope kind text e is good = absurd (none_is_some e is)
 
 names_together : (scope : ScopeData) (es : List Expression) → AllByRecursion (InScope scope) es →
     AllNamesBelow (length scope.names) (row_of es)
@@ -109,18 +110,18 @@ together_sound : (scope : ScopeData) (c : Connective) (es : List Expression) →
 together_sound scope c es h = search (rules, names_together, some_beyond)
 
 module _ (scope : ScopeData) where
-  keeps_leaf : (room : ℕ) → Keeps (leaf scope room) (InScope scope)
-  keeps_leaf room = keeps_one (leaf_in scope.names) (BadLeaf scope room) (λ t. leaf_sound scope room t.kind t.text)
+  keeps_leaf : Keeps (leaf scope) (InScope scope)
+  keeps_leaf = keeps_one (leaf_in scope.names) (BadLeaf scope) (λ t. leaf_sound scope t.kind t.text)
 
   keeps_rows : {part : Part Sign Expression HoaCause} → Keeps part (InScope scope) →
       Keeps (rows together connectives.Or part) (InScope scope)
   keeps_rows k = search (rules, keeps_row, together_sound)
 
   keeps_operand : (room : ℕ) → Keeps (operand scope room) (InScope scope)
-  unfolding operand
-  keeps_operand zero = keeps_leaf 0
+  unfolding operand_of
+  keeps_operand zero = keeps_behind (bar (Some not_of)) (λ _. keeps_leaf)
   keeps_operand (suc room) = let k = keeps_operand room in
-      keeps_either (keeps_leaf (suc room)) (keeps_either (keeps_behind (mark is_not) (λ _. keeps_mapped _ not_of
+      keeps_either keeps_leaf (keeps_either (keeps_behind (mark is_not) (λ _. keeps_mapped _ not_of
       (operand scope room) k)) (keeps_behind (mark is_left) (λ _. keeps_then (keeps_rows k) (λ v s. grind arith))))
 
   pub keeps_label : (room : ℕ) → Keeps (label scope room) (InScope scope)

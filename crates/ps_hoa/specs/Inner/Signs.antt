@@ -2,10 +2,17 @@
 --     IsTestOf test kind      the test is passed by this kind, and by no other
 --     name_in name sign      the sign is the name of an item
 --     inside text      a text without its first and its last byte
-use Rattle.std.specs.Prelude.{ℕ, ◌≡◌, Bool, true, List, Option, drop}
+--     IsLeaf part      the part begins with a sign that is an operand by itself, and no text of it goes on with any sign
+use Rattle.std.specs.Prelude.{ℕ, ◌≡◌, Bool, true, false, List, Option, drop}
+use Rattle.ps_text.specs.Parts.{Part}
+use Rattle.ps_text.proofs.Laws.{Laws, Nothing}
+use Rattle.ps_text.proofs.Whole.{Own}
+use Rattle.ps_hoa.specs.Causes.{hoa_causes}
 use Rattle.ps_hoa.specs.Header.{name_value, without_last}
 use Rattle.ps_hoa.specs.Tokens.{Sign}
+use Rattle.ps_hoa.specs.declared.fault.HoaCause.{HoaCause}
 use Rattle.ps_hoa.specs.declared.tokens.Kind.{Kind}
+use Rattle.ps_hoa.specs.declared.tokens.Kind.TheVariants.{Word, Int, AliasName}
 
 abbrev pub IsTestOf : (Kind → Bool) → Kind → Type 0
 IsTestOf test kind = (test kind ≡ true) × ((k : Kind) → test k ≡ true → k ≡ kind)
@@ -15,3 +22,12 @@ name_in name s = name_value name s.kind s.text
 
 abbrev pub inside : List ℕ → List ℕ
 inside text = without_last (drop 1 text)
+
+abbrev pub is_single : Kind → Bool
+is_single Word = true
+is_single Int = true
+is_single AliasName = true
+is_single kind = false
+
+abbrev pub IsLeaf : {V : Type 0} → Part Sign V HoaCause → Type 0
+IsLeaf part = Laws (Own hoa_causes) part (λ t. is_single t.kind ≡ true) Nothing ⊥

@@ -1,6 +1,6 @@
 use Rattle.std.proofs.Common.{arith}
 use Rattle.ps_hoa.proofs.Grammar.HeaderSigns.{reads_token}
-use Rattle.ps_hoa.proofs.Reading.ConditionReading.{constant_signs}
+use Rattle.ps_hoa.proofs.Reading.LeafReading.{constant_signs}
 use Rattle.ps_hoa.proofs.condition.constant.Goals as goal
 
 pub returns : goal.returns

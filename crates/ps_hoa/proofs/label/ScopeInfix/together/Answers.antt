@@ -1,6 +1,6 @@
 use Rattle.std.proofs.Common.{arith}
 use Rattle.ps_label.proofs.Rows.{expression-Both, expression-Either}
-use Rattle.ps_hoa.proofs.label.together.Goals as goal
+use Rattle.ps_hoa.proofs.label.ScopeInfix.together.Goals as goal
 
 pub returns-in-And : goal.returns-in-And
 returns-in-And c = grind (arith, expression-Both)

@@ -1,40 +1,39 @@
--- How acceptance conditions are read: the forms of an operand, and sets.
---     condition_operands      what is needed of the operands
---     atom_serves      an operand that is not in parentheses
+-- How the leaves of labels and of acceptance conditions are read, and sets.
+--     leaf_signs      a leaf of a label
 --     visit_unopened, visit_fails, visit_stays_open, visit_reads      the exits behind `Inf` or `Fin`
 --     constant_serves      an operand without them
 --     complement_meets, set_serves      a set behind `!`, or without
-use Rattle.std.proofs.Common.{◌≡◌, ℕ, zero, suc, ◌<◌, Bool, true, false, [], codes, None, Some, Result, Ok, refl, arith}
+use Rattle.std.proofs.Common.{◌≡◌, Bool, true, false, [], codes, None, Some, Result, Ok, refl, arith}
 use Rattle.ps_text.specs.Answers.{Stream, signs, next_of as there_of}
 use Rattle.ps_text.specs.Parts.{NoBad, one, then_by}
 use Rattle.ps_text.specs.Readers.{Reads, Meets}
-use Rattle.ps_text.proofs.Laws.{Laws, Joint, Nothing}
+use Rattle.ps_text.proofs.Laws.{Joint}
 use Rattle.ps_text.proofs.Covered.{enters_read}
 use Rattle.ps_text.proofs.Exits.{reads_then, reads_mapped, then_meets}
-use Rattle.ps_text.proofs.Branches.{left_entered, right_entered, left_otherwise}
+use Rattle.ps_text.proofs.Branches.{left_entered, right_entered}
 use Rattle.ps_hoa.specs.Causes.{HoaFault, hoa_causes, found_of}
 use Rattle.ps_hoa.specs.Conditions.{SetData, constant_in, often_in, visits, set_in, BadSet, set, any_set, closed_set}
-use Rattle.ps_hoa.specs.Conditions.{often_or_not, visit, BadStart, atom, together, operand}
-use Rattle.ps_hoa.specs.Operands.{is_not, is_left, is_right, mark, inner, rows, before}
+use Rattle.ps_hoa.specs.Conditions.{often_or_not, visit, atom}
+use Rattle.ps_hoa.specs.Labels.{ScopeData, leaf_in, BadLeaf}
+use Rattle.ps_hoa.specs.Operands.{is_not, is_left, is_right, mark, before}
 use Rattle.ps_hoa.specs.Scan.{next_of, behind_next}
 use Rattle.ps_hoa.specs.Tokens.{Sign}
-use Rattle.ps_hoa.specs.declared.connective.Connective.TheVariants as connectives
 use Rattle.ps_hoa.specs.declared.fault.HoaCause.{HoaCause}
-use Rattle.ps_hoa.specs.declared.tokens.Kind.TheVariants.{Word, Int, Not, LeftParen}
-use Rattle.ps_hoa.proofs.Grammar.OperandLaws.{Odd, Of, joint_mark}
-use Rattle.ps_hoa.proofs.Grammar.LabelLaws.{laws_not, laws_left, laws_rows, laws_nested, apart_right}
+use Rattle.ps_hoa.specs.declared.tokens.Kind.TheVariants.{Word, Int, Not}
+use Rattle.ps_hoa.proofs.Grammar.OperandLaws.{joint_mark}
+use Rattle.ps_hoa.proofs.Grammar.InfixLaws.{laws_not, laws_left}
 use Rattle.ps_hoa.proofs.Grammar.ConditionLaws.{laws_set, laws_complement, not_int, laws_often, laws_closed_set}
-use Rattle.ps_hoa.proofs.Grammar.ConditionLaws.{joint_closed_set, joint_visit, laws_visit, laws_constant, atom_often}
-use Rattle.ps_hoa.proofs.Grammar.ConditionLaws.{laws_word, word_left, laws_operand}
-use Rattle.ps_hoa.proofs.Reading.Exits.{Serves, serves_as, itself, serves_meets, Leads, first, behind, under, instead}
+use Rattle.ps_hoa.proofs.Grammar.ConditionLaws.{joint_closed_set, joint_visit, laws_visit, laws_constant, constant_often}
+use Rattle.ps_hoa.proofs.Reading.Exits.{Serves, serves_as, serves_meets, Leads, first, behind, under, instead}
 use Rattle.ps_hoa.proofs.Reading.Exits.{entered}
 use Rattle.ps_hoa.proofs.Reading.SingleSigns.{IsOfSigns, signs_of, reads_one}
-use Rattle.ps_hoa.proofs.Reading.MarkReading.{tests_not, tests_left, mark_read, mark_begins, mark_elsewhere}
-use Rattle.ps_hoa.proofs.Reading.MarkReading.{inner_begins}
-use Rattle.ps_hoa.proofs.Reading.OperandReading.{Operands}
+use Rattle.ps_hoa.proofs.Reading.MarkReading.{tests_not, mark_read, mark_begins, mark_elsewhere}
 
-pub constant_signs : (room : ℕ) → IsOfSigns constant_in (BadStart room)
-constant_signs room = signs_of Word (codes "t") refl refl (λ f b. b)
+pub leaf_signs : (scope : ScopeData) → IsOfSigns (leaf_in scope.names) (BadLeaf scope)
+leaf_signs scope = signs_of Int [] refl refl (λ f b. b)
+
+pub constant_signs : IsOfSigns constant_in (NoBad {F = HoaCause})
+constant_signs = signs_of Word (codes "t") refl refl (λ f b. b)
 
 pub set_signs : (complemented : Bool) → IsOfSigns (set_in complemented) BadSet
 set_signs complemented = signs_of Int [] refl refl (λ f b. b)
@@ -42,66 +41,43 @@ set_signs complemented = signs_of Int [] refl refl (λ f b. b)
 pub often_signs : IsOfSigns often_in (NoBad {F = HoaCause})
 often_signs = signs_of Word (codes "Inf") refl refl (λ f b. b)
 
--- ## Operands in parentheses
-
-module _ (room : ℕ) where
-  laws_held : Laws Odd (inner (rows together connectives.Or (operand room))) (Of is_left) Nothing ⊥
-  laws_held = laws_nested (operand room) together (laws_operand room)
-
-  serves_paren : (old : Stream Sign) → (next_of old).sign.kind ≡ LeftParen →
-      Serves old (inner (rows together connectives.Or (operand room))) (operand (suc room))
-  unfolding operand
-  serves_paren old e = serves_as old (right_entered (laws_word room) laws_held (there_of old) word_left
-      (inner_begins (laws_rows (operand room) together (laws_operand room)) apart_right old e))
-
-pub condition_operands : Operands together operand
-condition_operands = record { laws = laws_operand; serves = serves_paren }
-
--- no `(` stands there, or no more may nest
-pub atom_serves : (room : ℕ) (old : Stream Sign) → (0 < room → (next_of old).sign.kind ≡ LeftParen → ⊥) →
-    Serves old (atom room) (operand room)
-unfolding operand
-atom_serves zero old no_left = itself
-atom_serves (suc room) old no_left = let some : 0 < suc room = omega arith in
-    serves_as old (grind (arith, left_otherwise, laws_word, laws_held, mark_elsewhere, tests_left))
-
 -- ## `Inf` and `Fin`
 
 joint_set : (often : Bool) → Joint (mark is_left) (λ _. then_by any_set (closed_set often))
 joint_set often = joint_mark is_left laws_left (laws_closed_set often)
 
-module _ (room : ℕ) {old mid : Stream Sign} {often : Bool} (e : often_in (next_of old).sign ≡ Some often)
+module _ {old mid : Stream Sign} {often : Bool} (e : often_in (next_of old).sign ≡ Some often)
     (n : mid ≡ behind_next old) where
   often_read : Reads often_or_not old often mid
   often_read = reads_one (λ b. b) often_signs old mid (Ok often) (record { some = e; good = λ f b. b }) n
 
-  served : Serves old visit (atom room)
-  served = serves_as old (right_entered (laws_constant room) laws_visit (there_of old) (atom_often room)
+  served : Serves old visit atom
+  served = serves_as old (right_entered laws_constant laws_visit (there_of old) constant_often
       (entered joint_visit old (enters_read often_or_not (signs old.pieces) (signs mid.pieces) often
       (λ w h. laws_often.null w h) often_read.1)))
 
-  pub visit_unopened : Leads (atom room) old (mark is_left) mid
+  pub visit_unopened : Leads atom old (mark is_left) mid
   visit_unopened = instead served (behind joint_visit often_read (first (joint_set often)))
 
   module _ {next : Stream Sign} (l : Reads (mark is_left) mid tt next) where
-    pub visit_fails : Leads (atom room) old any_set next
+    pub visit_fails : Leads atom old any_set next
     visit_fails =
         instead served (behind joint_visit often_read (behind (joint_set often) l (first (joint_closed_set often))))
 
     module _ {last : Stream Sign} {v : SetData} (m : Reads any_set next v last) where
-      pub visit_stays_open : Leads (atom room) old (mark is_right) last
+      pub visit_stays_open : Leads atom old (mark is_right) last
       visit_stays_open = instead served (behind joint_visit often_read (behind (joint_set often) l
           (behind (joint_closed_set often) m (under (before (visits often v)) (mark is_right)))))
 
       pub visit_reads : {new : Stream Sign} → Reads (mark is_right) last tt new →
-          Reads (atom room) old (visits often v) new
+          Reads atom old (visits often v) new
       visit_reads q = served.reads _ _ (reads_then joint_visit often_read (reads_then (joint_set often) l
           (reads_then (joint_closed_set often) m (reads_mapped (before (visits often v)) q))))
 
 -- neither stands there
-pub constant_serves : (room : ℕ) (old : Stream Sign) → often_in (next_of old).sign ≡ None →
-    Serves old (one constant_in (BadStart room)) (atom room)
-constant_serves room old e = serves_as old (grind (arith, laws_constant room))
+pub constant_serves : (old : Stream Sign) → often_in (next_of old).sign ≡ None →
+    Serves old (one constant_in NoBad) atom
+constant_serves old e = serves_as old (grind (arith, laws_constant))
 
 -- ## Sets
 

@@ -1,0 +1,134 @@
+//! The reading of operands with connectives between them: of labels, and of acceptance conditions.
+
+ghost use Rattle.std.specs.Prelude.{◌≡◌, IfOk, IfSome, map};
+ghost use Rattle.ps_hoa.specs.Operands.{InfixGrammar, between, holds as holds_at, nesting_limit, operand as operand_of, rows};
+ghost use Rattle.ps_hoa.specs.Inner.Reads.{ReadsAs};
+ghost use Rattle.ps_hoa.specs.Inner.Signs.{IsLeaf};
+
+use crate::connective::{Connective, is_at};
+use crate::fault::{HoaCause, HoaFault};
+use crate::refusal::fault_at;
+use crate::signs::{is_kind, mark};
+use crate::tokens::{Kind, Tokens};
+use std::alloc::{AllocError, Global};
+
+/// `!` and `(` may nest as many deep.
+const NESTING_LIMIT: usize = 256;
+
+/// A grammar of operands with connectives between them.
+pub(crate) trait Infix {
+    /// What is made of an operand.
+    type Value: Drop;
+
+    /// What such values mean.
+    ghost Meaning: { Type 0 };
+
+    /// What a value means.
+    ghost meaning: { Self.Value → Self.Meaning };
+
+    /// What the grammar has of its own.
+    ghost grammar: { Self → InfixGrammar Self.Meaning };
+
+    /// Reads an operand without `!` or `(` in front.
+    fn leaf(&self, tokens: &mut Tokens) -> Result<Self::Value, HoaFault>
+        ensures { ReadsAs meaning (grammar self.now).leaf tokens.old result tokens.new };
+
+    /// Whether with such a sign an operand begins that holds another one.
+    fn holds(&self, kind: Kind) -> bool
+        ensures { result ≡ holds_at (grammar self.now).negated kind };
+
+    /// What `!` in front makes of an operand.
+    fn negated(&self, alloc: Global, operand: Self::Value) -> Result<Self::Value, AllocError>
+        ensures { IfOk result
+            (λ v. IfSome (grammar self.now).negated (λ negated. meaning v ≡ negated (meaning operand))) };
+
+    /// What operands with a connective between them are together.
+    fn together(&self, connective: Connective, operands: Vec<Self::Value>) -> Self::Value
+        ensures { meaning result ≡ (grammar self.now).together connective (map meaning operands.items) };
+}
+
+/// Reads operands with connectives between them.
+pub(crate) fn read<G: Infix>(
+    alloc: Global,
+    tokens: &mut Tokens,
+    grammar: &G,
+) -> Result<G::Value, HoaFault>
+    requires { IsLeaf (G.grammar grammar.now).leaf }
+    ensures { ReadsAs G.meaning (rows (G.grammar grammar.now).together Connective.Or
+        (operand_of (G.grammar grammar.now) nesting_limit)) tokens.old result tokens.new }
+{
+    row(alloc, tokens, grammar, NESTING_LIMIT, Connective::Or)
+}
+
+/// Reads operands with a connective between them, where `!` and `(` may nest so many deep.
+#[cycle(infix)]
+fn row<G: Infix>(
+    alloc: Global,
+    tokens: &mut Tokens,
+    grammar: &G,
+    room: usize,
+    connective: Connective,
+) -> Result<G::Value, HoaFault>
+    requires { IsLeaf (G.grammar grammar.now).leaf }
+    ensures { ReadsAs G.meaning (rows (G.grammar grammar.now).together connective
+        (operand_of (G.grammar grammar.now) room)) tokens.old result tokens.new }
+{
+    let first = part(alloc, tokens, grammar, room, connective)?;
+    if !is_at(tokens, connective) {
+        return Ok(first);
+    }
+    let mut operands = Vec::with_capacity(alloc, 2)?;
+    operands.push(first)?;
+    'more: while is_at(tokens, connective) {
+        tokens.advance();
+        operands.push(part(alloc, tokens, grammar, room, connective)?)?;
+    }
+    Ok(grammar.together(connective, operands))
+}
+
+/// Reads what stands between such connectives.
+#[cycle(infix)]
+fn part<G: Infix>(
+    alloc: Global,
+    tokens: &mut Tokens,
+    grammar: &G,
+    room: usize,
+    connective: Connective,
+) -> Result<G::Value, HoaFault>
+    requires { IsLeaf (G.grammar grammar.now).leaf }
+    ensures { ReadsAs G.meaning (between (G.grammar grammar.now).together connective
+        (operand_of (G.grammar grammar.now) room)) tokens.old result tokens.new }
+{
+    match connective {
+        Connective::And => operand(alloc, tokens, grammar, room),
+        Connective::Or => row(alloc, tokens, grammar, room, Connective::And),
+    }
+}
+
+/// Reads an operand.
+#[cycle(infix)]
+fn operand<G: Infix>(
+    alloc: Global,
+    tokens: &mut Tokens,
+    grammar: &G,
+    room: usize,
+) -> Result<G::Value, HoaFault>
+    requires { IsLeaf (G.grammar grammar.now).leaf }
+    ensures { ReadsAs G.meaning (operand_of (G.grammar grammar.now) room) tokens.old result tokens.new }
+{
+    let token = tokens.peek();
+    if !grammar.holds(token.kind) {
+        return grammar.leaf(tokens);
+    }
+    if room == 0 {
+        return Err(fault_at(token, HoaCause::Limit));
+    }
+    tokens.advance();
+    if is_kind(token, Kind::Not) {
+        let negated = operand(alloc, tokens, grammar, room - 1)?;
+        return Ok(grammar.negated(alloc, negated)?);
+    }
+    let inner = row(alloc, tokens, grammar, room - 1, Connective::Or)?;
+    mark(tokens, Kind::RightParen)?;
+    Ok(inner)
+}
