@@ -1,7 +1,8 @@
 //! The reading of operands with connectives between them: of labels, and of acceptance conditions.
 
 ghost use Rattle.std.specs.Prelude.{◌≡◌, IfOk, IfSome, map};
-ghost use Rattle.ps_hoa.specs.Operands.{InfixGrammar, between, holds as holds_at, nesting_limit, operand as operand_of, rows};
+ghost use Rattle.ps_hoa.specs.Operands.{InfixGrammar, between, holds as holds_at, nesting_limit, operand as operand_of};
+ghost use Rattle.ps_hoa.specs.Operands.{rows};
 ghost use Rattle.ps_hoa.specs.Inner.Reads.{ReadsAs};
 ghost use Rattle.ps_hoa.specs.Inner.Signs.{IsLeaf};
 
