@@ -55,8 +55,8 @@ abbrev pub IsBeyond : Option ℕ → ℕ → Type 0
 IsBeyond None n = ⊥
 IsBeyond (Some count) n = count ≤ n
 
--- what may be wrong with such an operand: an INT above the greatest one, or that is no proposition; an alias that is not
--- known
+-- what may be wrong with such an operand: an INT above the greatest one, or that is no proposition; an alias that is
+-- not known
 abbrev pub IsBadLeaf : ScopeData → Kind → List ℕ → HoaCause → Type 0
 IsBadLeaf scope kinds.Int text f =
     ((number_limit < decimal_value text) × (f ≡ causes.Limit)) ⊎

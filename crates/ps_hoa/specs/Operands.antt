@@ -6,7 +6,8 @@
 --               all at once
 --     rows together connective operand      operands with a connective between them, where `&` binds tighter than `|`
 --     operand g room      an operand of such a grammar, where `!` and `(` may nest so many deep
-use Rattle.std.specs.Prelude.{ℕ, ◌≡◌, zero, suc, Bool, true, false, List, [], ◌∷◌, ◌++◌, if◌then◌else◌, Option, None, Some, is_some}
+use Rattle.std.specs.Prelude.{ℕ, ◌≡◌, zero, suc, Bool, true, false, List, [], ◌∷◌, ◌++◌, if◌then◌else◌, Option, None}
+use Rattle.std.specs.Prelude.{Some, is_some}
 use Rattle.ps_text.specs.Parts.{Part, NoBad, give, one, then_by, either, many, mapped, barred}
 use Rattle.ps_hoa.specs.Tokens.{Sign}
 use Rattle.ps_hoa.specs.declared.connective.Connective.{Connective}

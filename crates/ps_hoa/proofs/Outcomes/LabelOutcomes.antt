@@ -12,7 +12,8 @@ use Rattle.ps_hoa.specs.Inner.Signs.{IsLeaf}
 use Rattle.ps_hoa.specs.Tokens.{Sign}
 use Rattle.ps_hoa.specs.Causes.{hoa_causes}
 use Rattle.ps_hoa.specs.Operands.{is_not, is_and, is_or, is_left, is_right, mark, before, closed, inner, single}
-use Rattle.ps_hoa.specs.Operands.{with_last, joined, further, operands, row, rows, InfixGrammar, holding, IsTooDeep, operand}
+use Rattle.ps_hoa.specs.Operands.{with_last, joined, further, operands, row, rows, InfixGrammar, holding, IsTooDeep}
+use Rattle.ps_hoa.specs.Operands.{operand}
 use Rattle.ps_hoa.specs.Labels as labels
 use Rattle.ps_hoa.specs.Labels.{ScopeData}
 use Rattle.ps_hoa.specs.Conditions as conditions

@@ -28,11 +28,13 @@ use Rattle.ps_hoa.specs.declared.tokens.Kind.TheVariants.{Not, LeftParen}
 use Rattle.ps_hoa.proofs.Grammar.HeaderSigns.{least_same}
 use Rattle.ps_hoa.proofs.Grammar.OperandLaws.{Odd, Of, false_true, nothing_apart, joint_mark}
 use Rattle.ps_hoa.proofs.Grammar.InfixLaws.{is_start, AndMore, AndOrMore, joint_bar, laws_not, laws_and, laws_or}
-use Rattle.ps_hoa.proofs.Grammar.InfixLaws.{laws_both, laws_rows, laws_nested, laws_negation, laws_holding, laws_operand}
+use Rattle.ps_hoa.proofs.Grammar.InfixLaws.{laws_both, laws_rows, laws_nested, laws_negation, laws_holding}
+use Rattle.ps_hoa.proofs.Grammar.InfixLaws.{laws_operand}
 use Rattle.ps_hoa.proofs.Grammar.InfixLaws.{single_holds, apart_or, apart_right}
 use Rattle.ps_hoa.proofs.Reading.Exits.{Serves, serves_as, itself, serves_both, Leads, behind, under, instead}
 use Rattle.ps_hoa.proofs.Reading.Exits.{value_is}
-use Rattle.ps_hoa.proofs.Reading.MarkReading.{avoids_kind, tests_not, tests_and, tests_or, tests_left, mark_read, inner_reads}
+use Rattle.ps_hoa.proofs.Reading.MarkReading.{avoids_kind, tests_not, tests_and, tests_or, tests_left, mark_read}
+use Rattle.ps_hoa.proofs.Reading.MarkReading.{inner_reads}
 use Rattle.ps_hoa.proofs.Reading.MarkReading.{mark_elsewhere, inner_fails, inner_stays_open}
 use Rattle.ps_hoa.proofs.Reading.NextSign.{next_there, next_same}
 use Rattle.ps_hoa.proofs.Reading.RowReading.{Row}
@@ -103,8 +105,12 @@ module _ {V : Type 0} (g : InfixGrammar V) (is : IsLeaf g.leaf) where
       holds g.negated p.sign.kind ≡ false → Serves old g.leaf (operand g room)
   unfolding operand
   leaf_serves zero old at other = record {
-    reads = λ v new m. reads_then (joint_bar g.negated is) (bar_read old (ap (λ q. holds g.negated q.sign.kind) (sym at) ∙ other)) m;
-    stops = λ o s. stops_behind hoa_causes (joint_bar g.negated is) (bar_read old (ap (λ q. holds g.negated q.sign.kind) (sym at) ∙ other)) o s;
+    reads =
+        λ v new m. reads_then (joint_bar g.negated is) (bar_read old
+        (ap (λ q. holds g.negated q.sign.kind) (sym at) ∙ other)) m;
+    stops =
+        λ o s. stops_behind hoa_causes (joint_bar g.negated is) (bar_read old
+        (ap (λ q. holds g.negated q.sign.kind) (sym at) ∙ other)) o s;
   }
   leaf_serves (suc room) old at other = serves_as old
       (left_otherwise is (laws_holding (operand g room) g.together (laws room) g.negated) (there_of old)
@@ -148,7 +154,9 @@ module _ {V : Type 0} (g : InfixGrammar V) (is : IsLeaf g.leaf) where
               (laws (room - 1)) (kind_there ∙ e) n g.negated (ap (holds g.negated) (sym e) ∙ h) m is_w)
 
           pub not_fails : Leads (operand g room) old (operand g (room - 1)) mid
-          not_fails = instead holding_serves (holding_fails (operand g (room - 1)) g.together (laws (room - 1)) (kind_there ∙ e) n
+          not_fails =
+              instead holding_serves (holding_fails (operand g (room - 1)) g.together (laws (room - 1))
+              (kind_there ∙ e) n
               g.negated (ap (holds g.negated) (sym e) ∙ h))
 
         module _ (differs : p.sign.kind ≡ Not → ⊥) where

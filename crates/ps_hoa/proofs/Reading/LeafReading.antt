@@ -23,7 +23,8 @@ use Rattle.ps_hoa.specs.declared.tokens.Kind.TheVariants.{Word, Int, Not}
 use Rattle.ps_hoa.proofs.Grammar.OperandLaws.{joint_mark}
 use Rattle.ps_hoa.proofs.Grammar.InfixLaws.{laws_not, laws_left}
 use Rattle.ps_hoa.proofs.Grammar.ConditionLaws.{laws_set, laws_complement, not_int, laws_often, laws_closed_set}
-use Rattle.ps_hoa.proofs.Grammar.ConditionLaws.{joint_closed_set, joint_visit, laws_visit, laws_constant, constant_often}
+use Rattle.ps_hoa.proofs.Grammar.ConditionLaws.{joint_closed_set, joint_visit, laws_visit, laws_constant}
+use Rattle.ps_hoa.proofs.Grammar.ConditionLaws.{constant_often}
 use Rattle.ps_hoa.proofs.Reading.Exits.{Serves, serves_as, serves_meets, Leads, first, behind, under, instead}
 use Rattle.ps_hoa.proofs.Reading.Exits.{entered}
 use Rattle.ps_hoa.proofs.Reading.SingleSigns.{IsOfSigns, signs_of, reads_one}

@@ -2,7 +2,8 @@
 --     IsTestOf test kind      the test is passed by this kind, and by no other
 --     name_in name sign      the sign is the name of an item
 --     inside text      a text without its first and its last byte
---     IsLeaf part      the part begins with a sign that is an operand by itself, and no text of it goes on with any sign
+--     IsLeaf part      the part begins with a sign that is an operand by itself, and no text of it goes on with any
+--               sign
 use Rattle.std.specs.Prelude.{ℕ, ◌≡◌, Bool, true, false, List, Option, drop}
 use Rattle.ps_text.specs.Parts.{Part}
 use Rattle.ps_text.proofs.Laws.{Laws, Nothing}
