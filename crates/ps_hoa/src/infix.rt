@@ -1,6 +1,6 @@
 //! The reading of operands with connectives between them: of labels, and of acceptance conditions.
 
-ghost use Rattle.std.specs.Prelude.{◌≡◌, IfOk, IfSome, map};
+ghost use Rattle.std.specs.Prelude.{◌≡◌, [], ◌∷◌, IfOk, IfSome, map};
 ghost use Rattle.ps_hoa.specs.Operands.{InfixGrammar, between, holds as holds_at, nesting_limit, operand as operand_of};
 ghost use Rattle.ps_hoa.specs.Operands.{rows};
 ghost use Rattle.ps_hoa.specs.Inner.Reads.{ReadsAs};
@@ -78,13 +78,21 @@ fn row<G: Infix>(
     if !is_at(tokens, connective) {
         return Ok(first);
     }
-    let mut operands = Vec::with_capacity(alloc, 2)?;
-    operands.push(first)?;
+    let mut operands = begun(alloc, first)?;
     'more: while is_at(tokens, connective) {
         tokens.advance();
         operands.push(part(alloc, tokens, grammar, room, connective)?)?;
     }
     Ok(grammar.together(connective, operands))
+}
+
+/// A list that begins with an operand, with room for a second one.
+fn begun<V: Drop>(alloc: Global, first: V) -> Result<Vec<V>, AllocError>
+    ensures { IfOk result (λ operands. operands.items ≡ first ∷ []) }
+{
+    let mut operands = Vec::with_capacity(alloc, 2)?;
+    operands.push(first)?;
+    Ok(operands)
 }
 
 /// Reads what stands between such connectives.

@@ -2,18 +2,16 @@
 -- that nesting.
 --     to_operand, of_operand      for a grammar whose operands with more room are those with less in one more form
 use Rattle.std.proofs.Common.{◌≡◌, ◌↔◌, ◌⊎◌, ℕ, zero, suc, ◌≤◌, max, true, List, [], ◌∷◌, ◌++◌, refl, sym, ap, subst}
-use Rattle.std.proofs.Common.{Option, None, Some, IsSomeAnd, inl, inr, ◌∙◌, arith}
+use Rattle.std.proofs.Common.{inl, inr, ◌∙◌, arith}
 use Rattle.ps_label.specs.Expression.{Expression}
 use Rattle.ps_text.specs.Parts.{Part, times}
-use Rattle.ps_hoa.specs.Conditions as conditions
-use Rattle.ps_hoa.specs.Conditions.{Condition, condition}
-use Rattle.ps_hoa.specs.Labels as labels
-use Rattle.ps_hoa.specs.Labels.{ScopeData, label}
+use Rattle.ps_hoa.specs.Conditions.{Condition, grammar as condition_parts, operand as condition_operand, condition}
+use Rattle.ps_hoa.specs.Labels.{ScopeData, grammar, operand as label_operand, label}
 use Rattle.ps_hoa.specs.Nesting.{Grammar, IsOperand, atom, negated, in_parentheses, IsPart, operand as operand_part}
-use Rattle.ps_hoa.specs.Nesting.{conjunction, More, no_more, one_more, IsRow, row, IsLabel}
-use Rattle.ps_hoa.specs.Nesting.{IsCondition, Within}
+use Rattle.ps_hoa.specs.Nesting.{conjunction, More, no_more, one_more, IsRow, row, label_grammar, IsLabel}
+use Rattle.ps_hoa.specs.Nesting.{condition_grammar, IsCondition, Within}
 use Rattle.ps_hoa.specs.Operands.{is_not, is_left, is_right, is_sign_of, inner, joined, further, between, rows}
-use Rattle.ps_hoa.specs.Operands.{InfixGrammar, holding, operand as operand_of}
+use Rattle.ps_hoa.specs.Operands.{InfixGrammar, operand as operand_of}
 use Rattle.ps_hoa.specs.Tokens.{Sign}
 use Rattle.ps_hoa.specs.declared.connective.Connective.{Connective}
 use Rattle.ps_hoa.specs.declared.connective.Connective.TheVariants.{And, Or}
@@ -31,82 +29,28 @@ Negation {V} g P text v =
 abbrev Form : {V : Type 0} → Grammar V → Part Sign V HoaCause → List Sign → V → Type 0
 Form g P text v = g.IsAtom text v ⊎ (Negation g P text v ⊎ (inner (rows g.together Or P)).IsText text v)
 
--- what the grammar without a limit has of its own
-abbrev unlimited : {V : Type 0} → InfixGrammar V → Grammar V
-unlimited f = record {
-  IsAtom = f.leaf.IsText;
-  Negates = λ v w. IsSomeAnd f.negated (λ negated. w ≡ negated v);
-  together = f.together;
-}
-
--- the forms of an operand, by what may nest
-module _ {V : Type 0} (P Q : Part Sign V HoaCause) (text : List Sign) (v : V) where
-  negation_text : (n : Option (V → V)) (t : Sign) (rest : List Sign) (w : V) → text ≡ t ∷ rest →
-      is_not t.kind ≡ true → IsSomeAnd n (λ h. v ≡ h w) → P.IsText rest w → (holding n P Q).IsText text v
-  negation_text None t rest w e k h o = absurd h
-  negation_text (Some _) t rest w e k h o = inl (record {
-    left = t ∷ [];
-    right = rest;
-    value = tt;
-    split = e;
-    is_left = (t, refl, mark_taken is_not t k);
-    is_right = (w, o, h);
-  })
-
-  held_text : (n : Option (V → V)) → Q.IsText text v → (holding n P Q).IsText text v
-  held_text None i = i
-  held_text (Some _) i = inr i
-
-  of_holding : (n : Option (V → V)) → (holding n P Q).IsText text v →
-      ((t : Sign) × (rest : List Sign) × (w : V) × (text ≡ t ∷ rest) × (is_not t.kind ≡ true) ×
-      IsSomeAnd n (λ h. v ≡ h w) × P.IsText rest w) ⊎ Q.IsText text v
-  of_holding None i = inr i
-  of_holding (Some h) i = grind (arith, taken_mark)
-
-module _ {V : Type 0} (f : InfixGrammar V) where
-  abbrev g : Grammar V
-  g = unlimited f
-
-  abbrev part : ℕ → Part Sign V HoaCause
-  part = operand_of f
-
-  atoms : (room : ℕ) (text : List Sign) (v : V) → g.IsAtom text v → (part room).IsText text v
-  unfolding operand_of
-  atoms zero text v a =
-      record { left = []; right = text; value = tt; split = refl; is_left = (refl, refl); is_right = a }
-  atoms (suc room) text v a = inl a
-
-  none : (text : List Sign) (v : V) → (part 0).IsText text v → g.IsAtom text v
-  unfolding operand_of
-  none text v i = subst (λ z. g.IsAtom z v) (sym (i.split ∙ ap (λ z. z ++ i.right) i.is_left.0)) i.is_right
-
-  negations : (room : ℕ) (text : List Sign) (v : V) → Negation g (part room) text v → (part (suc room)).IsText text v
-  unfolding operand_of
-  negations room text v (t, rest, w, e, k, h, o) =
-      inr (negation_text (part room) (inner (rows f.together Or (part room))) text v f.negated t rest w e k h o)
-
-  parentheses : (room : ℕ) (text : List Sign) (v : V) → (inner (rows g.together Or (part room))).IsText text v →
+-- the operands of a grammar by its parts: atoms, and with more room also those behind `!` and in parentheses
+record Operands {V : Type 0} (g : Grammar V) (part : ℕ → Part Sign V HoaCause) : Type 0 where
+  pub atoms : (room : ℕ) (text : List Sign) (v : V) → g.IsAtom text v → (part room).IsText text v
+  pub negations : (room : ℕ) (text : List Sign) (v : V) → Negation g (part room) text v →
       (part (suc room)).IsText text v
-  unfolding operand_of
-  parentheses room text v i = inr (held_text (part room) (inner (rows f.together Or (part room))) text v f.negated i)
+  pub parentheses : (room : ℕ) (text : List Sign) (v : V) → (inner (rows g.together Or (part room))).IsText text v →
+      (part (suc room)).IsText text v
+  pub none : (text : List Sign) (v : V) → (part 0).IsText text v → g.IsAtom text v
+  pub some : (room : ℕ) (text : List Sign) (v : V) → (part (suc room)).IsText text v → Form g (part room) text v
 
-  some : (room : ℕ) (text : List Sign) (v : V) → (part (suc room)).IsText text v → Form g (part room) text v
-  unfolding operand_of
-  some room text v (inl a) = inl a
-  some room text v (inr i) =
-      inr (of_holding (part room) (inner (rows f.together Or (part room))) text v f.negated i)
-
+module _ {V : Type 0} (g : Grammar V) (part : ℕ → Part Sign V HoaCause) (is : Operands g part) where
   -- ## From the grammar without a limit
 
   mutual
     to_operand : (room deep : ℕ) (text : List Sign) (v : V) → IsOperand g deep text v → deep ≤ room →
         (part room).IsText text v
-    to_operand room deep text v (atom t w a) l = atoms room t w a
+    to_operand room deep text v (atom t w a) l = is.atoms room t w a
     to_operand zero deep text v (negated t d rest u w e n o) l = absurd (omega (arith, l))
     to_operand (suc room) deep text v (negated t d rest u w e n o) l =
-        negations room text v (t, rest, u, refl, e, n, to_operand room d rest u o (omega (arith, l)))
+        is.negations room text v (t, rest, u, refl, e, n, to_operand room d rest u o (omega (arith, l)))
     to_operand zero deep text v (in_parentheses a b d rest w e f n) l = absurd (omega (arith, l))
-    to_operand (suc room) deep text v (in_parentheses a b d rest w e f n) l = parentheses room text v (record {
+    to_operand (suc room) deep text v (in_parentheses a b d rest w e f n) l = is.parentheses room text v (record {
       left = a ∷ [];
       right = rest ++ b ∷ [];
       value = tt;
@@ -194,8 +138,8 @@ module _ {V : Type 0} (f : InfixGrammar V) where
       ))
 
   of_operand : (room : ℕ) (text : List Sign) (v : V) → (part room).IsText text v → Within room (IsOperand g) text v
-  of_operand zero text v i = (0, omega arith, atom text v (none text v i))
-  of_operand (suc room) text v i = of_form room (of_operand room) text v (some room text v i)
+  of_operand zero text v i = (0, omega arith, atom text v (is.none text v i))
+  of_operand (suc room) text v i = of_form room (of_operand room) text v (is.some room text v i)
 
   bounded : (room : ℕ) (text : List Sign) (v : V) → (rows g.together Or (part room)).IsText text v ↔ Within room
       (IsRow g Or) text v
@@ -203,10 +147,58 @@ module _ {V : Type 0} (f : InfixGrammar V) where
 
 -- ## Labels and conditions
 
+-- an atom is an operand whatever the room, and only that where there is none
+module _ {V : Type 0} (g : InfixGrammar V) where
+  atom_text : (room : ℕ) (text : List Sign) (v : V) → g.leaf.IsText text v → (operand_of g room).IsText text v
+  unfolding operand_of
+  atom_text zero text v a =
+      record { left = []; right = text; value = tt; split = refl; is_left = (refl, refl); is_right = a }
+  atom_text (suc room) text v a = inl a
+
+  text_atom : (text : List Sign) (v : V) → (operand_of g 0).IsText text v → g.leaf.IsText text v
+  unfolding operand_of
+  text_atom text v i = subst (λ z. g.leaf.IsText z v) (sym (i.split ∙ ap (λ z. z ++ i.right) i.is_left.0)) i.is_right
+
+label_operands : (scope : ScopeData) → Operands (label_grammar scope.names) (label_operand scope)
+unfolding operand_of
+label_operands scope = record {
+  atoms = atom_text (grammar scope);
+  negations = negations;
+  parentheses = λ room text v i. inr (inr i);
+  none = text_atom (grammar scope);
+  some = some;
+}
+  where
+    negations : (room : ℕ) (text : List Sign) (v : Expression) → Negation (label_grammar scope.names)
+        (label_operand scope room) text v → (label_operand scope (suc room)).IsText text v
+    negations room text v (t, rest, w, e, n, k, o) = inr (inl (record {
+      left = t ∷ [];
+      right = rest;
+      value = tt;
+      split = e;
+      is_left = (t, refl, mark_taken is_not t n);
+      is_right = (w, o, k);
+    }))
+
+    some : (room : ℕ) (text : List Sign) (v : Expression) → (label_operand scope (suc room)).IsText text v →
+        Form (label_grammar scope.names) (label_operand scope room) text v
+    some room text v h = grind (arith, taken_mark)
+
 pub label_nesting : (scope : ScopeData) (room : ℕ) (text : List Sign) (v : Expression) →
     (label scope room).IsText text v ↔ Within room (IsLabel scope.names) text v
-label_nesting scope = bounded (labels.grammar scope)
+label_nesting scope room text v =
+    bounded (label_grammar scope.names) (label_operand scope) (label_operands scope) room text v
+
+condition_operands : Operands condition_grammar condition_operand
+unfolding operand_of
+condition_operands = record {
+  atoms = atom_text condition_parts;
+  negations = λ room text v h. absurd h.5;
+  parentheses = λ room text v i. inr i;
+  none = text_atom condition_parts;
+  some = λ room text v h. elim h [ inl a ↦ inl a | inr i ↦ inr (inr i) ];
+}
 
 pub condition_nesting : (room : ℕ) (text : List Sign) (v : Condition) →
     (condition room).IsText text v ↔ Within room IsCondition text v
-condition_nesting = bounded conditions.grammar
+condition_nesting room text v = bounded condition_grammar condition_operand condition_operands room text v

@@ -32,10 +32,6 @@ binding connectives.And = 1
 binding connectives.Or = 3
 
 -- the values of what a `Vec` holds, one more behind the others
-pub first_value : {X V : Type 0} (view : X → V) (x : X) {none all : List X} → all ≡ none ++ x ∷ [] → none ≡ [] →
-    map view all ≡ single (view x)
-first_value view x e h = ap (map view) e ∙ ap (λ xs. map view (xs ++ x ∷ [])) h
-
 pub last_value : {X V : Type 0} (view : X → V) (x : X) (some : List X) {all : List X} → all ≡ some ++ x ∷ [] →
     map view all ≡ with_last (map view some) (view x)
 last_value view x some e = ap (map view) e ∙ map-append view some (x ∷ [])

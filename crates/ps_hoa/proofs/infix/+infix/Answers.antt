@@ -1,7 +1,7 @@
-use Rattle.std.proofs.Common.{rules, sym, ◌∙◌, arith}
+use Rattle.std.proofs.Common.{rules, sym, ap, map, ◌∙◌, arith}
 use Rattle.std.proofs.lemmas.Bool.{iff_false}
 use Rattle.ps_hoa.specs.Operands.{is_right}
-use Rattle.ps_hoa.proofs.Reading.RowReading.{first_value, last_value, first_fails, first_alone, row_starts, row_more}
+use Rattle.ps_hoa.proofs.Reading.RowReading.{last_value, first_fails, first_alone, row_starts, row_more}
 use Rattle.ps_hoa.proofs.Reading.RowReading.{row_fails, row_done, row_shrinks}
 use Rattle.ps_hoa.proofs.Reading.Exits.{exit, serves_meets, value_is}
 use Rattle.ps_hoa.proofs.Reading.MarkReading.{tests_right}
@@ -24,7 +24,8 @@ row-returns-then-not-is_at g t c =
 pub row-more-init : goal.row-more-init
 row-more-init g t c =
     let row = operand_row (g.G.Infix.grammar c.args.grammar.now) c.requires c.args.room c.args.connective in
-    row_starts row c.in_ok-first.ensures (c.is_at.ensures.0 c.if-not-is_at.false) (grind (arith, first_value))
+    row_starts row c.in_ok-first.ensures (c.is_at.ensures.0 c.if-not-is_at.false)
+    (ap (map g.G.Infix.meaning) c.in_ok-operands.ensures)
 
 pub row-returns-in_err-part : goal.row-returns-in_err-part
 row-returns-in_err-part g t c =
@@ -37,7 +38,7 @@ pub row-more-preserved : goal.row-more-preserved
 row-more-preserved g t c =
     let row = operand_row (g.G.Infix.grammar c.args.grammar.now) c.requires c.args.room c.args.connective in
     row_more row c.more.invariant (c.is_at-in-more.ensures.0 c.more-test.true) c.advance.ensures.rest
-    c.in_ok-part.ensures (last_value g.G.Infix.meaning _ _ c.in_ok-push-2.ensures.items)
+    c.in_ok-part.ensures (last_value g.G.Infix.meaning _ _ c.in_ok-push.ensures.items)
 
 pub row-returns : goal.row-returns
 row-returns g t c =
