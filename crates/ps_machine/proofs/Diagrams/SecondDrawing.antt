@@ -156,10 +156,13 @@ module _ {order : Order} {a : AutomatonData} {mask : ℕ} {t : Table} {keys : Li
             here = (move.here.0, goes);
             none_before = λ z other before.
                 let same = step_of_key (same_some (sym other.1.stands ∙ goes.stands)) in
-                move.none_before z (other.0, record {
-                  state = ap (λ (s : Step). s.state) same;
-                  priority = ap (λ (s : Step). s.priority) same;
-                }) before;
+                move.none_before z (
+                  other.0,
+                  record {
+                    state = ap (λ (s : Step). s.state) same;
+                    priority = ap (λ (s : Step). s.priority) same;
+                  },
+                ) before;
           };
         };
         entered = reply.chosen;
