@@ -1,7 +1,7 @@
 -- The levels and the trail that the public function begins with, and what is read off at the end.
 use Rattle.std.proofs.Common.{◌≡◌, ◌≢◌, ℕ, ◌+◌, ◌<◌, ◌≤◌, ◌⊎◌, inl, inr, List, [], ◌∷◌, ◌++◌, Bool, false, IsTrue}
 use Rattle.std.proofs.Common.{Option, None, IsSome, length, get_or, drop, refl, rules, sym, ◌∙◌, arith}
-use Rattle.std.specs.Prelude.{slice_set}
+use Rattle.std.specs.Prelude.{slice_set, IfOk, Result, Ok, Err}
 use Rattle.std.proofs.lemmas.Bool.{cases_eq, cases_lt, false≢true, eq-eqb}
 use Rattle.std.proofs.lemmas.Bool.Decides.{nat_tests}
 use Rattle.std.proofs.lemmas.List.{get_or_append_left, get_or_push, length_push, get_or-set_same, get_or-set_other}
@@ -14,7 +14,9 @@ use Rattle.ps_attractor.specs.declared.attractor.TheConstants.{OUTSIDE, PLACED, 
 use Rattle.ps_attractor.specs.Tables.{TablesData, level_of, moves_of, place_in}
 use Rattle.ps_attractor.specs.Aims.{StandsFrom, IsPosed, IsTaken, IsAttracted, rank_of}
 use Rattle.ps_attractor.specs.Steps.{with_placed}
-use Rattle.ps_attractor.specs.Results.{AreLaidOut, AreAttracted, IsRegionTo, AreMovesTo, aim_of, rank_at}
+use Rattle.ps_attractor.specs.declared.attractor.Attracted.{Attracted}
+use Rattle.ps_attractor.specs.Results.{AreLaidOut, AreAttracted, IsAttractor, IsReadOff, IsRegionTo, AreMovesTo, aim_of}
+use Rattle.ps_attractor.specs.Results.{rank_at}
 use Rattle.ps_attractor.proofs.Placing.{stands_after, stands_longer}
 
 -- one vertex more has its level, and the trail is of vertices of the target up to it
@@ -71,18 +73,12 @@ pub in_or_not : (region : List Bool) (v : ℕ) → IsTrue (has region v) ⊎ (ha
 in_or_not region v = search rules
 
 -- the tables are an attractor's, and the region is read off
-pub record Answer (game : ParityGame) (player : ℕ) (subgame target : List Bool) (new : TablesData)
+record Answer (game : ParityGame) (player : ℕ) (subgame target : List Bool) (new : TablesData)
     (region : List Bool) : Type 0 where
-  pub is_subgame : IsSubgame game (has subgame)
-  pub target_within : IsWithin (has target) (has subgame)
-  pub made : AreAttracted game player subgame target new
-  pub placed : IsRegionTo new (vertex_count game) region
-
-pub answer_of : {game : ParityGame} {player : ℕ} {subgame target : List Bool} {new : TablesData} {region : List Bool}
-    {count : ℕ} → IsSubgame game (has subgame) → IsWithin (has target) (has subgame) →
-    AreAttracted game player subgame target new → count ≡ vertex_count game → IsRegionTo new count region →
-    Answer game player subgame target new region
-answer_of is_subgame target_within made counted placed = search rules
+  is_subgame : IsSubgame game (has subgame)
+  target_within : IsWithin (has target) (has subgame)
+  made : AreAttracted game player subgame target new
+  placed : IsRegionTo new (vertex_count game) region
 
 module _ (game : ParityGame) {subgame target : List Bool} {old : TablesData} (v : ℕ)
     (laid : AreLaidOut subgame target (vertex_count game) old) (is_vertex : v < vertex_count game) where
@@ -135,15 +131,15 @@ module _ {game : ParityGame} {player : ℕ} {subgame target : List Bool} {new : 
   taken : IsTaken (aim_of player) new (has subgame) (has region)
   taken = search (rules, stands_inside, region_vertex, in_or_not)
 
-  pub region_within : IsWithin (has region) (has subgame)
+  region_within : IsWithin (has region) (has subgame)
   region_within v inside = (stands_inside v inside).1
 
-  pub region_attracted : IsAttracted game (has subgame) player (has target) (has region) (moves_of new)
+  region_attracted : IsAttracted game (has subgame) player (has target) (has region) (moves_of new)
       (rank_of (aim_of player) new)
   region_attracted = answer.made.attracted (has region) taken
 
   -- the fall in the tables is that by the moves and the ranks that are read off
-  pub answer_falls : {moves : List (Option ℕ)} (rank : List ℕ) →
+  answer_falls : {moves : List (Option ℕ)} (rank : List ℕ) →
       AreMovesTo game new player target (vertex_count game) moves →
       ((v : ℕ) → StandsFrom new 0 v → get_or rank v 0 ≡ place_in new.trail v) →
       Falls game (has subgame) player (has target) (has region) (move_at moves) (rank_at rank)
@@ -159,7 +155,7 @@ module _ {game : ParityGame} {player : ℕ} {subgame target : List Bool} {new : 
       }
 
   -- only the player's vertices of the region outside the target have a move
-  pub only_moves : {moves : List (Option ℕ)} → AreMovesTo game new player target (vertex_count game) moves →
+  only_moves : {moves : List (Option ℕ)} → AreMovesTo game new player target (vertex_count game) moves →
       (v : ℕ) → IsSome (move_at moves v) → IsTrue (has region v) × (owner_of game v ≡ player) × (has target v ≡ false)
   only_moves {moves = moves} given v some =
       let none_some : move_at moves v ≡ None → ⊥ = λ none. (let no : IsTrue false = rw none at some in cc) in
@@ -177,3 +173,30 @@ module _ {game : ParityGame} {player : ℕ} {subgame target : List Bool} {new : 
           ]
         ]
       ]
+
+-- what is read off an attractor's tables is the attractor
+attractor_of : {game : ParityGame} {player : ℕ} {subgame target : List Bool} {new : TablesData} {a : Attracted} →
+    IsSubgame game (has subgame) → IsWithin (has target) (has subgame) →
+    AreAttracted game player subgame target new → IsReadOff game new player target a →
+    IsAttractor game player subgame target a
+attractor_of {game = game} {player = player} {subgame = subgame} {target = target} {new = new} {a = a} is_subgame
+    target_within made read =
+    let answer : Answer game player subgame target new a.region =
+    record { is_subgame = is_subgame; target_within = target_within; made = made; placed = read.region } in
+    record {
+      places = read.places;
+      move_places = read.move_places;
+      rank_places = read.rank_places;
+      within = region_within answer;
+      closed = (region_attracted answer).closed;
+      least = (region_attracted answer).least;
+      moves = only_moves answer read.moves;
+      falls = answer_falls answer a.rank.items read.moves read.ranks;
+    }
+
+pub attractor_in : {E : Type 0} {game : ParityGame} {player : ℕ} {subgame target : List Bool} {new : TablesData}
+    (r : Result Attracted E) → IsSubgame game (has subgame) → IsWithin (has target) (has subgame) →
+    AreAttracted game player subgame target new → IfOk r (IsReadOff game new player target) →
+    IfOk r (IsAttractor game player subgame target)
+attractor_in (Ok a) is_subgame target_within made read = attractor_of is_subgame target_within made read
+attractor_in (Err e) is_subgame target_within made read = tt

@@ -1,10 +1,14 @@
 -- From tables to a region, moves and ranks: what the public answer has of what the worklist left.
-use Rattle.std.specs.Prelude.{◌≡◌, ℕ, ◌<◌, ◌≤◌, List, length, Option, Some, None, Bool, false, IsTrue, slice_index}
+use Rattle.std.specs.Prelude.{◌≡◌, ℕ, ◌<◌, ◌≤◌, List, length, Option, Some, None, IsSome, Bool, false, IsTrue}
+use Rattle.std.specs.Prelude.{slice_index}
 use Rattle.ps_game.specs.Games.{ParityGame, owner_of, vertex_count}
+use Rattle.ps_game.specs.Subgames.{IsWithin}
+use Rattle.ps_game.specs.Attractors.{IsClosed, Falls, IsLeast}
 use Rattle.ps_game.specs.Regions.{has, move_at}
 use Rattle.ps_attractor.specs.declared.attractor.TheConstants.{OUTSIDE, PLACED, FREE}
 use Rattle.ps_attractor.specs.declared.aim.Aim.{Aim}
-use Rattle.ps_attractor.specs.Tables.{TablesData, level_of, moves_of}
+use Rattle.ps_attractor.specs.declared.attractor.Attracted.{Attracted}
+use Rattle.ps_attractor.specs.Tables.{TablesData, level_of, moves_of, place_in}
 use Rattle.ps_attractor.specs.Aims.{IsAttracted, IsGrown, IsTaken, StandsFrom, rank_of}
 
 -- the vertices before n have their levels, and those of the target among them stand in the trail
@@ -52,3 +56,25 @@ pub record AreMovesTo (game : ParityGame) (tables : TablesData) (player : ℕ) (
 -- the rank of a vertex by a list
 abbrev pub rank_at : List ℕ → ℕ → ℕ
 rank_at rank v = slice_index rank v
+
+-- the region, the moves and the ranks are those of the tables
+pub record IsReadOff (game : ParityGame) (tables : TablesData) (player : ℕ) (target : List Bool) (a : Attracted) : Type 0
+  where
+    pub places : length a.region ≡ vertex_count game
+    pub move_places : length a.moves ≡ vertex_count game
+    pub rank_places : length a.rank.items ≡ vertex_count game
+    pub region : IsRegionTo tables (vertex_count game) a.region
+    pub moves : AreMovesTo game tables player target (vertex_count game) a.moves
+    pub ranks : (v : ℕ) → StandsFrom tables 0 v → rank_at a.rank.items v ≡ place_in tables.trail v
+
+-- the attractor, with its moves and ranks
+pub record IsAttractor (game : ParityGame) (player : ℕ) (subgame target : List Bool) (a : Attracted) : Type 0 where
+  pub places : length a.region ≡ vertex_count game
+  pub move_places : length a.moves ≡ vertex_count game
+  pub rank_places : length a.rank.items ≡ vertex_count game
+  pub within : IsWithin (has a.region) (has subgame)
+  pub closed : IsClosed game (has subgame) player (has target) (has a.region)
+  pub least : IsLeast game (has subgame) player (has target) (has a.region)
+  pub moves : (v : ℕ) → IsSome (move_at a.moves v) →
+      IsTrue (has a.region v) × (owner_of game v ≡ player) × (has target v ≡ false)
+  pub falls : Falls game (has subgame) player (has target) (has a.region) (move_at a.moves) (rank_at a.rank.items)

@@ -9,7 +9,8 @@ ghost use Rattle.ps_game.specs.Regions.{has, move_at};
 ghost use Rattle.ps_attractor.specs.Tables.{FitsGame, level_of, place_in};
 ghost use Rattle.ps_attractor.specs.Aims.{StandsFrom};
 ghost use Rattle.ps_attractor.specs.Room.{HasRoom};
-ghost use Rattle.ps_attractor.specs.Results.{AreAttracted, AreLaidOut, IsRegionTo, AreMovesTo, rank_at};
+ghost use Rattle.ps_attractor.specs.Results.{AreAttracted, AreLaidOut, IsAttractor, IsReadOff, IsRegionTo, AreMovesTo};
+ghost use Rattle.ps_attractor.specs.Results.{rank_at};
 
 use crate::aim::Aim;
 use crate::room::{has_room, no_room};
@@ -90,23 +91,27 @@ fn attract_in<A: Arena, W: Width>(
     requires target { IsWithin (has target.now) (has subgame.now) }
     requires subgame_places { length subgame.now ≡ vertex_count (A.game arena.now) }
     requires target_places { length target.now ≡ vertex_count (A.game arena.now) }
-    ensures places { IfOk result (λ attracted. length attracted.region ≡ vertex_count (A.game arena.now)) }
-    ensures move_places { IfOk result (λ attracted. length attracted.moves ≡ vertex_count (A.game arena.now)) }
-    ensures rank_places { IfOk result (λ attracted. length attracted.rank.items ≡ vertex_count (A.game arena.now)) }
-    ensures within { IfOk result (λ attracted. IsWithin (has attracted.region) (has subgame.now)) }
-    ensures closed { IfOk result (λ attracted.
-        IsClosed (A.game arena.now) (has subgame.now) player (has target.now) (has attracted.region)) }
-    ensures least { IfOk result (λ attracted.
-        IsLeast (A.game arena.now) (has subgame.now) player (has target.now) (has attracted.region)) }
-    ensures moves { IfOk result (λ attracted. (v : ℕ) → IsSome (move_at attracted.moves v) →
-        IsTrue (has attracted.region v) × (owner_of (A.game arena.now) v ≡ player) × (has target.now v ≡ false)) }
-    ensures falls { IfOk result (λ attracted. Falls (A.game arena.now) (has subgame.now) player (has target.now)
-        (has attracted.region) (move_at attracted.moves) (rank_at attracted.rank.items)) }
+    ensures { IfOk result (IsAttractor (A.game arena.now) player subgame.now target.now) }
 {
     let tables = attracted_tables::<A, W>(alloc, arena, subgame, player, target)?;
-    let region = placed_region(alloc, &tables, arena.count())?;
-    let moves = placed_moves(alloc, arena, &tables, player, target)?;
-    let rank = first_places(alloc, &tables, arena.count())?;
+    read_off(alloc, arena, &tables, player, target)
+}
+
+/// The region, the moves and the ranks that stand in tables.
+fn read_off<A: Arena, W: Width>(
+    alloc: Global,
+    arena: &A,
+    tables: &Tables<W>,
+    player: u8,
+    target: &Region,
+) -> Result<Attracted, AllocError>
+    requires fits { FitsGame (A.game arena.now) tables.now }
+    requires target_places { length target.now ≡ vertex_count (A.game arena.now) }
+    ensures { IfOk result (IsReadOff (A.game arena.now) tables.now player target.now) }
+{
+    let region = placed_region(alloc, tables, arena.count())?;
+    let moves = placed_moves(alloc, arena, tables, player, target)?;
+    let rank = first_places(alloc, tables, arena.count())?;
     Ok(Attracted {
         region,
         moves,
