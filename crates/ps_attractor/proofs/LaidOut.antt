@@ -1,7 +1,7 @@
 -- The levels and the trail that the public function begins with, and what is read off at the end.
 use Rattle.std.proofs.Common.{◌≡◌, ◌≢◌, ℕ, ◌+◌, ◌<◌, ◌≤◌, ◌⊎◌, inl, inr, List, [], ◌∷◌, ◌++◌, Bool, false, IsTrue}
 use Rattle.std.proofs.Common.{Option, None, IsSome, length, get_or, drop, refl, rules, sym, ◌∙◌, arith}
-use Rattle.std.specs.Prelude.{slice_set, IfOk, Result, Ok, Err}
+use Rattle.std.specs.Prelude.{slice_set}
 use Rattle.std.proofs.lemmas.Bool.{cases_eq, cases_lt, false≢true, eq-eqb}
 use Rattle.std.proofs.lemmas.Bool.Decides.{nat_tests}
 use Rattle.std.proofs.lemmas.List.{get_or_append_left, get_or_push, length_push, get_or-set_same, get_or-set_other}
@@ -175,7 +175,7 @@ module _ {game : ParityGame} {player : ℕ} {subgame target : List Bool} {new : 
       ]
 
 -- what is read off an attractor's tables is the attractor
-attractor_of : {game : ParityGame} {player : ℕ} {subgame target : List Bool} {new : TablesData} {a : Attracted} →
+pub attractor_of : {game : ParityGame} {player : ℕ} {subgame target : List Bool} {new : TablesData} {a : Attracted} →
     IsSubgame game (has subgame) → IsWithin (has target) (has subgame) →
     AreAttracted game player subgame target new → IsReadOff game new player target a →
     IsAttractor game player subgame target a
@@ -193,10 +193,3 @@ attractor_of {game = game} {player = player} {subgame = subgame} {target = targe
       moves = only_moves answer read.moves;
       falls = answer_falls answer a.rank.items read.moves read.ranks;
     }
-
-pub attractor_in : {E : Type 0} {game : ParityGame} {player : ℕ} {subgame target : List Bool} {new : TablesData}
-    (r : Result Attracted E) → IsSubgame game (has subgame) → IsWithin (has target) (has subgame) →
-    AreAttracted game player subgame target new → IfOk r (IsReadOff game new player target) →
-    IfOk r (IsAttractor game player subgame target)
-attractor_in (Ok a) is_subgame target_within made read = attractor_of is_subgame target_within made read
-attractor_in (Err e) is_subgame target_within made read = tt

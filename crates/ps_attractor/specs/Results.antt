@@ -58,7 +58,8 @@ abbrev pub rank_at : List ℕ → ℕ → ℕ
 rank_at rank v = slice_index rank v
 
 -- the region, the moves and the ranks are those of the tables
-pub record IsReadOff (game : ParityGame) (tables : TablesData) (player : ℕ) (target : List Bool) (a : Attracted) : Type 0
+pub record IsReadOff (game : ParityGame) (tables : TablesData) (player : ℕ) (target : List Bool)
+    (a : Attracted) : Type 0
   where
     pub places : length a.region ≡ vertex_count game
     pub move_places : length a.moves ≡ vertex_count game

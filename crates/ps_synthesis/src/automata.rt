@@ -25,5 +25,7 @@ pub fn read_automaton(alloc: Global, text: &[u8]) -> Result<Automaton, SynthFaul
     one_answer();
     refusal_is_one();
     let file = ps_hoa::read(alloc, text)?;
-    Ok(Automaton::build(alloc, &file)?)
+    let automaton = Automaton::build(alloc, &file);
+    drop(file);
+    Ok(automaton?)
 }

@@ -43,7 +43,9 @@ pub fn circuit_of_certificate(
 {
     one_game();
     let machine = machine_of_certificate(alloc, automaton, order, game, certificate)?;
-    let circuit = encode(alloc, &machine)?;
+    let _ = machine.player();
+    let circuit = encode(alloc, &machine);
+    drop(machine);
     certified_circuit_answers();
-    Ok(circuit)
+    Ok(circuit?)
 }

@@ -92,7 +92,9 @@ impl Problem {
     }
 
     /// Lets the problem go. What becomes of its parts is proved here once, and not by each who had it.
-    pub fn close(self) {}
+    pub fn close(self) {
+        drop(self);
+    }
 
     /// The report by a certificate of the game, with all counts or as a compact text: who wins, and the winner's
     /// circuit.
