@@ -9,7 +9,6 @@ pub mod Labels
 pub mod Conditions
 pub mod Files
 pub mod Edges
-pub mod ItemNames
 pub mod Header
 pub mod Body
 pub mod Texts

@@ -3,20 +3,20 @@
 --     judge_above, .., judge_close      the least cause of each
 use Rattle.std.proofs.Common.{◌≡◌, ℕ, suc, ◌+◌, ◌<◌, ◌≤◌, Bool, true, List, length, Option, None, Some, rules, refl}
 use Rattle.std.proofs.Common.{sym, inr, ◌∙◌, subst}
-use Rattle.std.specs.Prelude.{codes}
 use Rattle.std.proofs.lemmas.Bool.{cases_eq}
 use Rattle.ps_text.specs.Digits.{decimal_value}
 use Rattle.ps_text.specs.Parts.{NoBad}
 use Rattle.ps_text.proofs.Outcomes.{Judged}
 use Rattle.ps_text.proofs.Decisions.{Decided, decide_true, decide_none, decide_not, decide_as, decide_both}
-use Rattle.ps_text.proofs.Decisions.{decide_below, judge_none, judge_cause, judge_one, judge_as, judge_if, judge_also}
+use Rattle.ps_text.proofs.Decisions.{decide_below, judge_none, judge_cause, judge_one, judge_if, judge_also}
 use Rattle.ps_text.proofs.Simple.{none_is_some, same_some}
 use Rattle.ps_hoa.specs.Causes.{cause_number}
 use Rattle.ps_hoa.specs.Operands.{holds, IsTooDeep, number_limit}
 use Rattle.ps_hoa.specs.Labels.{ScopeData, alias_number, IsBeyond, IsBadLeaf, BadLeaf}
 use Rattle.ps_hoa.specs.Conditions as conditions
 use Rattle.ps_hoa.specs.Files.{RowData}
-use Rattle.ps_hoa.specs.Header.{HeaderData, state_limit, name_value, int_in, IsAbove, IsSecondStart, IsAlternating}
+use Rattle.ps_hoa.specs.Header.{HeaderData, state_limit, item_in, IsWrongItem, IsBadItem, int_in, IsAbove}
+use Rattle.ps_hoa.specs.Header.{IsAlternating}
 use Rattle.ps_hoa.specs.Header.{IsBadName, IsBadAlias}
 use Rattle.ps_hoa.specs.Body.{BodyData, edge_limit, IsBadState, IsBadSet, BadIn, labelling, MayHaveNoLabel}
 use Rattle.ps_hoa.specs.Body.{MayHaveLabel, IsBadBracket, IsBadPlainTarget, IsWrongCount, last_row, IsBadEnd}
@@ -25,6 +25,8 @@ use Rattle.ps_hoa.specs.declared.edges.Labelling.{Labelling}
 use Rattle.ps_hoa.specs.declared.edges.Labelling.TheVariants.{ByPlace}
 use Rattle.ps_hoa.specs.declared.fault.HoaCause.{HoaCause}
 use Rattle.ps_hoa.specs.declared.fault.HoaCause.TheVariants as causes
+use Rattle.ps_hoa.specs.declared.items.Item.{Item}
+use Rattle.ps_hoa.specs.declared.items.Item.TheVariants as items
 use Rattle.ps_hoa.specs.declared.tokens.Kind.{Kind}
 use Rattle.ps_hoa.specs.declared.tokens.Kind.TheVariants.{AliasName, Int}
 use Rattle.ps_hoa.specs.Inner.Signs.{IsTestOf}
@@ -76,11 +78,12 @@ judge_set t = go t.kind t.text
 pub judge_above : (limit : ℕ) → JudgesAll (IsAbove limit)
 judge_above limit t = judge_if cause_number (int_in t) (λ n f. (limit < n) × (f ≡ causes.Limit)) (large limit)
 
-pub judge_second : (h : HeaderData) → JudgesAll (IsSecondStart h)
-judge_second h t = judge_as cause_number (λ f b. (b.0.0, b.0.1, b.1)) (λ f b. ((b.0, b.1), b.2))
-    (judge_cause cause_number causes.Start
-    (decide_both (decide_not (decide_none (name_value (codes "Start:") t.kind t.text)))
-    (decide_not (decide_none h.start))))
+wrong_item : (h : HeaderData) (item : Item) → Judged cause_number (IsWrongItem h item)
+wrong_item h items.Start = judge_cause cause_number causes.Start (decide_not (decide_none h.start))
+wrong_item h item = judge_none cause_number
+
+pub judge_item : (h : HeaderData) → JudgesAll (IsBadItem h)
+judge_item h t = judge_if cause_number (item_in t) (IsWrongItem h) (wrong_item h)
 
 pub judge_alternating : (state : ℕ) → JudgesAll (IsAlternating state)
 judge_alternating state t = judge_cause cause_number causes.Alternating (search (rules, decide_kind, test_of))

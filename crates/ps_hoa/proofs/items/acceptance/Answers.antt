@@ -5,7 +5,7 @@ use Rattle.ps_hoa.specs.Header.{with_acceptance}
 use Rattle.ps_hoa.specs.Operands.{nesting_limit}
 use Rattle.ps_hoa.specs.Views.{header_data}
 use Rattle.ps_hoa.proofs.Reading.Exits.{exit, first, behind, under}
-use Rattle.ps_hoa.proofs.Grammar.HeaderLaws.{joint_counted_condition}
+use Rattle.ps_hoa.proofs.ItemForms.{joint_counted_condition}
 use Rattle.ps_hoa.proofs.items.acceptance.Goals as goal
 
 pub returns-in_err-sets : goal.returns-in_err-sets

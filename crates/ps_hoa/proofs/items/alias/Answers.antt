@@ -5,7 +5,7 @@ use Rattle.ps_text.proofs.Exits.{reads_then, reads_mapped}
 use Rattle.ps_hoa.specs.Header.{with_alias}
 use Rattle.ps_hoa.specs.Views.{header_data}
 use Rattle.ps_hoa.proofs.Reading.Exits.{exit, first, behind, under, value_is}
-use Rattle.ps_hoa.proofs.Grammar.HeaderLaws.{joint_named_label}
+use Rattle.ps_hoa.proofs.ItemForms.{joint_named_label}
 use Rattle.ps_hoa.proofs.items.alias.Goals as goal
 
 pub returns-in_err-name : goal.returns-in_err-name
