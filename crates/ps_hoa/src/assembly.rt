@@ -33,9 +33,9 @@ pub(crate) fn file(alloc: Global, header: Header, rows: Rows) -> Result<HoaFile,
         start,
         names,
         controllable,
-        alias_names: _alias_names,
         aliases,
         acceptance,
+        ..
     } = header;
     let start = start.unwrap_or(0);
     let states = count_of_states(states, start, rows.as_slice());
