@@ -3,17 +3,18 @@
 --            | "controllable-AP:" INT* | "tool:" STRING STRING? | "name:" STRING
 --            | HEADERNAME (BOOLEAN | INT | STRING | IDENTIFIER)*
 -- Items stand in any order, an alias before its use.
---     HeaderData      what the items so far say
---     item_names      the names of items
+--     HeaderData      what the items so far say; header_data, what those say that the code has read
+--     item_in s      the item that has that name
 --     behind_name h item      what stands behind the name of that item, behind items that say h
 --     item h      one more item
 --     header      all items, and `--BODY--`
 use Rattle.std.specs.Prelude.{◌≡◌, ◌≢◌, ℕ, ◌<◌, ◌≤◌, ◌⊎◌, ◌||◌, Bool, true, false, List, [], ◌∷◌, ◌++◌, length, drop}
-use Rattle.std.specs.Prelude.{codes, if◌then◌else◌, nat_eq, nat_lt, Option, None, Some, IfSome}
+use Rattle.std.specs.Prelude.{if◌then◌else◌, nat_eq, nat_lt, Option, None, Some, IfSome, option_map}
 use Rattle.std.specs.Str.{bytes_eq}
 use Rattle.std.specs.Option.{unwrap_or}
 use Rattle.ps_label.specs.Expression.{Expression, constant, proposition, alias, not_of, all_of, any_of, Operands, last}
 use Rattle.ps_label.specs.Expression.{more}
+use Rattle.ps_label.specs.Truth.{expressions}
 use Rattle.ps_text.specs.Digits.{decimal_value}
 use Rattle.ps_text.specs.Parts.{Part, NoBad, give, one, then_by, either, times, many, mapped, barred}
 use Rattle.ps_hoa.specs.Tokens.{Sign}
@@ -23,6 +24,10 @@ use Rattle.ps_hoa.specs.Labels as labels
 use Rattle.ps_hoa.specs.Labels.{ScopeData}
 use Rattle.ps_hoa.specs.Conditions as conditions
 use Rattle.ps_hoa.specs.Conditions.{Condition, Conditions}
+use Rattle.ps_hoa.specs.ItemNames.{item_named}
+use Rattle.ps_hoa.specs.Values.{condition_of}
+use Rattle.ps_hoa.specs.declared.header.Acceptance.{Acceptance}
+use Rattle.ps_hoa.specs.declared.header.Header.{Header}
 use Rattle.ps_hoa.specs.declared.items.Item.{Item}
 use Rattle.ps_hoa.specs.declared.items.Item.TheVariants as items
 use Rattle.ps_hoa.specs.declared.fault.HoaCause.{HoaCause}
@@ -54,6 +59,22 @@ no_items =
       alias_names = [];
       aliases = [];
       acceptance = None;
+    }
+
+-- so do those that the code has read
+abbrev pub acceptance_data : Acceptance → AcceptanceData
+acceptance_data a = record { sets = a.sets; condition = condition_of a.condition }
+
+abbrev pub header_data : Header → HeaderData
+header_data h =
+    record {
+      states = h.states;
+      start = h.start;
+      names = h.names;
+      controllable = h.controllable;
+      alias_names = h.alias_names;
+      aliases = expressions h.aliases.items;
+      acceptance = option_map acceptance_data h.acceptance;
     }
 
 -- without `AP:` there are no propositions
@@ -119,27 +140,7 @@ string = one string_in NoBad
 
 -- ## The names of items
 
--- those that have a meaning here
-abbrev pub item_names : List (List ℕ × Item)
-item_names =
-    (codes "States:", items.States) ∷
-    (codes "Start:", items.Start) ∷
-    (codes "AP:", items.Propositions) ∷
-    (codes "Alias:", items.Alias) ∷
-    (codes "Acceptance:", items.Acceptance) ∷
-    (codes "controllable-AP:", items.Controllable) ∷
-    (codes "tool:", items.Tool) ∷
-    (codes "name:", items.Name) ∷
-    []
-
-abbrev pub item_among : List (List ℕ × Item) → List ℕ → Option Item
-item_among [] name = None
-item_among (row ∷ rows) name = if bytes_eq name row.0 then Some row.1 else item_among rows name
-
-unfoldable pub item_named : List ℕ → Option Item
-item_named name = item_among item_names name
-
--- any other name that does not begin with a capital is that of an item too, which is read over
+-- a name without a meaning here that does not begin with a capital is that of an item too, which is read over
 abbrev pub item_or_other : Option Item → List ℕ → Option Item
 item_or_other (Some item) name = Some item
 item_or_other None name = if begins_capital name then None else Some items.Other

@@ -1,4 +1,5 @@
 pub mod Bytes
+pub mod ItemNames
 pub mod Tokens
 pub mod Scan
 pub mod Spans

@@ -6,11 +6,11 @@ ghost use Rattle.ps_label.specs.Expression.{AreOrdered};
 ghost use Rattle.ps_label.specs.Truth.{expressions};
 ghost use Rattle.ps_hoa.specs.Body.{sets_of};
 ghost use Rattle.ps_hoa.specs.Files as files;
-ghost use Rattle.ps_hoa.specs.Header.{names_of, state_limit};
+ghost use Rattle.ps_hoa.specs.Header.{names_of, state_limit, header_data};
 ghost use Rattle.ps_hoa.specs.Inner.Rows.{body_data};
 ghost use Rattle.ps_hoa.specs.Sound.{IsSoundFile};
 ghost use Rattle.ps_hoa.specs.Texts.{file_of};
-ghost use Rattle.ps_hoa.specs.Views.{edge_data, header_data, row_data};
+ghost use Rattle.ps_hoa.specs.Views.{edge_data, row_data};
 
 use crate::condition::Cond;
 use crate::fault::HoaFault;

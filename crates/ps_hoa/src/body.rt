@@ -8,13 +8,13 @@ ghost use Rattle.ps_text.specs.Readers.{Reads as ReadsPart};
 ghost use Rattle.ps_hoa.specs.Body as parts;
 ghost use Rattle.ps_hoa.specs.Body.{BadIn, edge_limit, has_row, IsBadClose, IsBadNext, IsBadRow, IsWrongCount, is_end};
 ghost use Rattle.ps_hoa.specs.Body.{last_row, no_rows, state_value, with_row};
-ghost use Rattle.ps_hoa.specs.Header.{HeaderData, int_in, names_of, name_value};
+ghost use Rattle.ps_hoa.specs.Header.{HeaderData, int_in, names_of, name_value, header_data};
 ghost use Rattle.ps_hoa.specs.Operands.{mark_in};
 ghost use Rattle.ps_hoa.specs.Inner.Reads.{ReadsAs, Takes};
 ghost use Rattle.ps_hoa.specs.Inner.Rows.{body_data, IsEndWrong};
 ghost use Rattle.ps_hoa.specs.Scan.{next_of, stream_of};
 ghost use Rattle.ps_hoa.specs.Spans.{piece_of};
-ghost use Rattle.ps_hoa.specs.Views.{header_data, row_data};
+ghost use Rattle.ps_hoa.specs.Views.{row_data};
 
 use crate::edges::{Labelling, edges, label_in_brackets, labelling_of, marks, state_of};
 use crate::fault::{HoaCause, HoaFault};

@@ -1,16 +1,16 @@
 //! The items of a header.
 
-ghost use Rattle.std.specs.Prelude.{◌≡◌, [], None};
+ghost use Rattle.std.specs.Prelude.{◌≡◌, ◌<◌, [], IfSome, None};
 ghost use Rattle.ps_label.specs.Expression.{expression};
 ghost use Rattle.ps_text.specs.Parts.{many};
 ghost use Rattle.ps_hoa.specs.Inner.Flaws.{body_in};
 ghost use Rattle.ps_hoa.specs.Header as parts;
-ghost use Rattle.ps_hoa.specs.Header.{header as header_part, item_in, item_named, item_value, no_items};
+ghost use Rattle.ps_hoa.specs.Header.{header as header_part, item_in, item_value, no_items, header_data};
+ghost use Rattle.ps_hoa.specs.ItemNames.{item_named, mark_named, mark_of};
 ghost use Rattle.ps_hoa.specs.Labels as labels;
 ghost use Rattle.ps_hoa.specs.Operands.{nesting_limit};
 ghost use Rattle.ps_hoa.specs.Inner.Reads.{ReadsAs, Takes};
 ghost use Rattle.ps_hoa.specs.Spans.{piece_of};
-ghost use Rattle.ps_hoa.specs.Views.{header_data};
 
 use crate::condition::condition;
 use crate::fault::{HoaCause, HoaFault};
@@ -73,6 +73,31 @@ pub(crate) fn item_named(name: &[u8]) -> Option<Item>
         }
     }
     None
+}
+
+/// The number of marks that a text has of items that may stand once.
+pub(crate) const MARK_COUNT: usize = 4;
+
+/// The mark of an item, if it may stand once.
+fn mark_of(item: Item) -> Option<usize>
+    ensures value { result ≡ mark_of item }
+    ensures within { IfSome result (λ mark. mark < MARK_COUNT) }
+{
+    match item {
+        Item::States => Some(0),
+        Item::Propositions => Some(1),
+        Item::Acceptance => Some(2),
+        Item::Controllable => Some(3),
+        _ => None,
+    }
+}
+
+/// The mark of the item of that name, if it may stand once.
+pub(crate) fn mark_named(name: &[u8]) -> Option<usize>
+    ensures value { result ≡ mark_named name.now }
+    ensures within { IfSome result (λ mark. mark < MARK_COUNT) }
+{
+    mark_of(item_named(name)?)
 }
 
 /// Reads a header, up to `--BODY--`.

@@ -9,7 +9,8 @@ use Rattle.ps_text.specs.Parts.{one, NoBad, refusal_of}
 use Rattle.ps_text.specs.Readers.{Meets}
 use Rattle.ps_hoa.specs.Causes.{cause_number, hoa_causes, found_of, HoaFault}
 use Rattle.ps_hoa.specs.Inner.Flaws.{body_in}
-use Rattle.ps_hoa.specs.Header.{HeaderData, item_named, item_in, IsBadItem, int_in, IsAbove, string_in, IsBadName}
+use Rattle.ps_hoa.specs.ItemNames.{item_named}
+use Rattle.ps_hoa.specs.Header.{HeaderData, item_in, IsBadItem, int_in, IsAbove, string_in, IsBadName}
 use Rattle.ps_hoa.specs.Header.{IsBadAlias, IsBadBody}
 use Rattle.ps_hoa.specs.Inner.Items.{alias_name_in, read_over_in}
 use Rattle.ps_hoa.specs.Operands.{mark_in, number_limit}

@@ -15,7 +15,8 @@ use Rattle.ps_hoa.specs.Tokens.{Sign}
 use Rattle.ps_hoa.specs.Bytes.{begins_capital}
 use Rattle.ps_hoa.specs.Causes.{is_spelled, is_unknown_capital}
 use Rattle.ps_hoa.specs.Operands.{is_and}
-use Rattle.ps_hoa.specs.Header.{HeaderData, name_value, item_named, item_or_other, item_in, item_name, int}
+use Rattle.ps_hoa.specs.ItemNames.{item_named}
+use Rattle.ps_hoa.specs.Header.{HeaderData, name_value, item_or_other, item_in, item_name, int}
 use Rattle.ps_hoa.specs.Header.{IsAlternating, string, proposition_name, alias_value, IsBadAlias}
 use Rattle.ps_hoa.specs.declared.fault.HoaCause.{HoaCause}
 use Rattle.ps_hoa.specs.declared.items.Item.{Item}

@@ -1,4 +1,4 @@
-use Rattle.ps_hoa.specs.Views.{header_data}
+use Rattle.ps_hoa.specs.Header.{header_data}
 use Rattle.ps_hoa.proofs.items.behind_name.Goals as goal
 
 pub returns-in-Alias : goal.returns-in-Alias

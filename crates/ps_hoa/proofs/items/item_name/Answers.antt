@@ -1,4 +1,4 @@
-use Rattle.ps_hoa.specs.Views.{header_data}
+use Rattle.ps_hoa.specs.Header.{header_data}
 use Rattle.ps_hoa.proofs.Grammar.HeaderSigns.{reads_token, signs_item}
 use Rattle.ps_hoa.proofs.items.item_name.Goals as goal
 

@@ -1,5 +1,5 @@
 use Rattle.std.proofs.Common.{refl, sym, ◌∙◌}
-use Rattle.ps_hoa.specs.Header.{item_named}
+use Rattle.ps_hoa.specs.ItemNames.{item_named}
 use Rattle.ps_hoa.proofs.Grammar.ItemRows.{found, passed, ended}
 use Rattle.ps_hoa.proofs.items.item_named.Goals as goal
 

@@ -1,5 +1,5 @@
 use Rattle.std.proofs.Common.{◌≡◌, drop}
-use Rattle.ps_hoa.specs.Header.{item_among, item_named}
+use Rattle.ps_hoa.specs.ItemNames.{item_among, item_named}
 use Rattle.ps_hoa.proofs.Grammar.ItemRows.{rows_of}
 use Rattle.ps_hoa.proofs.items.item_named.Given as goal
 

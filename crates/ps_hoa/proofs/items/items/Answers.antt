@@ -1,10 +1,9 @@
 use Rattle.std.proofs.Common.{arith, ◌≡◌, Option, is_some, ap, sym, ◌∙◌}
 use Rattle.ps_text.specs.Answers.{Piece, Stream}
-use Rattle.ps_hoa.specs.Header.{item_in}
+use Rattle.ps_hoa.specs.Header.{item_in, header_data}
 use Rattle.ps_hoa.specs.Scan.{next_of, stream_of}
 use Rattle.ps_hoa.specs.Tokens.{Sign}
 use Rattle.ps_hoa.specs.declared.items.Item.{Item}
-use Rattle.ps_hoa.specs.Views.{header_data}
 use Rattle.ps_hoa.proofs.Grammar.WholeHeader.{item_loop, item_begins, item_elsewhere}
 use Rattle.ps_hoa.proofs.Reading.Exits.{exit, loop_more, loop_fails, loop_ends, loop_shrinks}
 use Rattle.ps_hoa.proofs.items.items.Goals as goal

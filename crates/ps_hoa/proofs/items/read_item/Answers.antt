@@ -1,6 +1,6 @@
 use Rattle.ps_text.proofs.Exits.{then_meets}
 use Rattle.ps_hoa.specs.Causes.{found_of, hoa_causes}
-use Rattle.ps_hoa.specs.Views.{header_data}
+use Rattle.ps_hoa.specs.Header.{header_data}
 use Rattle.ps_hoa.proofs.Grammar.WholeHeader.{joint_item}
 use Rattle.ps_hoa.proofs.Reading.Exits.{exit, first}
 use Rattle.ps_hoa.proofs.items.read_item.Goals as goal
