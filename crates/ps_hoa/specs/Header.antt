@@ -61,7 +61,7 @@ no_items =
       acceptance = None;
     }
 
--- so do those that the code has read
+-- what the items say that the code has read
 abbrev pub acceptance_data : Acceptance → AcceptanceData
 acceptance_data a = record { sets = a.sets; condition = condition_of a.condition }
 

@@ -4,9 +4,8 @@ use Rattle.ps_hoa.specs.Causes.{hoa_causes}
 use Rattle.ps_hoa.specs.Header.{HeaderData, no_items, item, header}
 use Rattle.ps_hoa.proofs.Grammar.HeaderSigns.{signs_item, signs_body}
 use Rattle.ps_hoa.proofs.Grammar.WholeHeader.{joint_item, item_loop, joint_header}
-use Rattle.ps_hoa.proofs.ItemForms.{form}
+use Rattle.ps_hoa.proofs.ItemForms.{form, judge_item}
 use Rattle.ps_hoa.proofs.Outcomes.HeaderFlaws.{judge_body_mark}
-use Rattle.ps_hoa.proofs.Outcomes.Judging.{judge_item}
 use Rattle.ps_hoa.proofs.Outcomes.LabelOutcomes.{Has, has_signs, has_loop}
 
 has_item : (h : HeaderData) → Has (item h)

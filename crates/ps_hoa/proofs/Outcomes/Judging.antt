@@ -15,8 +15,7 @@ use Rattle.ps_hoa.specs.Operands.{holds, IsTooDeep, number_limit}
 use Rattle.ps_hoa.specs.Labels.{ScopeData, alias_number, IsBeyond, IsBadLeaf, BadLeaf}
 use Rattle.ps_hoa.specs.Conditions as conditions
 use Rattle.ps_hoa.specs.Files.{RowData}
-use Rattle.ps_hoa.specs.Header.{HeaderData, state_limit, item_in, IsWrongItem, IsBadItem, int_in, IsAbove}
-use Rattle.ps_hoa.specs.Header.{IsAlternating}
+use Rattle.ps_hoa.specs.Header.{HeaderData, state_limit, int_in, IsAbove, IsAlternating}
 use Rattle.ps_hoa.specs.Header.{IsBadName, IsBadAlias}
 use Rattle.ps_hoa.specs.Body.{BodyData, edge_limit, IsBadState, IsBadSet, BadIn, labelling, MayHaveNoLabel}
 use Rattle.ps_hoa.specs.Body.{MayHaveLabel, IsBadBracket, IsBadPlainTarget, IsWrongCount, last_row, IsBadEnd}
@@ -25,8 +24,6 @@ use Rattle.ps_hoa.specs.declared.edges.Labelling.{Labelling}
 use Rattle.ps_hoa.specs.declared.edges.Labelling.TheVariants.{ByPlace}
 use Rattle.ps_hoa.specs.declared.fault.HoaCause.{HoaCause}
 use Rattle.ps_hoa.specs.declared.fault.HoaCause.TheVariants as causes
-use Rattle.ps_hoa.specs.declared.items.Item.{Item}
-use Rattle.ps_hoa.specs.declared.items.Item.TheVariants as items
 use Rattle.ps_hoa.specs.declared.tokens.Kind.{Kind}
 use Rattle.ps_hoa.specs.declared.tokens.Kind.TheVariants.{AliasName, Int}
 use Rattle.ps_hoa.specs.Inner.Signs.{IsTestOf}
@@ -77,13 +74,6 @@ judge_set t = go t.kind t.text
 
 pub judge_above : (limit : ℕ) → JudgesAll (IsAbove limit)
 judge_above limit t = judge_if cause_number (int_in t) (λ n f. (limit < n) × (f ≡ causes.Limit)) (large limit)
-
-wrong_item : (h : HeaderData) (item : Item) → Judged cause_number (IsWrongItem h item)
-wrong_item h items.Start = judge_cause cause_number causes.Start (decide_not (decide_none h.start))
-wrong_item h item = judge_none cause_number
-
-pub judge_item : (h : HeaderData) → JudgesAll (IsBadItem h)
-judge_item h t = judge_if cause_number (item_in t) (IsWrongItem h) (wrong_item h)
 
 pub judge_alternating : (state : ℕ) → JudgesAll (IsAlternating state)
 judge_alternating state t = judge_cause cause_number causes.Alternating (search (rules, decide_kind, test_of))
