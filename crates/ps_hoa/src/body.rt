@@ -22,7 +22,7 @@ use crate::file::Row;
 use crate::header::Header;
 use crate::refusal::{fault_at, refused};
 use crate::rows::Rows;
-use crate::signs::{is_item_name, mark};
+use crate::signs::{is_name, mark};
 use crate::tokens::{Kind, Token, Tokens};
 use ps_label::Label;
 use std::alloc::Global;
@@ -52,7 +52,7 @@ fn is_at_state(tokens: &Tokens) -> bool
     ensures { result ≡ is_some (state_value (next_of (stream_of tokens.now)).sign) }
 {
     let token = tokens.peek();
-    is_item_name(token, b"State:")
+    is_name(token, b"State:")
 }
 
 /// Reads a state behind others.
@@ -107,7 +107,7 @@ fn begin_of(token: Token, header: &Header, rows: &Rows) -> Result<(), HoaFault>
     ensures { Takes (λ u. u) state_value (IsBadNext (header_data header.now) (body_data rows.now))
         (piece_of token.entry) result }
 {
-    if !is_item_name(token, b"State:") {
+    if !is_name(token, b"State:") {
         Err(refused(token))
     } else if is_end_wrong(header, rows) {
         Err(fault_at(token, HoaCause::Labels))
