@@ -7,9 +7,7 @@ pub mod InfixLaws
 pub mod LabelLaws
 pub mod ConditionLaws
 pub mod HeaderSigns
-pub mod ItemNames
-pub mod ItemChoice
-pub mod HeaderLaws
+pub mod ItemRows
 pub mod WholeHeader
 pub mod BodyLaws
 pub mod StateLaws

@@ -4,5 +4,6 @@ pub mod NumberLemmas
 pub mod Lexing
 pub mod Grammar
 pub mod Reading
+pub mod ItemForms
 pub mod Soundness
 pub mod Outcomes

@@ -2,7 +2,6 @@
 
 pub mod Judging
 pub mod Nesting
-pub mod LeastFlaws
 pub mod HeaderFlaws
 pub mod LabelOutcomes
 pub mod HeaderOutcomes

@@ -11,8 +11,6 @@ pub mod InfixReading
 pub mod CondRows
 pub mod LeafReading
 pub mod NewAliases
-pub mod HeaderExits
-pub mod HeaderLoops
 pub mod BodyReading
 pub mod RowTable
 pub mod StateReading

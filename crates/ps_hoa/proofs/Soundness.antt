@@ -5,6 +5,7 @@ pub mod NameSets
 pub mod Differences
 pub mod Places
 pub mod SoundLabels
+pub mod HeaderKept
 pub mod SoundHeaders
 pub mod SoundBodies
 pub mod SoundFiles

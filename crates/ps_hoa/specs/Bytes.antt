@@ -2,7 +2,7 @@
 --     class_of b      what a byte begins: a blank, a run of digits, a name, an alias, a string, a mark, a comment, or a
 --               sign by itself
 --     IsName text      a letter or `_`, and then letters, digits, `_` and `-`
-use Rattle.std.specs.Prelude.{ℕ, ◌&&◌, Bool, true, false, if◌then◌else◌, nat_le, nat_eq}
+use Rattle.std.specs.Prelude.{ℕ, ◌&&◌, Bool, true, false, List, [], ◌∷◌, if◌then◌else◌, nat_le, nat_eq}
 use Rattle.ps_hoa.specs.declared.tokens.Class.{Class}
 use Rattle.ps_hoa.specs.declared.tokens.Class.TheVariants.{Blank, Digit, Letter, At, Quote, Dash, Slash, Sign, Other}
 use Rattle.ps_hoa.specs.declared.tokens.Kind.TheVariants.{Not, And, Or, LeftParen, RightParen, LeftBracket}
@@ -51,3 +51,8 @@ goes_on _ = false
 
 abbrev pub is_name_byte : ℕ → Bool
 is_name_byte b = goes_on (class_of b)
+
+-- the first byte is one of A to Z
+abbrev pub begins_capital : List ℕ → Bool
+begins_capital [] = false
+begins_capital (b ∷ bs) = is_between 65 90 b

@@ -3,11 +3,12 @@
 --     hoa_causes      for the answer to a text: the numbers, the causes of signs by themselves, and the grammar's
 --               refusal
 --     found_of      what an error says of the text
-use Rattle.std.specs.Prelude.{ℕ, ◌&&◌, Bool, true, false, List, [], ◌∷◌, codes, if◌then◌else◌, nat_le, Option, None}
-use Rattle.std.specs.Prelude.{Some}
+use Rattle.std.specs.Prelude.{ℕ, ◌||◌, Bool, false, List, codes, if◌then◌else◌, Option, None, Some, is_some}
 use Rattle.std.specs.Str.{bytes_eq}
 use Rattle.ps_text.specs.Parts.{Causes}
 pub use Rattle.ps_text.specs.Faults.{found_of}
+use Rattle.ps_hoa.specs.Bytes.{begins_capital}
+use Rattle.ps_hoa.specs.ItemNames.{item_named}
 use Rattle.ps_hoa.specs.Tokens.{Sign}
 use Rattle.ps_hoa.specs.declared.tokens.Kind.{Kind}
 use Rattle.ps_hoa.specs.declared.tokens.Kind.TheVariants as kinds
@@ -40,22 +41,12 @@ cause_number causes.Controllable = 19
 cause_number causes.Name = 20
 cause_number causes.SeveralAutomata = 22
 
--- the first byte is one of A to Z
-abbrev pub begins_capital : List ℕ → Bool
-begins_capital [] = false
-begins_capital (b ∷ bs) = nat_le 65 b && nat_le b 90
-
--- a name that begins with a capital and that the grammar spells
+-- the grammar spells a name: it is that of an item, or stands elsewhere
 abbrev pub is_spelled : List ℕ → Bool
 is_spelled name =
-    if bytes_eq name (codes "HOA:") then true
-    else (if bytes_eq name (codes "States:") then true
-    else (if bytes_eq name (codes "Start:") then true
-    else (if bytes_eq name (codes "AP:") then true
-    else (if bytes_eq name (codes "Alias:") then true
-    else (if bytes_eq name (codes "Acceptance:") then true
-    else bytes_eq name (codes "State:"))))))
+    bytes_eq name (codes "HOA:") || bytes_eq name (codes "State:") || is_some (item_named name)
 
+-- a name that begins with a capital and that the grammar does not spell
 unfoldable pub is_unknown_capital : List ℕ → Bool
 is_unknown_capital name = if is_spelled name then false else begins_capital name
 

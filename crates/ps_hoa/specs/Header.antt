@@ -3,28 +3,33 @@
 --            | "controllable-AP:" INT* | "tool:" STRING STRING? | "name:" STRING
 --            | HEADERNAME (BOOLEAN | INT | STRING | IDENTIFIER)*
 -- Items stand in any order, an alias before its use.
---     HeaderData      what the items so far say
---     form_of h name      what stands at that name, behind items that say h
+--     HeaderData      what the items so far say; header_data, what those say that the code has read
+--     item_in s      the item that has that name
+--     behind_name h item      what stands behind the name of that item, behind items that say h
 --     item h      one more item
 --     header      all items, and `--BODY--`
 use Rattle.std.specs.Prelude.{◌≡◌, ◌≢◌, ℕ, ◌<◌, ◌≤◌, ◌⊎◌, ◌||◌, Bool, true, false, List, [], ◌∷◌, ◌++◌, length, drop}
-use Rattle.std.specs.Prelude.{codes, if◌then◌else◌, nat_eq, nat_lt, Option, None, Some, IfSome}
+use Rattle.std.specs.Prelude.{if◌then◌else◌, nat_eq, nat_lt, Option, None, Some, IfSome, option_map}
 use Rattle.std.specs.Str.{bytes_eq}
 use Rattle.std.specs.Option.{unwrap_or}
 use Rattle.ps_label.specs.Expression.{Expression, constant, proposition, alias, not_of, all_of, any_of, Operands, last}
 use Rattle.ps_label.specs.Expression.{more}
+use Rattle.ps_label.specs.Truth.{expressions}
 use Rattle.ps_text.specs.Digits.{decimal_value}
 use Rattle.ps_text.specs.Parts.{Part, NoBad, give, one, then_by, either, times, many, mapped, barred}
-use Rattle.ps_text.specs.Choices.{choice}
 use Rattle.ps_hoa.specs.Tokens.{Sign}
-use Rattle.ps_hoa.specs.Causes.{begins_capital, is_spelled}
+use Rattle.ps_hoa.specs.Bytes.{begins_capital}
 use Rattle.ps_hoa.specs.Operands.{number_limit, nesting_limit}
 use Rattle.ps_hoa.specs.Labels as labels
 use Rattle.ps_hoa.specs.Labels.{ScopeData}
 use Rattle.ps_hoa.specs.Conditions as conditions
 use Rattle.ps_hoa.specs.Conditions.{Condition, Conditions}
-use Rattle.ps_hoa.specs.ItemNames as items
-use Rattle.ps_hoa.specs.ItemNames.{ItemName}
+use Rattle.ps_hoa.specs.ItemNames.{item_named}
+use Rattle.ps_hoa.specs.Values.{condition_of}
+use Rattle.ps_hoa.specs.declared.header.Acceptance.{Acceptance}
+use Rattle.ps_hoa.specs.declared.header.Header.{Header}
+use Rattle.ps_hoa.specs.declared.items.Item.{Item}
+use Rattle.ps_hoa.specs.declared.items.Item.TheVariants as items
 use Rattle.ps_hoa.specs.declared.fault.HoaCause.{HoaCause}
 use Rattle.ps_hoa.specs.declared.fault.HoaCause.TheVariants as causes
 use Rattle.ps_hoa.specs.declared.tokens.Kind.{Kind}
@@ -56,6 +61,22 @@ no_items =
       acceptance = None;
     }
 
+-- what the items say that the code has read
+abbrev pub acceptance_data : Acceptance → AcceptanceData
+acceptance_data a = record { sets = a.sets; condition = condition_of a.condition }
+
+abbrev pub header_data : Header → HeaderData
+header_data h =
+    record {
+      states = h.states;
+      start = h.start;
+      names = h.names;
+      controllable = h.controllable;
+      alias_names = h.alias_names;
+      aliases = expressions h.aliases.items;
+      acceptance = option_map acceptance_data h.acceptance;
+    }
+
 -- without `AP:` there are no propositions
 abbrev pub names_of : HeaderData → List (List ℕ)
 names_of h = unwrap_or h.names []
@@ -79,10 +100,6 @@ alias_limit = 4096
 abbrev pub name_value : List ℕ → Kind → List ℕ → Option (Unit {0})
 name_value name kinds.Header text = if bytes_eq text name then Some tt else None
 name_value name kind text = None
-
--- the name of an item
-abbrev pub item_name : List ℕ → Part Sign (Unit {0}) HoaCause
-item_name name = one (λ s. name_value name s.kind s.text) NoBad
 
 abbrev pub int_value : Kind → List ℕ → Option ℕ
 int_value kinds.Int text = Some (decimal_value text)
@@ -121,21 +138,38 @@ string_in s = string_value s.kind s.text
 abbrev pub string : Part Sign (List ℕ) HoaCause
 string = one string_in NoBad
 
--- ## Items
+-- ## The names of items
+
+-- a name without a meaning here that does not begin with a capital is that of an item too, which is read over
+abbrev pub item_or_other : Option Item → List ℕ → Option Item
+item_or_other (Some item) name = Some item
+item_or_other None name = if begins_capital name then None else Some items.Other
+
+abbrev pub item_value : Kind → List ℕ → Option Item
+item_value kinds.Header text = item_or_other (item_named text) text
+item_value kind text = None
+
+abbrev pub item_in : Sign → Option Item
+item_in s = item_value s.kind s.text
+
+-- an item that may not stand here, by its name alone: a second `Start:`
+abbrev pub IsWrongItem : HeaderData → Item → HoaCause → Type 0
+IsWrongItem h items.Start f = (h.start ≢ None) × (f ≡ causes.Start)
+IsWrongItem h item f = ⊥
+
+abbrev pub IsBadItem : HeaderData → Sign → HoaCause → Type 0
+IsBadItem h s f = IfSome (item_in s) (λ item. IsWrongItem h item f) × (item_in s ≢ None)
+
+abbrev pub item_name : HeaderData → Part Sign Item HoaCause
+item_name h = one item_in (IsBadItem h)
+
+-- ## What stands behind the name of an item
 
 abbrev pub with_states : HeaderData → ℕ → HeaderData
 with_states h n = record h { states = Some n }
 
--- what stands behind the name of an item has a name of its own
 abbrev pub state_count : HeaderData → Part Sign HeaderData HoaCause
 state_count h = mapped (with_states h) (int state_limit)
-
-abbrev pub states_item : HeaderData → Part Sign HeaderData HoaCause
-states_item h = then_by (item_name (codes "States:")) (λ _. state_count h)
-
--- a second `Start:`
-abbrev pub IsSecondStart : HeaderData → Sign → HoaCause → Type 0
-IsSecondStart h s f = (name_value (codes "Start:") s.kind s.text ≢ None) × (h.start ≢ None) × (f ≡ causes.Start)
 
 -- `&` behind a state makes an alternating automaton
 abbrev pub IsAlternating : ℕ → Sign → HoaCause → Type 0
@@ -144,10 +178,8 @@ IsAlternating state s f = (s.kind ≡ kinds.And) × (f ≡ causes.Alternating)
 abbrev pub with_start : HeaderData → ℕ → HeaderData
 with_start h n = record h { start = Some n }
 
-abbrev pub start_item : HeaderData → Part Sign HeaderData HoaCause
-start_item h =
-    then_by (one (λ s. name_value (codes "Start:") s.kind s.text) (IsSecondStart h))
-    (λ _. mapped (with_start h) (barred (int number_limit) IsAlternating))
+abbrev pub start_state : HeaderData → Part Sign HeaderData HoaCause
+start_state h = mapped (with_start h) (barred (int number_limit) IsAlternating)
 
 -- a byte that stands in no name of a proposition
 abbrev pub is_control : ℕ → Bool
@@ -183,9 +215,6 @@ with_names h names = record h { names = Some names }
 abbrev pub counted_names : HeaderData → Part Sign HeaderData HoaCause
 counted_names h = then_by (int proposition_limit) (λ n. mapped (with_names h) (times n proposition_name []))
 
-abbrev pub names_item : HeaderData → Part Sign HeaderData HoaCause
-names_item h = then_by (item_name (codes "AP:")) (λ _. counted_names h)
-
 abbrev pub alias_value : Kind → List ℕ → Option (List ℕ)
 alias_value kinds.AliasName text = Some text
 alias_value kind text = None
@@ -207,18 +236,12 @@ named_label h =
     then_by (one (λ s. alias_value s.kind s.text) (IsBadAlias h.alias_names)) (λ name.
     mapped (with_alias h name) (labels.label (header_scope h) nesting_limit))
 
-abbrev pub alias_item : HeaderData → Part Sign HeaderData HoaCause
-alias_item h = then_by (item_name (codes "Alias:")) (λ _. named_label h)
-
 abbrev pub with_acceptance : HeaderData → ℕ → Condition → HeaderData
 with_acceptance h n c = record h { acceptance = Some (record { sets = n; condition = c }) }
 
 abbrev pub counted_condition : HeaderData → Part Sign HeaderData HoaCause
 counted_condition h =
     then_by (int set_limit) (λ n. mapped (with_acceptance h n) (conditions.condition nesting_limit))
-
-abbrev pub acceptance_item : HeaderData → Part Sign HeaderData HoaCause
-acceptance_item h = then_by (item_name (codes "Acceptance:")) (λ _. counted_condition h)
 
 -- Each proposition has a place, and all numbers that are no proposition's have one together: of them it matters only
 -- that there is one.
@@ -242,9 +265,6 @@ with_controllable h ns = record h { controllable = Some ns }
 abbrev pub controlled : HeaderData → Part Sign HeaderData HoaCause
 controlled h = mapped (with_controllable h) (many index [])
 
-abbrev pub controllable_item : HeaderData → Part Sign HeaderData HoaCause
-controllable_item h = then_by (item_name (codes "controllable-AP:")) (λ _. controlled h)
-
 -- what is read over changes nothing
 abbrev pub unchanged : HeaderData → List ℕ → HeaderData
 unchanged h _ = h
@@ -258,21 +278,6 @@ second_string h = either (one_string h) (give h)
 abbrev pub strings : HeaderData → Part Sign HeaderData HoaCause
 strings h = then_by string (λ _. second_string h)
 
-abbrev pub tool_item : HeaderData → Part Sign HeaderData HoaCause
-tool_item h = then_by (item_name (codes "tool:")) (λ _. strings h)
-
-abbrev pub name_item : HeaderData → Part Sign HeaderData HoaCause
-name_item h = then_by (item_name (codes "name:")) (λ _. one_string h)
-
--- any other name that does not begin with a capital
-abbrev pub other_value : Kind → List ℕ → Option (Unit {0})
-other_value kinds.Header text =
-    if is_spelled text || begins_capital text then None
-    else (if bytes_eq text (codes "controllable-AP:") || bytes_eq text (codes "tool:") || bytes_eq text
-    (codes "name:") then None
-    else Some tt)
-other_value kind text = None
-
 abbrev pub read_over_value : HeaderData → Kind → Option HeaderData
 read_over_value h kinds.Int = Some h
 read_over_value h kinds.Text = Some h
@@ -282,22 +287,19 @@ read_over_value h kind = None
 abbrev pub read_over : HeaderData → Part Sign HeaderData HoaCause
 read_over h = one (λ s. read_over_value h s.kind) (IsAbove number_limit)
 
-abbrev pub other_item : HeaderData → Part Sign HeaderData HoaCause
-other_item h = then_by (one (λ s. other_value s.kind s.text) NoBad) (λ _. many read_over h)
-
-abbrev pub form_of : HeaderData → ItemName → Part Sign HeaderData HoaCause
-form_of h items.states = states_item h
-form_of h items.start = start_item h
-form_of h items.propositions = names_item h
-form_of h items.alias = alias_item h
-form_of h items.acceptance = acceptance_item h
-form_of h items.controllable = controllable_item h
-form_of h items.tool = tool_item h
-form_of h items.name = name_item h
-form_of h items.other = other_item h
+abbrev pub behind_name : HeaderData → Item → Part Sign HeaderData HoaCause
+behind_name h items.States = state_count h
+behind_name h items.Start = start_state h
+behind_name h items.Propositions = counted_names h
+behind_name h items.Alias = named_label h
+behind_name h items.Acceptance = counted_condition h
+behind_name h items.Controllable = controlled h
+behind_name h items.Tool = strings h
+behind_name h items.Name = one_string h
+behind_name h items.Other = many read_over h
 
 abbrev pub item : HeaderData → Part Sign HeaderData HoaCause
-item h = choice (form_of h)
+item h = then_by (item_name h) (behind_name h)
 
 -- ## `--BODY--`, where the whole header is checked
 

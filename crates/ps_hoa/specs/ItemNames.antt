@@ -1,11 +1,46 @@
--- The items of a header: those that have a meaning here, and `other`, whose names have none.
-pub data ItemName : Type 0 where
-  states : ItemName
-  start : ItemName
-  propositions : ItemName
-  alias : ItemName
-  acceptance : ItemName
-  controllable : ItemName
-  tool : ItemName
-  name : ItemName
-  other : ItemName
+-- The names of the items of a header.
+--     item_names      those that have a meaning here
+--     item_named name      the item of that name
+--     mark_of item      which mark a text has of an item that may stand once; no_marks, where none has stood
+use Rattle.std.specs.Prelude.{ℕ, Bool, false, List, [], ◌∷◌, codes, if◌then◌else◌, Option, None, Some}
+use Rattle.std.specs.Str.{bytes_eq}
+use Rattle.ps_hoa.specs.declared.items.Item.{Item}
+use Rattle.ps_hoa.specs.declared.items.Item.TheVariants as items
+
+abbrev pub item_names : List (List ℕ × Item)
+item_names =
+    (codes "States:", items.States) ∷
+    (codes "Start:", items.Start) ∷
+    (codes "AP:", items.Propositions) ∷
+    (codes "Alias:", items.Alias) ∷
+    (codes "Acceptance:", items.Acceptance) ∷
+    (codes "controllable-AP:", items.Controllable) ∷
+    (codes "tool:", items.Tool) ∷
+    (codes "name:", items.Name) ∷
+    []
+
+abbrev pub item_among : List (List ℕ × Item) → List ℕ → Option Item
+item_among [] name = None
+item_among (row ∷ rows) name = if bytes_eq name row.0 then Some row.1 else item_among rows name
+
+unfoldable pub item_named : List ℕ → Option Item
+item_named name = item_among item_names name
+
+-- ## Items that may stand once
+
+abbrev pub mark_of : Item → Option ℕ
+mark_of items.States = Some 0
+mark_of items.Propositions = Some 1
+mark_of items.Acceptance = Some 2
+mark_of items.Controllable = Some 3
+mark_of item = None
+
+abbrev pub no_marks : List Bool
+no_marks = false ∷ false ∷ false ∷ false ∷ []
+
+abbrev pub mark_among : Option Item → Option ℕ
+mark_among None = None
+mark_among (Some item) = mark_of item
+
+abbrev pub mark_named : List ℕ → Option ℕ
+mark_named name = mark_among (item_named name)

@@ -1,4 +1,5 @@
 pub mod Bytes
+pub mod ItemNames
 pub mod Tokens
 pub mod Scan
 pub mod Spans
@@ -9,7 +10,6 @@ pub mod Labels
 pub mod Conditions
 pub mod Files
 pub mod Edges
-pub mod ItemNames
 pub mod Header
 pub mod Body
 pub mod Texts

@@ -6,6 +6,7 @@ use Rattle.std.specs.List.{prefix_len}
 use Rattle.std.specs.Str.{bytes_eq}
 use Rattle.ps_text.specs.Answers.{Piece, Stream}
 use Rattle.ps_hoa.specs.Bytes.{class_of, is_digit, is_name_byte}
+use Rattle.ps_hoa.specs.ItemNames.{no_marks}
 use Rattle.ps_hoa.specs.Tokens.{Sign, marked}
 use Rattle.ps_hoa.specs.declared.tokens.Class.{Class}
 use Rattle.ps_hoa.specs.declared.tokens.Class.TheVariants.{Blank, Digit, Letter, At, Quote, Dash, Slash, Sign as SignOf}
@@ -129,7 +130,7 @@ IsNoBlank (Skip n) = ⊥
 IsNoBlank (Found kind n) = Unit {0}
 
 abbrev pub fresh : Marks
-fresh = record { states = false; propositions = false; acceptance = false; controllable = false; ended = false }
+fresh = record { stood = no_marks; ended = false }
 
 -- the tokens still to come, where the first `skip` bytes belong to what was found before
 unfoldable pub lex_behind : List ℕ → ℕ → ℕ → List (Piece Sign)

@@ -9,10 +9,11 @@
 --     marked marks pieces      the same, where names that may stand once are told from a second one, and what is behind
 --               `--END--` from what is not
 use Rattle.std.specs.Prelude.{◌≡◌, ℕ, suc, ◌+◌, ◌<◌, ◌⊎◌, ◌≢◌, ◌||◌, Bool, true, false, List, [], ◌∷◌, ◌++◌, length}
-use Rattle.std.specs.Prelude.{codes, if◌then◌else◌, nat_eq}
+use Rattle.std.specs.Prelude.{codes, if◌then◌else◌, nat_eq, get_or, set, Option, None, Some}
 use Rattle.std.specs.Str.{bytes_eq}
 use Rattle.ps_text.specs.Answers.{Piece}
 use Rattle.ps_hoa.specs.Bytes.{class_of, is_digit, is_name_byte}
+use Rattle.ps_hoa.specs.ItemNames.{mark_named}
 use Rattle.ps_hoa.specs.declared.tokens.Class.TheVariants.{Blank, Letter, Sign as SignOf}
 use Rattle.ps_hoa.specs.declared.tokens.Kind.{Kind}
 use Rattle.ps_hoa.specs.declared.tokens.Kind.TheVariants.{Header, HeaderAgain, Word, AliasName, Int, ZeroRun, Text}
@@ -133,22 +134,19 @@ AreTokens at bytes (p ∷ ps) =
 -- ## Names that may stand once, and what stands behind the end
 
 -- the name stood before (`HOA:` always did)
+abbrev pub has_stood : Marks → Option ℕ → Bool
+has_stood marks None = false
+has_stood marks (Some mark) = get_or marks.stood mark false
+
 abbrev pub is_known : Marks → List ℕ → Bool
-is_known marks name =
-    if bytes_eq name (codes "HOA:") then true
-    else (if bytes_eq name (codes "States:") then marks.states
-    else (if bytes_eq name (codes "AP:") then marks.propositions
-    else (if bytes_eq name (codes "Acceptance:") then marks.acceptance
-    else (if bytes_eq name (codes "controllable-AP:") then marks.controllable
-    else false))))
+is_known marks name = if bytes_eq name (codes "HOA:") then true else has_stood marks (mark_named name)
+
+abbrev pub with_mark : Marks → Option ℕ → Marks
+with_mark marks None = marks
+with_mark marks (Some mark) = record marks { stood = set marks.stood mark true }
 
 abbrev pub with_name : Marks → List ℕ → Marks
-with_name marks name =
-    if bytes_eq name (codes "States:") then record marks { states = true }
-    else (if bytes_eq name (codes "AP:") then record marks { propositions = true }
-    else (if bytes_eq name (codes "Acceptance:") then record marks { acceptance = true }
-    else (if bytes_eq name (codes "controllable-AP:") then record marks { controllable = true }
-    else marks)))
+with_name marks name = with_mark marks (mark_named name)
 
 -- Behind `--END--` only a comment that is not closed is told from other tokens.
 abbrev pub kind_here : Marks → Kind → List ℕ → Kind

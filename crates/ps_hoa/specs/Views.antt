@@ -1,18 +1,12 @@
 -- What the grammar sees of the values of the code.
 --     guard_data, edge_data, row_data      of the parts of a body
---     header_data      of a header
 use Rattle.std.specs.Prelude.{map, option_map}
 use Rattle.ps_label.specs.Expression.{expression}
-use Rattle.ps_label.specs.Truth.{expressions}
 use Rattle.ps_hoa.specs.Files.{GuardData, EdgeData, RowData, stated, of_state, at_letter}
-use Rattle.ps_hoa.specs.Header.{AcceptanceData, HeaderData}
-use Rattle.ps_hoa.specs.Values.{condition_of}
 use Rattle.ps_hoa.specs.declared.file.Guard.{Guard}
 use Rattle.ps_hoa.specs.declared.file.Guard.TheVariants.{Stated, OfState, Letter}
 use Rattle.ps_hoa.specs.declared.file.Edge.{Edge}
 use Rattle.ps_hoa.specs.declared.file.Row.{Row}
-use Rattle.ps_hoa.specs.declared.header.Acceptance.{Acceptance}
-use Rattle.ps_hoa.specs.declared.header.Header.{Header}
 
 abbrev pub guard_data : Guard → GuardData
 guard_data (Stated label) = stated (expression label)
@@ -30,17 +24,3 @@ row_data r =
       marks = r.marks.items;
       edges = map edge_data r.edges.items;
     }
-
-abbrev pub acceptance_data : Acceptance → AcceptanceData
-acceptance_data a = record { sets = a.sets; condition = condition_of a.condition }
-
-abbrev pub header_data : Header → HeaderData
-header_data h = record {
-  states = h.states;
-  start = h.start;
-  names = h.names;
-  controllable = h.controllable;
-  alias_names = h.alias_names;
-  aliases = expressions h.aliases.items;
-  acceptance = option_map acceptance_data h.acceptance;
-}

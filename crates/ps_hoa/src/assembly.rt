@@ -6,11 +6,11 @@ ghost use Rattle.ps_label.specs.Expression.{AreOrdered};
 ghost use Rattle.ps_label.specs.Truth.{expressions};
 ghost use Rattle.ps_hoa.specs.Body.{sets_of};
 ghost use Rattle.ps_hoa.specs.Files as files;
-ghost use Rattle.ps_hoa.specs.Header.{names_of, state_limit};
+ghost use Rattle.ps_hoa.specs.Header.{names_of, state_limit, header_data};
 ghost use Rattle.ps_hoa.specs.Inner.Rows.{body_data};
 ghost use Rattle.ps_hoa.specs.Sound.{IsSoundFile};
 ghost use Rattle.ps_hoa.specs.Texts.{file_of};
-ghost use Rattle.ps_hoa.specs.Views.{edge_data, header_data, row_data};
+ghost use Rattle.ps_hoa.specs.Views.{edge_data, row_data};
 
 use crate::condition::Cond;
 use crate::fault::HoaFault;
@@ -33,9 +33,9 @@ pub(crate) fn file(alloc: Global, header: Header, rows: Rows) -> Result<HoaFile,
         start,
         names,
         controllable,
-        alias_names: _alias_names,
         aliases,
         acceptance,
+        ..
     } = header;
     let start = start.unwrap_or(0);
     let states = count_of_states(states, start, rows.as_slice());

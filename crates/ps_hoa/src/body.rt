@@ -8,13 +8,13 @@ ghost use Rattle.ps_text.specs.Readers.{Reads as ReadsPart};
 ghost use Rattle.ps_hoa.specs.Body as parts;
 ghost use Rattle.ps_hoa.specs.Body.{BadIn, edge_limit, has_row, IsBadClose, IsBadNext, IsBadRow, IsWrongCount, is_end};
 ghost use Rattle.ps_hoa.specs.Body.{last_row, no_rows, state_value, with_row};
-ghost use Rattle.ps_hoa.specs.Header.{HeaderData, int_in, names_of, name_value};
+ghost use Rattle.ps_hoa.specs.Header.{HeaderData, int_in, names_of, name_value, header_data};
 ghost use Rattle.ps_hoa.specs.Operands.{mark_in};
 ghost use Rattle.ps_hoa.specs.Inner.Reads.{ReadsAs, Takes};
 ghost use Rattle.ps_hoa.specs.Inner.Rows.{body_data, IsEndWrong};
 ghost use Rattle.ps_hoa.specs.Scan.{next_of, stream_of};
 ghost use Rattle.ps_hoa.specs.Spans.{piece_of};
-ghost use Rattle.ps_hoa.specs.Views.{header_data, row_data};
+ghost use Rattle.ps_hoa.specs.Views.{row_data};
 
 use crate::edges::{Labelling, edges, label_in_brackets, labelling_of, marks, state_of};
 use crate::fault::{HoaCause, HoaFault};
@@ -22,7 +22,7 @@ use crate::file::Row;
 use crate::header::Header;
 use crate::refusal::{fault_at, refused};
 use crate::rows::Rows;
-use crate::signs::{is_item_name, mark};
+use crate::signs::{is_name, mark};
 use crate::tokens::{Kind, Token, Tokens};
 use ps_label::Label;
 use std::alloc::Global;
@@ -52,7 +52,7 @@ fn is_at_state(tokens: &Tokens) -> bool
     ensures { result ≡ is_some (state_value (next_of (stream_of tokens.now)).sign) }
 {
     let token = tokens.peek();
-    is_item_name(token, b"State:")
+    is_name(token, b"State:")
 }
 
 /// Reads a state behind others.
@@ -107,7 +107,7 @@ fn begin_of(token: Token, header: &Header, rows: &Rows) -> Result<(), HoaFault>
     ensures { Takes (λ u. u) state_value (IsBadNext (header_data header.now) (body_data rows.now))
         (piece_of token.entry) result }
 {
-    if !is_item_name(token, b"State:") {
+    if !is_name(token, b"State:") {
         Err(refused(token))
     } else if is_end_wrong(header, rows) {
         Err(fault_at(token, HoaCause::Labels))

@@ -6,12 +6,12 @@ ghost use Rattle.ps_hoa.specs.Body as parts;
 ghost use Rattle.ps_hoa.specs.Body.{BadIn, IsBadBracket, IsBadPlainTarget, IsBadSet, IsBadState, edge_limit};
 ghost use Rattle.ps_hoa.specs.Body.{is_bracket, MayHaveLabel, MayHaveNoLabel};
 ghost use Rattle.ps_hoa.specs.Files.{once};
-ghost use Rattle.ps_hoa.specs.Header.{int_in};
+ghost use Rattle.ps_hoa.specs.Header.{int_in, header_data};
 ghost use Rattle.ps_hoa.specs.Inner.Reads.{ReadsAs, Takes};
 ghost use Rattle.ps_hoa.specs.Spans.{piece_of};
 ghost use Rattle.ps_hoa.specs.Scan.{next_of, stream_of};
 ghost use Rattle.ps_hoa.specs.Inner.Ahead.{begins_edge, StandsAlone};
-ghost use Rattle.ps_hoa.specs.Views.{guard_data, header_data, row_data};
+ghost use Rattle.ps_hoa.specs.Views.{guard_data, row_data};
 ghost use Rattle.ps_text.specs.Parts.{many, one};
 
 use crate::fault::{HoaCause, HoaFault};

@@ -6,7 +6,7 @@ ghost use Rattle.ps_label.specs.Truth.{expressions};
 ghost use Rattle.ps_hoa.specs.Header as parts;
 ghost use Rattle.ps_hoa.specs.Inner.Flaws.{IsLeastFlaw, IsSoundHeader};
 ghost use Rattle.ps_hoa.specs.Values.{condition_of};
-ghost use Rattle.ps_hoa.specs.Views.{header_data, acceptance_data};
+ghost use Rattle.ps_hoa.specs.Header.{header_data, acceptance_data};
 
 use crate::condition::Cond;
 use crate::fault::HoaCause;

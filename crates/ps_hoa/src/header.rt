@@ -1,9 +1,8 @@
 //! What a header says.
 
 ghost use Rattle.std.specs.Prelude.{◌≡◌, length};
-ghost use Rattle.ps_hoa.specs.Header.{names_of, no_items};
+ghost use Rattle.ps_hoa.specs.Header.{names_of, no_items, header_data};
 ghost use Rattle.ps_hoa.specs.Body.{body_scope, sets_of};
-ghost use Rattle.ps_hoa.specs.Views.{header_data};
 
 use crate::condition::Cond;
 use crate::indices::Indices;

@@ -1,18 +1,16 @@
 //! The items of a header.
 
-ghost use Rattle.std.specs.Prelude.{◌≡◌, [], None, Some, is_some, option_map, true};
+ghost use Rattle.std.specs.Prelude.{◌≡◌, ◌<◌, [], IfSome, None};
 ghost use Rattle.ps_label.specs.Expression.{expression};
 ghost use Rattle.ps_text.specs.Parts.{many};
 ghost use Rattle.ps_hoa.specs.Inner.Flaws.{body_in};
 ghost use Rattle.ps_hoa.specs.Header as parts;
-ghost use Rattle.ps_hoa.specs.Header.{header as header_part, no_items};
-ghost use Rattle.ps_hoa.specs.Inner.Items.{item_at as item_at_sign, item_name_of, start_name_in};
+ghost use Rattle.ps_hoa.specs.Header.{header as header_part, item_in, item_value, no_items, header_data};
+ghost use Rattle.ps_hoa.specs.ItemNames.{item_named, mark_named, mark_of};
 ghost use Rattle.ps_hoa.specs.Labels as labels;
 ghost use Rattle.ps_hoa.specs.Operands.{nesting_limit};
 ghost use Rattle.ps_hoa.specs.Inner.Reads.{ReadsAs, Takes};
-ghost use Rattle.ps_hoa.specs.Scan.{Reading, behind_next, next_of, stream_of};
 ghost use Rattle.ps_hoa.specs.Spans.{piece_of};
-ghost use Rattle.ps_hoa.specs.Views.{header_data};
 
 use crate::condition::condition;
 use crate::fault::{HoaCause, HoaFault};
@@ -22,10 +20,10 @@ use crate::indices::Indices;
 use crate::label::label;
 use crate::names::{Names, Scope};
 use crate::new_names::{new_alias, propositions};
-use crate::refusal::{fault_at, refused};
-use crate::signs::{int, is_item_name, is_kind, start_state};
-use crate::skipped::{is_other, name, other, tool};
-use crate::tokens::{Kind, Token, Tokens};
+use crate::refusal::{begins_capital, fault_at, refused};
+use crate::signs::{int, is_kind, start_state};
+use crate::skipped::{name, other, tool};
+use crate::tokens::{Kind, Token, Tokens, is_same};
 use ps_label::Label;
 use std::alloc::Global;
 
@@ -40,7 +38,7 @@ const SET_LIMIT: u32 = 64;
 
 /// The items of a header: those that have a meaning here, and all others.
 #[derive(Clone, Copy)]
-enum Item {
+pub(crate) enum Item {
     States,
     Start,
     Propositions,
@@ -50,6 +48,56 @@ enum Item {
     Tool,
     Name,
     Other,
+}
+
+/// The items that have a meaning here, by their names.
+const ITEMS: &[(&[u8], Item)] = &[
+    (b"States:", Item::States),
+    (b"Start:", Item::Start),
+    (b"AP:", Item::Propositions),
+    (b"Alias:", Item::Alias),
+    (b"Acceptance:", Item::Acceptance),
+    (b"controllable-AP:", Item::Controllable),
+    (b"tool:", Item::Tool),
+    (b"name:", Item::Name),
+];
+
+/// The item of that name, if it has a meaning here.
+pub(crate) fn item_named(name: &[u8]) -> Option<Item>
+    ensures { result ≡ item_named name.now }
+{
+    let rows: &[(&[u8], Item)] = ITEMS;
+    for &(spelled, item) in rows {
+        if is_same(name, spelled) {
+            return Some(item);
+        }
+    }
+    None
+}
+
+/// The number of marks that a text has of items that may stand once.
+pub(crate) const MARK_COUNT: usize = 4;
+
+/// The mark of an item, if it may stand once.
+fn mark_of(item: Item) -> Option<usize>
+    ensures value { result ≡ mark_of item }
+    ensures within { IfSome result (λ mark. mark < MARK_COUNT) }
+{
+    match item {
+        Item::States => Some(0),
+        Item::Propositions => Some(1),
+        Item::Acceptance => Some(2),
+        Item::Controllable => Some(3),
+        _ => None,
+    }
+}
+
+/// The mark of the item of that name, if it may stand once.
+pub(crate) fn mark_named(name: &[u8]) -> Option<usize>
+    ensures value { result ≡ mark_named name.now }
+    ensures within { IfSome result (λ mark. mark < MARK_COUNT) }
+{
+    mark_of(item_named(name)?)
 }
 
 /// Reads a header, up to `--BODY--`.
@@ -89,54 +137,71 @@ pub(crate) fn items<'a>(alloc: Global, tokens: &mut Tokens<'a>) -> Result<Header
     ensures { ReadsAs header_data (many parts.item no_items) tokens.old result tokens.new }
 {
     let mut header = Header::new(alloc);
-    'items: while let Some(item) = item_at(tokens.peek()) {
-        read_item(alloc, tokens, item, &mut header)?;
+    'items: while item_at(tokens.peek()).is_some() {
+        read_item(alloc, tokens, &mut header)?;
     }
     Ok(header)
 }
 
-/// Which item begins with a token.
+/// Which item begins with a token: the one of that name, or one whose name has no meaning here.
 fn item_at(token: Token) -> Option<Item>
-    ensures { option_map item_name_of result ≡ item_at_sign (piece_of token.entry).sign }
+    ensures { result ≡ item_value token.entry.kind token.entry.text.now }
 {
-    if is_item_name(token, b"States:") {
-        Some(Item::States)
-    } else if is_item_name(token, b"Start:") {
-        Some(Item::Start)
-    } else if is_item_name(token, b"AP:") {
-        Some(Item::Propositions)
-    } else if is_item_name(token, b"Alias:") {
-        Some(Item::Alias)
-    } else if is_item_name(token, b"Acceptance:") {
-        Some(Item::Acceptance)
-    } else if is_item_name(token, b"controllable-AP:") {
-        Some(Item::Controllable)
-    } else if is_item_name(token, b"tool:") {
-        Some(Item::Tool)
-    } else if is_item_name(token, b"name:") {
-        Some(Item::Name)
-    } else if is_other(token) {
-        Some(Item::Other)
-    } else {
-        None
+    if token.kind != Kind::Header {
+        return None;
+    }
+    match item_named(token.text) {
+        Some(item) => Some(item),
+        None if begins_capital(token.text) => None,
+        None => Some(Item::Other),
     }
 }
 
-/// Reads one more item, whose name comes next.
+/// Reads one more item.
 fn read_item<'a>(
+    alloc: Global,
+    tokens: &mut Tokens<'a>,
+    header: &mut Header<'a>,
+) -> Result<(), HoaFault>
+    ensures { ReadsAs (λ _. header_data header.new) (parts.item (header_data header.old)) tokens.old
+        result tokens.new }
+{
+    let item = item_name(tokens, header)?;
+    behind_name(alloc, tokens, item, header)
+}
+
+/// Reads the name of an item.
+fn item_name(tokens: &mut Tokens, header: &Header) -> Result<Item, HoaFault>
+    ensures { ReadsAs (λ item. item) (parts.item_name (header_data header.now)) tokens.old result tokens.new }
+{
+    let token = tokens.advance();
+    item_name_of(token, header)
+}
+
+/// The token is the name of an item that may stand here.
+fn item_name_of(token: Token, header: &Header) -> Result<Item, HoaFault>
+    ensures { Takes (λ item. item) item_in (parts.IsBadItem (header_data header.now)) (piece_of token.entry) result }
+{
+    match item_at(token) {
+        None => Err(refused(token)),
+        Some(Item::Start) if header.start.is_some() => Err(fault_at(token, HoaCause::Start)),
+        Some(item) => Ok(item),
+    }
+}
+
+/// Reads what stands behind the name of an item.
+fn behind_name<'a>(
     alloc: Global,
     tokens: &mut Tokens<'a>,
     item: Item,
     header: &mut Header<'a>,
 ) -> Result<(), HoaFault>
-    requires { item_at_sign (next_of (stream_of tokens.old)).sign ≡ Some (item_name_of item) }
-    ensures { ReadsAs (λ _. header_data header.new) (parts.form_of (header_data header.old) (item_name_of item))
-        tokens.old result tokens.new }
+    ensures { ReadsAs (λ _. header_data header.new) (parts.behind_name (header_data header.old) item) tokens.old
+        result tokens.new }
 {
-    let token = tokens.advance();
     match item {
         Item::States => states(tokens, header),
-        Item::Start => start(tokens, token, header),
+        Item::Start => start(tokens, header),
         Item::Propositions => names(alloc, tokens, header),
         Item::Alias => alias(alloc, tokens, header),
         Item::Acceptance => acceptance(alloc, tokens, header),
@@ -156,28 +221,12 @@ fn states(tokens: &mut Tokens, header: &mut Header) -> Result<(), HoaFault>
     Ok(())
 }
 
-/// Reads the start state behind a token, which is `Start:`.
-fn start(tokens: &mut Tokens, token: Token, header: &mut Header) -> Result<(), HoaFault>
-    ensures { (before : Reading) → piece_of token.entry ≡ next_of (stream_of before) →
-        stream_of tokens.old ≡ behind_next (stream_of before) →
-        ReadsAs (λ _. header_data header.new) (parts.start_item (header_data header.old)) before result tokens.new }
+/// Reads the start state.
+fn start(tokens: &mut Tokens, header: &mut Header) -> Result<(), HoaFault>
+    ensures { ReadsAs (λ _. header_data header.new) (parts.start_state (header_data header.old)) tokens.old
+        result tokens.new }
 {
-    start_name(token, header)?;
     header.start = Some(start_state(tokens)?);
-    Ok(())
-}
-
-/// The token is the first `Start:`.
-fn start_name(token: Token, header: &Header) -> Result<(), HoaFault>
-    ensures { Takes (λ u. u) start_name_in (parts.IsSecondStart (header_data header.now))
-        (piece_of token.entry) result }
-{
-    if !is_item_name(token, b"Start:") {
-        return Err(refused(token));
-    }
-    if header.start.is_some() {
-        return Err(fault_at(token, HoaCause::Start));
-    }
     Ok(())
 }
 

@@ -3,10 +3,12 @@
 ghost use Rattle.std.specs.Prelude.{◌≡◌, Some};
 ghost use Rattle.ps_text.specs.declared.faults.Fault.TheVariants as faults;
 ghost use Rattle.ps_text.specs.Parts.{refusal_of};
-ghost use Rattle.ps_hoa.specs.Causes.{begins_capital, hoa_causes, is_spelled, is_unknown_capital, own_cause};
+ghost use Rattle.ps_hoa.specs.Bytes.{begins_capital};
+ghost use Rattle.ps_hoa.specs.Causes.{hoa_causes, is_spelled, is_unknown_capital, own_cause};
 ghost use Rattle.ps_hoa.specs.Spans.{piece_of};
 
 use crate::fault::{HoaCause, HoaFault};
+use crate::items::item_named;
 use crate::tokens::{Kind, Token, is_same};
 
 /// A fault of that cause at a token.
@@ -50,17 +52,11 @@ fn is_unknown(name: &[u8]) -> bool
     !is_spelled(name) && begins_capital(name)
 }
 
-/// Whether a name is one that begins with a capital and that the grammar spells.
-pub(crate) fn is_spelled(name: &[u8]) -> bool
+/// Whether the grammar spells a name: it is that of an item, or stands elsewhere.
+fn is_spelled(name: &[u8]) -> bool
     ensures { result ≡ is_spelled name.now }
 {
-    is_same(name, b"HOA:")
-        || is_same(name, b"States:")
-        || is_same(name, b"Start:")
-        || is_same(name, b"AP:")
-        || is_same(name, b"Alias:")
-        || is_same(name, b"Acceptance:")
-        || is_same(name, b"State:")
+    is_same(name, b"HOA:") || is_same(name, b"State:") || item_named(name).is_some()
 }
 
 /// Whether the first byte is one of `A` to `Z`.

@@ -46,8 +46,8 @@ pub(crate) fn is_kind(token: Token, kind: Kind) -> bool
     token.kind == kind
 }
 
-/// Whether a token is the name of an item.
-pub(crate) fn is_item_name(token: Token, name: &[u8]) -> bool
+/// Whether a token is that name, with `:` behind it.
+pub(crate) fn is_name(token: Token, name: &[u8]) -> bool
     ensures { result ≡ is_some (name_value name.now token.entry.kind token.entry.text.now) }
 {
     token.kind == Kind::Header && is_same(token.text, name)

@@ -1,6 +1,6 @@
 //! Items that are read over.
 
-ghost use Rattle.std.specs.Prelude.{◌≡◌, is_some};
+ghost use Rattle.std.specs.Prelude.{◌≡◌};
 ghost use Rattle.ps_text.specs.Parts.{many};
 ghost use Rattle.ps_hoa.specs.Header as parts;
 ghost use Rattle.ps_hoa.specs.Header.{HeaderData};
@@ -10,8 +10,8 @@ ghost use Rattle.ps_hoa.specs.Inner.Reads.{ReadsAs, Takes};
 ghost use Rattle.ps_hoa.specs.Spans.{piece_of};
 
 use crate::fault::{HoaCause, HoaFault};
-use crate::refusal::{begins_capital, fault_at, is_spelled, refused};
-use crate::signs::{int_of, is_item_name, quoted};
+use crate::refusal::{fault_at, refused};
+use crate::signs::{int_of, quoted};
 use crate::tokens::{Kind, Token, Tokens};
 
 /// Reads over the name of a tool, and its version if it stands there.
@@ -41,18 +41,6 @@ pub(crate) fn other(tokens: &mut Tokens) -> Result<(), HoaFault>
         read_over(tokens)?;
     }
     Ok(())
-}
-
-/// Whether a token is a name that has no meaning here.
-pub(crate) fn is_other(token: Token) -> bool
-    ensures { result ≡ is_some (parts.other_value token.entry.kind token.entry.text.now) }
-{
-    token.kind == Kind::Header
-        && !is_spelled(token.text)
-        && !begins_capital(token.text)
-        && !is_item_name(token, b"controllable-AP:")
-        && !is_item_name(token, b"tool:")
-        && !is_item_name(token, b"name:")
 }
 
 /// Whether a token may be read over.

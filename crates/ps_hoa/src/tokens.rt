@@ -12,6 +12,7 @@ ghost use Rattle.ps_hoa.specs.Scan.{number_step, quoted_len, SkipsSome, step_len
 ghost use Rattle.ps_hoa.specs.Tokens.{AreTokens, is_known, kind_here, marked, marks_after, Sign, with_name};
 ghost use Rattle.ps_hoa.specs.Spans.{AreBlanks, IsKept, IsSpan, piece_of};
 
+use crate::items::{MARK_COUNT, mark_named};
 use std::marker::Model;
 
 /// What a token is (HOA v1, tokens).
@@ -19,7 +20,7 @@ use std::marker::Model;
 pub enum Kind {
     /// A name with `:` directly behind it.
     Header,
-    /// One of the five names that may stand once, a second time.
+    /// One of the names that may stand once, a second time.
     HeaderAgain,
     /// A name: a letter or `_`, and then letters, digits, `_` and `-`.
     Word,
@@ -111,10 +112,7 @@ fn class_of(byte: u8) -> Class
 /// Which of the names that may stand once have stood, and whether `--END--` has.
 #[derive(Clone, Copy)]
 pub struct Marks {
-    pub(crate) states: bool,
-    pub(crate) propositions: bool,
-    pub(crate) acceptance: bool,
-    pub(crate) controllable: bool,
+    pub(crate) stood: [bool; MARK_COUNT],
     pub(crate) ended: bool,
 }
 
@@ -397,10 +395,7 @@ impl Marks {
         ensures { result ≡ fresh }
     {
         Marks {
-            states: false,
-            propositions: false,
-            acceptance: false,
-            controllable: false,
+            stood: [false; MARK_COUNT],
             ended: false,
         }
     }
@@ -410,17 +405,11 @@ impl Marks {
         ensures { result ≡ is_known self.now name.now }
     {
         if is_same(name, b"HOA:") {
-            true
-        } else if is_same(name, b"States:") {
-            self.states
-        } else if is_same(name, b"AP:") {
-            self.propositions
-        } else if is_same(name, b"Acceptance:") {
-            self.acceptance
-        } else if is_same(name, b"controllable-AP:") {
-            self.controllable
-        } else {
-            false
+            return true;
+        }
+        match mark_named(name) {
+            None => false,
+            Some(mark) => self.stood[mark],
         }
     }
 
@@ -440,14 +429,8 @@ impl Marks {
     fn with_name(&mut self, name: &[u8])
         ensures { self.new ≡ with_name self.old name.now }
     {
-        if is_same(name, b"States:") {
-            self.states = true;
-        } else if is_same(name, b"AP:") {
-            self.propositions = true;
-        } else if is_same(name, b"Acceptance:") {
-            self.acceptance = true;
-        } else if is_same(name, b"controllable-AP:") {
-            self.controllable = true;
+        if let Some(mark) = mark_named(name) {
+            self.stood[mark] = true;
         }
     }
 

@@ -12,10 +12,8 @@ pub mod Covered
 pub mod Repeated
 pub mod Whole
 pub mod Branches
-pub mod Choices
 pub mod Barred
 pub mod Outcomes
-pub mod ChoiceOutcomes
 pub mod Decisions
 pub mod OneTokenisation
 pub mod LeadingDigits

@@ -1,7 +1,6 @@
 pub mod Answers
 pub mod Faults
 pub mod Parts
-pub mod Choices
 pub mod Readers
 pub mod Digits
 pub mod Tokens

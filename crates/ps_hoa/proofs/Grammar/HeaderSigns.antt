@@ -4,21 +4,23 @@
 --     takes_refused, takes_bad      what is answered to a sign that can't stand, and to one that is bad
 use Rattle.std.proofs.Common.{◌≡◌, ℕ, ◌≤◌, Bool, cond, List, [], codes, Option, None, Some, Result, Err}
 use Rattle.std.proofs.Common.{refl, sym, ap, inl, inr, arith}
-use Rattle.ps_hoa.proofs.Grammar.SignLaws.{same_name}
 use Rattle.ps_text.specs.Answers.{Piece, Stream}
 use Rattle.ps_text.specs.Parts.{one, NoBad, refusal_of}
 use Rattle.ps_text.specs.Readers.{Meets}
 use Rattle.ps_hoa.specs.Causes.{cause_number, hoa_causes, found_of, HoaFault}
 use Rattle.ps_hoa.specs.Inner.Flaws.{body_in}
-use Rattle.ps_hoa.specs.Header.{HeaderData, int_in, IsAbove, string_in, IsBadName, IsBadAlias, IsSecondStart, IsBadBody}
-use Rattle.ps_hoa.specs.Inner.Items.{start_name_in, alias_name_in, read_over_in, other_in}
+use Rattle.ps_hoa.specs.ItemNames.{item_named}
+use Rattle.ps_hoa.specs.Header.{HeaderData, item_in, IsBadItem, int_in, IsAbove, string_in, IsBadName}
+use Rattle.ps_hoa.specs.Header.{IsBadAlias, IsBadBody}
+use Rattle.ps_hoa.specs.Inner.Items.{alias_name_in, read_over_in}
 use Rattle.ps_hoa.specs.Operands.{mark_in, number_limit}
 use Rattle.ps_hoa.specs.Inner.Reads.{Takes}
 use Rattle.ps_hoa.specs.Scan.{next_of, behind_next}
-use Rattle.ps_hoa.specs.Inner.Signs.{IsTestOf, name_in}
+use Rattle.ps_hoa.specs.Inner.Signs.{IsTestOf}
 use Rattle.ps_hoa.specs.Tokens.{Sign}
 use Rattle.ps_hoa.specs.declared.fault.HoaCause.{HoaCause}
 use Rattle.ps_text.specs.declared.faults.Fault.TheVariants.{Text as Fault}
+use Rattle.ps_hoa.specs.declared.items.Item.TheVariants as items
 use Rattle.ps_hoa.specs.declared.tokens.Kind.{Kind}
 use Rattle.ps_hoa.specs.declared.tokens.Kind.TheVariants.{Header, Int, Text, Word, AliasName, Body, Finish}
 use Rattle.ps_hoa.proofs.Reading.SingleSigns.{IsOfSigns, reads_one}
@@ -46,8 +48,9 @@ pub signs_mark : (test : Kind → Bool) (kind : Kind) → IsTestOf test kind →
 signs_mark test kind is differs = signs kind [] tt (ap (λ (b : Bool). cond b (Some tt) None) is.0)
     (mark_none test kind (record { kind = Finish; text = [] }) is (λ e. differs (sym e))) (λ f b. b)
 
-pub signs_name : (name : List ℕ) → IsOfSigns (name_in name) NoBad
-signs_name name = signs Header name tt (same_name name) refl (λ f b. b)
+pub signs_item : (h : HeaderData) → IsOfSigns item_in (IsBadItem h)
+unfolding item_named
+signs_item h = signs Header (codes "a:") items.Other refl refl (λ f b. b.1 refl)
 
 pub signs_int : (limit : ℕ) → IsOfSigns int_in (IsAbove limit)
 signs_int limit = signs Int [] _ refl refl (λ f b. b.1 refl)
@@ -58,14 +61,8 @@ signs_string = signs Text [] _ refl refl (λ f b. b)
 pub signs_new_name : (names : List (List ℕ)) → IsOfSigns string_in (IsBadName names)
 signs_new_name names = signs Text [] _ refl refl (λ f b. b.1 refl)
 
-pub signs_start : (h : HeaderData) → IsOfSigns start_name_in (IsSecondStart h)
-signs_start h = signs Header (codes "Start:") tt refl refl (λ f b. b.0 refl)
-
 pub signs_alias : (names : List (List ℕ)) → IsOfSigns alias_name_in (IsBadAlias names)
 signs_alias names = signs AliasName [] _ refl refl (λ f b. b.1 refl)
-
-pub signs_other : IsOfSigns other_in NoBad
-signs_other = signs Header (codes "a:") tt refl refl (λ f b. b)
 
 pub signs_read_over : (h : HeaderData) → IsOfSigns (read_over_in h) (IsAbove number_limit)
 signs_read_over h = signs Word [] h refl refl (λ f b. b.1 refl)

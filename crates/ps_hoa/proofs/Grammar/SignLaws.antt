@@ -1,21 +1,26 @@
 -- The laws of single signs of the header: names, numbers, strings and aliases.
---     Named name      the signs that are that name; Other, those that are a name that is read over
---     laws_name, laws_int, laws_string, laws_proposition_name, laws_new_alias      the laws
+--     Named name      the signs that are that name
+--     laws_item_name, laws_int, laws_string, laws_proposition_name, laws_new_alias      the laws
 --     laws_alternating      a sign that `&` may not follow
---     other_apart      a name that has a meaning is not read over
-use Rattle.std.proofs.Common.{arith, ◌≡◌, ℕ, Bool, true, false, cond, List, [], Option, None, Some, refl, sym, ap, ◌∙◌}
+--     item_header      the name of an item is a name
+use Rattle.std.proofs.Common.{arith, ◌≡◌, ℕ, ◌||◌, Bool, true, false, cond, List, [], codes, Option, None, Some}
+use Rattle.std.proofs.Common.{is_some, refl, sym, ap, ◌∙◌, rules}
 use Rattle.std.proofs.lemmas.Slice.Eq.{bytes_eq-Decides}
 use Rattle.ps_text.specs.Parts.{Part, one, barred}
 use Rattle.ps_text.proofs.Laws.{Laws, Nothing, Apart, weaker}
 use Rattle.ps_text.proofs.Combined.{both_within, laws_first}
-use Rattle.ps_text.proofs.Simple.{none_is_some, laws_mapped}
+use Rattle.ps_text.proofs.Simple.{Taken, none_is_some, laws_mapped}
 use Rattle.ps_text.proofs.Barred.{laws_barred}
 use Rattle.ps_hoa.specs.Tokens.{Sign}
-use Rattle.ps_hoa.specs.Causes.{begins_capital, is_spelled, is_unknown_capital}
+use Rattle.ps_hoa.specs.Bytes.{begins_capital}
+use Rattle.ps_hoa.specs.Causes.{is_spelled, is_unknown_capital}
 use Rattle.ps_hoa.specs.Operands.{is_and}
-use Rattle.ps_hoa.specs.Header.{HeaderData, name_value, item_name, int, IsAlternating, string, proposition_name}
-use Rattle.ps_hoa.specs.Header.{alias_value, IsBadAlias, other_value}
+use Rattle.ps_hoa.specs.ItemNames.{item_named}
+use Rattle.ps_hoa.specs.Header.{HeaderData, name_value, item_or_other, item_in, item_name, int}
+use Rattle.ps_hoa.specs.Header.{IsAlternating, string, proposition_name, alias_value, IsBadAlias}
 use Rattle.ps_hoa.specs.declared.fault.HoaCause.{HoaCause}
+use Rattle.ps_hoa.specs.declared.items.Item.{Item}
+use Rattle.ps_hoa.specs.declared.items.Item.TheVariants as items
 use Rattle.ps_hoa.specs.declared.tokens.Kind.{Kind}
 use Rattle.ps_hoa.specs.declared.tokens.Kind.TheVariants.{Header, Int, Text, AliasName, Body}
 use Rattle.ps_hoa.proofs.Grammar.OperandLaws.{false_true, Odd, Of, Tight}
@@ -41,10 +46,6 @@ is_body kind = false
 abbrev pub Named : List ℕ → Sign → Type 0
 Named name sign = name_value name sign.kind sign.text ≡ Some tt
 
--- a name that is read over
-abbrev pub Other : Sign → Type 0
-Other sign = other_value sign.kind sign.text ≡ Some tt
-
 pub named_text : (name : List ℕ) (kind : Kind) (text : List ℕ) → name_value name kind text ≡ Some tt →
     (kind ≡ Header) × (text ≡ name)
 named_text name kind text e = grind (arith, bytes_eq-Decides text name)
@@ -68,19 +69,27 @@ plain_header t k u o = grind arith
 pub plain_named : (name : List ℕ) → is_unknown name ≡ false → Apart (Named name) Odd
 plain_named name e t h = let p = named_text name t.kind t.text h in plain_header t p.0 (ap is_unknown p.1 ∙ e)
 
-pub plain_other : Apart Other Odd
-plain_other t h = grind (arith, plain_header, none_is_some)
+-- ## The names of items
 
-pub same_name : (name : List ℕ) → name_value name Header name ≡ Some tt
-same_name name = ap (λ (b : Bool). cond b (Some tt) None) ((bytes_eq-Decides name name).1 refl)
+pub item_header : (t : Sign) → Taken item_in t → t.kind ≡ Header
+item_header t i = grind (arith, none_is_some)
 
-pub laws_name : (name : List ℕ) → is_unknown name ≡ false → Laws Odd (item_name name) (Named name) Nothing ⊥
-laws_name name e = laws_first (record { kind = Header; text = name }) tt (same_name name) (plain_named name e)
-    (λ t h. h.1) (λ t h. absurd h.1)
+known : (spelled : Bool) (o : Option Item) (name : List ℕ) (item : Item) → item_or_other o name ≡ Some item →
+    cond (spelled || is_some o) false (begins_capital name) ≡ false
+known spelled (Some i) name item e = search rules
+known spelled None name item e = grind (arith, none_is_some)
 
--- a name that is read over is none that has a meaning
-pub other_apart : (name : List ℕ) → other_value Header name ≡ None → Apart (Named name) Other
-other_apart name e t h k = grind (arith, named_text, none_is_some)
+plain_item : Apart (Taken item_in) Odd
+plain_item t i = let k = item_header t i in plain_header t k (search (rules, known))
+
+pub item_there : (o : Option Item) → (o ≡ None → ⊥) → (item : Item) × (o ≡ Some item)
+item_there None h = absurd (h refl)
+item_there (Some item) h = (item, refl)
+
+pub laws_item_name : (h : HeaderData) → Laws Odd (item_name h) (Taken item_in) Nothing ⊥
+unfolding item_named
+laws_item_name h = laws_first (record { kind = Header; text = codes "a:" }) items.Other refl plain_item
+    (λ t i. i) (λ t b. item_there (item_in t) b.1.1)
 
 -- ## Numbers, strings and aliases
 

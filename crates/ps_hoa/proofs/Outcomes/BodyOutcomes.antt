@@ -28,8 +28,9 @@ use Rattle.ps_hoa.proofs.Reading.BodyReading.{int_signs, bracket_signs}
 use Rattle.ps_hoa.proofs.Reading.MarkReading.{tests_left_brace, tests_right_brace, tests_left_bracket}
 use Rattle.ps_hoa.proofs.Reading.MarkReading.{tests_right_bracket}
 use Rattle.ps_hoa.proofs.Reading.StateReading.{next_signs, end_signs, state_loop, edge_loop, set_loop}
-use Rattle.ps_hoa.proofs.Outcomes.LabelOutcomes.{Has, has_signs, has_mark, has_loop, has_label}
-use Rattle.ps_hoa.proofs.Outcomes.HeaderOutcomes.{has_string, has_header}
+use Rattle.ps_hoa.proofs.Outcomes.LabelOutcomes.{Has, has_signs, has_string, has_mark, has_loop}
+use Rattle.ps_hoa.proofs.Outcomes.LabelOutcomes.{has_label}
+use Rattle.ps_hoa.proofs.Outcomes.HeaderOutcomes.{has_header}
 
 -- ## Numbers and marks
 

@@ -1,23 +1,29 @@
 -- What is wrong with a header where `--BODY--` stands: the flaw of the least number, or none.
+--     no_acceptance_least, .., none_is_sound      the flaw is the least where those of smaller numbers are not
 --     judge_header      of a header
 --     judge_body_mark      of the sign
-use Rattle.std.proofs.Common.{◌≡◌, ℕ, List, [], ◌∷◌, Option, None, Some, inl, inr, rules}
+--     said_none, .., is_said_some      what the code's tests for nothing say
+use Rattle.std.proofs.Common.{◌≡◌, ℕ, Bool, not, true, false, List, [], ◌∷◌, Option, None, Some, is_some, inl, inr}
+use Rattle.std.proofs.Common.{rules}
+use Rattle.std.specs.Option.{option_map}
 use Rattle.ps_label.specs.Expression.{Expression, constant, proposition, alias, not_of, all_of, any_of, Operands, last}
 use Rattle.ps_label.specs.Expression.{more}
 use Rattle.ps_text.proofs.Outcomes.{Judged, bad, good}
 use Rattle.ps_text.proofs.Decisions.{Decided, decide_none, decide_one, decide_below, judge_also}
+use Rattle.ps_text.proofs.Simple.{none_is_some}
 use Rattle.ps_hoa.specs.Causes.{cause_number}
 use Rattle.ps_hoa.specs.Conditions as conditions
 use Rattle.ps_hoa.specs.Conditions.{Condition, Conditions}
-use Rattle.ps_hoa.specs.Inner.Flaws.{IsLeastFlaw}
+use Rattle.ps_hoa.specs.Inner.Flaws.{IsLeastFlaw, IsSoundHeader}
 use Rattle.ps_hoa.specs.Header.{AcceptanceData, HeaderData, SpeaksBeyond, SomeSpeaksBeyond, AnAliasBeyond}
 use Rattle.ps_hoa.specs.Header.{NamesSetBeyond, SomeNamesSetBeyond, AnIndexBeyond, IsStartBeyond, IsStartTooLarge}
 use Rattle.ps_hoa.specs.Header.{IsConditionBeyond, IsControlBeyond, IsRangeBroken, IsBadHeader, IsBadBody}
+use Rattle.ps_hoa.specs.Header.{no_acceptance, start_too_large, no_start, out_of_range, no_controllable}
 use Rattle.ps_hoa.specs.declared.fault.HoaCause.{HoaCause}
+use Rattle.ps_hoa.specs.declared.fault.HoaCause.TheVariants.{MissingAcceptance, Limit, Start, Range, Controllable}
 use Rattle.ps_hoa.proofs.Grammar.KindSets.{test_of}
+use Rattle.ps_hoa.proofs.Grammar.OperandLaws.{false_true}
 use Rattle.ps_hoa.proofs.Outcomes.Judging.{JudgesAll, decide_kind}
-use Rattle.ps_hoa.proofs.Outcomes.LeastFlaws.{no_acceptance_least, too_large_least, no_start_least, range_least}
-use Rattle.ps_hoa.proofs.Outcomes.LeastFlaws.{no_controllable_least, none_is_sound}
 
 -- ## What is out of range
 
@@ -71,7 +77,30 @@ start_large states start = search (rules, decide_below)
 range_broken : (h : HeaderData) → Decided (IsRangeBroken h)
 range_broken h = search (rules, decide_one, start_beyond, alias_beyond, condition_beyond, control_beyond)
 
--- ## The least flaw
+-- ## The least flaw, by what is not
+
+module _ (h : HeaderData) where
+  pub no_acceptance_least : h.acceptance ≡ None → IsLeastFlaw h MissingAcceptance
+  no_acceptance_least a = record { stands = no_acceptance a; least = λ g b. search rules }
+
+  module _ (some : h.acceptance ≡ None → ⊥) where
+    pub too_large_least : IsStartTooLarge h.states h.start → IsLeastFlaw h Limit
+    too_large_least a = record { stands = start_too_large a; least = λ g b. search rules }
+
+    module _ (small : IsStartTooLarge h.states h.start → ⊥) where
+      pub no_start_least : h.start ≡ None → IsLeastFlaw h Start
+      no_start_least a = record { stands = no_start a; least = λ g b. search rules }
+
+      module _ (started : h.start ≡ None → ⊥) where
+        pub range_least : IsRangeBroken h → IsLeastFlaw h Range
+        range_least a = record { stands = out_of_range a; least = λ g b. search rules }
+
+        module _ (within : IsRangeBroken h → ⊥) where
+          pub no_controllable_least : h.controllable ≡ None → IsLeastFlaw h Controllable
+          no_controllable_least a = record { stands = no_controllable a; least = λ g b. search rules }
+
+          pub none_is_sound : (h.controllable ≡ None → ⊥) → IsSoundHeader h
+          none_is_sound controlled = search rules
 
 module _ (h : HeaderData) where
   least_bad : (f : HoaCause) → IsLeastFlaw h f → Judged cause_number (IsBadHeader h)
@@ -91,3 +120,20 @@ module _ (h : HeaderData) where
 
 pub judge_body_mark : (h : HeaderData) → JudgesAll (IsBadBody h)
 judge_body_mark h t = judge_also cause_number (search (rules, decide_kind, test_of)) (judge_header h)
+
+-- ## What the code tests
+
+-- whether something is said, where a test for nothing tells it
+pub said_none : {A B : Type 0} (see : A → B) (o : Option A) {b : Bool} → is_some o ≡ not b → b ≡ true →
+    option_map see o ≡ None
+said_none see o e t = search (rules, false_true)
+
+pub said_some : {A B : Type 0} (see : A → B) (o : Option A) {b : Bool} → is_some o ≡ not b → b ≡ false →
+    option_map see o ≡ None → ⊥
+said_some see o e t n = search (rules, false_true, none_is_some)
+
+pub is_said_none : {A : Type 0} (o : Option A) {b : Bool} → is_some o ≡ not b → b ≡ true → o ≡ None
+is_said_none o e t = search (rules, false_true)
+
+pub is_said_some : {A : Type 0} (o : Option A) {b : Bool} → is_some o ≡ not b → b ≡ false → o ≡ None → ⊥
+is_said_some o e t n = search (rules, false_true, none_is_some)

@@ -3,20 +3,19 @@
 --     judge_above, .., judge_close      the least cause of each
 use Rattle.std.proofs.Common.{◌≡◌, ℕ, suc, ◌+◌, ◌<◌, ◌≤◌, Bool, true, List, length, Option, None, Some, rules, refl}
 use Rattle.std.proofs.Common.{sym, inr, ◌∙◌, subst}
-use Rattle.std.specs.Prelude.{codes}
 use Rattle.std.proofs.lemmas.Bool.{cases_eq}
 use Rattle.ps_text.specs.Digits.{decimal_value}
 use Rattle.ps_text.specs.Parts.{NoBad}
 use Rattle.ps_text.proofs.Outcomes.{Judged}
 use Rattle.ps_text.proofs.Decisions.{Decided, decide_true, decide_none, decide_not, decide_as, decide_both}
-use Rattle.ps_text.proofs.Decisions.{decide_below, judge_none, judge_cause, judge_one, judge_as, judge_if, judge_also}
+use Rattle.ps_text.proofs.Decisions.{decide_below, judge_none, judge_cause, judge_one, judge_if, judge_also}
 use Rattle.ps_text.proofs.Simple.{none_is_some, same_some}
 use Rattle.ps_hoa.specs.Causes.{cause_number}
 use Rattle.ps_hoa.specs.Operands.{holds, IsTooDeep, number_limit}
 use Rattle.ps_hoa.specs.Labels.{ScopeData, alias_number, IsBeyond, IsBadLeaf, BadLeaf}
 use Rattle.ps_hoa.specs.Conditions as conditions
 use Rattle.ps_hoa.specs.Files.{RowData}
-use Rattle.ps_hoa.specs.Header.{HeaderData, state_limit, name_value, int_in, IsAbove, IsSecondStart, IsAlternating}
+use Rattle.ps_hoa.specs.Header.{HeaderData, state_limit, int_in, IsAbove, IsAlternating}
 use Rattle.ps_hoa.specs.Header.{IsBadName, IsBadAlias}
 use Rattle.ps_hoa.specs.Body.{BodyData, edge_limit, IsBadState, IsBadSet, BadIn, labelling, MayHaveNoLabel}
 use Rattle.ps_hoa.specs.Body.{MayHaveLabel, IsBadBracket, IsBadPlainTarget, IsWrongCount, last_row, IsBadEnd}
@@ -75,12 +74,6 @@ judge_set t = go t.kind t.text
 
 pub judge_above : (limit : ℕ) → JudgesAll (IsAbove limit)
 judge_above limit t = judge_if cause_number (int_in t) (λ n f. (limit < n) × (f ≡ causes.Limit)) (large limit)
-
-pub judge_second : (h : HeaderData) → JudgesAll (IsSecondStart h)
-judge_second h t = judge_as cause_number (λ f b. (b.0.0, b.0.1, b.1)) (λ f b. ((b.0, b.1), b.2))
-    (judge_cause cause_number causes.Start
-    (decide_both (decide_not (decide_none (name_value (codes "Start:") t.kind t.text)))
-    (decide_not (decide_none h.start))))
 
 pub judge_alternating : (state : ℕ) → JudgesAll (IsAlternating state)
 judge_alternating state t = judge_cause cause_number causes.Alternating (search (rules, decide_kind, test_of))

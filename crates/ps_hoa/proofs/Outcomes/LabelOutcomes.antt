@@ -1,5 +1,6 @@
 -- Labels and acceptance conditions have an outcome from each list of signs: they are read, or have a first fault.
---     has_signs, has_mark, has_loop      a part of one sign, a sign of a kind by itself, and a loop
+--     has_signs, has_int, has_string, has_mark, has_loop      a part of one sign, a number, a string, a sign of a kind
+--               by itself, and a loop
 --     has_infix      rows of the operands of a grammar
 --     has_label, has_condition      the outcomes
 use Rattle.std.proofs.Common.{arith, Option, None, Some, ℕ, zero, suc, Bool, true, false, List}
@@ -14,6 +15,7 @@ use Rattle.ps_hoa.specs.Causes.{hoa_causes}
 use Rattle.ps_hoa.specs.Operands.{is_not, is_and, is_or, is_left, is_right, mark, before, closed, inner, single}
 use Rattle.ps_hoa.specs.Operands.{with_last, joined, further, operands, row, rows, InfixGrammar, holding, IsTooDeep}
 use Rattle.ps_hoa.specs.Operands.{operand}
+use Rattle.ps_hoa.specs.Header.{int, string}
 use Rattle.ps_hoa.specs.Labels as labels
 use Rattle.ps_hoa.specs.Labels.{ScopeData}
 use Rattle.ps_hoa.specs.Conditions as conditions
@@ -31,13 +33,13 @@ use Rattle.ps_hoa.proofs.Grammar.LabelLaws.{label_leaf}
 use Rattle.ps_hoa.proofs.Grammar.ConditionLaws.{laws_set, not_int, laws_complement, laws_closed_set, joint_closed_set}
 use Rattle.ps_hoa.proofs.Grammar.ConditionLaws.{joint_visit, laws_visit, laws_constant, constant_often}
 use Rattle.ps_hoa.proofs.Grammar.ConditionLaws.{condition_leaf}
-use Rattle.ps_hoa.proofs.Grammar.HeaderSigns.{signs_mark}
+use Rattle.ps_hoa.proofs.Grammar.HeaderSigns.{signs_int, signs_string, signs_mark}
 use Rattle.ps_hoa.proofs.Reading.LeafReading.{constant_signs, set_signs, often_signs}
 use Rattle.ps_hoa.proofs.Reading.Exits.{Loop}
 use Rattle.ps_hoa.proofs.Reading.LeafReading.{leaf_signs}
 use Rattle.ps_hoa.proofs.Reading.MarkReading.{Tests, tests_not, tests_and, tests_or, tests_left, tests_right}
 use Rattle.ps_hoa.proofs.Reading.SingleSigns.{IsOfSigns}
-use Rattle.ps_hoa.proofs.Outcomes.Judging.{JudgesAll, no_bad, judge_deep, judge_leaf, judge_set}
+use Rattle.ps_hoa.proofs.Outcomes.Judging.{JudgesAll, no_bad, judge_above, judge_deep, judge_leaf, judge_set}
 
 abbrev pub Has : {V : Type 0} → Part Sign V HoaCause → Type 0
 Has part = HasOutcomes hoa_causes part
@@ -48,6 +50,12 @@ Has part = HasOutcomes hoa_causes part
 pub has_signs : {V : Type 0} {take : Sign → Option V} {Bad : Sign → HoaCause → Type 0} → IsOfSigns take Bad →
     JudgesAll Bad → Has (one take Bad)
 has_signs {take = take} {Bad = Bad} o judge = has_one hoa_causes take Bad o.sign o.value o.taken judge
+
+pub has_int : (limit : ℕ) → Has (int limit)
+has_int limit = has_signs (signs_int limit) (judge_above limit)
+
+pub has_string : Has string
+has_string = has_signs signs_string no_bad
 
 pub has_mark : {test : Kind → Bool} {kind : Kind} → Tests test kind → Has (mark test)
 has_mark {test} {kind} tests = has_signs (signs_mark test kind tests.is tests.proper) no_bad

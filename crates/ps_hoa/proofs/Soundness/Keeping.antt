@@ -4,7 +4,6 @@
 --     keeps_read      so S holds of what was read
 use Rattle.std.proofs.Common.{◌≡◌, ℕ, zero, suc, List, [], ◌∷◌, ◌++◌, Option, Some, refl, sym, subst}
 use Rattle.std.proofs.Common.{inl, inr, append_assoc, arith, length-append}
-use Rattle.ps_text.specs.Choices.{choice}
 use Rattle.ps_text.specs.Parts.{Part, IsRead, give, one, then_by, either, times, many, mapped, barred}
 
 abbrev pub IsQuiet : {T V F : Type 0} → Part T V F → List T → Type 0
@@ -53,10 +52,6 @@ keeps_behind P q = keeps_then (keeps_nothing P) (λ a _. q a)
 pub keeps_either : {T V F : Type 0} {S : V → Type 0} {P Q : Part T V F} → Keeps P S → Keeps Q S → Keeps (either P Q) S
 keeps_either p q text v (inl i) quiet = p text v i (λ front rest t f e c. quiet front rest t f e (inl c))
 keeps_either p q text v (inr i) quiet = q text v i (λ front rest t f e c. quiet front rest t f e (inr c))
-
-pub keeps_choice : {K T V F : Type 0} {S : V → Type 0} (form : K → Part T V F) → ((k : K) → Keeps (form k) S) →
-    Keeps (choice form) S
-keeps_choice form h text v i quiet = h i.0 text v i.1 (λ front rest t f e c. quiet front rest t f e (i.0, c))
 
 pub keeps_mapped : {T A B F : Type 0} (S : B → Type 0) (h : A → B) (P : Part T A F) → Keeps P (λ a. S (h a)) →
     Keeps (mapped h P) S

@@ -29,7 +29,7 @@ use Rattle.std.proofs.lemmas.Bool.{false_from_ne_true}
 use Rattle.ps_hoa.proofs.Reading.MarkReading.{tests_left_bracket}
 use Rattle.ps_hoa.proofs.Soundness.Keeping.{Keeps, keeps_less, keeps_give, keeps_one, keeps_then, keeps_behind}
 use Rattle.ps_hoa.proofs.Soundness.Keeping.{keeps_either, keeps_mapped, keeps_many, keeps_barred}
-use Rattle.ps_hoa.proofs.Soundness.SoundHeaders.{keeps_number}
+use Rattle.ps_hoa.proofs.Soundness.HeaderKept.{keeps_number}
 use Rattle.std.specs.Prelude.{nat_eq}
 use Rattle.ps_hoa.proofs.Grammar.OperandLaws.{taken_mark}
 use Rattle.ps_hoa.proofs.Soundness.SoundLabels.{InScope, below, keeps_label, all_push}

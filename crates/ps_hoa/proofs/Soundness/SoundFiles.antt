@@ -24,7 +24,8 @@ use Rattle.ps_hoa.specs.declared.fault.HoaCause.TheVariants as causes
 use Rattle.ps_hoa.proofs.Soundness.Keeping.{Keeps, keeps_then, keeps_mapped}
 use Rattle.ps_hoa.proofs.Soundness.SoundBodies.{AreSets, IsStateOf, IsScoped, IsGuardKept, IsEdgeKept, IsRowKept}
 use Rattle.ps_hoa.proofs.Soundness.SoundBodies.{HasRightCount, IsBodyDone, LabelledBy, way_of, way, keeps_body}
-use Rattle.ps_hoa.proofs.Soundness.SoundHeaders.{Kept, HasNoFlaw, keeps_header, sound_aliases}
+use Rattle.ps_hoa.proofs.Soundness.HeaderKept.{Kept}
+use Rattle.ps_hoa.proofs.Soundness.SoundHeaders.{HasNoFlaw, keeps_header, sound_aliases}
 use Rattle.ps_hoa.proofs.Soundness.SoundLabels.{NamesBelow, below, label_from}
 use Rattle.ps_hoa.proofs.Soundness.SoundLaws.{all_at}
 

@@ -1,15 +1,14 @@
 -- What the code's readers of single signs speak of.
 --     IsTestOf test kind      the test is passed by this kind, and by no other
---     name_in name sign      the sign is the name of an item
 --     inside text      a text without its first and its last byte
 --     IsLeaf part      the part begins with a sign that is an operand by itself, and no text of it goes on with any
 --               sign
-use Rattle.std.specs.Prelude.{ℕ, ◌≡◌, Bool, true, false, List, Option, drop}
+use Rattle.std.specs.Prelude.{ℕ, ◌≡◌, Bool, true, false, List, drop}
 use Rattle.ps_text.specs.Parts.{Part}
 use Rattle.ps_text.proofs.Laws.{Laws, Nothing}
 use Rattle.ps_text.proofs.Whole.{Own}
 use Rattle.ps_hoa.specs.Causes.{hoa_causes}
-use Rattle.ps_hoa.specs.Header.{name_value, without_last}
+use Rattle.ps_hoa.specs.Header.{without_last}
 use Rattle.ps_hoa.specs.Tokens.{Sign}
 use Rattle.ps_hoa.specs.declared.fault.HoaCause.{HoaCause}
 use Rattle.ps_hoa.specs.declared.tokens.Kind.{Kind}
@@ -17,9 +16,6 @@ use Rattle.ps_hoa.specs.declared.tokens.Kind.TheVariants.{Word, Int, AliasName}
 
 abbrev pub IsTestOf : (Kind → Bool) → Kind → Type 0
 IsTestOf test kind = (test kind ≡ true) × ((k : Kind) → test k ≡ true → k ≡ kind)
-
-abbrev pub name_in : List ℕ → Sign → Option (Unit {0})
-name_in name s = name_value name s.kind s.text
 
 abbrev pub inside : List ℕ → List ℕ
 inside text = without_last (drop 1 text)

@@ -1,21 +1,10 @@
 -- Each field of the file is that of the header and the rows, with nothing where an item is missing.
-use Rattle.std.proofs.Common.{arith, ◌≡◌, ℕ, List, [], map, Option, subst}
-use Rattle.std.specs.Prelude.{option_map}
-use Rattle.std.specs.Option.{unwrap_or}
-use Rattle.ps_label.specs.declared.label.Label.{Label}
+use Rattle.std.proofs.Common.{arith, ◌≡◌, ℕ, List, Option, subst}
 use Rattle.ps_hoa.specs.Files.{RowData, count_of_states}
-use Rattle.ps_hoa.specs.Values.{condition_of}
-use Rattle.ps_hoa.specs.Views.{acceptance_data, header_data, row_data}
 use Rattle.ps_hoa.proofs.Soundness.SoundLaws.{aliases_ordered}
 use Rattle.ps_hoa.specs.declared.condition.Cond.{Always}
-use Rattle.ps_hoa.specs.declared.rows.Rows.{Rows}
-use Rattle.ps_hoa.specs.FileViews.{file_data}
-use Rattle.ps_hoa.specs.Inner.Rows.{body_data}
 use Rattle.ps_hoa.specs.Sound.{IsSoundFile}
-use Rattle.ps_hoa.specs.Texts.{file_of}
 use Rattle.ps_hoa.specs.declared.header.Acceptance.{Acceptance}
-use Rattle.ps_hoa.specs.declared.header.Header.{Header}
-use Rattle.ps_hoa.proofs.Soundness.SoundFiles.{sets_in, condition_in}
 use Rattle.ps_hoa.proofs.assembly.file.Goals as goal
 
 abbrev nothing : Acceptance

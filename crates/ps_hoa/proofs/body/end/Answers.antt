@@ -5,7 +5,7 @@ use Rattle.ps_hoa.specs.Body.{is_end, IsBadClose}
 use Rattle.ps_hoa.specs.Causes.{found_of, hoa_causes}
 use Rattle.ps_hoa.specs.Operands.{mark_in}
 use Rattle.ps_hoa.specs.Inner.Rows.{body_data}
-use Rattle.ps_hoa.specs.Views.{header_data}
+use Rattle.ps_hoa.specs.Header.{header_data}
 use Rattle.ps_hoa.proofs.Grammar.HeaderSigns.{reads_token}
 use Rattle.ps_hoa.proofs.Reading.StateReading.{end_signs}
 use Rattle.ps_hoa.proofs.body.end.Goals as goal

@@ -1,11 +1,10 @@
 use Rattle.std.proofs.Common.{◌≡◌, ℕ, ◌≤◌, true, Err, refl, sym, subst, inl, ◌∙◌, arith}
 use Rattle.ps_hoa.specs.Body.{BodyData, BadIn, IsBadState, IsBadRow, has_row}
 use Rattle.ps_hoa.specs.Causes.{cause_number}
-use Rattle.ps_hoa.specs.Header.{int_in}
+use Rattle.ps_hoa.specs.Header.{int_in, header_data}
 use Rattle.ps_hoa.specs.Inner.Reads.{Takes}
 use Rattle.ps_hoa.specs.Inner.Rows.{body_data}
 use Rattle.ps_hoa.specs.Spans.{piece_of}
-use Rattle.ps_hoa.specs.Views.{header_data}
 use Rattle.ps_hoa.specs.declared.fault.HoaCause.{HoaCause}
 use Rattle.ps_hoa.specs.declared.fault.HoaCause.TheVariants.{StateTwice}
 use Rattle.ps_hoa.proofs.Grammar.OperandLaws.{false_true}

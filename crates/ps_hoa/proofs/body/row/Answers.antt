@@ -4,7 +4,8 @@ use Rattle.ps_text.proofs.Exits.{reads_mapped, reads_then}
 use Rattle.ps_hoa.specs.Body.{edges, empty_row, with_row}
 use Rattle.ps_hoa.specs.Files.{EdgeData}
 use Rattle.ps_hoa.specs.Inner.Rows.{body_data}
-use Rattle.ps_hoa.specs.Views.{edge_data, header_data}
+use Rattle.ps_hoa.specs.Header.{header_data}
+use Rattle.ps_hoa.specs.Views.{edge_data}
 use Rattle.ps_hoa.proofs.Grammar.StateLaws.{joint_state, joint_state_label, joint_number, joint_name, joint_marks}
 use Rattle.ps_hoa.proofs.Reading.Exits.{exit, first, behind, under}
 use Rattle.ps_hoa.proofs.Reading.StateReading.{edges_serve}

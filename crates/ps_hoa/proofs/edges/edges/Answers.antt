@@ -1,6 +1,7 @@
 use Rattle.std.proofs.Common.{arith, sym, ◌∙◌}
 use Rattle.ps_hoa.specs.Inner.Ahead.{begins_edge}
-use Rattle.ps_hoa.specs.Views.{header_data, row_data}
+use Rattle.ps_hoa.specs.Header.{header_data}
+use Rattle.ps_hoa.specs.Views.{row_data}
 use Rattle.ps_hoa.proofs.Grammar.OperandLaws.{false_true}
 use Rattle.ps_hoa.proofs.Reading.BodyReading.{edge_begins}
 use Rattle.ps_hoa.proofs.Reading.Exits.{exit, loop_more, loop_fails, loop_ends, loop_shrinks}

@@ -4,7 +4,8 @@ use Rattle.ps_text.specs.Readers.{Carries}
 use Rattle.ps_hoa.specs.Body.{edge, edge_limit}
 use Rattle.ps_hoa.specs.Causes.{hoa_causes}
 use Rattle.ps_hoa.specs.Scan.{stream_of}
-use Rattle.ps_hoa.specs.Views.{header_data, row_data}
+use Rattle.ps_hoa.specs.Header.{header_data}
+use Rattle.ps_hoa.specs.Views.{row_data}
 use Rattle.ps_hoa.proofs.edges.edges.Given as goal
 
 abbrev pub invariant-more : goal.invariant-more

@@ -7,7 +7,7 @@ use Rattle.ps_hoa.specs.Causes.{found_of, hoa_causes}
 use Rattle.ps_hoa.specs.Labels.{label}
 use Rattle.ps_hoa.specs.Operands.{nesting_limit}
 use Rattle.ps_hoa.specs.Scan.{stream_of}
-use Rattle.ps_hoa.specs.Views.{header_data}
+use Rattle.ps_hoa.specs.Header.{header_data}
 use Rattle.ps_hoa.proofs.Grammar.BodyLaws.{joint_label}
 use Rattle.ps_hoa.proofs.Reading.Exits.{exit, first, behind, under}
 use Rattle.ps_hoa.proofs.Reading.MarkReading.{tests_right_bracket}

@@ -2,7 +2,8 @@ use Rattle.std.proofs.Common.{rules, arith, Some}
 use Rattle.ps_label.specs.Expression.{expression}
 use Rattle.ps_text.proofs.Exits.{reads_mapped, reads_then}
 use Rattle.ps_hoa.specs.Body.{with_edge}
-use Rattle.ps_hoa.specs.Views.{header_data, row_data}
+use Rattle.ps_hoa.specs.Header.{header_data}
+use Rattle.ps_hoa.specs.Views.{row_data}
 use Rattle.ps_hoa.proofs.Grammar.BodyLaws.{joint_edge_label, joint_edge_target, joint_edge_marks}
 use Rattle.ps_hoa.proofs.Reading.BodyReading.{pushed_edge}
 use Rattle.ps_hoa.proofs.Reading.Exits.{exit, first, behind, under, value_is}

@@ -1,7 +1,8 @@
 use Rattle.std.proofs.Common.{rules, arith, None}
 use Rattle.ps_text.proofs.Exits.{reads_mapped, reads_then}
 use Rattle.ps_hoa.specs.Body.{with_edge}
-use Rattle.ps_hoa.specs.Views.{header_data, row_data}
+use Rattle.ps_hoa.specs.Header.{header_data}
+use Rattle.ps_hoa.specs.Views.{row_data}
 use Rattle.ps_hoa.proofs.Grammar.BodyLaws.{joint_plain_marks}
 use Rattle.ps_hoa.proofs.Reading.BodyReading.{pushed_edge}
 use Rattle.ps_hoa.proofs.Reading.Exits.{exit, first, behind, under, value_is}

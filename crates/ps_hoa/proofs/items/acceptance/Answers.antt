@@ -1,11 +1,10 @@
 use Rattle.std.proofs.Common.{arith}
 use Rattle.ps_text.proofs.Exits.{reads_then, reads_mapped}
 use Rattle.ps_hoa.specs.Conditions.{condition}
-use Rattle.ps_hoa.specs.Header.{with_acceptance}
+use Rattle.ps_hoa.specs.Header.{with_acceptance, header_data}
 use Rattle.ps_hoa.specs.Operands.{nesting_limit}
-use Rattle.ps_hoa.specs.Views.{header_data}
 use Rattle.ps_hoa.proofs.Reading.Exits.{exit, first, behind, under}
-use Rattle.ps_hoa.proofs.Grammar.HeaderLaws.{joint_counted_condition}
+use Rattle.ps_hoa.proofs.ItemForms.{joint_counted_condition}
 use Rattle.ps_hoa.proofs.items.acceptance.Goals as goal
 
 pub returns-in_err-sets : goal.returns-in_err-sets

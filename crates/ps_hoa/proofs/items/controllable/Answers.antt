@@ -1,7 +1,6 @@
 use Rattle.std.proofs.Common.{arith}
 use Rattle.ps_text.proofs.Exits.{reads_mapped}
-use Rattle.ps_hoa.specs.Header.{with_controllable}
-use Rattle.ps_hoa.specs.Views.{header_data}
+use Rattle.ps_hoa.specs.Header.{with_controllable, header_data}
 use Rattle.ps_hoa.proofs.Reading.Exits.{exit, under}
 use Rattle.ps_hoa.proofs.items.controllable.Goals as goal
 

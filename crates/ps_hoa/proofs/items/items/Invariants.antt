@@ -2,9 +2,8 @@ use Rattle.std.proofs.Common.{length}
 use Rattle.ps_text.specs.Parts.{many}
 use Rattle.ps_text.specs.Readers.{Carries}
 use Rattle.ps_hoa.specs.Causes.{hoa_causes}
-use Rattle.ps_hoa.specs.Header.{no_items, item}
+use Rattle.ps_hoa.specs.Header.{no_items, item, header_data}
 use Rattle.ps_hoa.specs.Scan.{stream_of}
-use Rattle.ps_hoa.specs.Views.{header_data}
 use Rattle.ps_hoa.proofs.items.items.Given as goal
 
 abbrev pub invariant-items : goal.invariant-items
