@@ -6,8 +6,7 @@
 --     stops_last, exits_last, reads_last      at a last part, seen by another function
 --     comes, none_comes      a further field comes, or none
 --     branch      one of several forms stands there
---     refuted      what a test denies
-use Rattle.std.proofs.Common.{◌≡◌, Bool, true, false, Option, Result, Ok, Err, IsErrAnd, sym, subst, ◌∙◌, rules}
+use Rattle.std.proofs.Common.{◌≡◌, Bool, true, false, Option, Result, Ok, Err, IsErrAnd, sym, subst, rules}
 use Rattle.ps_text.specs.Answers.{Stream, Found, signs, next_of}
 use Rattle.ps_text.specs.Parts.{IsRead, then_by, mapped}
 use Rattle.ps_text.specs.Readers.{Reads, Stops, Carries}
@@ -15,9 +14,10 @@ use Rattle.ps_text.proofs.Exits.{exits, reads_mapped, stops_mapped, stops_first,
 use Rattle.ps_text.proofs.Branches.{Stands, reads_as, stops_as_well}
 use Rattle.ps_circuit.specs.declared.fault.AigCause.{AigCause}
 use Rattle.ps_circuit.specs.Causes.{AigFault}
-use Rattle.ps_text.specs.declared.faults.Fault.TheVariants.{OutOfMemory}
-use Rattle.ps_circuit.specs.Signs.{Seen, aig_causes, Field, by_more}
-use Rattle.ps_circuit.specs.Cursors.{found_of, Tells}
+use Rattle.ps_text.specs.Bytes.{Seen}
+use Rattle.ps_circuit.specs.Signs.{aig_causes, Field, by_more}
+use Rattle.ps_text.specs.Faults.{found_of}
+use Rattle.ps_circuit.specs.Cursors.{Tells}
 use Rattle.ps_circuit.proofs.Lawful.{Chain}
 
 pub exit : {V X : Type 0} (view : X → V) (P : Field V) (old new : Stream Seen) (e : AigFault) (r : Result X AigFault) →
@@ -71,6 +71,3 @@ module _ {V : Type 0} (P Q : Field V) {whole : Field V} {start now : Stream Seen
 pub branch : {V : Type 0} {P Q whole : Field V} {start now : Stream Seen} → Left whole start Q now →
     Stands (next_of now) P Q → Left whole start P now
 branch {V} {P} {Q} {whole} {start} {now} l w = search (rules, reads_as, stops_as_well)
-
-pub refuted : {A : Type 0} {b : Bool} → (A → b ≡ true) → b ≡ false → A → ⊥
-refuted f e a = let y : true ≡ false = sym (f a) ∙ e in cc

@@ -14,10 +14,20 @@ use Rattle.ps_text.proofs.Covered.{laws_either}
 use Rattle.ps_text.proofs.Repeated.{laws_many}
 use Rattle.ps_text.proofs.Outcomes.{Judged, has_give, has_one, has_mapped, has_then, has_either, has_many}
 use Rattle.ps_circuit.specs.declared.fault.AigCause.{AigCause}
+use Rattle.ps_circuit.specs.declared.fault.AigCause.TheVariants.{Syntax}
+use Rattle.ps_text.specs.Outcomes.{HasOutcomes}
 use Rattle.ps_circuit.specs.Causes.{cause_number}
-use Rattle.ps_circuit.specs.Signs.{Seen, Field, aig_causes, run}
-use Rattle.ps_circuit.proofs.Runs.{Odd, laws_run}
-use Rattle.ps_circuit.proofs.RunOutcomes.{Has, has_run}
+use Rattle.ps_text.specs.Bytes.{Seen, run}
+use Rattle.ps_circuit.specs.Signs.{Field, aig_causes}
+use Rattle.ps_text.proofs.Bytes.Single as bytes
+use Rattle.ps_text.proofs.Bytes.Runs.{laws_run}
+use Rattle.ps_text.proofs.Bytes.RunOutcomes.{has_run}
+
+abbrev pub Odd : Seen → Type 0
+Odd = bytes.Odd AigCause
+
+abbrev pub Has : {V : Type 0} → Field V → Type 0
+Has part = HasOutcomes aig_causes part
 
 pub record Lawful {V : Type 0} (part : Field V) (First More : Seen → Type 0) (Null : Type 0) : Type 0 where
   pub laws : Laws Odd part First More Null
@@ -108,4 +118,5 @@ one_sign take Bad s {v} e judge f b = record {
 pub run_by : {V : Type 0} (p : ℕ → Bool) (see : ℕ → List ℕ → V) (Bad : List ℕ → AigCause → Type 0) (b : ℕ) →
     p b ≡ true → ((bytes : List ℕ) → Judged cause_number (Bad bytes)) →
     Lawful (run p see Bad) (λ s. p s.byte ≡ true) (λ s. p s.byte ≡ true) ⊥
-run_by p see Bad b e judge = record { laws = laws_run p see Bad b e; has = has_run p see Bad b e judge }
+run_by p see Bad b e judge =
+    record { laws = laws_run p see Bad b e; has = has_run cause_number Syntax p see Bad b e judge }

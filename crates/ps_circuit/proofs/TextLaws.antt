@@ -7,12 +7,13 @@ use Rattle.std.proofs.lemmas.Bool.{eqb-true}
 use Rattle.ps_text.specs.Parts.{NoBad, one, then_by, times, many, mapped, give}
 use Rattle.ps_text.proofs.Decisions.{judge_none}
 use Rattle.ps_text.proofs.Laws.{Nothing}
-use Rattle.ps_circuit.specs.declared.cursor.Number.{Number}
+use Rattle.ps_circuit.specs.declared.number.Number.{Number}
 use Rattle.ps_circuit.specs.declared.fault.AigCause.{AigCause}
 use Rattle.ps_circuit.specs.declared.parts.Latch.{Latch}
 use Rattle.ps_circuit.specs.declared.parts.Gate.{Gate}
 use Rattle.ps_circuit.specs.Causes.{cause_number}
-use Rattle.ps_circuit.specs.Signs.{Seen, Field, byte, word, number, gap, rest_of_line, newline, line_end, more, by_more}
+use Rattle.ps_text.specs.Bytes.{Seen, byte, word}
+use Rattle.ps_circuit.specs.Signs.{Field, number, gap, rest_of_line, newline, line_end, more, by_more}
 use Rattle.ps_circuit.specs.Texts.{HeaderData, AnyNumber, WrongMost, WrongCount, WrongLiteral, WrongDefinition}
 use Rattle.ps_circuit.specs.Texts.{WrongReset, sections, field, header, Lines, no_lines, next_lines, add_input}
 use Rattle.ps_circuit.specs.Texts.{add_latch, add_output, add_gate, input_line, reset, latch_line, output_line}
@@ -22,10 +23,11 @@ use Rattle.ps_circuit.proofs.Judges.{judge_any, judge_most, judge_count, judge_l
 use Rattle.ps_circuit.proofs.Judges.{judge_symbol}
 use Rattle.ps_circuit.proofs.Lawful.{Lawful, Chain, Judges, larger, chained, next, tight, given, mapped_by, or_nothing}
 use Rattle.ps_circuit.proofs.Lawful.{many_of, one_sign}
-use Rattle.ps_circuit.proofs.SignLaws.{At, Any, AtDigit, AtInner, Separates, AtKind, AtTail, AtBody, inner_newline}
-use Rattle.ps_circuit.proofs.SignLaws.{blank_digit, digit_separates, separates_digit, digit_space, separates_body}
-use Rattle.ps_circuit.proofs.SignLaws.{kind_comment, seen, laws_byte, laws_word, laws_number, laws_gap, laws_rest}
-use Rattle.ps_circuit.proofs.SignLaws.{laws_newline, laws_line_end, numbers, optional}
+use Rattle.ps_text.proofs.Bytes.Single.{At, Any, seen}
+use Rattle.ps_circuit.proofs.SignLaws.{AtDigit, AtInner, Separates, AtKind, AtTail, AtBody, inner_newline, space_digit}
+use Rattle.ps_circuit.proofs.SignLaws.{digit_separates, separates_digit, digit_space, separates_body, kind_comment}
+use Rattle.ps_circuit.proofs.SignLaws.{laws_byte, laws_word, laws_number, laws_gap, laws_rest, laws_newline}
+use Rattle.ps_circuit.proofs.SignLaws.{laws_line_end, numbers, optional}
 
 -- ## The first line
 
@@ -43,7 +45,7 @@ pub chain_sections : (n : ℕ) → Chain more (by_more (then_by (number WrongCou
 chain_sections n = optional (chain_counted n (laws_sections n)).whole tt
 
 pub chain_field : {Wrong : ℕ → AigCause → Type 0} → Judges Wrong → Chain gap (λ _. number Wrong) Separates AtDigit ⊥
-chain_field judge = chained laws_gap (λ _. laws_number judge) blank_digit (λ t h. inl h) (λ t h. absurd h.0) (λ t h. h)
+chain_field judge = chained laws_gap (λ _. laws_number judge) space_digit (λ t h. inl h) (λ t h. absurd h.0) (λ t h. h)
     (λ t h. absurd h.0) (λ n. n.0)
 
 -- a number behind a gap, and what stands behind it

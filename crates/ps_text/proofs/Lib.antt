@@ -21,3 +21,4 @@ pub mod OneTokenisation
 pub mod LeadingDigits
 pub mod ByteRuns
 pub mod Decimals
+pub mod Bytes

@@ -7,3 +7,5 @@ pub mod Digits
 pub mod Tokens
 pub mod Outcomes
 pub mod Runs
+pub mod Bytes
+pub mod Cursors

@@ -19,7 +19,7 @@ returns-then-not-branch t c = sections_ended c.args.left (omega arith) c.if-not-
 pub returns-in_err-count : goal.returns-in_err-count
 returns-in_err-count t c = exits_at (chain_counted (c.args.left - 1) (laws_sections (c.args.left - 1)))
     (section_unread c.args.left (omega arith) c.if-not-branch.false c.in_ok-more.ensures) _ _ _ _
-    (number_none WrongCount c.number.new.self _ c.in_err-count.ensures) c.from_residual-in_err-count.ensures.1
+    (number_none WrongCount c.number.new.cursor _ c.in_err-count.ensures) c.from_residual-in_err-count.ensures.1
 
 pub returns-then-count-ne0 : goal.returns-then-count-ne0
 returns-then-count-ne0 t c = stops_at (chain_counted (c.args.left - 1) (laws_sections (c.args.left - 1)))

@@ -16,7 +16,7 @@ returns-then-not-branch c = reset_none c.args.literal c.if-not-branch.true c.in_
 pub returns-in_err-number : goal.returns-in_err-number
 returns-in_err-number c = exits_at (chain_value c.args.literal)
     (grind (arith, past_more c.args.literal c.if-not-branch.false c.in_ok-more.ensures)) _ _ _ _ (number_none
-    (WrongReset c.args.literal) c.number.new.self _ c.in_err-number.ensures) c.from_residual-in_err-number.ensures.1
+    (WrongReset c.args.literal) c.number.new.cursor _ c.in_err-number.ensures) c.from_residual-in_err-number.ensures.1
 
 pub returns-then-number-literal : goal.returns-then-number-literal
 returns-then-number-literal c =

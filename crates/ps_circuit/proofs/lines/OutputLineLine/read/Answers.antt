@@ -11,7 +11,7 @@ pub returns-in_err-output-clause-exact : goal.returns-in_err-output-clause-exact
 unfolding output_line
 returns-in_err-output-clause-exact c =
     exits_at (chain_output c.args.most (lines_of c.args.items.now.items c.args.noted.now)) unread _ _ _ _
-    (number_none (WrongLiteral c.args.most) c.number.new.self _ c.in_err-output.ensures) c.from_residual.ensures.1
+    (number_none (WrongLiteral c.args.most) c.number.new.cursor _ c.in_err-output.ensures) c.from_residual.ensures.1
 
 pub returns-then-output-from-clause-exact : goal.returns-then-output-from-clause-exact
 unfolding output_line

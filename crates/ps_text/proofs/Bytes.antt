@@ -1,0 +1,7 @@
+-- Texts of single bytes.
+
+pub mod Pieces
+pub mod Single
+pub mod Runs
+pub mod RunOutcomes
+pub mod Moves
