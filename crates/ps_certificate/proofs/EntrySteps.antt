@@ -3,69 +3,67 @@
 --     at_id, at_first_space, at_winner, at_second_space, at_choice, at_counts, entry_reads      the line of a vertex
 --     at_first_word, .., at_even, head_read      what stands before these lines
 --     text_fails, text_reads, text_trails      the text
-use Rattle.std.proofs.Common.{◌≡◌, ◌≢◌, ℕ, ◌+◌, Bool, true, false, not, cond, eqb, ltb, List, [], ◌∷◌, length, Option}
-use Rattle.std.proofs.Common.{Some, None, Result, Ok, Err, IsErrAnd, refl, sym, ap, subst, arith, rules}
+use Rattle.std.proofs.Common.{◌≡◌, ◌≢◌, ℕ, Bool, not, cond, eqb, ltb, List, [], ◌∷◌, length, Option, Some, None, Result}
+use Rattle.std.proofs.Common.{Ok, Err, IsErrAnd, refl, sym, ap, subst, ◌∙◌, arith, rules}
 use Rattle.std.specs.Prelude.{codes, position}
 use Rattle.std.specs.List.{Contains, prefix_len}
-use Rattle.std.proofs.lemmas.Bool.{eqb-true}
 use Rattle.std.proofs.lemmas.Bool.Decides.{nat_tests}
 use Rattle.std.proofs.lemmas.Result.{err_from_is_err_and}
-use Rattle.ps_text.specs.Answers.{Stream, Found, next_of}
-use Rattle.ps_text.specs.Parts.{PartAnswers, then_by}
-use Rattle.ps_text.specs.Readers.{Reads, Stops, Carries}
+use Rattle.std.specs.Option.{option_map}
+use Rattle.ps_text.specs.Answers.{Piece, Stream, Found, next_of, offset_of, signs}
+use Rattle.ps_text.specs.Parts.{PartAnswers, IsRead, then_by}
+use Rattle.ps_text.specs.Readers.{tail, Reads, Stops, Carries}
+use Rattle.ps_text.specs.Cursors.{next_byte, place_of}
 use Rattle.ps_text.specs.Faults.{found_of}
 use Rattle.ps_text.specs.declared.faults.Fault.TheVariants.{Text, OutOfMemory}
 use Rattle.ps_text.proofs.Laws.{Joint}
-use Rattle.ps_text.proofs.Simple.{same_some, none_is_some}
+use Rattle.ps_text.proofs.Simple.{same_some}
 use Rattle.ps_text.proofs.Covered.{Avoids}
 use Rattle.ps_text.proofs.Exits.{reads_mapped, reads_then, stops_mapped, stops_first, stops_behind, carries_start}
 use Rattle.ps_text.proofs.Exits.{carries_then}
-use Rattle.ps_text.proofs.Branches.{Stands, right_otherwise, reads_as, stops_as_well}
+use Rattle.ps_text.proofs.Branches.{Stands, left_otherwise, right_otherwise, reads_as, stops_as_well}
 use Rattle.ps_text.proofs.Whole.{answers_ok, answers_fault, answers_trailing}
 use Rattle.ps_certificate.specs.declared.fault.CertCause.{CertCause}
 use Rattle.ps_certificate.specs.declared.fault.CertCause.TheVariants.{Syntax}
 use Rattle.ps_certificate.specs.Faults.{CertFault}
 use Rattle.ps_certificate.specs.Certificates.{EntryData, CertificateData}
-use Rattle.ps_certificate.specs.Places.{Place}
 use Rattle.ps_certificate.specs.Words.{first_word, vertices_word, odd_word, even_word}
-use Rattle.ps_certificate.specs.Reading.{at_place, comes, step_of, all_entries, TellsHead, TellsEntries}
-use Rattle.ps_certificate.specs.Texts.{Seen, Field, pieces_at, stream_at, causes, byte, word, number, priorities}
-use Rattle.ps_certificate.specs.Texts.{winner, vertex_of, choice, counts_in, lost_by, entry, entries, version}
-use Rattle.ps_certificate.specs.Texts.{certificate}
+use Rattle.ps_certificate.specs.Reading.{all_entries, TellsHead, TellsEntries}
+use Rattle.ps_text.specs.Bytes.{Seen, pieces_at, stream_at, byte, word}
+use Rattle.ps_certificate.specs.Texts.{Field, causes, number, priorities, winner, vertex_of, choice, counts_in, lost_by}
+use Rattle.ps_certificate.specs.Texts.{entry, entries, version, certificate}
 use Rattle.ps_certificate.proofs.NumberPart.{AtDigit, laws_number}
-use Rattle.ps_certificate.proofs.TextLaws.{tight_joint, loose_joint, laws_byte, laws_word_from, laws_priorities}
-use Rattle.ps_certificate.proofs.TextLaws.{chosen, laws_dash, laws_chosen, laws_choice, laws_space, laws_winner}
-use Rattle.ps_certificate.proofs.TextLaws.{entry_counts, laws_entry_counts, laws_entry_choice, laws_entry_winner}
-use Rattle.ps_certificate.proofs.TextLaws.{laws_entry_rest, laws_all_entries, laws_even, laws_even_word, laws_odd}
-use Rattle.ps_certificate.proofs.TextLaws.{behind_count, laws_behind_count, laws_count, laws_vertices_word}
-use Rattle.ps_certificate.proofs.TextLaws.{laws_version, behind_version, laws_from_version, laws_certificate}
-use Rattle.ps_certificate.proofs.Steps.{avoids, byte_reads}
+use Rattle.ps_text.proofs.Bytes.Single.{laws_byte, laws_word_from, avoids, byte_reads}
+use Rattle.ps_certificate.proofs.TextLaws.{tight_joint, loose_joint, laws_priorities, chosen, laws_dash, laws_chosen}
+use Rattle.ps_certificate.proofs.TextLaws.{laws_choice, laws_space, laws_winner, entry_counts, laws_entry_counts}
+use Rattle.ps_certificate.proofs.TextLaws.{laws_entry_choice, laws_entry_winner, laws_entry_rest, laws_all_entries}
+use Rattle.ps_certificate.proofs.TextLaws.{laws_even, laws_even_word, laws_odd, behind_count, laws_behind_count}
+use Rattle.ps_certificate.proofs.TextLaws.{laws_count, laws_vertices_word, laws_version, behind_version}
+use Rattle.ps_certificate.proofs.TextLaws.{laws_from_version, laws_certificate}
 
 -- ## Moves
 
-avoids_digit : (place : Place) → comes 45 place.rest ≡ true → Avoids AtDigit (next_of (at_place place))
-avoids_digit place e = search (rules, Avoids, AtDigit, none_is_some, same_some, eqb-true)
+avoids_digit : (old : Stream Seen) → next_byte old ≡ Some 45 → Avoids AtDigit (next_of old)
+avoids_digit old e t n d =
+    let dash : t.byte ≡ 45 = same_some t.byte 45 (sym (ap (option_map (λ (s : Seen). s.byte)) n) ∙ e) in
+    omega (arith, dash, d.0)
 
-module _ (ids : List ℕ) (old : Place) where
-  abbrev unknown : ℕ → Type 0
-  unknown id = ¬ Contains ids id
+module _ (ids : List ℕ) (old : Stream Seen) where
+  pub choice_dash : next_byte old ≡ Some 45 → {new : Stream Seen} → new ≡ tail old → Reads (choice ids) old None new
+  choice_dash h {new} next = reads_as (left_otherwise laws_dash (laws_chosen ids) (next_of old) (avoids_digit old h)
+      (λ z. z)) (reads_mapped (λ _. None) (byte_reads h next))
 
-  pub choice_dash : comes 45 old.rest ≡ true → {new : Place} → new ≡ step_of old
-      → Reads (choice ids) (at_place old) None (at_place new)
-  choice_dash h {new} next = grind (arith, laws_chosen ids, avoids_digit old h, byte_reads 45 old h next)
+  no_dash : (next_byte old ≡ Some 45 → ⊥) → Stands (next_of old) (chosen ids) (choice ids)
+  no_dash h = right_otherwise laws_dash (laws_chosen ids) (next_of old) (avoids 45 old h) (λ z. z)
 
-  no_dash : comes 45 old.rest ≡ false → Stands (next_of (at_place old)) (chosen ids) (choice ids)
-  no_dash h = right_otherwise laws_dash (laws_chosen ids) (next_of (at_place old)) (avoids 45 old h) (λ z. z)
-
-  pub choice_fails : comes 45 old.rest ≡ false → (o : Option (Found CertCause))
-      → Stops causes (number (λ id. ¬ Contains ids id)) (at_place old) o → Stops causes (choice ids) (at_place old) o
+  pub choice_fails : (next_byte old ≡ Some 45 → ⊥) → (o : Option (Found CertCause)) →
+      Stops causes (number (λ id. ¬ Contains ids id)) old o → Stops causes (choice ids) old o
   choice_fails h o m = search (rules, stops_as_well, chosen, no_dash, stops_mapped, m)
 
-  pub choice_reads : comes 45 old.rest ≡ false → {id : ℕ} (new : Place) {v : Option ℕ}
-      → Reads (number (λ id. ¬ Contains ids id)) (at_place old) id (at_place new) → v ≡ vertex_of ids id
-      → Reads (choice ids) (at_place old) v (at_place new)
-  choice_reads h new {v} m e = reads_as {P = chosen ids} {Q = choice ids} {old = at_place old} {new = at_place new}
-      {v = v} (no_dash h) (grind (arith, reads_mapped, m))
+  pub choice_reads : (next_byte old ≡ Some 45 → ⊥) → {id : ℕ} {new : Stream Seen} {v : Option ℕ} →
+      Reads (number (λ id. ¬ Contains ids id)) old id new → v ≡ vertex_of ids id → Reads (choice ids) old v new
+  choice_reads h {new = new} m e = subst (λ v. Reads (choice ids) old v new) (sym e)
+      (reads_as (no_dash h) (reads_mapped (vertex_of ids) m))
 
 -- the place of an id is its vertex
 first_same : (id : ℕ) (ids : List ℕ) → prefix_len (λ other. not (eqb id other)) ids ≡ prefix_len
@@ -119,7 +117,7 @@ module _ (compact : Bool) (odd even ids : List ℕ) where
           → Stops causes (entry compact odd even ids id) old o
       at_first_space o m = to1 o (stops_first causes joint_space s1 o m)
 
-      module _ (s2 : Stream Seen) (m2 : Reads (byte 32) s1 tt s2) where
+      module _ (s2 : Stream Seen) (m2 : Reads {F = CertCause} (byte 32) s1 tt s2) where
         to2 : (o : Option (Found CertCause)) → Stops causes behind_space s2 o
             → Stops causes (entry compact odd even ids id) old o
         to2 o m = to1 o (stops_behind causes joint_space m2 o m)
@@ -137,7 +135,7 @@ module _ (compact : Bool) (odd even ids : List ℕ) where
               → Stops causes (entry compact odd even ids id) old o
           at_second_space o m = to3 o (stops_first causes (joint_second w) s3 o m)
 
-          module _ (s4 : Stream Seen) (m4 : Reads (byte 32) s3 tt s4) where
+          module _ (s4 : Stream Seen) (m4 : Reads {F = CertCause} (byte 32) s3 tt s4) where
             to4 : (o : Option (Found CertCause)) → Stops causes (then_by (choice ids)
                 (entry_counts compact odd even ids w)) s4 o → Stops causes (entry compact odd even ids id) old o
             to4 o m = to3 o (stops_behind causes (joint_second w) m4 o m)
@@ -201,7 +199,7 @@ module _ (odd even ids : List ℕ) where
     pub at_first_word : (o : Option (Found CertCause)) → Stops causes (word first_word) old o → Stops causes whole old o
     at_first_word o m = stops_first causes joint_first old o m
 
-    module _ (s1 : Stream Seen) (m1 : Reads (word first_word) old tt s1) where
+    module _ (s1 : Stream Seen) (m1 : Reads {F = CertCause} (word first_word) old tt s1) where
       k1 : Carries causes whole old (then_by version (behind_version odd even ids)) s1
       k1 = carries_then causes joint_first (carries_start causes whole old) m1
 
@@ -216,7 +214,7 @@ module _ (odd even ids : List ℕ) where
             → Stops causes whole old o
         at_vertices o m = k2 (Err o) s2 (stops_first causes (joint_vertices compact) s2 o m)
 
-        module _ (s3 : Stream Seen) (m3 : Reads (word vertices_word) s2 tt s3) where
+        module _ (s3 : Stream Seen) (m3 : Reads {F = CertCause} (word vertices_word) s2 tt s3) where
           k3 : Carries causes whole old (then_by (number other) (λ _. behind_count compact odd even ids)) s3
           k3 = carries_then causes (joint_vertices compact) k2 m3
 
@@ -235,7 +233,7 @@ module _ (odd even ids : List ℕ) where
                 → Stops causes whole old o
             at_odd_word o m = k4 (Err o) s4 (stops_first causes (joint_odd_word compact) s4 o m)
 
-            module _ (s5 : Stream Seen) (m5 : Reads (word odd_word) s4 tt s5) where
+            module _ (s5 : Stream Seen) (m5 : Reads {F = CertCause} (word odd_word) s4 tt s5) where
               k5 : Carries causes whole old (then_by (priorities odd) (λ _. behind_odd compact)) s5
               k5 = carries_then causes (joint_odd_word compact) k4 m5
 
@@ -251,7 +249,7 @@ module _ (odd even ids : List ℕ) where
                     → Stops causes whole old o
                 at_even_word o m = k6 (Err o) s6 (stops_first causes (joint_even_word compact) s6 o m)
 
-                module _ (s7 : Stream Seen) (m7 : Reads (word even_word) s6 tt s7) (qs : List ℕ)
+                module _ (s7 : Stream Seen) (m7 : Reads {F = CertCause} (word even_word) s6 tt s7) (qs : List ℕ)
                     (also : qs ≡ even) where
                   k7 : Carries causes whole old (then_by (priorities even) (λ _. all_entries compact odd even ids)) s7
                   k7 = carries_then causes (joint_even_word compact) k6 m7
@@ -266,8 +264,8 @@ module _ (odd even ids : List ℕ) where
 
   -- ## The text
 
-  pub head_fails : (old new : Place) (e : CertFault) (r : Result Bool CertFault)
-      → Stops causes whole (at_place old) (found_of e) → IsErrAnd r (λ y. y ≡ e) → TellsHead odd even ids old r new
+  pub head_fails : (old new : Stream Seen) (e : CertFault) (r : Result Bool CertFault)
+      → Stops causes whole old (found_of e) → IsErrAnd r (λ y. y ≡ e) → TellsHead odd even ids old r new
   head_fails old new e r s i = search (rules, err_from_is_err_and)
 
   -- the lines of the vertices, behind what stands before them
@@ -284,38 +282,38 @@ module _ (odd even ids : List ℕ) where
         → Reads whole start (with_lists es) new
     lines_read {es} {new} m = k (Ok (with_lists es)) new (grind arith)
 
-  module _ (text : List ℕ) (start : Place) (first : start ≡ record { at = 0; rest = text }) where
-    text_stops : (e : CertFault) → Stops causes whole (at_place start) (found_of e)
-        → TellsEntries odd even ids text (Err e)
-    text_stops e s = go e (subst (λ (q : Place). Stops causes whole (at_place q) (found_of e)) first s)
+  module _ (text : List ℕ) (start : Stream Seen) (first : start ≡ stream_at 0 text) where
+    text_stops : (e : CertFault) → Stops causes whole start (found_of e) → TellsEntries odd even ids text (Err e)
+    text_stops e s = go e (subst (λ q. Stops causes whole q (found_of e)) first s)
       where
-        go : (e : CertFault) → Stops causes whole (stream_at 0 text) (found_of e)
-            → TellsEntries odd even ids text (Err e)
+        go : (e : CertFault) → Stops causes whole (stream_at 0 text) (found_of e) →
+            TellsEntries odd even ids text (Err e)
         go (Text cause offset) s = answers_fault (laws_certificate odd even ids) (stream_at 0 text) _ s
         go OutOfMemory s = tt
 
-    pub text_fails : (e : CertFault) (r : Result (List EntryData) CertFault)
-        → Stops causes whole (at_place start) (found_of e) → IsErrAnd r (λ y. y ≡ e) → TellsEntries odd even ids text r
+    pub text_fails : (e : CertFault) (r : Result (List EntryData) CertFault) →
+        Stops causes whole start (found_of e) → IsErrAnd r (λ y. y ≡ e) → TellsEntries odd even ids text r
     text_fails e r s i = search (rules, err_from_is_err_and, text_stops)
 
-    module _ (c : CertificateData) (end : Place) (read : Reads whole (at_place start) c (at_place end)) where
-      m : Reads whole (stream_at 0 text) c (at_place end)
-      m = subst (λ (q : Place). Reads whole (at_place q) c (at_place end)) first read
+    module _ (c : CertificateData) (end : Stream Seen) (read : Reads whole start c end) where
+      m : Reads whole (stream_at 0 text) c end
+      m = subst (λ q. Reads whole q c end) first read
 
-      pub text_reads : length end.rest ≡ 0 → PartAnswers causes whole (stream_at 0 text) (Ok c)
-      text_reads e = go end.rest refl
+      pub text_reads : length end.pieces ≡ 0 → PartAnswers causes whole (stream_at 0 text) (Ok c)
+      text_reads e = go end.pieces refl
         where
-          go : (rest : List ℕ) → end.rest ≡ rest → PartAnswers causes whole (stream_at 0 text) (Ok c)
-          go [] h = answers_ok (laws_certificate odd even ids) (stream_at 0 text) c (grind arith)
-          go (b ∷ rest) h = absurd (omega (arith, e, ap length h))
+          go : (ps : List (Piece Seen)) → end.pieces ≡ ps → PartAnswers causes whole (stream_at 0 text) (Ok c)
+          go [] h = answers_ok (laws_certificate odd even ids) (stream_at 0 text) c
+              (subst (λ ps. IsRead whole (signs (pieces_at 0 text)) c (signs ps)) h m.1)
+          go (p ∷ ps) h = absurd (omega (arith, e, ap length h))
 
-      pub text_trails : {e : CertFault} → (length end.rest ≡ 0 → ⊥) → e ≡ Text Syntax end.at
-          → TellsEntries odd even ids text (Err e)
-      text_trails more is = subst (λ x. TellsEntries odd even ids text (Err x)) (sym is) (go end.rest refl)
+      pub text_trails : {e : CertFault} → (length end.pieces ≡ 0 → ⊥) → e ≡ Text Syntax (place_of end) →
+          TellsEntries odd even ids text (Err e)
+      text_trails more is = subst (λ x. TellsEntries odd even ids text (Err x)) (sym is) (go end.pieces refl)
         where
-          go : (rest : List ℕ) → end.rest ≡ rest → PartAnswers causes whole (stream_at 0 text)
-              (Err (record { cause = Syntax; offset = end.at }))
+          go : (ps : List (Piece Seen)) → end.pieces ≡ ps → PartAnswers causes whole (stream_at 0 text)
+              (Err (record { cause = Syntax; offset = place_of end }))
           go [] h = absurd (more (ap length h))
-          go (b ∷ rest) h = answers_trailing (laws_certificate odd even ids)
-              (stream_at 0 text) (at_place end) c (record { sign = record { byte = b; behind = rest }; start = end.at })
-              (pieces_at (end.at + 1) rest) m.0 m.1 (ap (pieces_at end.at) h)
+          go (p ∷ ps) h = subst (λ o. PartAnswers causes whole (stream_at 0 text)
+              (Err (record { cause = Syntax; offset = o }))) (sym (ap (λ qs. offset_of qs end.end) h))
+              (answers_trailing (laws_certificate odd even ids) (stream_at 0 text) end c p ps m.0 m.1 h)

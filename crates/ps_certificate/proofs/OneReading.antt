@@ -12,7 +12,8 @@ use Rattle.ps_certificate.specs.declared.fault.CertCause.{CertCause}
 use Rattle.ps_certificate.specs.Faults.{cause_number}
 use Rattle.ps_game.specs.Ranking.{ListsPriorities, HasPriority}
 use Rattle.ps_certificate.specs.Certificates.{CertificateData}
-use Rattle.ps_certificate.specs.Texts.{stream_at, causes, certificate, ReadsCertificate}
+use Rattle.ps_text.specs.Bytes.{stream_at}
+use Rattle.ps_certificate.specs.Texts.{causes, certificate, ReadsCertificate}
 use Rattle.ps_certificate.proofs.TextLaws.{laws_certificate}
 
 -- each number is below all that follow it

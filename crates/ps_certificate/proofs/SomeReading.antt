@@ -22,18 +22,20 @@ use Rattle.ps_certificate.specs.Faults.{cause_number}
 use Rattle.ps_certificate.specs.Certificates.{EntryData, CertificateData}
 use Rattle.ps_certificate.specs.Pairs.{Pairs, no_pairs, with_pair, DoesNotRise}
 use Rattle.ps_certificate.specs.Reading.{numeral}
-use Rattle.ps_certificate.specs.Texts.{Seen, causes, Field, take_byte, byte, word, take_two, two, EndsField, Verdict}
-use Rattle.ps_certificate.specs.Texts.{judged, OfOtherGame, number, Never, NotNext, priority, IsMissing, priorities}
-use Rattle.ps_certificate.specs.Texts.{choice, counts, WrongPriority, IsZero, pair, counts_in}
-use Rattle.ps_certificate.specs.Texts.{entry, entries, certificate, stream_at, ReadsCertificate}
+use Rattle.ps_text.specs.Bytes.{Seen, take_byte, byte, word, stream_at}
+use Rattle.ps_certificate.specs.Texts.{causes, Field, take_two, two, EndsField, Verdict, judged, OfOtherGame, number}
+use Rattle.ps_certificate.specs.Texts.{Never, NotNext, priority, IsMissing, priorities, choice, counts, WrongPriority}
+use Rattle.ps_certificate.specs.Texts.{IsZero, pair, counts_in, entry, entries, certificate, ReadsCertificate}
 use Rattle.ps_certificate.specs.Words.{first_word, vertices_word, odd_word}
+use Rattle.ps_text.proofs.Bytes.Single as bytes
+use Rattle.ps_text.proofs.Bytes.Single.{seen as sign, byte_taken, Any}
 use Rattle.ps_certificate.proofs.NumberPart.{Odd, Settled, IsWrongRun, run_length, settled_other, nothing_there}
 use Rattle.ps_certificate.proofs.NumberPart.{too_large, wrong_number, at_front, number_read, settled_zero}
 use Rattle.ps_certificate.proofs.NumberPart.{settled_priority}
-use Rattle.ps_certificate.proofs.TextLaws.{Any, tight_joint, byte_taken, first_taken, laws_byte, laws_word}
-use Rattle.ps_certificate.proofs.TextLaws.{laws_priority, digit_no_space, joint_priorities, laws_dash, laws_chosen}
-use Rattle.ps_certificate.proofs.TextLaws.{dash_no_digit, joint_pair, joint_colon, joint_priority, laws_pair}
-use Rattle.ps_certificate.proofs.TextLaws.{joint_pairs, laws_entry, laws_entries, laws_certificate}
+use Rattle.ps_certificate.proofs.TextLaws.{tight_joint, first_taken, laws_priority, digit_no_space, joint_priorities}
+use Rattle.ps_certificate.proofs.TextLaws.{laws_dash, laws_chosen, dash_no_digit, joint_pair, joint_colon}
+use Rattle.ps_certificate.proofs.TextLaws.{joint_priority, laws_pair, joint_pairs, laws_entry, laws_entries}
+use Rattle.ps_certificate.proofs.TextLaws.{laws_certificate}
 use Rattle.ps_certificate.proofs.Loops.{joint_listed, joint_counts, joint_count}
 use Rattle.ps_certificate.proofs.EntrySteps.{joint_id, joint_space, joint_winner, joint_second, joint_choice}
 use Rattle.ps_certificate.proofs.EntrySteps.{joint_first, joint_version, joint_vertices, joint_number, joint_odd_word}
@@ -69,18 +71,18 @@ module _ (Wrong : Verdict) (settled : Settled Wrong) where
       small_number : 0 < run_length seen → value < 2 ^ 64 →
           Judged cause_number (Wrong (drop (run_length seen) seen) value) → Outcome causes (judged Wrong) (t ∷ after)
       small_number long small (bad f b least) =
-          here (t ∷ after) f (wrong_number settled 0 seen long refl small refl b least)
+          here (t ∷ after) f (wrong_number settled t.at seen long refl small refl b least)
       small_number long small (good right) =
           was_read _ _ (number_read Wrong settled t after long (none_wrong small right))
 
       some_number : 0 < run_length seen → (value < 2 ^ 64) ⊎ (2 ^ 64 ≤ value) →
           Outcome causes (judged Wrong) (t ∷ after)
       some_number long (inl small) = small_number long small (judge (drop (run_length seen) seen) value)
-      some_number long (inr large) = here (t ∷ after) Syntax (too_large Wrong 0 seen long large)
+      some_number long (inr large) = here (t ∷ after) Syntax (too_large Wrong t.at seen long large)
 
       first_sign : (0 < run_length seen) ⊎ (run_length seen ≤ 0) → Outcome causes (judged Wrong) (t ∷ after)
       first_sign (inl long) = some_number long (cases_lt value (2 ^ 64))
-      first_sign (inr none) = here (t ∷ after) Syntax (nothing_there Wrong 0 seen (no_length (numeral seen) none))
+      first_sign (inr none) = here (t ∷ after) Syntax (nothing_there Wrong t.at seen (no_length (numeral seen) none))
 
     pub has_judged : Has (judged Wrong)
     has_judged = record { outcome = go }
@@ -129,18 +131,14 @@ judge_missing left s = judge_as cause_number (λ f h. (h.0.0, h.0.1, h.1)) (λ f
 
 -- ## The parts of the grammar, in its order
 
-abbrev sign_of : ℕ → Seen
-sign_of b = record { byte = b; behind = [] }
-
 has_byte : (b : ℕ) → Has (byte b)
-has_byte b = has_one causes (take_byte b) NoBad (sign_of b) tt (byte_taken (sign_of b) refl) (λ t. good (λ f h. h))
+has_byte = bytes.has_byte cause_number Syntax
 
 has_word : (bytes : List ℕ) → Has (word bytes)
-has_word [] = has_give causes tt
-has_word (b ∷ bytes) = has_then causes (grind (arith, laws_byte b, laws_word bytes)) (has_byte b) (λ _. has_word bytes)
+has_word = bytes.has_word cause_number Syntax
 
 has_two : {V : Type 0} (a b : ℕ) (v w : V) → Has (two a b v w)
-has_two a b v w = has_one causes (take_two a b v w) NoBad (sign_of a) v (first_taken b w (sign_of a) refl)
+has_two a b v w = has_one causes (take_two a b v w) NoBad (sign a) v (first_taken b w (sign a) refl)
     (λ t. good (λ f h. h))
 
 has_number : (Wrong : ℕ → Type 0) → ((n : ℕ) → Decided (Wrong n)) → Has (number Wrong)
@@ -152,7 +150,7 @@ has_priority ps = search (rules, has_then, joint_listed, has_byte, has_mapped, h
 has_priorities : (ps : List ℕ) → Has (priorities ps)
 has_priorities ps = has_then causes (joint_priorities ps)
     (has_many causes priority laws_priority digit_no_space has_priority ps) (λ left. has_one causes
-    (take_byte 10) (IsMissing left) (sign_of 10) tt (byte_taken (sign_of 10) refl) (judge_missing left))
+    (take_byte 10) (IsMissing left) (sign 10) tt (byte_taken (sign 10) refl) (judge_missing left))
 
 has_choice : (ids : List ℕ) → Has (choice ids)
 has_choice ids = has_either causes laws_dash (laws_chosen ids) dash_no_digit (has_mapped causes (λ _. None) (byte 45)

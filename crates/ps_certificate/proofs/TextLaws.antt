@@ -5,7 +5,7 @@ use Rattle.std.proofs.Common.{◌≡◌, ℕ, zero, suc, ◌⊎◌, Bool, true, 
 use Rattle.std.proofs.Common.{Some, None, refl, ap, inl, inr, ⊎_elim, arith, rules}
 use Rattle.std.specs.Prelude.{codes, map}
 use Rattle.std.specs.List.{Contains}
-use Rattle.std.proofs.lemmas.Bool.{eqb-true, eq-eqb}
+use Rattle.std.proofs.lemmas.Bool.{eq-eqb, ne_eqb}
 use Rattle.ps_text.specs.Parts.{NoBad, one, then_by, many, mapped}
 use Rattle.ps_text.proofs.Laws.{Laws, Joint, Nothing, Or, When, Apart, weaker}
 use Rattle.ps_text.proofs.Joined.{joint}
@@ -13,24 +13,18 @@ use Rattle.ps_text.proofs.Simple.{none_is_some, Taken, BadSign, laws_give, laws_
 use Rattle.ps_text.proofs.Following.{laws_next, laws_tight}
 use Rattle.ps_text.proofs.Covered.{laws_either}
 use Rattle.ps_text.proofs.Repeated.{laws_many}
-use Rattle.ps_certificate.specs.declared.fault.CertCause.{CertCause}
 use Rattle.ps_certificate.specs.Certificates.{EntryData, CertificateData}
 use Rattle.ps_certificate.specs.Pairs.{Pairs, no_pairs, with_pair}
 use Rattle.ps_certificate.specs.Words.{vertices_word, odd_word, even_word}
 use Rattle.ps_certificate.specs.Reading.{all_entries}
-use Rattle.ps_certificate.specs.Texts.{Seen, Field, take_byte, take_two, byte, two, word, judged, number, Never}
-use Rattle.ps_certificate.specs.Texts.{NotNext, priority, IsMissing, priorities, winner, vertex_of, choice, counts}
-use Rattle.ps_certificate.specs.Texts.{WrongPriority, IsZero, pair, counts_in, lost_by, entry, entries, version}
-use Rattle.ps_certificate.specs.Texts.{certificate}
+use Rattle.ps_text.specs.Bytes.{Seen, take_byte, byte, word}
+use Rattle.ps_certificate.specs.Texts.{Field, take_two, two, judged, number, Never, NotNext, priority, IsMissing}
+use Rattle.ps_certificate.specs.Texts.{priorities, winner, vertex_of, choice, counts, WrongPriority, IsZero, pair}
+use Rattle.ps_certificate.specs.Texts.{counts_in, lost_by, entry, entries, version, certificate}
+use Rattle.ps_text.proofs.Bytes.Single.{At, Any, seen, byte_taken, taken_byte, laws_byte, laws_word_from}
 use Rattle.ps_certificate.proofs.NumberPart.{Odd, AtDigit, laws_judged, laws_number}
 
 -- ## Sets of signs
-
-abbrev pub At : ℕ → Seen → Type 0
-At b s = s.byte ≡ b
-
-abbrev pub Any : Seen → Type 0
-Any s = Unit {0}
 
 abbrev pub Separates : Seen → Type 0
 Separates s = (s.byte ≡ 32) ⊎ (s.byte ≡ 10)
@@ -62,33 +56,17 @@ module _ {A B : Type 0} {P : Field A} {Q : A → Field B} {First : Seen → Type
 
 -- ## Bytes
 
-pub byte_taken : {b : ℕ} (s : Seen) → s.byte ≡ b → take_byte b s ≡ Some tt
-byte_taken {b} s e = ap (λ x. cond x (Some tt) None) (eq-eqb s.byte b e)
-
-pub taken_byte : {b : ℕ} (s : Seen) {u : Unit {0}} → take_byte b s ≡ Some u → s.byte ≡ b
-taken_byte {b} s {u} e = search (rules, eqb-true)
-
-pub laws_byte : (b : ℕ) → Laws Odd (byte b) (At b) Nothing ⊥
-laws_byte b = weaker (laws_one (take_byte b) NoBad Odd (record { byte = b; behind = [] }) tt (grind (arith, byte_taken))
-    (grind (arith, not_odd (Taken (take_byte b)))) (not_odd (BadSign NoBad))) first (λ t h. h) (λ n. n)
-  where
-    first : (t : Seen) → Or (Taken (take_byte b)) (BadSign {F = CertCause} NoBad) t → At b t
-    first t h = grind (arith, taken_byte)
-
 pub first_taken : {V : Type 0} {a : ℕ} (b : ℕ) {v : V} (w : V) (s : Seen) → s.byte ≡ a → take_two a b v w s ≡ Some v
 first_taken {a} b {v} w s e = ap (λ x. cond x (Some v) (cond (eqb s.byte b) (Some w) None)) (eq-eqb s.byte a e)
 
+pub second_taken : {V : Type 0} (a : ℕ) {b : ℕ} (v : V) {w : V} (s : Seen) → (a ≡ b → ⊥) → s.byte ≡ b →
+    take_two a b v w s ≡ Some w
+second_taken a v s other e = search (rules, ne_eqb, eq-eqb)
+
 pub laws_two : {V : Type 0} (a b : ℕ) (v w : V) → Laws Odd (two a b v w) Any Nothing ⊥
 laws_two a b v w = let sign : Seen =
-    record { byte = a; behind = [] } in weaker (laws_one (take_two a b v w) NoBad Odd sign v (first_taken b w sign refl)
+    seen a in weaker (laws_one (take_two a b v w) NoBad Odd sign v (first_taken b w sign refl)
     (not_odd (Taken (take_two a b v w))) (not_odd (BadSign NoBad))) (λ t h. tt) (λ t h. h) (λ n. n)
-
-pub laws_word : (bytes : List ℕ) → Laws Odd (word bytes) Any Nothing (Unit {0})
-laws_word [] = weaker (laws_give Odd tt) (λ t h. tt) (λ t h. h) (λ n. n)
-laws_word (b ∷ bytes) = weaker (tight_then (laws_byte b) (λ _. laws_word bytes)) (λ t h. tt) (λ t h. h) (λ n. tt)
-
-pub laws_word_from : (b : ℕ) (bytes : List ℕ) → Laws Odd (word (b ∷ bytes)) (At b) Nothing ⊥
-laws_word_from b bytes = tight_then (laws_byte b) (λ _. laws_word bytes)
 
 pub laws_space : {B : Type 0} {Q : Unit {0} → Field B} {First More : Seen → Type 0} {Null : Type 0} →
     ((u : Unit {0}) → Laws Odd (Q u) First More Null) → Laws Odd (then_by (byte 32) Q) Separates More ⊥
@@ -104,8 +82,8 @@ pub digit_no_space : Apart AtDigit (At 32)
 digit_no_space t d e = omega (arith, e, d.0)
 
 pub laws_newline : (left : List ℕ) → Laws Odd (one (take_byte 10) (IsMissing left)) (At 10) Nothing ⊥
-laws_newline left = weaker (laws_one (take_byte 10) (IsMissing left) Odd (record { byte = 10; behind = [] }) tt
-    (byte_taken (record { byte = 10; behind = [] }) refl) (not_odd (Taken (take_byte 10)))
+laws_newline left = weaker (laws_one (take_byte 10) (IsMissing left) Odd (seen 10) tt
+    (byte_taken (seen 10) refl) (not_odd (Taken (take_byte 10)))
     (not_odd (BadSign (IsMissing left)))) first (λ t h. h) (λ n. n)
   where
     first : (t : Seen) → Or (Taken (take_byte 10)) (BadSign (IsMissing left)) t → At 10 t

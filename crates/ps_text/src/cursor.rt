@@ -61,6 +61,7 @@ fn digits_of(text: &[u8]) -> (usize, Option<u64>)
     ensures length { result.0 ≡ prefix_len is_digit text.now }
     ensures within { result.0 ≤ length text.now }
     ensures value { IfSome result.1 (λ value. value ≡ decimal_value (take_while is_ascii_digit text.now)) }
+    ensures small { IfSome result.1 (λ value. value < 2 ^ 64) }
     ensures large { IfNone result.1 (2 ^ 64 ≤ decimal_value (take_while is_ascii_digit text.now)) }
 {
     match leading_number(text) {
@@ -225,6 +226,7 @@ impl<'a> Cursor<'a> {
     pub fn digits(&mut self) -> Digits<'a>
         ensures passes { Passes is_digit self.old self.new result.bytes.now }
         ensures value { IfSome result.value (λ value. value ≡ decimal_value result.bytes.now) }
+        ensures small { IfSome result.value (λ value. value < 2 ^ 64) }
         ensures large { IfNone result.value (2 ^ 64 ≤ decimal_value result.bytes.now) }
     {
         let (count, value) = digits_of(self.rest);

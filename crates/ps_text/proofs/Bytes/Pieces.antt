@@ -3,9 +3,11 @@
 --     pieces_with at bytes rest      the pieces of bytes, where rest stands behind them
 --     pieces_split      the pieces of bytes, and then those of the rest
 --     next_at, first_sees      what comes next, and what it sees
-use Rattle.std.proofs.Common.{◌≡◌, ℕ, suc, ◌+◌, ◌<◌, List, [], ◌∷◌, ◌++◌, length, refl, ap, arith, rules}
-use Rattle.ps_text.specs.Answers.{Piece, signs}
+use Rattle.std.proofs.Common.{◌≡◌, ℕ, suc, ◌+◌, ◌<◌, List, [], ◌∷◌, ◌++◌, length, refl, ap, ◌∙◌, arith, rules}
+use Rattle.std.specs.Option.{option_map}
+use Rattle.ps_text.specs.Answers.{Piece, Stream, signs, first_of}
 use Rattle.ps_text.specs.Bytes.{Seen, pieces_at, bytes_of, first_at}
+use Rattle.ps_text.specs.Cursors.{next_byte}
 use Rattle.ps_text.proofs.Splits.{same_head}
 use Rattle.ps_text.proofs.Simple.{nil_is_cons}
 
@@ -42,6 +44,15 @@ first_with (b ∷ bytes) rest h = refl
 pub length_with : (at : ℕ) (bytes rest : List ℕ) → 0 < length bytes → 0 < length (signs (pieces_with at bytes rest))
 length_with at [] rest h = absurd (omega arith)
 length_with at (b ∷ bytes) rest h = omega arith
+
+-- the byte that comes next
+pub next_at : (s : Stream Seen) (at : ℕ) (bytes : List ℕ) → s.pieces ≡ pieces_at at bytes → next_byte s ≡ first_of bytes
+next_at s at bytes e = ap (λ ps. option_map (λ (t : Seen). t.byte) (first_of (signs ps))) e ∙ go bytes
+  where
+    go : (bytes : List ℕ) →
+        option_map (λ (t : Seen). t.byte) (first_of (signs (pieces_at at bytes))) ≡ first_of bytes
+    go [] = refl
+    go (b ∷ bytes) = refl
 
 -- the first sign sees the bytes
 pub first_sees : (at : ℕ) (bytes : List ℕ) (t : Seen) (rest : List Seen) → signs (pieces_at at bytes) ≡ t ∷ rest →
