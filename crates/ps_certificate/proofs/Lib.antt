@@ -16,6 +16,8 @@ pub mod SomeReading
 pub mod PairLoops
 pub mod PairSteps
 pub mod Steps
+pub mod Lawful
+pub mod NumberOutcomes
 pub mod TextLaws
 pub mod Windows
 pub mod Rereading

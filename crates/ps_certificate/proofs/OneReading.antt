@@ -14,7 +14,7 @@ use Rattle.ps_game.specs.Ranking.{ListsPriorities, HasPriority}
 use Rattle.ps_certificate.specs.Certificates.{CertificateData}
 use Rattle.ps_text.specs.Bytes.{stream_at}
 use Rattle.ps_certificate.specs.Texts.{causes, certificate, ReadsCertificate}
-use Rattle.ps_certificate.proofs.TextLaws.{laws_certificate}
+use Rattle.ps_certificate.proofs.TextLaws.{lawful_certificate}
 
 -- each number is below all that follow it
 abbrev pub Rises : List ℕ → Type 0
@@ -74,5 +74,6 @@ pub one_reading : (game : NamedGameData) (text : List ℕ) (answer other : Resul
     ReadsCertificate game text answer → ReadsCertificate game text other → answer ≡ other
 one_reading game text answer other a b =
     has_one_answer (certificate a.odd a.even game.ids).IsText (IsWrong causes (certificate a.odd a.even game.ids))
-    cause_number (laws_certificate a.odd a.even game.ids).one_value numbered (stream_at 0 text) answer other a.answers
+    cause_number (lawful_certificate a.odd a.even game.ids).laws.one_value numbered (stream_at 0 text) answer
+        other a.answers
     (grind (arith, one_list b.odd_listed a.odd_listed, one_list b.even_listed a.even_listed))

@@ -20,8 +20,8 @@ use Rattle.ps_certificate.specs.declared.fault.CertCause.{CertCause}
 use Rattle.ps_certificate.specs.Pairs.{Pairs, no_pairs, with_pair}
 use Rattle.ps_text.specs.Bytes.{Seen, byte}
 use Rattle.ps_certificate.specs.Texts.{causes, pair, counts_in}
+use Rattle.ps_certificate.proofs.TextLaws.{digit_no_space, behind_space, laws_pair, chain_pair, chain_pairs}
 use Rattle.ps_certificate.proofs.OneReading.{Rises, rises}
-use Rattle.ps_certificate.proofs.TextLaws.{digit_no_space, behind_space, laws_pair, joint_pair, joint_pairs}
 use Rattle.ps_text.proofs.Bytes.Single.{avoids, enters_byte}
 
 -- ## A count that is put into its place
@@ -87,10 +87,10 @@ module _ (ps : List ℕ) (start : Stream Seen) (now : Stream Seen) (last : Optio
 
   pub pair_fails : next_byte now ≡ Some 32 → (o : Option (Found CertCause)) → ((pairs : Pairs) →
       pairs.last ≡ last → Stops causes (pair ps pairs) now o) → Stops causes (counts_in true ps) start o
-  pair_fails h o m = stops_first causes (joint_pairs ps) start o (carries_stops causes (many (pair ps) no_pairs)
+  pair_fails h o m = stops_first causes (chain_pairs ps).joint start o (carries_stops causes (many (pair ps) no_pairs)
       (many (pair ps) so_far.pairs) start now o so_far.carries (many_fails (pair ps) (laws_pair ps)
       digit_no_space causes so_far.pairs now o (enters_then (byte 32) (λ _. behind_space ps so_far.pairs)
-      (joint_pair ps so_far.pairs) _ (enters_byte CertCause 32 now h)) (grind arith)))
+      (chain_pair ps so_far.pairs).joint _ (enters_byte CertCause 32 now h)) (grind arith)))
 
   pairs_read : (next_byte now ≡ Some 32 → ⊥) → Reads (many (pair ps) no_pairs) start so_far.pairs now
   pairs_read h = so_far.carries (Ok so_far.pairs) now
@@ -98,9 +98,10 @@ module _ (ps : List ℕ) (start : Stream Seen) (now : Stream Seen) (last : Optio
 
   pub pairs_fail : (next_byte now ≡ Some 32 → ⊥) → (o : Option (Found CertCause))
       → Stops causes (byte 10) now o → Stops causes (counts_in true ps) start o
-  pairs_fail h o m = search (rules, stops_behind, joint_pairs, pairs_read, stops_mapped)
+  pairs_fail h o m = stops_behind causes (chain_pairs ps).joint (pairs_read h) o
+      (stops_mapped causes (λ _. map so_far.pairs.count ps) (byte 10) now o m)
 
   pub pairs_done : (next_byte now ≡ Some 32 → ⊥) → (new : Stream Seen) → Reads {F = CertCause} (byte 10) now tt new
       → Reads (counts_in true ps) start counts new
   pairs_done h new m = subst (λ cs. Reads (counts_in true ps) start cs new) (sym so_far.counts_are)
-      (reads_then (joint_pairs ps) (pairs_read h) (reads_mapped (λ _. map so_far.pairs.count ps) m))
+      (reads_then (chain_pairs ps).joint (pairs_read h) (reads_mapped (λ _. map so_far.pairs.count ps) m))

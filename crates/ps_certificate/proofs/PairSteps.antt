@@ -1,7 +1,7 @@
 -- How the pair of a priority and its count is read, and how reading it fails.
 --     zero_fails, positive_reads      a count, which must not be 0
 --     priority_fails, priority_open, priority_low, priority_unknown, priority_reads      its priority
---     pair_space, pair_priority, pair_colon, pair_count, pair_reads      the pair
+--     past_priority, past_colon, pair_priority      the pair
 use Rattle.std.proofs.Common.{◌≡◌, ℕ, ◌≤◌, ◌⊎◌, true, false, List, Option, Some, ap, ◌∙◌, Result, Err, IsErrAnd, refl}
 use Rattle.std.proofs.Common.{sym, subst, inl, inr, arith, rules}
 use Rattle.std.specs.Prelude.{slice_index}
@@ -9,13 +9,12 @@ use Rattle.std.specs.List.{Contains}
 use Rattle.std.proofs.lemmas.Bool.{ltb-true, ltb-false}
 use Rattle.std.proofs.lemmas.Result.{err_from_is_err_and}
 use Rattle.std.proofs.lemmas.List.Elements.{Contains-get_or}
-use Rattle.ps_text.specs.Answers.{Stream, Found}
+use Rattle.ps_text.specs.Answers.{Stream}
 use Rattle.ps_text.specs.Bytes.{Seen, byte}
 use Rattle.ps_text.specs.Parts.{then_by, mapped}
 use Rattle.ps_text.specs.Readers.{Reads, Stops}
 use Rattle.ps_text.specs.Faults.{found_of}
 use Rattle.ps_text.specs.declared.faults.Fault.TheVariants.{Text}
-use Rattle.ps_text.proofs.Exits.{reads_mapped, reads_then, stops_mapped, stops_first, stops_behind}
 use Rattle.ps_certificate.specs.declared.fault.CertCause.{CertCause}
 use Rattle.ps_certificate.specs.declared.fault.CertCause.TheVariants.{Syntax, OtherGame}
 use Rattle.ps_certificate.specs.Faults.{CertFault, cause_number}
@@ -26,7 +25,9 @@ use Rattle.ps_certificate.specs.Reading.{is_end, rises, IsNumberRead, TellsNumbe
 use Rattle.ps_certificate.specs.Texts.{causes, judged, WrongPriority, IsZero, pair}
 use Rattle.ps_certificate.proofs.NumberPart.{settled_zero, settled_priority, syntax_least, judged_reads, judged_fails}
 use Rattle.ps_certificate.proofs.NumberPart.{judged_wrong}
-use Rattle.ps_certificate.proofs.TextLaws.{joint_pair, joint_priority, joint_colon}
+use Rattle.ps_text.proofs.Bytes.Lefts.{unread, past, stops_at}
+use Rattle.ps_certificate.proofs.Lawful.{Left}
+use Rattle.ps_certificate.proofs.TextLaws.{behind_space, chain_pair, chain_priority, chain_colon}
 use Rattle.ps_text.proofs.Bytes.Single.{byte_stops}
 use Rattle.ps_certificate.proofs.Steps.{ends_true, ends_false}
 
@@ -100,34 +101,21 @@ priority_exits ps pairs old new e r m i = search (rules, err_from_is_err_and)
 
 -- ## The pair
 
-module _ (ps : List ℕ) (pairs : Pairs) (old : Stream Seen) where
-  pub pair_space : (o : Option (Found CertCause)) → Stops causes (byte 32) old o
-      → Stops causes (pair ps pairs) old o
-  pair_space o m = stops_first causes (joint_pair ps pairs) old o m
+-- what is left of it behind its space, its priority and its colon
+module _ (ps : List ℕ) (pairs : Pairs) {old mid : Stream Seen} (m : Reads {F = CertCause} (byte 32) old tt mid) where
+  past_space : Left (pair ps pairs) old (behind_space ps pairs) mid
+  past_space = past (chain_pair ps pairs) unread m
 
-  module _ (mid : Stream Seen) (m : Reads {F = CertCause} (byte 32) old tt mid) where
-    pub pair_priority : (e : CertFault) (new : Stream Seen) → TellsPriority ps pairs mid (Err e) new
-        → Stops causes (pair ps pairs) old (found_of e)
-    pair_priority e new (inl s) = stops_behind causes (joint_pair ps pairs) m (found_of e)
-        (stops_first causes (joint_priority ps pairs) mid (found_of e) s)
-    pair_priority e new (inr s) = stops_behind causes (joint_pair ps pairs) m (found_of e)
-        (stops_behind causes (joint_priority ps pairs) s.2 (found_of e) (grind (arith, stops_first, joint_colon)))
+  pub past_priority : {p : ℕ} {next : Stream Seen} → Reads (judged (WrongPriority ps pairs)) mid p next →
+      Left (pair ps pairs) old (then_by (byte 58) (λ _. mapped (λ m. with_pair pairs p m) (judged IsZero))) next
+  past_priority k = past (chain_priority ps pairs) past_space k
 
-    module _ (p : ℕ) (next : Stream Seen) (k : Reads (judged (WrongPriority ps pairs)) mid p next) where
-      behind_priority : (o : Option (Found CertCause)) → Stops causes (then_by (byte 58) (λ _. mapped
-          (λ m. with_pair pairs p m) (judged IsZero))) next o → Stops causes (pair ps pairs) old o
-      behind_priority o s = stops_behind causes (joint_pair ps pairs) m o (search (rules, stops_behind, joint_priority))
+  pub past_colon : {p : ℕ} {next last : Stream Seen} → Reads (judged (WrongPriority ps pairs)) mid p next →
+      Reads {F = CertCause} (byte 58) next tt last →
+      Left (pair ps pairs) old (mapped (λ m. with_pair pairs p m) (judged IsZero)) last
+  past_colon {p} k c = past (chain_colon pairs p) (past_priority k) c
 
-      pub pair_colon : (o : Option (Found CertCause)) → Stops causes (byte 58) next o
-          → Stops causes (pair ps pairs) old o
-      pair_colon o s = behind_priority o (stops_first causes (joint_colon pairs p) next o s)
-
-      module _ (last : Stream Seen) (c : Reads {F = CertCause} (byte 58) next tt last) where
-        pub pair_count : (o : Option (Found CertCause)) → Stops causes (judged IsZero) last o
-            → Stops causes (pair ps pairs) old o
-        pair_count o s = behind_priority o (stops_behind causes (joint_colon pairs p) c o (grind (arith, stops_mapped)))
-
-        pub pair_reads : {count : ℕ} (new : Stream Seen) → Reads (judged IsZero) last count new
-            → Reads (pair ps pairs) old (with_pair pairs p count) new
-        pair_reads new s = reads_then (joint_pair ps pairs) m (reads_then (joint_priority ps pairs) k
-            (reads_then (joint_colon pairs p) c (reads_mapped (λ m. with_pair pairs p m) s)))
+  pub pair_priority : (e : CertFault) (new : Stream Seen) → TellsPriority ps pairs mid (Err e) new →
+      Stops causes (pair ps pairs) old (found_of e)
+  pair_priority e new (inl s) = stops_at (chain_priority ps pairs) past_space (found_of e) s
+  pair_priority e new (inr s) = stops_at (chain_colon pairs s.0) (past_priority s.2) (found_of e) s.3

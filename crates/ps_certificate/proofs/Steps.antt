@@ -28,7 +28,7 @@ use Rattle.ps_certificate.specs.Faults.{CertFault, cause_number}
 use Rattle.ps_certificate.specs.Reading.{is_end, comes, numeral, IsNumberRead, HasNoNumber}
 use Rattle.ps_certificate.specs.Texts.{causes, EndsField, take_two, two, IsMissing}
 use Rattle.ps_certificate.proofs.NumberPart.{Odd, stops_at_place}
-use Rattle.ps_certificate.proofs.TextLaws.{laws_newline, first_taken, second_taken}
+use Rattle.ps_certificate.proofs.TextLaws.{lawful_newline, first_taken, second_taken}
 
 -- ## One of two bytes
 
@@ -129,7 +129,7 @@ module _ (left : List ℕ) (old : Stream Seen) where
 
   pub end_fails : {e : CertFault} → (next_byte old ≡ Some 10 → ⊥) → e ≡ Text Syntax (place_of old) →
       Stops causes (one (take_byte 10) (IsMissing left)) old (found_of e)
-  end_fails h is = stops_at_place (stops_here cause_number Syntax (laws_newline left) (avoids 10 old h)) is
+  end_fails h is = stops_at_place (stops_here cause_number Syntax (lawful_newline left).laws (avoids 10 old h)) is
 
   pub end_missing : {e : CertFault} → next_byte old ≡ Some 10 → 0 < length left → e ≡ Text OtherGame (place_of old) →
       Stops causes (one (take_byte 10) (IsMissing left)) old (found_of e)

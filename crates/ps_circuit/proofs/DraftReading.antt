@@ -31,8 +31,8 @@ use Rattle.ps_circuit.specs.Texts.{HeaderData, header, Lines, no_lines, input_li
 use Rattle.ps_circuit.specs.Texts.{comment, DraftData, draft_of as drafted, symbols, body, circuit_text, IsDefined}
 use Rattle.ps_circuit.specs.Texts.{refused, undefined, cyclic, meaning, IsCircuitAnswer}
 use Rattle.ps_circuit.specs.Reading.{FoundAnswers, TellsDraft, TellsDefined, TellsCyclic}
-use Rattle.ps_circuit.proofs.Exits.{Left, unread, past, stops_at, reads_last}
-use Rattle.ps_circuit.proofs.Lawful.{Chain}
+use Rattle.ps_text.proofs.Bytes.Lefts.{unread, past, stops_at, reads_last}
+use Rattle.ps_circuit.proofs.Lawful.{Left, Chain}
 use Rattle.ps_text.proofs.Bytes.Single.{Any}
 use Rattle.ps_circuit.proofs.SignLaws.{AtBody}
 use Rattle.ps_circuit.proofs.SymbolLemmas.{comment_other}

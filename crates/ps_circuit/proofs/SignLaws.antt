@@ -2,7 +2,7 @@
 --     Separates      a space, a tab or a newline: what stands behind a number
 --     AtBody, AtTail      the first byte of what stands behind the first line, and behind the number lines
 --     numbers, optional      the chains of a number, and of a further field or none, and what stands behind them
-use Rattle.std.proofs.Common.{◌≡◌, ℕ, ◌⊎◌, Bool, true, false, List, [], ◌∷◌, refl, sym, ap, inl, inr, ◌∙◌, rules}
+use Rattle.std.proofs.Common.{◌≡◌, ℕ, ◌⊎◌, Bool, true, false, refl, sym, ap, inl, inr, ◌∙◌, rules}
 use Rattle.std.proofs.lemmas.Bool.{eqb-true}
 use Rattle.ps_text.specs.Parts.{give, then_by, either, mapped}
 use Rattle.ps_text.specs.Digits.{decimal_value}
@@ -10,14 +10,13 @@ use Rattle.ps_text.proofs.Decisions.{judge_none}
 use Rattle.ps_text.proofs.Laws.{Nothing, Apart}
 use Rattle.ps_circuit.specs.declared.number.Number.{Number}
 use Rattle.ps_circuit.specs.declared.fault.AigCause.{AigCause}
-use Rattle.ps_circuit.specs.declared.fault.AigCause.TheVariants.{Syntax}
 use Rattle.ps_circuit.specs.Causes.{cause_number}
-use Rattle.ps_text.specs.Bytes.{Seen, byte, word, is_digit, is_space, is_inner, NoBadRun}
+use Rattle.ps_text.specs.Bytes.{Seen, byte, is_digit, is_space, is_inner, NoBadRun}
 use Rattle.ps_circuit.specs.Signs.{Field, number_at, number, gap, rest_of_line, newline, line_end, more, by_more}
 use Rattle.ps_text.proofs.Bytes.Single as bytes
-use Rattle.ps_text.proofs.Bytes.Single.{At, Any, has_byte}
-use Rattle.ps_circuit.proofs.Lawful.{Lawful, Chain, Judges, larger, chained, next, given, mapped_by, either_of}
-use Rattle.ps_circuit.proofs.Lawful.{or_nothing, run_by}
+use Rattle.ps_text.proofs.Bytes.Single.{At}
+use Rattle.ps_text.proofs.Bytes.Lawful.{byte_of, larger, chained, next, given, mapped_by, either_of, or_nothing, run_by}
+use Rattle.ps_circuit.proofs.Lawful.{Lawful, Chain, Judges}
 
 -- ## Sets of signs
 
@@ -80,23 +79,6 @@ separates_body = search (rules, separates_digit, tail_space, tail_newline)
 pub kind_comment : Apart AtKind (At 99)
 kind_comment = search rules
 
--- ## Bytes
-
-pub laws_byte : (b : ℕ) → Lawful (byte b) (At b) Nothing ⊥
-laws_byte b = record { laws = bytes.laws_byte b; has = has_byte cause_number Syntax b }
-
-letter_of : (b : ℕ) (bytes : List ℕ) → Lawful (word bytes) Any Nothing (Unit {0}) →
-    Chain (byte b) (λ _. word bytes) Any Nothing (Unit {0})
-letter_of b bytes l =
-    chained (laws_byte b) (λ _. l) (λ t h k. h) (λ t h. tt) (λ t h. tt) (λ t h. h) (λ t h. h.1) (λ n. tt)
-
-pub laws_word : (bytes : List ℕ) → Lawful (word bytes) Any Nothing (Unit {0})
-laws_word [] = larger (given tt) (λ t h. tt) (λ t h. h) (λ n. n)
-laws_word (b ∷ bytes) = (letter_of b bytes (laws_word bytes)).whole
-
-pub chain_word : (b : ℕ) (bytes : List ℕ) → Chain (byte b) (λ _. word bytes) Any Nothing (Unit {0})
-chain_word b bytes = letter_of b bytes (laws_word bytes)
-
 -- ## Numbers, gaps and ends of lines
 
 pub laws_number : {Wrong : ℕ → AigCause → Type 0} → Judges Wrong → Lawful (number Wrong) AtDigit AtDigit ⊥
@@ -114,7 +96,7 @@ laws_rest = run_by is_inner (λ at bytes. bytes) NoBadRun 32 refl (λ bytes. jud
 
 pub laws_newline : Lawful newline (At 10) Nothing ⊥
 unfolding newline
-laws_newline = laws_byte 10
+laws_newline = byte_of 10
 
 pub chain_line_end : Chain (either gap (give tt)) (λ _. newline) Separates Separates ⊥
 chain_line_end = chained (or_nothing {More = AtSpace} tt laws_gap (λ t h. h) (λ t h. h)) (λ _. laws_newline)

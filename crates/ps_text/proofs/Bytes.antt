@@ -5,3 +5,5 @@ pub mod Single
 pub mod Runs
 pub mod RunOutcomes
 pub mod Moves
+pub mod Lawful
+pub mod Lefts

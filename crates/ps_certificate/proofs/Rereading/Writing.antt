@@ -20,9 +20,9 @@ use Rattle.ps_text.specs.Answers.{signs, first_of}
 use Rattle.ps_text.specs.Parts.{IsRead, give, one, then_by, many, mapped}
 use Rattle.ps_text.specs.Digits.{IsDigit, decimal_value}
 use Rattle.ps_text.proofs.InPlace.{Covers, read_as}
-use Rattle.ps_text.proofs.Laws.{Laws, Joint}
+use Rattle.ps_text.proofs.Laws.{Laws}
 use Rattle.ps_text.proofs.Joined.{read_then}
-use Rattle.ps_text.proofs.Simple.{laws_mapped, same_some, read_give, read_one, read_mapped}
+use Rattle.ps_text.proofs.Simple.{same_some, read_give, read_one, read_mapped}
 use Rattle.ps_text.proofs.Covered.{Avoids, covers_left, covers_right}
 use Rattle.ps_text.proofs.Repeated.{read_item, read_none}
 use Rattle.ps_text.proofs.Whole.{answers_ok}
@@ -42,19 +42,19 @@ use Rattle.ps_certificate.specs.Written.{fields, pairs, counts_text, move_text, 
 use Rattle.ps_certificate.specs.Written.{head_text, IsWord, IsWritable, HasWords, text_in}
 use Rattle.ps_certificate.proofs.OneReading.{Rises, rises as rises_of}
 use Rattle.ps_certificate.proofs.Rereading.CountsOfPairs.{after, after_counts}
+use Rattle.ps_text.proofs.Bytes.Lawful.{chain_word}
+use Rattle.ps_certificate.proofs.Lawful.{Chain}
+use Rattle.ps_certificate.proofs.TextLaws.{digit_no_space, first_taken, second_taken, dash, chosen, lawful_dash}
+use Rattle.ps_certificate.proofs.TextLaws.{lawful_chosen, laws_priority, chain_listed, chain_priorities, chain_count}
+use Rattle.ps_certificate.proofs.TextLaws.{chain_counts, laws_pair, chain_pair, chain_priority, chain_colon}
+use Rattle.ps_certificate.proofs.TextLaws.{chain_pairs, chain_id, chain_space, chain_winner, chain_second, chain_choice}
+use Rattle.ps_certificate.proofs.TextLaws.{chain_entries, chain_first, chain_version, chain_vertices, chain_number}
+use Rattle.ps_certificate.proofs.TextLaws.{chain_odd_word, chain_odd, chain_even_word, chain_even, lawful_certificate}
 use Rattle.ps_certificate.proofs.Numerals.{numeral_ended}
 use Rattle.ps_certificate.specs.Reading.{numeral}
 use Rattle.ps_certificate.proofs.NumberPart.{Odd, AtDigit, Settled, settled_other, settled_zero, settled_priority}
 use Rattle.ps_certificate.proofs.NumberPart.{run_length, read_run}
-use Rattle.ps_text.proofs.Bytes.Single.{At, byte_taken, laws_byte, laws_word}
-use Rattle.ps_certificate.proofs.TextLaws.{first_taken, second_taken, tight_joint, digit_no_space, dash, chosen}
-use Rattle.ps_certificate.proofs.TextLaws.{laws_dash, laws_chosen, laws_priority, joint_priorities, laws_pair}
-use Rattle.ps_certificate.proofs.TextLaws.{joint_pair, joint_priority, joint_colon, joint_pairs, laws_entry}
-use Rattle.ps_certificate.proofs.TextLaws.{laws_entries, laws_certificate}
-use Rattle.ps_certificate.proofs.Loops.{joint_listed, joint_counts, joint_count}
-use Rattle.ps_certificate.proofs.EntrySteps.{joint_id, joint_space, joint_winner, joint_second, joint_choice}
-use Rattle.ps_certificate.proofs.EntrySteps.{joint_first, joint_version, joint_vertices, joint_number, joint_odd_word}
-use Rattle.ps_certificate.proofs.EntrySteps.{joint_odd, joint_even_word, joint_even}
+use Rattle.ps_text.proofs.Bytes.Single.{At, byte_taken}
 
 abbrev seen : ℕ → List ℕ → List Seen
 seen at bytes = signs (pieces_at at bytes)
@@ -63,10 +63,11 @@ seen at bytes = signs (pieces_at at bytes)
 record IsReadFrom {V : Type 0} (P : Field V) (text : List ℕ) (v : V) (rest : List ℕ) : Type 0 where
   read : (at : ℕ) → (to : ℕ) × IsRead P (seen at text) v (seen to rest)
 
-then : {A B : Type 0} {P : Field A} {Q : A → Field B} (j : Joint P Q) {a : A} {b : B} {text mid rest : List ℕ} →
-    IsReadFrom P text a mid → IsReadFrom (Q a) mid b rest → IsReadFrom (then_by P Q) text b rest
+then : {A B : Type 0} {P : Field A} {Q : A → Field B} {First More : Seen → Type 0} {Null : Type 0} →
+    Chain P Q First More Null → {a : A} {b : B} {text mid rest : List ℕ} → IsReadFrom P text a mid →
+        IsReadFrom (Q a) mid b rest → IsReadFrom (then_by P Q) text b rest
 then j p q = record {
-  read = λ at. let l = p.read at in let r = q.read l.0 in (r.0, read_then j l.1 r.1);
+  read = λ at. let l = p.read at in let r = q.read l.0 in (r.0, read_then j.joint l.1 r.1);
 }
 
 with_value : {A B : Type 0} (h : A → B) {P : Field A} {a : A} {text rest : List ℕ} → IsReadFrom P text a rest →
@@ -115,7 +116,7 @@ read_byte b {rest} = one_byte (λ s e. byte_taken s e) (λ s f e x. x)
 
 read_word : (text : List ℕ) {rest : List ℕ} → IsReadFrom (word text) (text ++ rest) tt rest
 read_word [] = nothing_read tt
-read_word (b ∷ text) = then (tight_joint (laws_byte b) (λ _. laws_word text)) (read_byte b) (read_word text)
+read_word (b ∷ text) = then (chain_word b text) (read_byte b) (read_word text)
 
 read_version : (compact : Bool) {rest : List ℕ} → IsReadFrom version (version_digit compact ∷ rest) compact rest
 read_version false = one_byte (λ s. first_taken 50 true s) (λ s f e x. x)
@@ -158,13 +159,13 @@ read_many [] rest small = no_item priority laws_priority [] rest
 read_many (p ∷ ps) rest small =
     let more = fields ps ++ 10 ∷ rest in
     let first : IsReadFrom (priority (p ∷ ps)) (32 ∷ (decimal p ++ more)) ps more =
-    then (joint_listed (p ∷ ps)) (read_byte 32) (with_value (λ _. ps)
+    then (chain_listed (p ∷ ps)) (read_byte 32) (with_value (λ _. ps)
     (read_number (NotNext (p ∷ ps)) (All-head IsWord p ps small) (fields_end ps rest) (λ other. other refl))) in
     rw append_assoc (item_then priority laws_priority first (read_many ps rest (All-tail IsWord p ps small)))
 
 read_fields : (ps : List ℕ) {rest : List ℕ} → All IsWord ps →
     IsReadFrom (priorities ps) (fields ps ++ 10 ∷ rest) tt rest
-read_fields ps {rest} small = then (joint_priorities ps) (read_many ps rest small)
+read_fields ps {rest} small = then (chain_priorities ps) (read_many ps rest small)
     (one_byte (λ s. byte_taken s) (λ s f e x. omega (arith, x.1)))
 
 -- ## Moves and counts
@@ -177,20 +178,20 @@ no_dash at (d ∷ digits) rest some all = search (rules, avoids, At, All-head)
 read_choice : (ids : List ℕ) (c : Option ℕ) {rest : List ℕ} → EndsField rest →
     IfSome c (λ v. IsWord (get_or ids v 0) × (vertex_of ids (get_or ids v 0) ≡ Some v) × Contains ids
     (get_or ids v 0)) → IsReadFrom (choice ids) (move_text ids c ++ rest) c rest
-read_choice ids None end known = as_form (λ at. covers_left dash (chosen ids) (laws_chosen ids) _
+read_choice ids None end known = as_form (λ at. covers_left dash (chosen ids) (lawful_chosen ids).laws _
     (avoids AtDigit _ (λ h. omega (arith, h.0)))) (with_value (λ _. None) (read_byte 45))
 read_choice ids (Some v) {rest} end known =
     let id = get_or ids v 0 in
     let t = number_text id known.0 in
     let w = read_number (λ id. ¬ Contains ids id) known.0 end (λ none. none known.2) in
     subst (λ c. IsReadFrom (choice ids) (decimal id ++ rest) c rest) known.1 (as_form (λ at. covers_right dash
-    (chosen ids) laws_dash _ (no_dash at (decimal id) rest t.some t.all)) (with_value (vertex_of ids) w))
+    (chosen ids) lawful_dash.laws _ (no_dash at (decimal id) rest t.some t.all)) (with_value (vertex_of ids) w))
 
 read_counts : (cs : List ℕ) {rest : List ℕ} → All IsWord cs →
     IsReadFrom (counts (length cs)) (fields cs ++ 10 ∷ rest) cs rest
 read_counts [] small = with_value (λ _. []) (read_byte 10)
-read_counts (c ∷ cs) {rest} small = rw append_assoc (then (joint_counts (length cs)) (read_byte 32)
-    (then (joint_count (length cs)) (read_number Never (All-head IsWord c cs small) (fields_end cs rest) (λ w. w))
+read_counts (c ∷ cs) {rest} small = rw append_assoc (then (chain_counts (length cs)) (read_byte 32)
+    (then (chain_count (length cs)) (read_number Never (All-head IsWord c cs small) (fields_end cs rest) (λ w. w))
     (with_value (λ others. c ∷ others) (read_counts cs (All-tail IsWord c cs small)))))
 
 -- ## Counts behind their priorities
@@ -206,9 +207,9 @@ counts_end compact ps cs rest = search (rules, fields_end, pairs_end)
 read_pair : (ps : List ℕ) (so_far : Pairs) (p c : ℕ) {rest : List ℕ} → (DoesNotRise so_far p → ⊥) → Contains ps p →
     IsWord p → 0 < c → IsWord c → EndsField rest →
     IsReadFrom (pair ps so_far) (32 ∷ (decimal p ++ 58 ∷ (decimal c ++ rest))) (with_pair so_far p c) rest
-read_pair ps so_far p c above there small some fits end = then (joint_pair ps so_far) (read_byte 32)
-    (then (joint_priority ps so_far) (read_judged (settled_priority ps so_far) small (inr (inr refl))
-    (λ f w. right f w.1)) (then (joint_colon so_far p) (read_byte 58)
+read_pair ps so_far p c above there small some fits end = then (chain_pair ps so_far) (read_byte 32)
+    (then (chain_priority ps so_far) (read_judged (settled_priority ps so_far) small (inr (inr refl))
+    (λ f w. right f w.1)) (then (chain_colon so_far p) (read_byte 58)
     (with_value (λ m. with_pair so_far p m) (read_judged settled_zero fits end (λ f w. omega (arith, w.1, some))))))
   where
     right : (f : CertCause) → ((f ≡ Syntax) × DoesNotRise so_far p) ⊎ ((f ≡ OtherGame) × ¬ Contains ps p) → ⊥
@@ -254,7 +255,7 @@ read_counts_in : (compact : Bool) (ps : List ℕ) {cs rest : List ℕ} → Rises
     All IsWord cs → IsReadFrom (counts_in compact ps) (counts_text compact ps cs ++ 10 ∷ rest) cs rest
 read_counts_in false ps r same small fits = rw (← same) (read_counts _ fits)
 read_counts_in true ps {cs} {rest} r same small fits = subst (λ xs. IsReadFrom (counts_in true ps) (pairs ps cs ++
-    10 ∷ rest) xs rest) (after_counts ps cs no_pairs r same (λ k d lt. refl)) (then (joint_pairs ps) (read_pairs ps ps
+    10 ∷ rest) xs rest) (after_counts ps cs no_pairs r same (λ k d lt. refl)) (then (chain_pairs ps) (read_pairs ps ps
     cs no_pairs rest (λ k d lt. Contains-get_or ps k d lt) r (λ k d lt h. h) small fits)
     (with_value (λ _. map (after ps cs no_pairs).count ps) (read_byte 10)))
 
@@ -284,10 +285,10 @@ module _ (compact : Bool) (ids odd even : List ℕ) (ids_small : All IsWord ids)
       IsReadFrom (entry compact odd even ids id) (entry_line compact odd even ids id e ++ rest) e rest
   read_entry id {e} {rest} small readable = let lost = lost_by odd even e.winner in
       rw (regroup (decimal id) (move_text ids e.choice) (counts_text compact lost e.counts) rest (48 + e.winner))
-      (then (joint_id compact odd even ids id) (read_number _ small (inl refl) (λ other. other refl))
-      (then (joint_space compact odd even ids) (read_byte 32) (then (joint_winner compact odd even ids)
-      (read_winner e.winner readable.winner) (then (joint_second compact odd even ids e.winner) (read_byte 32)
-      (then (joint_choice compact odd even ids e.winner) (read_choice ids e.choice (counts_end compact lost
+      (then (chain_id compact odd even ids id) (read_number _ small (inl refl) (λ other. other refl))
+      (then (chain_space compact odd even ids) (read_byte 32) (then (chain_winner compact odd even ids)
+      (read_winner e.winner readable.winner) (then (chain_second compact odd even ids e.winner) (read_byte 32)
+      (then (chain_choice compact odd even ids e.winner) (read_choice ids e.choice (counts_end compact lost
       e.counts rest) readable.choice) (with_value (λ cs. record { winner = e.winner; choice = e.choice; counts = cs })
       (read_counts_in compact lost (lost_rises e.winner) readable.counts (lost_small e.winner) readable.small)))))))
 
@@ -299,8 +300,7 @@ module _ (compact : Bool) (ids odd even : List ℕ) (ids_small : All IsWord ids)
   read_entries (id ∷ left) [] v here small same readable = absurd (omega (arith, same))
   read_entries (id ∷ left) (e ∷ es) v here small same readable =
       let is : get_or ids v 0 ≡ id = ap (λ n. get_or ids n 0) (sym (add-zero v)) ∙ here 0 (omega arith) in
-      rw is (then (tight_joint (laws_entry compact odd even ids id) (λ first. laws_mapped (λ others. first ∷ others)
-      (entries compact odd even ids left) (laws_entries compact odd even ids left))) (read_entry id
+      rw is (then (chain_entries compact odd even ids id left) (read_entry id
       (All-head IsWord id left small) (All-head IsReadable e es readable)) (with_value (λ others. e ∷ others)
       (read_entries left es (v + 1) (λ k lt. ap (λ n. get_or ids n 0) (omega arith) ∙ here (suc k) (omega (arith, lt)))
       (All-tail IsWord id left small) (omega (arith, same)) (All-tail IsReadable e es readable))))
@@ -314,11 +314,11 @@ module _ (compact : Bool) (ids odd even : List ℕ) (ids_small : All IsWord ids)
       (record { odd = odd; even = even; entries = es }) []
   read_text es small same readable = rw (head_groups first_word (version_digit compact ∷ vertices_word) (decimal (length
       ids)) odd_word (fields odd) (10 ∷ even_word) (fields even) (10 ∷ []) (entry_lines compact odd even ids 0 es))
-      (then (joint_first odd even ids) (read_word first_word) (then (joint_version odd even ids) (read_version compact)
-      (then (joint_vertices odd even ids compact) (read_word vertices_word) (then (joint_number odd even ids compact)
-      (read_number _ small (inr (inl refl)) (λ other. other refl)) (then (joint_odd_word odd even ids compact)
-      (read_word odd_word) (then (joint_odd odd even ids compact) (read_fields odd odd_small)
-      (then (joint_even_word odd even ids compact) (read_word even_word) (then (joint_even odd even ids compact)
+      (then (chain_first odd even ids) (read_word first_word) (then (chain_version odd even ids) (read_version compact)
+      (then (chain_vertices compact odd even ids) (read_word vertices_word) (then (chain_number compact odd even ids)
+      (read_number _ small (inr (inl refl)) (λ other. other refl)) (then (chain_odd_word compact odd even ids)
+      (read_word odd_word) (then (chain_odd compact odd even ids) (read_fields odd odd_small)
+      (then (chain_even_word compact odd even ids) (read_word even_word) (then (chain_even compact odd even ids)
       (read_fields even even_small) (with_value (λ es. record { odd = odd; even = even; entries = es })
       (read_entries ids es 0 (λ k lt. ap (λ n. get_or ids n 0) (omega arith)) ids_small same readable))))))))))
 
@@ -371,5 +371,5 @@ module _ (compact : Bool) (game : NamedGameData) (c : CertificateData) (named : 
         even = c.even;
         odd_listed = fits.odd_listed;
         even_listed = fits.even_listed;
-        answers = answers_ok (laws_certificate c.odd c.even game.ids) (stream_at 0 text) c (w.read 0).1;
+        answers = answers_ok (lawful_certificate c.odd c.even game.ids).laws (stream_at 0 text) c (w.read 0).1;
       }

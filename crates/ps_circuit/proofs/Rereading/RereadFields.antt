@@ -29,7 +29,8 @@ use Rattle.ps_circuit.proofs.Lawful.{Odd, Judges, Chain}
 use Rattle.ps_text.proofs.Bytes.Runs.{run_reads}
 use Rattle.ps_circuit.proofs.TextLaws.{chain_field}
 use Rattle.ps_text.proofs.Bytes.Single.{At, byte_taken}
-use Rattle.ps_circuit.proofs.SignLaws.{AtSpace, AtDigit, laws_gap, space_newline, ends_here, laws_ends_here, chain_word}
+use Rattle.ps_text.proofs.Bytes.Lawful.{chain_word}
+use Rattle.ps_circuit.proofs.SignLaws.{AtSpace, AtDigit, laws_gap, space_newline, ends_here, laws_ends_here}
 use Rattle.ps_circuit.proofs.SignLaws.{chain_line_end, chain_gap_more}
 
 abbrev pub from : ℕ → ℕ → List ℕ → Stream Seen

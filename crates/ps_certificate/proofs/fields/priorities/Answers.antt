@@ -4,7 +4,7 @@ use Rattle.ps_text.proofs.Exits.{then_meets}
 use Rattle.ps_text.proofs.Branches.{carries_many, reads_shrinks}
 use Rattle.ps_text.proofs.Bytes.Single.{refuted}
 use Rattle.ps_certificate.specs.Texts.{causes, priority}
-use Rattle.ps_certificate.proofs.TextLaws.{laws_priority, digit_no_space, joint_priorities}
+use Rattle.ps_certificate.proofs.TextLaws.{laws_priority, digit_no_space, chain_priorities}
 use Rattle.ps_certificate.proofs.Loops.{fails, priorities_fail, priorities_end}
 use Rattle.ps_certificate.proofs.fields.priorities.Goals as goal
 
@@ -19,5 +19,5 @@ more-preserved c = carries_many priority laws_priority digit_no_space causes c.m
 
 pub returns : goal.returns
 returns c = then_meets found_of causes (λ u. u) c.line_end.new.cursor c.line_end.result
-    (joint_priorities c.args.priorities.now) (priorities_end c.args.priorities.now c.more.left.now
+    (chain_priorities c.args.priorities.now).joint (priorities_end c.args.priorities.now c.more.left.now
     c.args.cursor.now c.more.cursor c.more.invariant (refuted c.comes.ensures.1 c.more-test.false)) c.line_end.ensures

@@ -1,6 +1,6 @@
 use Rattle.std.proofs.Common.{arith, refl}
 use Rattle.ps_circuit.specs.Texts.{AnyNumber}
-use Rattle.ps_circuit.proofs.Exits.{exits_at, exits_last}
+use Rattle.ps_text.proofs.Bytes.Lefts.{exits_at, exits_last}
 use Rattle.ps_circuit.proofs.NumberLemmas.{number_any, number_none}
 use Rattle.ps_circuit.proofs.ReadingLemmas.{name_set}
 use Rattle.ps_circuit.proofs.TextLaws.{chain_number, chain_space, chain_name}
