@@ -60,7 +60,7 @@ module _ (ps left : List ℕ) (start : Stream Seen) (now : Stream Seen)
       (many priority left) start now o k (many_fails priority laws_priority digit_no_space causes left
       now o (enters_then (byte 32)
       (λ _. mapped (λ _. drop 1 left) (number (NotNext left))) (chain_listed left).joint _
-          (enters_byte CertCause 32 now h))
+      (enters_byte CertCause 32 now h))
       m))
 
   pub priorities_end : (next_byte now ≡ Some 32 → ⊥) → Reads (many priority ps) start left now
@@ -118,7 +118,7 @@ module _ (n i : ℕ) (start now : Stream Seen) (front : List ℕ)
       → Stops causes (number Never) mid o → Stops causes (counts n) start o
   count_fails lt {mid} m o k = listing_fails (counts n) start (counts (suc (n - (i + 1)))) now front (some_left lt) o
       (stops_behind causes (chain_counts (n - (i + 1))).joint m o
-          (stops_first causes (chain_count (n - (i + 1))).joint mid o k))
+      (stops_first causes (chain_count (n - (i + 1))).joint mid o k))
 
   pub count_next : i < n → {mid next : Stream Seen} {count : ℕ} → Reads {F = CertCause} (byte 32) now tt mid
       → Reads (number Never) mid count next → {longer : List ℕ} → longer ≡ front ++ count ∷ []

@@ -1,6 +1,6 @@
 -- A number as a part of the text: how it is read, and how reading it fails.
 use Rattle.std.proofs.Common.{rules, ◌≡◌, ℕ, zero, suc, ◌+◌, ◌^◌, ◌<◌, ◌≤◌, ◌⊎◌, List, [], ◌∷◌, ◌++◌, length, take}
-use Rattle.std.proofs.Common.{drop, Err, refl, sym, ap, subst, inl, inr, ◌∙◌, append_assoc, arith, length-append}
+use Rattle.std.proofs.Common.{drop, refl, sym, ap, subst, inl, inr, ◌∙◌, append_assoc, arith, length-append}
 use Rattle.std.proofs.Math.Seq.{take-append_seam, drop-append_seam}
 use Rattle.std.proofs.lemmas.List.{take-map, take-append-drop}
 use Rattle.ps_text.specs.Answers.{Begins, signs, first_of, Stream}
@@ -20,7 +20,7 @@ use Rattle.ps_certificate.specs.declared.fault.CertCause.TheVariants.{Syntax, Ot
 use Rattle.ps_certificate.specs.Faults.{CertFault, cause_number}
 use Rattle.ps_text.specs.Cursors.{place_of}
 use Rattle.ps_text.proofs.Bytes.Pieces.{bytes_append, bytes_at, pieces_with, pieces_split}
-use Rattle.ps_certificate.specs.Reading.{numeral, IsNumberRead, TellsNumber}
+use Rattle.ps_certificate.specs.Reading.{numeral, HasNoNumber, IsNumberRead}
 use Rattle.ps_text.specs.Bytes.{Seen, pieces_at, bytes_of}
 use Rattle.ps_certificate.specs.Texts.{causes, EndsField, Verdict, IsBadNumber, Field, judged, OfOtherGame, number}
 use Rattle.ps_certificate.specs.Texts.{IsZero, WrongPriority}
@@ -203,10 +203,10 @@ pub at_front : {V : Type 0} {P : Field V} {all : List Seen} {f : CertCause} →
     IsFaultAt causes P [] (first_of all) f → IsFault causes P all f all
 at_front h = record { front = []; split = refl; clean = λ front more t g e l c. absurd (omega (arith, l)); fault = h }
 
-pub stops_there : {V : Type 0} {P : Field V} {old : Stream Seen} (at : ℕ) (text : List ℕ) {f : CertCause} →
-    old.pieces ≡ pieces_at at text → IsFaultAt causes P [] (first_of (signs (pieces_at at text))) f →
+pub stops_there : {V : Type 0} {P : Field V} {old : Stream Seen} (at : ℕ) (ahead : List ℕ) {f : CertCause} →
+    old.pieces ≡ pieces_at at ahead → IsFaultAt causes P [] (first_of (signs (pieces_at at ahead))) f →
     StopsWith causes P old (record { cause = f; offset = place_of old })
-stops_there {P = P} {old = old} at text {f = f} e h = record {
+stops_there {P = P} {old = old} at ahead {f = f} e h = record {
   front = [];
   rest = old.pieces;
   split = refl;
@@ -252,9 +252,9 @@ pub stops_at_place : {V : Type 0} {P : Field V} {old : Stream Seen} {f : CertCau
     Stops causes P old (found_of e)
 stops_at_place {P = P} {old = old} s is = subst (λ x. Stops causes P old (found_of x)) (sym is) s
 
-pub judged_fails : (Wrong : Verdict) {old : Stream Seen} (new : Stream Seen) {e : CertFault} →
-    TellsNumber old (Err e) new → Stops causes (judged Wrong) old (found_of e)
-judged_fails Wrong new h = stops_at_place (stops_there h.1.at h.1.bytes h.1.old_is (go h.1.none)) h.0
+pub judged_fails : (Wrong : Verdict) {old : Stream Seen} {e : CertFault} →
+    (e ≡ Text Syntax (place_of old)) × HasNoNumber old → Stops causes (judged Wrong) old (found_of e)
+judged_fails Wrong h = stops_at_place (stops_there h.1.at h.1.bytes h.1.old_is (go h.1.none)) h.0
   where
     go : (numeral h.1.bytes ≡ []) ⊎ ((0 < run_length h.1.bytes) × (2 ^ 64 ≤ decimal_value (numeral h.1.bytes))) →
         IsFaultAt causes (judged Wrong) [] (first_of (signs (pieces_at h.1.at h.1.bytes))) Syntax

@@ -75,5 +75,5 @@ pub one_reading : (game : NamedGameData) (text : List ℕ) (answer other : Resul
 one_reading game text answer other a b =
     has_one_answer (certificate a.odd a.even game.ids).IsText (IsWrong causes (certificate a.odd a.even game.ids))
     cause_number (lawful_certificate a.odd a.even game.ids).laws.one_value numbered (stream_at 0 text) answer
-        other a.answers
+    other a.answers
     (grind (arith, one_list b.odd_listed a.odd_listed, one_list b.even_listed a.even_listed))

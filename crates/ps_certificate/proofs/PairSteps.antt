@@ -59,7 +59,7 @@ module _ (ps : List ℕ) (last : Option ℕ) (pairs : Pairs) (same : pairs.last 
 
   pub priority_fails : (new : Stream Seen) (e : CertFault) → TellsNumber old (Err e) new
       → TellsPriority ps pairs old (Err e) new
-  priority_fails new e h = inl (judged_fails (WrongPriority ps pairs) new h)
+  priority_fails new e h = inl (judged_fails (WrongPriority ps pairs) h)
 
   module _ (mid : Stream Seen) (n : ℕ) (r : IsNumberRead old mid n) where
     pub priority_open : (new : Stream Seen) {e : CertFault} → is_end (next_byte mid) ≡ false →

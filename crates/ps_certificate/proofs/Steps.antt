@@ -17,18 +17,17 @@ use Rattle.ps_text.specs.declared.faults.Fault.TheVariants.{Text}
 use Rattle.ps_text.specs.Bytes.{Seen, pieces_at, take_byte, is_digit}
 use Rattle.ps_text.specs.Cursors.{next_byte, place_of, IsAhead, Passes}
 use Rattle.ps_text.proofs.ByteRuns.{run_len}
-use Rattle.ps_text.proofs.Laws.{Laws, Or, Nothing}
-use Rattle.ps_text.proofs.Simple.{none_is_some, same_some, Taken, BadSign, laws_one}
+use Rattle.ps_text.proofs.Laws.{Or}
+use Rattle.ps_text.proofs.Simple.{none_is_some, same_some}
 use Rattle.ps_text.proofs.Exits.{reads_next, stops_bad}
 use Rattle.ps_text.proofs.Bytes.Pieces.{next_at}
-use Rattle.ps_text.proofs.Bytes.Single.{not_odd, seen, byte_taken, next_is, avoids, stops_here}
-use Rattle.ps_certificate.specs.declared.fault.CertCause.{CertCause}
+use Rattle.ps_text.proofs.Bytes.Single.{At, byte_taken, next_is, avoids, stops_here}
 use Rattle.ps_certificate.specs.declared.fault.CertCause.TheVariants.{Syntax, OtherGame}
 use Rattle.ps_certificate.specs.Faults.{CertFault, cause_number}
 use Rattle.ps_certificate.specs.Reading.{is_end, comes, numeral, IsNumberRead, HasNoNumber}
 use Rattle.ps_certificate.specs.Texts.{causes, EndsField, take_two, two, IsMissing}
-use Rattle.ps_certificate.proofs.NumberPart.{Odd, stops_at_place}
-use Rattle.ps_certificate.proofs.TextLaws.{lawful_newline, first_taken, second_taken}
+use Rattle.ps_certificate.proofs.NumberPart.{stops_at_place}
+use Rattle.ps_certificate.proofs.TextLaws.{lawful_two, lawful_newline, first_taken, second_taken}
 
 -- ## One of two bytes
 
@@ -46,16 +45,11 @@ module _ {V : Type 0} (a b : ℕ) (v w : V) (old : Stream Seen) where
 
   pub two_fails : {e : CertFault} → (next_byte old ≡ Some a → ⊥) → (next_byte old ≡ Some b → ⊥) →
       e ≡ Text Syntax (place_of old) → Stops causes (two a b v w) old (found_of e)
-  two_fails h k is = stops_at_place (stops_here cause_number Syntax laws none) is
+  two_fails h k is = stops_at_place (stops_here cause_number Syntax (lawful_two a b v w).laws none) is
     where
-      laws : Laws Odd (two a b v w) (Or (Taken (take_two a b v w)) (BadSign {F = CertCause} NoBad)) Nothing ⊥
-      laws = laws_one (take_two a b v w) NoBad Odd (seen a) v (first_taken b w (seen a) refl)
-          (not_odd CertCause (Taken (take_two a b v w))) (not_odd CertCause (BadSign NoBad))
-
-      none : (t : Seen) → next_of old ≡ Some t →
-          Or (Taken (take_two a b v w)) (BadSign {F = CertCause} NoBad) t → ⊥
-      none t n (inr x) = x.1
-      none t n (inl x) = search (rules, ne_eqb, avoids a old h t n, avoids b old k t n, none_is_some)
+      none : (t : Seen) → next_of old ≡ Some t → Or (At a) (At b) t → ⊥
+      none t n (inl e) = avoids a old h t n e
+      none t n (inr e) = avoids b old k t n e
 
 -- ## Numbers
 

@@ -5,10 +5,11 @@ use Rattle.std.proofs.Common.{◌≡◌, ℕ, zero, suc, ◌⊎◌, Bool, true, 
 use Rattle.std.proofs.Common.{Some, None, refl, ap, inl, inr, arith, rules}
 use Rattle.std.specs.Prelude.{codes, map}
 use Rattle.std.specs.List.{Contains}
-use Rattle.std.proofs.lemmas.Bool.{eq-eqb, ne_eqb, cases_eq}
+use Rattle.std.proofs.lemmas.Bool.{eqb-true, eq-eqb, ne_eqb, cases_eq}
 use Rattle.ps_text.specs.Parts.{NoBad, one, then_by, many, mapped}
 use Rattle.ps_text.specs.Bytes.{Seen, take_byte, byte, word}
 use Rattle.ps_text.proofs.Laws.{Laws, Nothing, Or, Apart}
+use Rattle.ps_text.proofs.Simple.{Taken, none_is_some}
 use Rattle.ps_text.proofs.Decisions.{decide_not, decide_in, judge_none}
 use Rattle.ps_text.proofs.Bytes.Single.{Odd, At, Any, seen, byte_taken, taken_byte}
 use Rattle.ps_text.proofs.Bytes.Lawful.{larger, chained, next, tight, given, mapped_by, either_of, many_by, one_sign}
@@ -64,9 +65,12 @@ pub second_taken : {V : Type 0} (a : ℕ) {b : ℕ} (v : V) {w : V} (s : Seen) �
     take_two a b v w s ≡ Some w
 second_taken a v s other e = search (rules, ne_eqb, eq-eqb)
 
-lawful_two : {V : Type 0} (a b : ℕ) (v w : V) → Lawful (two a b v w) Any Nothing ⊥
+pub lawful_two : {V : Type 0} (a b : ℕ) (v w : V) → Lawful (two a b v w) (Or (At a) (At b)) Nothing ⊥
 lawful_two a b v w = one_sign (take_two a b v w) NoBad (seen a) (first_taken b w (seen a) refl)
-    (λ t. judge_none cause_number) (λ t h. tt) (λ t h. tt)
+    (λ t. judge_none cause_number) one (λ t h. absurd h.1)
+  where
+    one : (t : Seen) → Taken (take_two a b v w) t → Or (At a) (At b) t
+    one t h = search (rules, eqb-true, none_is_some)
 
 -- ## Lines of priorities
 
@@ -170,7 +174,7 @@ module _ (compact : Bool) (odd even ids : List ℕ) where
   pub chain_second : (w : ℕ) → Chain (byte 32) (λ _. then_by (choice ids) (entry_counts w)) Separates Nothing ⊥
   chain_second w = spaced (λ _. (chain_choice w).whole)
 
-  pub chain_winner : Chain winner behind_winner Any Nothing ⊥
+  pub chain_winner : Chain winner behind_winner (Or (At 48) (At 49)) Nothing ⊥
   chain_winner = tight (lawful_two 48 49 0 1) (λ w. (chain_second w).whole)
 
   pub chain_space : Chain (byte 32) (λ _. then_by winner behind_winner) Separates Nothing ⊥
@@ -230,7 +234,7 @@ behind_version odd even ids compact = then_by
     (word vertices_word) (λ _. then_by (number (λ n. n ≡ length ids → ⊥)) (λ _. behind_count compact odd even ids))
 
 module _ (odd even ids : List ℕ) where
-  pub chain_version : Chain version (behind_version odd even ids) Any Nothing ⊥
+  pub chain_version : Chain version (behind_version odd even ids) (Or (At 49) (At 50)) Nothing ⊥
   chain_version = tight (lawful_two 49 50 false true) (λ compact. (chain_vertices compact odd even ids).whole)
 
   pub chain_first : Chain (word first_word) (λ _. then_by version (behind_version odd even ids)) (At 112) Nothing ⊥

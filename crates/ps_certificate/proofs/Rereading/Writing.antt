@@ -65,7 +65,7 @@ record IsReadFrom {V : Type 0} (P : Field V) (text : List ℕ) (v : V) (rest : L
 
 then : {A B : Type 0} {P : Field A} {Q : A → Field B} {First More : Seen → Type 0} {Null : Type 0} →
     Chain P Q First More Null → {a : A} {b : B} {text mid rest : List ℕ} → IsReadFrom P text a mid →
-        IsReadFrom (Q a) mid b rest → IsReadFrom (then_by P Q) text b rest
+    IsReadFrom (Q a) mid b rest → IsReadFrom (then_by P Q) text b rest
 then j p q = record {
   read = λ at. let l = p.read at in let r = q.read l.0 in (r.0, read_then j.joint l.1 r.1);
 }

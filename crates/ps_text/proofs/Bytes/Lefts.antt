@@ -4,14 +4,18 @@
 --     stops_at, exits_at      the next part fails; and this error is passed on
 --     stops_last, exits_last, reads_last      at a last part, seen by another function
 --     branch      one of several forms stands there
-use Rattle.std.proofs.Common.{◌≡◌, ℕ, Option, Result, Ok, Err, IsErrAnd, sym, subst, rules}
+--     word_left, word_read      a word, byte by byte
+use Rattle.std.proofs.Common.{◌≡◌, ℕ, ◌+◌, ◌<◌, ◌≤◌, List, ◌∷◌, length, get_or, drop, Option, Result, Ok, Err, IsErrAnd}
+use Rattle.std.proofs.Common.{sym, subst, rules}
+use Rattle.std.proofs.lemmas.List.{drop_more, drop_all}
 use Rattle.ps_text.specs.Answers.{Stream, Found, signs, next_of}
 use Rattle.ps_text.specs.Parts.{Part, IsRead, then_by, mapped}
 use Rattle.ps_text.specs.Readers.{Reads, Stops, Meets, Carries}
 use Rattle.ps_text.specs.Faults.{found_of}
 use Rattle.ps_text.specs.declared.faults.Fault.{Fault}
-use Rattle.ps_text.specs.Bytes.{Seen, byte_causes}
-use Rattle.ps_text.proofs.Exits.{exits, reads_mapped, stops_mapped, stops_first, carries_start, carries_then}
+use Rattle.ps_text.specs.Bytes.{Seen, byte_causes, word}
+use Rattle.ps_text.proofs.Exits.{exits, reads_give, reads_mapped, stops_mapped, stops_first, carries_start}
+use Rattle.ps_text.proofs.Exits.{carries_then}
 use Rattle.ps_text.proofs.Branches.{Stands, reads_as, stops_as_well}
 use Rattle.ps_text.proofs.Bytes.Lawful.{Chain}
 
@@ -62,3 +66,16 @@ module _ {C : Type 0} {number : C → ℕ} {syntax : C} where
   pub branch : {V : Type 0} {P Q whole : Part Seen V C} {start now : Stream Seen} →
       Left number syntax whole start Q now → Stands (next_of now) P Q → Left number syntax whole start P now
   branch {V} {P} {Q} {whole} {start} {now} l w = search (rules, reads_as, stops_as_well)
+
+  -- ## Words, byte by byte
+
+  pub word_left : (text : List ℕ) (i : ℕ) {start now : Stream Seen} → i < length text →
+      Left number syntax (word text) start (word (drop i text)) now →
+      Left number syntax (word text) start (word (get_or text i 0 ∷ drop (i + 1) text)) now
+  word_left text i {start} {now} lt l =
+      subst (λ z. Left number syntax (word text) start (word z) now) (drop_more text i 0 lt) l
+
+  pub word_read : (text : List ℕ) (i : ℕ) {start now : Stream Seen} → length text ≤ i →
+      Left number syntax (word text) start (word (drop i text)) now → Reads {F = C} (word text) start tt now
+  word_read text i {start} {now} le l = (subst (λ z. Left number syntax (word text) start (word z) now)
+      (drop_all i text le) l).carries (Ok tt) now (reads_give now tt)

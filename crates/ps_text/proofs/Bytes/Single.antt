@@ -1,32 +1,27 @@
--- Single bytes and words as parts of a text: their laws and outcomes, how they are read, and how they fail.
+-- Single bytes as parts of a text: their laws and outcomes, how they are read, and how they fail.
 --     Odd      no sign is a cause by itself
 --     At b, Any      that byte; any sign
 --     stops_here      no sign comes with which the part begins
 --     byte_reads, byte_stops      the next byte is that one, or it is not
---     word_next, word_fails, word_ends      a word, byte by byte
 --     avoids, enters_byte      a part that begins with that byte
 --     refuted      what a test denies
-use Rattle.std.proofs.Common.{◌≡◌, ℕ, ◌+◌, ◌<◌, ◌≤◌, Bool, true, false, cond, List, [], ◌∷◌, length, get_or, drop}
-use Rattle.std.proofs.Common.{Option, Some, None, Ok, refl, sym, ap, subst, ◌∙◌, rules}
+use Rattle.std.proofs.Common.{◌≡◌, ℕ, Bool, true, false, cond, [], Option, Some, None, refl, sym, ap, subst, ◌∙◌, rules}
 use Rattle.std.specs.Option.{option_map}
 use Rattle.std.proofs.lemmas.Bool.{eq-eqb, eqb-true}
-use Rattle.std.proofs.lemmas.List.{drop_more, drop_all}
-use Rattle.ps_text.specs.Answers.{Stream, Found, signs, next_of}
+use Rattle.ps_text.specs.Answers.{Stream, signs, next_of}
 use Rattle.ps_text.specs.Parts.{Part, NoBad, refusal_of}
-use Rattle.ps_text.specs.Readers.{tail, StopsWith, Reads, Stops, Carries}
+use Rattle.ps_text.specs.Readers.{tail, StopsWith, Reads, Stops}
 use Rattle.ps_text.specs.Outcomes.{HasOutcomes}
 use Rattle.ps_text.specs.Faults.{found_of}
 use Rattle.ps_text.specs.declared.faults.Fault.{Fault}
 use Rattle.ps_text.specs.declared.faults.Fault.TheVariants.{Text}
-use Rattle.ps_text.specs.Bytes.{Seen, byte_causes, take_byte, byte, word}
+use Rattle.ps_text.specs.Bytes.{Seen, byte_causes, take_byte, byte}
 use Rattle.ps_text.specs.Cursors.{next_byte, place_of}
-use Rattle.ps_text.proofs.Laws.{Laws, Joint, Nothing, Or, Apart, weaker}
-use Rattle.ps_text.proofs.Joined.{joint}
-use Rattle.ps_text.proofs.Following.{laws_tight}
-use Rattle.ps_text.proofs.Simple.{none_is_some, same_some, Taken, BadSign, laws_give, laws_one, refused}
+use Rattle.ps_text.proofs.Laws.{Laws, Nothing, Or, Apart, weaker}
+use Rattle.ps_text.proofs.Simple.{none_is_some, same_some, Taken, BadSign, laws_one, refused}
 use Rattle.ps_text.proofs.Covered.{Avoids, Enters, enters_one}
-use Rattle.ps_text.proofs.Exits.{reads_next, reads_give, stops_first, carries_then, carries_stops}
-use Rattle.ps_text.proofs.Outcomes.{has_give, has_one, has_then}
+use Rattle.ps_text.proofs.Exits.{reads_next}
+use Rattle.ps_text.proofs.Outcomes.{has_one}
 use Rattle.ps_text.proofs.Decisions.{judge_none}
 
 pub refuted : {A : Type 0} {b : Bool} → (A → b ≡ true) → b ≡ false → A → ⊥
@@ -78,17 +73,6 @@ module _ {C : Type 0} where
       first : (t : Seen) → Or (Taken (take_byte b)) (BadSign {F = C} NoBad) t → At b t
       first t h = search (rules, taken_byte)
 
-  pub laws_word : (bytes : List ℕ) → Laws {F = C} (Odd C) (word bytes) Any Nothing (Unit {0})
-  laws_word [] = weaker (laws_give (Odd C) tt) (λ t h. tt) (λ t h. h) (λ n. n)
-  laws_word (b ∷ bytes) =
-      weaker (laws_tight (laws_byte b) (λ _. laws_word bytes)) (λ t h. tt) (λ t h. h) (λ n. tt)
-
-  pub laws_word_from : (b : ℕ) (bytes : List ℕ) → Laws {F = C} (Odd C) (word (b ∷ bytes)) (At b) Nothing ⊥
-  laws_word_from b bytes = laws_tight (laws_byte b) (λ _. laws_word bytes)
-
-  pub joint_word : (b : ℕ) (bytes : List ℕ) → Joint {F = C} (byte b) (λ _. word bytes)
-  joint_word b bytes = joint (laws_byte b) (λ _. laws_word bytes) (λ t x y. x)
-
 module _ {C : Type 0} (number : C → ℕ) (syntax : C) where
   -- ## Outcomes
 
@@ -96,11 +80,6 @@ module _ {C : Type 0} (number : C → ℕ) (syntax : C) where
   unfolding byte
   has_byte b = has_one (byte_causes number syntax) (take_byte b) NoBad (seen b) tt (byte_taken (seen b) refl)
       (λ t. judge_none number)
-
-  pub has_word : (bytes : List ℕ) → HasOutcomes (byte_causes number syntax) (word bytes)
-  has_word [] = has_give (byte_causes number syntax) tt
-  has_word (b ∷ bytes) =
-      has_then (byte_causes number syntax) (joint_word b bytes) (has_byte b) (λ _. has_word bytes)
 
   -- ## A part that does not begin
 
@@ -134,27 +113,3 @@ pub byte_stops : {C : Type 0} (number : C → ℕ) {syntax : C} (b : ℕ) (old :
 byte_stops number {syntax} b old none is = subst
     (λ x. Stops (byte_causes number syntax) (byte b) old (found_of x)) (sym is)
     (stops_here number syntax (laws_byte b) (avoids b old none))
-
--- ## Words
-
-module _ {C : Type 0} (number : C → ℕ) (syntax : C) (text : List ℕ) (i : ℕ) (start now : Stream Seen)
-    (k : Carries (byte_causes number syntax) (word text) start (word (drop i text)) now) where
-  left : i < length text →
-      Carries (byte_causes number syntax) (word text) start (word (get_or text i 0 ∷ drop (i + 1) text)) now
-  left lt = subst (λ z. Carries (byte_causes number syntax) (word text) start (word z) now) (drop_more text i 0 lt) k
-
-  pub word_next : i < length text → {next : Stream Seen} → Reads (byte {C = C} (get_or text i 0)) now tt next →
-      Carries (byte_causes number syntax) (word text) start (word (drop (i + 1) text)) next
-  word_next lt m =
-      carries_then (byte_causes number syntax) (joint_word (get_or text i 0) (drop (i + 1) text)) (left lt) m
-
-  pub word_fails : i < length text → (o : Option (Found C)) →
-      Stops (byte_causes number syntax) (byte (get_or text i 0)) now o →
-      Stops (byte_causes number syntax) (word text) start o
-  word_fails lt o m = carries_stops (byte_causes number syntax) (word text)
-      (word (get_or text i 0 ∷ drop (i + 1) text)) start now o (left lt) (stops_first (byte_causes number syntax)
-      (joint_word (get_or text i 0) (drop (i + 1) text)) now o m)
-
-  pub word_ends : length text ≤ i → Reads (word {C = C} text) start tt now
-  word_ends le = subst (λ z. Carries (byte_causes number syntax) (word text) start (word z) now)
-      (drop_all i text le) k (Ok tt) now (reads_give now tt)
