@@ -28,6 +28,11 @@ returns-then-ends c =
 pub returns : goal.returns
 returns c =
     choice_reads _ _ (refuted c.comes.ensures.1 c.if-comes.false)
-    (number_reads _ c.in_ok-id.ensures (search (rules, else-is_none-via-then-is_none+else-ends, ends_false,
-    else-is_none-via-else-is_none, Contains-any))) (c.place-vertex.ensures.place
+    (number_reads _ c.in_ok-id.ensures (search (
+      rules,
+      else-is_none-via-then-is_none+else-ends,
+      ends_false,
+      else-is_none-via-else-is_none,
+      Contains-any,
+    ))) (c.place-vertex.ensures.place
     ∙ place_is_vertex c.args.ids.now c.in_ok-id.id)

@@ -11,8 +11,11 @@ returns-in_err-won c =
 
 pub loop-vertex-preserved : goal.loop-vertex-preserved
 loop-vertex-preserved c =
-    entry_next _ _ _ _ _ _ _ _ _ c.loop-vertex.invariant (omega
-    ( arith, c.count-vertices.ensures.vertices, ap vertex_count c.game.ensures.game, c.game.ensures.well_formed.id_each,
+    entry_next _ _ _ _ _ _ _ _ _ c.loop-vertex.invariant (omega (
+      arith,
+      c.count-vertices.ensures.vertices,
+      ap vertex_count c.game.ensures.game,
+      c.game.ensures.well_formed.id_each,
     )) c.id.ensures c.in_ok-won.ensures (c.in_ok-push.ensures.ok
     ∙ ap (λ (counts : List ℕ). c.loop-vertex.entries ++ record
     { winner = c.in_ok-won.won.winner; choice = c.in_ok-won.won.choice; counts = counts } ∷ []) c.deref.ensures.value)
