@@ -1,6 +1,7 @@
 //! A cursor over the bytes of a text, for readers whose signs are single bytes.
 
-ghost use Rattle.std.specs.Prelude.{◌≡◌, ℕ, ◌==◌, ◌≤◌, ◌<◌, ◌^◌, ◌↔◌, IsTrue, Some, [], length, take_while, IfSome, IfNone};
+ghost use Rattle.std.specs.Prelude.{◌≡◌, ℕ, ◌==◌, ◌≤◌, ◌<◌, ◌^◌, ◌↔◌, IsTrue, Some, [], length, take_while, IfSome};
+ghost use Rattle.std.specs.Prelude.{IfNone};
 ghost use Rattle.std.specs.List.{prefix_len};
 ghost use Rattle.std.specs.Char.{is_ascii_digit};
 ghost use Rattle.ps_text.specs.declared.faults.Fault.TheVariants as faults;
@@ -49,7 +50,7 @@ pub struct Digits<'a> {
 }
 
 /// How many bytes of the class the text begins with.
-fn run_length(text: &[u8], class: Class) -> usize
+pub fn run_length(text: &[u8], class: Class) -> usize
     ensures length { result ≡ prefix_len (in_class class) text.now }
     ensures within { result ≤ length text.now }
 {

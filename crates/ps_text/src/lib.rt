@@ -9,6 +9,7 @@
 //! | `cursor::Cursor::new(text)`, `of_lines(text)` | a cursor over the bytes of a text, or of a text of lines |
 //! | `Cursor::peek`, `comes`, `offset`, `is_at_end`, `refusal` | what comes next and where, and a refusal there |
 //! | `Cursor::step`, `byte`, `word`, `run`, `digits`, `finish` | goes behind a byte, a run of a class, digits, or all |
+//! | `cursor::run_length(text, class)` | how many bytes of a class a text begins with |
 //! | `faults::Cause::number`, `name` | what each format says of a cause: its number and name in psyn's list of faults |
 //! | `faults::Fault::number`, `name` | those of a fault: of its cause, or of want of memory |
 //! | `answers::one_answer` | a law: a text of a `Format` has one answer at most |
