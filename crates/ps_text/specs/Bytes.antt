@@ -93,6 +93,13 @@ NoBadRun run f = ⊥
 abbrev pub is_digit : ℕ → Bool
 is_digit b = nat_le 48 b && nat_le b 57
 
+abbrev pub is_letter : ℕ → Bool
+is_letter b = (nat_le 65 b && nat_le b 90) || (nat_le 97 b && nat_le b 122)
+
+-- a tab, a line's end, the bytes up to 13, or a space
+abbrev pub is_blank : ℕ → Bool
+is_blank b = (nat_le 9 b && nat_le b 13) || (b == 32)
+
 -- a space or a tab
 abbrev pub is_space : ℕ → Bool
 is_space b = (b == 32) || (b == 9)
@@ -100,3 +107,7 @@ is_space b = (b == 32) || (b == 9)
 -- anything but a newline
 abbrev pub is_inner : ℕ → Bool
 is_inner b = not (b == 10)
+
+-- anything but a quote
+abbrev pub is_unquoted : ℕ → Bool
+is_unquoted b = not (b == 34)

@@ -1,8 +1,9 @@
 //! A cursor over the bytes of a text, for readers whose signs are single bytes.
 
-ghost use Rattle.std.specs.Prelude.{◌≡◌, ℕ, ◌==◌, ◌≤◌, ◌<◌, ◌^◌, ◌↔◌, IsTrue, Some, [], length, take_while, IfSome};
+ghost use Rattle.std.specs.Prelude.{◌≡◌, ℕ, ◌==◌, ◌≤◌, ◌<◌, ◌^◌, ◌↔◌, IsTrue, Some, false, [], length, take};
+ghost use Rattle.std.specs.Prelude.{take_while, IfSome};
 ghost use Rattle.std.specs.Prelude.{IfNone};
-ghost use Rattle.std.specs.List.{prefix_len};
+ghost use Rattle.std.specs.List.{prefix_len, AllPass};
 ghost use Rattle.std.specs.Char.{is_ascii_digit};
 ghost use Rattle.ps_text.specs.declared.faults.Fault.TheVariants as faults;
 ghost use Rattle.ps_text.specs.Faults.{found_of};
@@ -21,10 +22,22 @@ use std::marker::Model;
 pub enum Class {
     /// A digit.
     Digit,
+    /// An ASCII letter.
+    Letter,
+    /// A space, or one of the bytes 9 to 13.
+    Blank,
     /// A space or a tab.
     Space,
     /// Anything but a newline.
     Inner,
+    /// Anything but a quote.
+    Unquoted,
+    /// A quote.
+    Quote,
+    /// A comma.
+    Comma,
+    /// A semicolon.
+    Semicolon,
 }
 
 impl Class {
@@ -34,8 +47,14 @@ impl Class {
     {
         match self {
             Class::Digit => byte.is_ascii_digit(),
+            Class::Letter => byte.is_ascii_alphabetic(),
+            Class::Blank => matches!(byte, 9..=13 | b' '),
             Class::Space => byte == b' ' || byte == b'\t',
             Class::Inner => byte != b'\n',
+            Class::Unquoted => byte != b'"',
+            Class::Quote => byte == b'"',
+            Class::Comma => byte == b',',
+            Class::Semicolon => byte == b';',
         }
     }
 }
@@ -53,6 +72,7 @@ pub struct Digits<'a> {
 pub fn run_length(text: &[u8], class: Class) -> usize
     ensures length { result ≡ prefix_len (in_class class) text.now }
     ensures within { result ≤ length text.now }
+    ensures run { AllPass (in_class class) (take result text.now) }
 {
     text.iter().take_while(|byte| class.has(**byte)).count()
 }
@@ -212,8 +232,9 @@ impl<'a> Cursor<'a> {
         Ok(())
     }
 
-    /// The longest run of bytes of the class that comes next, and goes behind it.
+    /// The longest run of bytes of the class that comes next, and goes behind it. A newline must not be of the class.
     pub fn run(&mut self, class: Class) -> &'a [u8]
+        requires { in_class class 10 ≡ false }
         ensures { Passes (in_class class) self.old self.new result.now }
     {
         let count = run_length(self.rest, class);

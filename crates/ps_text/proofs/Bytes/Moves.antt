@@ -7,8 +7,7 @@ use Rattle.std.proofs.lemmas.List.{take-append-drop}
 use Rattle.ps_text.specs.Answers.{Stream, next_of}
 use Rattle.ps_text.specs.Runs.{StopsBefore}
 use Rattle.ps_text.specs.Bytes.{Seen, pieces_at, ends_line}
-use Rattle.ps_text.specs.declared.cursor.Class.{Class}
-use Rattle.ps_text.specs.Cursors.{in_class, ended, place_of, Passes}
+use Rattle.ps_text.specs.Cursors.{ended, place_of, Passes}
 use Rattle.ps_text.proofs.ByteRuns.{run_all, run_ends}
 use Rattle.ps_text.proofs.Simple.{none_is_some, same_some}
 use Rattle.ps_text.proofs.Covered.{Avoids}
@@ -79,6 +78,3 @@ same_place {p} {old} {new} x e = search rules
 pub avoids_run : {p : ℕ → Bool} {old new : Stream Seen} → Passes p old new [] →
     Avoids (λ (s : Seen). p s.byte ≡ true) (next_of old)
 avoids_run {p} x t n h = search (rules, none_is_some, same_some)
-
-pub class_line : (k : Class) → in_class k 10 ≡ false
-class_line k = search rules
