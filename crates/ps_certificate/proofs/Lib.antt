@@ -12,7 +12,6 @@ pub mod NumberPart
 pub mod Numerals
 pub mod OneFlaw
 pub mod OneReading
-pub mod SomeReading
 pub mod PairLoops
 pub mod PairSteps
 pub mod Steps
