@@ -1,15 +1,16 @@
 -- What is read fits the game.
-use Rattle.std.proofs.Common.{◌≡◌, ℕ, zero, suc, ◌<◌, Bool, true, false, List, [], ◌∷◌, length}
-use Rattle.std.proofs.Common.{Option, ap, ◌∙◌, sym, subst, rules}
+use Rattle.std.proofs.Common.{◌≡◌, ℕ, zero, suc, ◌<◌, Bool, true, false, List, [], ◌∷◌, length, Option, ap, ◌∙◌, sym}
+use Rattle.std.proofs.Common.{subst, rules}
 use Rattle.std.specs.Prelude.{IfSome, All}
 use Rattle.std.proofs.lemmas.List.{length-map}
 use Rattle.std.proofs.lemmas.List.Elements.{All-nil, All-cons, All-get_or}
 use Rattle.std.proofs.lemmas.List.Quantifiers.{position-Some}
 use Rattle.ps_game.specs.Games.{ParityGame, vertex_count}
 use Rattle.ps_game.specs.Ranking.{ListsPriorities}
-use Rattle.ps_certificate.specs.Certificates.{EntryData, CertificateData, Fits, winner_of, choice_of}
-use Rattle.ps_certificate.specs.Certificates.{counts_of, opposing}
-use Rattle.ps_certificate.specs.Texts.{Seen, winner, vertex_of, choice, counts, counts_in, lost_by, entry, entries}
+use Rattle.ps_certificate.specs.Certificates.{EntryData, CertificateData, Fits, winner_of, choice_of, counts_of}
+use Rattle.ps_certificate.specs.Certificates.{opposing}
+use Rattle.ps_text.specs.Bytes.{Seen}
+use Rattle.ps_certificate.specs.Texts.{winner, vertex_of, choice, counts, counts_in, lost_by, entry, entries}
 use Rattle.ps_certificate.specs.Texts.{certificate}
 
 pub record EntryFits (odd even : List ℕ) (n : ℕ) (entry : EntryData) : Type 0 where

@@ -12,10 +12,11 @@ pub mod NumberPart
 pub mod Numerals
 pub mod OneFlaw
 pub mod OneReading
-pub mod SomeReading
 pub mod PairLoops
 pub mod PairSteps
 pub mod Steps
+pub mod Lawful
+pub mod NumberOutcomes
 pub mod TextLaws
 pub mod Windows
 pub mod Rereading

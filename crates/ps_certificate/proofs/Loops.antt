@@ -4,81 +4,44 @@
 --     priorities_fail, priorities_end      the numbers of a line of priorities
 --     Listing      what is left is read, behind a front of a list
 use Rattle.std.proofs.Common.{◌≡◌, ℕ, suc, ◌+◌, ◌-◌, ◌<◌, ◌≤◌, Bool, true, false, not, eqb, List, [], ◌∷◌, ◌++◌, length}
-use Rattle.std.proofs.Common.{get_or, drop, Option, Some, Result, Ok, Err, IsErrAnd, refl, sym, ap, subst}
-use Rattle.std.proofs.Common.{append_assoc, arith, rules}
+use Rattle.std.proofs.Common.{get_or, drop, Option, Some, Result, Ok, Err, IsErrAnd, sym, subst, append_assoc, arith}
+use Rattle.std.proofs.Common.{rules}
 use Rattle.std.specs.Prelude.{slice_get}
 use Rattle.std.specs.Option.{option_eq}
 use Rattle.std.proofs.lemmas.Bool.{eq-eqb, eqb-true}
 use Rattle.std.proofs.lemmas.List.{append-nil, drop_more, drop_all}
 use Rattle.ps_text.specs.Answers.{Stream, Found}
-use Rattle.ps_text.specs.Parts.{then_by, many, mapped}
+use Rattle.ps_text.specs.Cursors.{next_byte}
+use Rattle.ps_text.specs.Parts.{many, mapped}
 use Rattle.ps_text.specs.Readers.{Reads, Stops, Goes, Carries}
 use Rattle.ps_text.specs.Faults.{found_of}
 use Rattle.ps_text.proofs.Laws.{Joint}
-use Rattle.ps_text.proofs.Simple.{laws_mapped}
 use Rattle.ps_text.proofs.Covered.{enters_then}
 use Rattle.ps_text.proofs.Exits.{exits, reads_give, reads_mapped, reads_then, stops_mapped, stops_first, stops_behind}
-use Rattle.ps_text.proofs.Exits.{carries_then, carries_stops}
-use Rattle.ps_text.proofs.Branches.{many_ends, many_fails, reads_shrinks}
+use Rattle.ps_text.proofs.Exits.{carries_stops}
+use Rattle.ps_text.proofs.Branches.{many_ends, many_fails}
 use Rattle.ps_certificate.specs.declared.fault.CertCause.{CertCause}
 use Rattle.ps_certificate.specs.Faults.{CertFault}
 use Rattle.ps_certificate.specs.Certificates.{EntryData}
-use Rattle.ps_certificate.specs.Places.{Place}
-use Rattle.ps_certificate.specs.Reading.{at_place, Tells, comes}
-use Rattle.ps_certificate.specs.Texts.{Seen, Field, pieces_at, causes, byte, word, number, Never, NotNext, priority}
-use Rattle.ps_certificate.specs.Texts.{priorities, counts, entry, entries}
-use Rattle.ps_certificate.proofs.NumberPart.{laws_number}
-use Rattle.ps_certificate.proofs.TextLaws.{tight_joint, loose_joint, digit_no_space, laws_byte, laws_word}
-use Rattle.ps_certificate.proofs.TextLaws.{laws_priority, joint_priorities, laws_counts, loose_then, laws_entry}
-use Rattle.ps_certificate.proofs.TextLaws.{laws_entries}
-use Rattle.ps_certificate.proofs.Steps.{avoids, enters_byte}
+use Rattle.ps_certificate.specs.Reading.{Tells}
+use Rattle.ps_text.specs.Bytes.{Seen, byte}
+use Rattle.ps_certificate.specs.Texts.{Field, causes, number, Never, NotNext, priority, priorities, counts, entry}
+use Rattle.ps_certificate.specs.Texts.{entries}
+use Rattle.ps_certificate.proofs.TextLaws.{digit_no_space, laws_priority, chain_listed, chain_priorities, chain_count}
+use Rattle.ps_certificate.proofs.TextLaws.{chain_counts, chain_entries}
+use Rattle.ps_text.proofs.Bytes.Single.{avoids, enters_byte}
 
-pub fails : {V X : Type 0} (view : X → V) (P : Field V) (old new : Place) (e : CertFault) (r : Result X CertFault)
-    → Stops causes P (at_place old) (found_of e) → IsErrAnd r (λ y. y ≡ e) → Tells view P old r new
-fails view P old new e r s i = exits found_of causes view P (at_place old) (at_place new) e r s i
-
-pub pieces_long : (at : ℕ) (bytes : List ℕ) → length (pieces_at at bytes) ≡ length bytes
-pieces_long at [] = refl
-pieces_long at (b ∷ bytes) = ap suc (pieces_long (at + 1) bytes)
-
--- a part that is never empty leaves fewer bytes
-pub fewer : {V : Type 0} (P : Field V) (old new : Place) (v : V) → ((w : V) → P.IsText [] w → ⊥)
-    → Reads P (at_place old) v (at_place new) → length new.rest < length old.rest
-fewer P old new v null m = grind (arith, reads_shrinks null m, pieces_long new.at new.rest, pieces_long old.at old.rest)
-
--- ## Words
-
-module _ (text : List ℕ) (i : ℕ) (start now : Stream Seen)
-    (k : Carries causes (word text) start (word (drop i text)) now) where
-  abbrev joint_word : Joint (byte (get_or text i 0)) (λ _. word (drop (i + 1) text))
-  joint_word = tight_joint (laws_byte (get_or text i 0)) (λ _. laws_word (drop (i + 1) text))
-
-  left : i < length text → Carries causes (word text) start (word (get_or text i 0 ∷ drop (i + 1) text)) now
-  left lt = subst (λ z. Carries causes (word text) start (word z) now) (drop_more text i 0 lt) k
-
-  pub word_next : i < length text → {next : Stream Seen} → Reads (byte (get_or text i 0)) now tt next
-      → Carries causes (word text) start (word (drop (i + 1) text)) next
-  word_next lt m = carries_then causes joint_word (left lt) m
-
-  pub word_fails : i < length text → (o : Option (Found CertCause)) → Stops causes (byte (get_or text i 0)) now o
-      → Stops causes (word text) start o
-  word_fails lt o m = carries_stops causes (word text) (word (get_or text i 0 ∷ drop (i + 1) text)) start now o
-      (left lt) (stops_first causes joint_word now o m)
-
-  pub word_ends : length text ≤ i → Reads (word text) start tt now
-  word_ends le = subst (λ z. Carries causes (word text) start (word z) now) (drop_all i text le) k (Ok tt) now
-      (reads_give now tt)
+pub fails : {V X : Type 0} (view : X → V) (P : Field V) (old new : Stream Seen) (e : CertFault) (r : Result X CertFault)
+    → Stops causes P old (found_of e) → IsErrAnd r (λ y. y ≡ e) → Tells view P old r new
+fails view P old new e r s i = exits found_of causes view P old new e r s i
 
 -- ## A line of priorities
 
 module _ (ps : List ℕ) where
-  pub joint_listed : Joint (byte 32) (λ _. mapped (λ _. drop 1 ps) (number (NotNext ps)))
-  joint_listed = grind (arith, laws_byte 32, laws_number (NotNext ps))
-
-  pub listed_reads : {old mid new : Stream Seen} → Reads (byte 32) old tt mid → {n : ℕ}
+  pub listed_reads : {old mid new : Stream Seen} → Reads {F = CertCause} (byte 32) old tt mid → {n : ℕ}
       → Reads (number (NotNext ps)) mid n new → {left : List ℕ} → left ≡ drop 1 ps → Reads (priority ps) old left new
   listed_reads {old} {new} m k e = subst (λ xs. Reads (priority ps) old xs new) (sym e)
-      (reads_then joint_listed m (reads_mapped (λ _. drop 1 ps) k))
+      (reads_then (chain_listed ps).joint m (reads_mapped (λ _. drop 1 ps) k))
 
   -- what the test of the next number says
   pub is_not_next : (n : ℕ) {o : Option ℕ} → o ≡ slice_get ps 0 → true ≡ not (option_eq eqb o (Some n)) → NotNext ps n
@@ -88,17 +51,21 @@ module _ (ps : List ℕ) where
       → slice_get ps 0 ≡ Some n
   is_next {n} {o} e h = search (rules, eqb-true)
 
-module _ (ps left : List ℕ) (start : Stream Seen) (now : Place)
-    (k : Carries causes (many priority ps) start (many priority left) (at_place now)) where
-  pub priorities_fail : comes 32 now.rest ≡ true → (o : Option (Found CertCause))
-      → Stops causes (priority left) (at_place now) o → Stops causes (priorities ps) start o
-  priorities_fail h o m = stops_first causes (joint_priorities ps) start o (carries_stops causes (many priority ps)
-      (many priority left) start (at_place now) o k (many_fails priority laws_priority digit_no_space causes left
-      (at_place now) o (grind (arith, enters_then, left, joint_listed, enters_byte)) m))
+module _ (ps left : List ℕ) (start : Stream Seen) (now : Stream Seen)
+    (k : Carries causes (many priority ps) start (many priority left) now) where
+  pub priorities_fail : next_byte now ≡ Some 32 → (o : Option (Found CertCause))
+      → Stops causes (priority left) now o → Stops causes (priorities ps) start o
+  priorities_fail h o m =
+      stops_first causes (chain_priorities ps).joint start o (carries_stops causes (many priority ps)
+      (many priority left) start now o k (many_fails priority laws_priority digit_no_space causes left
+      now o (enters_then (byte 32)
+      (λ _. mapped (λ _. drop 1 left) (number (NotNext left))) (chain_listed left).joint _
+      (enters_byte CertCause 32 now h))
+      m))
 
-  pub priorities_end : comes 32 now.rest ≡ false → Reads (many priority ps) start left (at_place now)
-  priorities_end h = k (Ok left) (at_place now)
-      (many_ends priority laws_priority digit_no_space left (at_place now) (avoids 32 now h))
+  pub priorities_end : (next_byte now ≡ Some 32 → ⊥) → Reads (many priority ps) start left now
+  priorities_end h = k (Ok left) now
+      (many_ends priority laws_priority digit_no_space left now (avoids 32 now h))
 
 -- ## Lists that are read element by element
 
@@ -135,16 +102,6 @@ module _ {A : Type 0} (whole : Field (List A)) (start : Stream Seen) where
 
 -- ## Counts
 
-abbrev counts_behind : ℕ → ℕ → Field (List ℕ)
-counts_behind n count = mapped (λ others. count ∷ others) (counts n)
-
-pub joint_counts : (n : ℕ) → Joint (byte 32) (λ _. then_by (number Never) (counts_behind n))
-joint_counts n = tight_joint (laws_byte 32)
-    (λ _. loose_then (laws_number Never) (λ count. laws_mapped (λ others. count ∷ others) (counts n) (laws_counts n)))
-
-pub joint_count : (n : ℕ) → Joint (number Never) (counts_behind n)
-joint_count n = loose_joint (laws_number Never) (λ count. search (rules, laws_mapped, laws_counts))
-
 module _ (n i : ℕ) (start now : Stream Seen) (front : List ℕ)
     (l : Listing (counts n) start (counts (n - i)) now front) where
   some_left : i < n → Listing (counts n) start (counts (suc (n - (i + 1)))) now front
@@ -154,25 +111,29 @@ module _ (n i : ℕ) (start now : Stream Seen) (front : List ℕ)
   pub space_fails : i < n → (o : Option (Found CertCause)) → Stops causes (byte 32) now o
       → Stops causes (counts n) start o
   space_fails lt o m = listing_fails (counts n) start (counts (suc (n - (i + 1)))) now front (some_left lt) o
-      (stops_first causes (joint_counts (n - (i + 1))) now o m)
+      (stops_first causes (chain_counts (n - (i + 1))).joint now o m)
 
-  pub count_fails : i < n → {mid : Stream Seen} → Reads (byte 32) now tt mid → (o : Option (Found CertCause))
+  pub count_fails : i < n → {mid : Stream Seen} → Reads {F = CertCause} (byte 32) now tt mid →
+      (o : Option (Found CertCause))
       → Stops causes (number Never) mid o → Stops causes (counts n) start o
   count_fails lt {mid} m o k = listing_fails (counts n) start (counts (suc (n - (i + 1)))) now front (some_left lt) o
-      (stops_behind causes (joint_counts (n - (i + 1))) m o (stops_first causes (joint_count (n - (i + 1))) mid o k))
+      (stops_behind causes (chain_counts (n - (i + 1))).joint m o
+      (stops_first causes (chain_count (n - (i + 1))).joint mid o k))
 
-  pub count_next : i < n → {mid next : Stream Seen} {count : ℕ} → Reads (byte 32) now tt mid
+  pub count_next : i < n → {mid next : Stream Seen} {count : ℕ} → Reads {F = CertCause} (byte 32) now tt mid
       → Reads (number Never) mid count next → {longer : List ℕ} → longer ≡ front ++ count ∷ []
       → Listing (counts n) start (counts (n - (i + 1))) next longer
   count_next lt {next} {count} m k e = listing_next (counts n) start (counts (suc (n - (i + 1)))) now front
-      (some_left lt) count (λ others new x. reads_then (joint_counts (n - (i + 1))) m
-      (reads_then (joint_count (n - (i + 1))) k (reads_mapped (λ others. count ∷ others) x))) (λ o x. stops_behind
-      causes (joint_counts (n - (i + 1))) m o (search (rules, stops_behind, joint_count, stops_mapped))) e
+      (some_left lt) count (λ others new x. reads_then (chain_counts (n - (i + 1))).joint m
+      (reads_then (chain_count (n - (i + 1))).joint k (reads_mapped (λ others. count ∷ others) x))) (λ o x. stops_behind
+      causes (chain_counts (n - (i + 1))).joint m o (stops_behind causes (chain_count (n - (i + 1))).joint k o
+      (stops_mapped causes (λ others. count ∷ others) (counts (n - (i + 1))) next o x))) e
 
   none_left : n ≤ i → Listing (counts n) start (counts 0) now front
   none_left le = let e : n - i ≡ 0 = omega arith in subst (λ k. Listing (counts n) start (counts k) now front) e l
 
-  pub counts_end : n ≤ i → {new : Stream Seen} → Reads (byte 10) now tt new → Reads (counts n) start front new
+  pub counts_end : n ≤ i → {new : Stream Seen} → Reads {F = CertCause} (byte 10) now tt new →
+      Reads (counts n) start front new
   counts_end le m = listing_ends (counts n) start (counts 0) now front (none_left le) (reads_mapped (λ _. []) m)
 
   pub counts_end_fails : n ≤ i → (o : Option (Found CertCause)) → Stops causes (byte 10) now o
@@ -188,8 +149,7 @@ module _ (compact : Bool) (odd even all ids : List ℕ) (i : ℕ) (start now : S
 
   joint_entries : Joint (entry compact odd even all (get_or ids i 0))
       (λ first. mapped (λ others. first ∷ others) rest_of)
-  joint_entries = tight_joint (laws_entry compact odd even all (get_or ids i 0))
-      (λ first. laws_mapped (λ others. first ∷ others) rest_of (laws_entries compact odd even all (drop (i + 1) ids)))
+  joint_entries = (chain_entries compact odd even all (get_or ids i 0) (drop (i + 1) ids)).joint
 
   entry_left : i < length ids → Listing (entries compact odd even all ids) start
       (entries compact odd even all (get_or ids i 0 ∷ drop (i + 1) ids)) now front

@@ -1,12 +1,11 @@
 -- A number as a part of the text: how it is read, and how reading it fails.
-use Rattle.std.proofs.Common.{rules}
-use Rattle.std.proofs.Common.{◌≡◌, ℕ, zero, suc, ◌+◌, ◌^◌, ◌<◌, ◌≤◌, ◌⊎◌, List, [], ◌∷◌, ◌++◌, length, take, drop, Err}
-use Rattle.std.proofs.Common.{refl, sym, ap, subst, inl, inr, ◌∙◌, append_assoc, arith, length-append, length-drop}
+use Rattle.std.proofs.Common.{rules, ◌≡◌, ℕ, zero, suc, ◌+◌, ◌^◌, ◌<◌, ◌≤◌, ◌⊎◌, List, [], ◌∷◌, ◌++◌, length, take}
+use Rattle.std.proofs.Common.{drop, refl, sym, ap, subst, inl, inr, ◌∙◌, append_assoc, arith, length-append}
 use Rattle.std.proofs.Math.Seq.{take-append_seam, drop-append_seam}
 use Rattle.std.proofs.lemmas.List.{take-map, take-append-drop}
-use Rattle.ps_text.specs.Answers.{Begins, signs, first_of, offset_of}
+use Rattle.ps_text.specs.Answers.{Begins, signs, first_of, Stream}
 use Rattle.ps_text.specs.Parts.{IsRead, IsFault, IsFaultAt, is_cause, is_refusal, StopsAt, CleanUpTo}
-use Rattle.ps_text.specs.Readers.{IsSuffix, StopsWith, Reads, Stops}
+use Rattle.ps_text.specs.Readers.{StopsWith, Reads, Stops}
 use Rattle.ps_text.specs.Faults.{found_of}
 use Rattle.ps_text.specs.Digits.{IsDigit, IsPlainNumber, decimal_value}
 use Rattle.ps_text.specs.declared.faults.Fault.TheVariants.{Text}
@@ -19,44 +18,23 @@ use Rattle.ps_text.proofs.Whole.{Own}
 use Rattle.ps_certificate.specs.declared.fault.CertCause.{CertCause}
 use Rattle.ps_certificate.specs.declared.fault.CertCause.TheVariants.{Syntax, OtherGame}
 use Rattle.ps_certificate.specs.Faults.{CertFault, cause_number}
-use Rattle.ps_certificate.specs.Places.{Place}
-use Rattle.ps_certificate.specs.Reading.{at_place, numeral, HasNoNumber, IsNumberRead, TellsNumber}
-use Rattle.ps_certificate.specs.Texts.{Seen, pieces_at, stream_at, bytes_of, causes, EndsField, Verdict, IsBadNumber}
-use Rattle.ps_certificate.specs.Texts.{Field, judged, OfOtherGame, number, IsZero, WrongPriority}
+use Rattle.ps_text.specs.Cursors.{place_of}
+use Rattle.ps_text.proofs.Bytes.Pieces.{bytes_append, bytes_at, pieces_with, pieces_split}
+use Rattle.ps_certificate.specs.Reading.{numeral, HasNoNumber, IsNumberRead}
+use Rattle.ps_text.specs.Bytes.{Seen, pieces_at, bytes_of}
+use Rattle.ps_certificate.specs.Texts.{causes, EndsField, Verdict, IsBadNumber, Field, judged, OfOtherGame, number}
+use Rattle.ps_certificate.specs.Texts.{IsZero, WrongPriority}
 use Rattle.ps_certificate.specs.Pairs.{Pairs}
 use Rattle.ps_text.proofs.Decimals.{value_grows}
 use Rattle.ps_certificate.proofs.Numerals.{numeral_split, numeral_plain, numeral_longest, plain_front, numeral_ended}
 use Rattle.ps_certificate.proofs.Numerals.{numeral_zero}
 
--- ## Places and streams
+-- ## Signs
 
-pub pieces_split : (n at : ℕ) (bytes : List ℕ) → n ≤ length bytes
-    → pieces_at at bytes ≡ take n (pieces_at at bytes) ++ pieces_at (at + n) (drop n bytes)
-pieces_split zero at bytes l = let e : at ≡ at + 0 = omega arith in ap (λ a. pieces_at a bytes) e
-pieces_split (suc n) at [] l = absurd (omega arith)
-pieces_split (suc n) at (b ∷ bytes) l = grind (arith, pieces_split n (at + 1) bytes (omega arith))
-
-pub bytes_append : (a b : List Seen) → bytes_of (a ++ b) ≡ bytes_of a ++ bytes_of b
-bytes_append [] b = refl
-bytes_append (s ∷ a) b = ap (λ xs. s.byte ∷ xs) (bytes_append a b)
-
--- the signs of a text
-abbrev pub seen : List ℕ → List Seen
-seen [] = []
-seen (b ∷ bytes) = record { byte = b; behind = bytes } ∷ seen bytes
-
-pub signs_seen : (at : ℕ) (bytes : List ℕ) → signs (pieces_at at bytes) ≡ seen bytes
-signs_seen at [] = refl
-signs_seen at (b ∷ bytes) = ap (λ ss. record { byte = b; behind = bytes } ∷ ss) (signs_seen (at + 1) bytes)
-
-bytes_seen : (bytes : List ℕ) → bytes_of (seen bytes) ≡ bytes
-bytes_seen [] = refl
-bytes_seen (b ∷ bytes) = ap (λ xs. b ∷ xs) (bytes_seen bytes)
-
-seen_dropped : (n : ℕ) (bytes : List ℕ) → drop n (seen bytes) ≡ seen (drop n bytes)
-seen_dropped zero bytes = refl
-seen_dropped (suc n) [] = refl
-seen_dropped (suc n) (b ∷ bytes) = seen_dropped n bytes
+dropped : (n at : ℕ) (bytes : List ℕ) → drop n (signs (pieces_at at bytes)) ≡ signs (pieces_at (at + n) (drop n bytes))
+dropped zero at bytes = let e : at ≡ at + 0 = omega arith in ap (λ a. signs (pieces_at a bytes)) e
+dropped (suc n) at [] = refl
+dropped (suc n) at (b ∷ bytes) = grind (arith, dropped n (at + 1) bytes)
 
 -- ## What is wrong with the number that bytes begin with
 
@@ -108,13 +86,6 @@ pub wrong_run_is : {Wrong : Verdict} {bytes : List ℕ} {t : Seen} {f : CertCaus
 wrong_run_is {bytes} e l w = grind (arith, numeral_split bytes, numeral_plain bytes l)
 
 -- ## Reading a number
-
-run_within : (bytes : List ℕ) → run_length bytes ≤ length bytes
-run_within bytes = grind (arith, numeral_split bytes, length-append (numeral bytes) (drop (run_length bytes) bytes))
-
-pub suffix_behind : (n at : ℕ) (bytes : List ℕ) → n ≤ length bytes
-    → IsSuffix (stream_at at bytes) (stream_at (at + n) (drop n bytes))
-suffix_behind n at bytes l = grind (arith, pieces_split n at bytes l, length-drop n bytes)
 
 one_byte : (b : ℕ) (more : List ℕ) → IsPlainNumber (b ∷ more) → IsPlainNumber (b ∷ [])
 one_byte b more h = plain_front (b ∷ []) more (omega arith) h
@@ -172,29 +143,57 @@ module _ (Wrong : Verdict) (settled : Settled Wrong) (t : Seen) (after : List Se
     clean = clean;
   }
 
-pub read_run : {Wrong : Verdict} → Settled Wrong → (bytes : List ℕ) {n : ℕ} {rest : List ℕ} → 0 < run_length bytes →
-    decimal_value (numeral bytes) ≡ n → n < 2 ^ 64 → drop (run_length bytes) bytes ≡ rest →
-    ((f : CertCause) → Wrong rest n f → ⊥) → IsRead (judged Wrong) (seen bytes) n (seen rest)
-read_run settled [] long value small behind right = absurd (omega arith)
-read_run {Wrong} settled (b ∷ more) {n} {rest} long value small behind right =
+pub read_run : {Wrong : Verdict} → Settled Wrong → (at : ℕ) (bytes : List ℕ) {n : ℕ} {rest : List ℕ} →
+    0 < run_length bytes → decimal_value (numeral bytes) ≡ n → n < 2 ^ 64 → drop (run_length bytes) bytes ≡ rest →
+    ((f : CertCause) → Wrong rest n f → ⊥) →
+    IsRead (judged Wrong) (signs (pieces_at at bytes)) n (signs (pieces_at (at + run_length bytes) rest))
+read_run settled at [] long value small behind right = absurd (omega arith)
+read_run {Wrong} settled at (b ∷ more) {n} {rest} long value small behind right =
     let bytes = b ∷ more in
     grind (
       arith,
-      seen_dropped (run_length bytes) bytes,
-      bytes_seen bytes,
-      number_read Wrong settled (record { byte = b; behind = more }) (seen more) long none,
+      dropped (run_length bytes) at bytes,
+      bytes_at at bytes,
+      number_read Wrong settled (record { byte = b; at = at; behind = more })
+          (signs (pieces_at (at + 1) more)) long none,
     )
   where
     none : (f : CertCause) → IsWrongRun Wrong (b ∷ more) f → ⊥
     none f h = grind arith
 
-pub judged_reads : (Wrong : Verdict) → Settled Wrong → (old new : Place) (n : ℕ) → IsNumberRead old new n →
-    ((f : CertCause) → Wrong new.rest n f → ⊥) → Reads (judged Wrong) (at_place old) n (at_place new)
-judged_reads Wrong settled old new n r right = search (rules, suffix_behind, run_within, signs_seen, read_run)
+-- the number is the longest one that its bytes begin with
+module _ {old new : Stream Seen} {n : ℕ} (r : IsNumberRead old new n) where
+  abbrev pub read_bytes : List ℕ
+  read_bytes = r.digits ++ r.rest
+
+  read_length : run_length read_bytes ≡ length r.digits
+  read_length = ap length r.whole
+
+  read_long : 0 < run_length read_bytes
+  read_long = omega (arith, read_length, r.some)
+
+  read_value : decimal_value (numeral read_bytes) ≡ n
+  read_value = ap decimal_value r.whole ∙ sym r.value
+
+  read_behind : drop (run_length read_bytes) read_bytes ≡ r.rest
+  read_behind = ap (λ k. drop k read_bytes) read_length ∙ drop-append_seam r.digits r.rest
+
+pub judged_reads : (Wrong : Verdict) → Settled Wrong → {old new : Stream Seen} {n : ℕ} (r : IsNumberRead old new n) →
+    ((f : CertCause) → Wrong r.rest n f → ⊥) → Reads (judged Wrong) old n new
+judged_reads Wrong settled {old} {new} {n} r right = (
+  record {
+    taken = pieces_with r.at r.digits r.rest;
+    split = r.old_is ∙ pieces_split r.at r.digits r.rest ∙ ap (λ ps. pieces_with r.at r.digits r.rest ++ ps)
+        (sym r.new_is);
+    end = r.end;
+  },
+  rw (r.old_is, r.new_is, ← read_length r)
+      (read_run settled r.at (read_bytes r) (read_long r) (read_value r) r.small (read_behind r) right),
+)
 
 pub judged_begins : (Wrong : Verdict) → Begins (judged Wrong).IsText []
 judged_begins Wrong = record {
-  more = record { byte = 48; behind = [] } ∷ [];
+  more = record { byte = 48; at = 0; behind = [] } ∷ [];
   value = 0;
   is_text = (numeral_plain (48 ∷ []) (omega arith), refl);
 }
@@ -204,14 +203,16 @@ pub at_front : {V : Type 0} {P : Field V} {all : List Seen} {f : CertCause} →
     IsFaultAt causes P [] (first_of all) f → IsFault causes P all f all
 at_front h = record { front = []; split = refl; clean = λ front more t g e l c. absurd (omega (arith, l)); fault = h }
 
-pub stops_here : {V : Type 0} {P : Field V} (at : ℕ) (bytes : List ℕ) {f : CertCause} →
-    IsFault causes P (signs (pieces_at at bytes)) f (signs (pieces_at at bytes)) →
-    StopsWith causes P (stream_at at bytes) (record { cause = f; offset = at })
-stops_here at bytes h = record { front = []; rest = pieces_at at bytes; split = refl; fault = h; offset = offset bytes }
-  where
-    offset : (bytes : List ℕ) → at ≡ offset_of (pieces_at at bytes) (at + length bytes)
-    offset [] = omega arith
-    offset (b ∷ bytes) = refl
+pub stops_there : {V : Type 0} {P : Field V} {old : Stream Seen} (at : ℕ) (ahead : List ℕ) {f : CertCause} →
+    old.pieces ≡ pieces_at at ahead → IsFaultAt causes P [] (first_of (signs (pieces_at at ahead))) f →
+    StopsWith causes P old (record { cause = f; offset = place_of old })
+stops_there {P = P} {old = old} at ahead {f = f} e h = record {
+  front = [];
+  rest = old.pieces;
+  split = refl;
+  fault = at_front (subst (λ ps. IsFaultAt causes P [] (first_of (signs ps)) f) (sym e) h);
+  offset = refl;
+}
 
 -- no number begins there
 pub nothing_there : (Wrong : Verdict) (at : ℕ) (bytes : List ℕ) → numeral bytes ≡ []
@@ -230,7 +231,7 @@ syntax_least g = search rules
 pub too_large : (Wrong : Verdict) (at : ℕ) (bytes : List ℕ) → 0 < run_length bytes → 2 ^ 64 ≤ decimal_value
     (numeral bytes) → IsFaultAt causes (judged Wrong) [] (first_of (signs (pieces_at at bytes))) Syntax
 too_large Wrong at [] l h = absurd (omega arith)
-too_large Wrong at (b ∷ bytes) l h = let sign : Seen = record { byte = b; behind = bytes } in
+too_large Wrong at (b ∷ bytes) l h = let sign : Seen = record { byte = b; at = at; behind = bytes } in
     is_cause sign refl (refl, wrong_run_is refl l (inl (refl, h))) (λ g c. syntax_least g)
 
 -- a number of which the verdict speaks
@@ -240,36 +241,40 @@ pub wrong_number : {Wrong : Verdict} → Settled Wrong → (at : ℕ) (bytes : L
     IsFaultAt causes (judged Wrong) [] (first_of (signs (pieces_at at bytes))) f
 wrong_number settled at [] l value small behind wrong first = absurd (omega arith)
 wrong_number {Wrong} settled at (b ∷ bytes) {f = f} l value small behind wrong first =
-    is_cause (record { byte = b; behind = bytes }) refl
+    is_cause (record { byte = b; at = at; behind = bytes }) refl
     (refl, wrong_run_is refl l (inr (rw (value, behind) wrong))) (λ g c. least g (run_is_wrong settled refl c.1).1)
   where
     least : (g : CertCause) → IsWrongRun Wrong (b ∷ bytes) g → cause_number f ≤ cause_number g
     least g h = grind arith
 
-pub judged_fails : (Wrong : Verdict) (old new : Place) (e : CertFault) → TellsNumber old (Err e) new
-    → Stops causes (judged Wrong) (at_place old) (found_of e)
-judged_fails Wrong old new e h = grind (arith, stops_here, at_front, go)
-  where
-    go : HasNoNumber old.rest → IsFaultAt causes (judged Wrong) [] (first_of (signs (pieces_at old.at old.rest))) Syntax
-    go (inl none) = nothing_there Wrong old.at old.rest none
-    go (inr large) = too_large Wrong old.at old.rest large.0 large.1
+pub stops_at_place : {V : Type 0} {P : Field V} {old : Stream Seen} {f : CertCause} {e : CertFault} →
+    StopsWith causes P old (record { cause = f; offset = place_of old }) → e ≡ Text f (place_of old) →
+    Stops causes P old (found_of e)
+stops_at_place {P = P} {old = old} s is = subst (λ x. Stops causes P old (found_of x)) (sym is) s
 
-pub judged_wrong : {Wrong : Verdict} → Settled Wrong → {old new : Place} {n : ℕ} (f : CertCause) {e : CertFault} →
-    IsNumberRead old new n → Wrong new.rest n f → ((g : CertCause) → Wrong new.rest n g →
-    cause_number f ≤ cause_number g) → e ≡ Text f old.at → Stops causes (judged Wrong) (at_place old) (found_of e)
-judged_wrong {Wrong} settled {old} f r wrong first is = grind (
-  arith,
-  stops_here old.at old.rest
-      (at_front (wrong_number settled old.at old.rest r.long (sym r.value) r.small (sym r.rest) wrong first)),
-)
+pub judged_fails : (Wrong : Verdict) {old : Stream Seen} {e : CertFault} →
+    (e ≡ Text Syntax (place_of old)) × HasNoNumber old → Stops causes (judged Wrong) old (found_of e)
+judged_fails Wrong h = stops_at_place (stops_there h.1.at h.1.bytes h.1.old_is (go h.1.none)) h.0
+  where
+    go : (numeral h.1.bytes ≡ []) ⊎ ((0 < run_length h.1.bytes) × (2 ^ 64 ≤ decimal_value (numeral h.1.bytes))) →
+        IsFaultAt causes (judged Wrong) [] (first_of (signs (pieces_at h.1.at h.1.bytes))) Syntax
+    go (inl none) = nothing_there Wrong h.1.at h.1.bytes none
+    go (inr large) = too_large Wrong h.1.at h.1.bytes large.0 large.1
+
+pub judged_wrong : {Wrong : Verdict} → Settled Wrong → {old new : Stream Seen} {n : ℕ} (f : CertCause) {e : CertFault}
+    (r : IsNumberRead old new n) → Wrong r.rest n f → ((g : CertCause) → Wrong r.rest n g →
+    cause_number f ≤ cause_number g) → e ≡ Text f (place_of old) → Stops causes (judged Wrong) old (found_of e)
+judged_wrong settled f r wrong first is =
+    stops_at_place (stops_there r.at (read_bytes r) r.old_is (wrong_number settled r.at (read_bytes r)
+    (read_long r) (read_value r) r.small (read_behind r) wrong first)) is
 
 -- a number that is not the game's, where it is ended
-module _ (Wrong : ℕ → Type 0) (old new : Place) (n : ℕ) (r : IsNumberRead old new n) where
-  pub number_reads : (EndsField new.rest → Wrong n → ⊥) → Reads (number Wrong) (at_place old) n (at_place new)
-  number_reads right = judged_reads (OfOtherGame Wrong) (settled_other Wrong) old new n r (λ f w. right w.1 w.2)
+module _ (Wrong : ℕ → Type 0) {old new : Stream Seen} {n : ℕ} (r : IsNumberRead old new n) where
+  pub number_reads : (EndsField r.rest → Wrong n → ⊥) → Reads (number Wrong) old n new
+  number_reads right = judged_reads (OfOtherGame Wrong) (settled_other Wrong) r (λ f w. right w.1 w.2)
 
-  pub number_wrong : {e : CertFault} → EndsField new.rest → Wrong n → e ≡ Text OtherGame old.at
-      → Stops causes (number Wrong) (at_place old) (found_of e)
+  pub number_wrong : {e : CertFault} → EndsField r.rest → Wrong n → e ≡ Text OtherGame (place_of old) →
+      Stops causes (number Wrong) old (found_of e)
   number_wrong ended wrong is = judged_wrong (settled_other Wrong) OtherGame r
       (refl, ended, wrong) (λ g w. rw w.0 (omega arith)) is
 

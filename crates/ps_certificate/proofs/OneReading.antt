@@ -1,4 +1,4 @@
--- A text has one answer for a game.
+-- A text has one answer for a game, and it has one.
 use Rattle.std.proofs.Common.{◌≡◌, ℕ, suc, ◌<◌, ◌≤◌, List, [], ◌∷◌, Result, refl, ap₂, arith, rules}
 use Rattle.std.specs.List.{All, AllPairs, Contains}
 use Rattle.std.proofs.lemmas.List.Elements.{All-contains}
@@ -7,13 +7,16 @@ use Rattle.std.proofs.lemmas.Map.Made.{Contains-tail}
 use Rattle.ps_text.specs.Answers.{Found, AreNumbered}
 use Rattle.ps_text.specs.Parts.{IsWrong}
 use Rattle.ps_text.proofs.OneAnswer.{has_one_answer}
+use Rattle.ps_text.proofs.Outcomes.{some_answer}
+use Rattle.ps_game.proofs.PriorityLists.{priorities_there}
 use Rattle.ps_game.specs.Games.{ParityGame, NamedGameData}
 use Rattle.ps_certificate.specs.declared.fault.CertCause.{CertCause}
 use Rattle.ps_certificate.specs.Faults.{cause_number}
 use Rattle.ps_game.specs.Ranking.{ListsPriorities, HasPriority}
 use Rattle.ps_certificate.specs.Certificates.{CertificateData}
-use Rattle.ps_certificate.specs.Texts.{stream_at, causes, certificate, ReadsCertificate}
-use Rattle.ps_certificate.proofs.TextLaws.{laws_certificate}
+use Rattle.ps_text.specs.Bytes.{stream_at}
+use Rattle.ps_certificate.specs.Texts.{causes, certificate, ReadsCertificate}
+use Rattle.ps_certificate.proofs.TextLaws.{lawful_certificate}
 
 -- each number is below all that follow it
 abbrev pub Rises : List ℕ → Type 0
@@ -73,5 +76,15 @@ pub one_reading : (game : NamedGameData) (text : List ℕ) (answer other : Resul
     ReadsCertificate game text answer → ReadsCertificate game text other → answer ≡ other
 one_reading game text answer other a b =
     has_one_answer (certificate a.odd a.even game.ids).IsText (IsWrong causes (certificate a.odd a.even game.ids))
-    cause_number (laws_certificate a.odd a.even game.ids).one_value numbered (stream_at 0 text) answer other a.answers
+    cause_number (lawful_certificate a.odd a.even game.ids).laws.one_value numbered (stream_at 0 text) answer
+    other a.answers
     (grind (arith, one_list b.odd_listed a.odd_listed, one_list b.even_listed a.even_listed))
+
+-- the priorities of the game are listed, and the grammar has an outcome
+pub some_reading : (game : NamedGameData) (text : List ℕ) → (answer : Result CertificateData (Found CertCause)) ×
+    ReadsCertificate game text answer
+some_reading game text =
+    let odd = priorities_there game.game 1 in
+    let even = priorities_there game.game 0 in
+    let l = lawful_certificate odd.0 even.0 game.ids in
+    grind (arith, some_answer l.laws l.has (stream_at 0 text))

@@ -1,6 +1,6 @@
 -- What the loop over the pairs of a line has read, and what it still reads.
-use Rattle.std.proofs.Common.{◌≡◌, ℕ, zero, suc, ◌<◌, true, false, cond, eqb, List, [], ◌∷◌, length, get_or}
-use Rattle.std.proofs.Common.{Option, Some, None, Ok, refl, sym, ap₂, subst, arith, rules}
+use Rattle.std.proofs.Common.{◌≡◌, ℕ, zero, suc, ◌<◌, true, cond, eqb, List, [], ◌∷◌, length, get_or, Option, Some}
+use Rattle.std.proofs.Common.{None, Ok, refl, sym, ap₂, subst, arith, rules}
 use Rattle.std.specs.Prelude.{map, set, slice_index, replicate}
 use Rattle.std.specs.List.{All}
 use Rattle.std.specs.List.Sorted.{IsStrictlyIncreasing}
@@ -9,22 +9,20 @@ use Rattle.std.proofs.lemmas.List.Elements.{All-head, All-tail}
 use Rattle.std.proofs.lemmas.List.Kept.{AllPairs-from_increasing}
 use Rattle.std.proofs.lemmas.Simd.{splat_is_map}
 use Rattle.ps_text.specs.Answers.{Stream, Found}
+use Rattle.ps_text.specs.Cursors.{next_byte}
 use Rattle.ps_text.specs.Parts.{many}
 use Rattle.ps_text.specs.Readers.{Reads, Stops, Carries}
 use Rattle.ps_text.proofs.Covered.{enters_then}
 use Rattle.ps_text.proofs.Exits.{reads_mapped, reads_then, stops_mapped, stops_first, stops_behind, carries_start}
 use Rattle.ps_text.proofs.Exits.{carries_stops}
-use Rattle.ps_text.proofs.Branches.{many_ends, many_fails, carries_many}
+use Rattle.ps_text.proofs.Branches.{reads_shrinks, many_ends, many_fails, carries_many}
 use Rattle.ps_certificate.specs.declared.fault.CertCause.{CertCause}
 use Rattle.ps_certificate.specs.Pairs.{Pairs, no_pairs, with_pair}
-use Rattle.ps_certificate.specs.Places.{Place}
-use Rattle.ps_certificate.specs.Reading.{at_place, comes}
-use Rattle.ps_certificate.specs.Texts.{Seen, causes, byte, pair, counts_in}
+use Rattle.ps_text.specs.Bytes.{Seen, byte}
+use Rattle.ps_certificate.specs.Texts.{causes, pair, counts_in}
+use Rattle.ps_certificate.proofs.TextLaws.{digit_no_space, behind_space, laws_pair, chain_pair, chain_pairs}
 use Rattle.ps_certificate.proofs.OneReading.{Rises, rises}
-use Rattle.ps_certificate.proofs.TextLaws.{digit_no_space, laws_byte, behind_space, laws_behind_space}
-use Rattle.ps_certificate.proofs.TextLaws.{laws_pair, joint_pairs}
-use Rattle.ps_certificate.proofs.Steps.{avoids, enters_byte}
-use Rattle.ps_certificate.proofs.Loops.{fewer}
+use Rattle.ps_text.proofs.Bytes.Single.{avoids, enters_byte}
 
 -- ## A count that is put into its place
 
@@ -49,36 +47,36 @@ set_is_put f m (q ∷ ps) (suc k) r lt = grind (arith, set_is_put f m ps k r.1 (
 -- ## The loop
 
 -- what was read so far
-pub record PairsSoFar (ps : List ℕ) (start : Stream Seen) (now : Place) (last : Option ℕ)
+pub record PairsSoFar (ps : List ℕ) (start : Stream Seen) (now : Stream Seen) (last : Option ℕ)
     (counts : List ℕ) : Type 0 where
   pub pairs : Pairs
   pub last_is : pairs.last ≡ last
   pub counts_are : counts ≡ map pairs.count ps
-  pub carries : Carries causes (many (pair ps) no_pairs) start (many (pair ps) pairs) (at_place now)
+  pub carries : Carries causes (many (pair ps) no_pairs) start (many (pair ps) pairs) now
 
-pub no_pairs_yet : {ps : List ℕ} {start : Place} {n : ℕ} → n ≡ length ps
-    → PairsSoFar ps (at_place start) start None (replicate n 0)
+pub no_pairs_yet : {ps : List ℕ} {start : Stream Seen} {n : ℕ} → n ≡ length ps
+    → PairsSoFar ps start start None (replicate n 0)
 no_pairs_yet {ps} {start} {n} e = record {
   pairs = no_pairs;
   last_is = refl;
   counts_are = splat_is_map ps n 0 (sym e);
-  carries = carries_start causes (many (pair ps) no_pairs) (at_place start);
+  carries = carries_start causes (many (pair ps) no_pairs) start;
 }
 
 -- what a pair says, behind any pairs with that last priority
-abbrev pub ReadsPair : List ℕ → Option ℕ → Place → ℕ → ℕ → Place → Type 0
+abbrev pub ReadsPair : List ℕ → Option ℕ → Stream Seen → ℕ → ℕ → Stream Seen → Type 0
 ReadsPair ps last old p m new = (pairs : Pairs) → pairs.last ≡ last
-    → Reads (pair ps pairs) (at_place old) (with_pair pairs p m) (at_place new)
+    → Reads (pair ps pairs) old (with_pair pairs p m) new
 
 -- a pair leaves fewer bytes
-pub pair_shrinks : (ps : List ℕ) (last : Option ℕ) (now next : Place) (p m : ℕ) → ReadsPair ps last now p m next
-    → length next.rest < length now.rest
+pub pair_shrinks : (ps : List ℕ) (last : Option ℕ) (now next : Stream Seen) (p m : ℕ) → ReadsPair ps last now p m next
+    → length next.pieces < length now.pieces
 pair_shrinks ps last now next p m read = let pairs : Pairs = record { last = last; count = λ _. 0 } in
-    fewer (pair ps pairs) now next (with_pair pairs p m) (laws_pair ps pairs).null (read pairs refl)
+    reads_shrinks (laws_pair ps pairs).null (read pairs refl)
 
-module _ (ps : List ℕ) (start : Stream Seen) (now : Place) (last : Option ℕ) (counts : List ℕ)
+module _ (ps : List ℕ) (start : Stream Seen) (now : Stream Seen) (last : Option ℕ) (counts : List ℕ)
     (so_far : PairsSoFar ps start now last counts) where
-  pub pair_more : IsStrictlyIncreasing ps → {next : Place} (k m : ℕ) → k < length ps → ReadsPair ps last now
+  pub pair_more : IsStrictlyIncreasing ps → {next : Stream Seen} (k m : ℕ) → k < length ps → ReadsPair ps last now
       (slice_index ps k) m next → PairsSoFar ps start next (Some (slice_index ps k)) (set counts k m)
   pair_more rising k m lt read = record {
     pairs = with_pair so_far.pairs (slice_index ps k) m;
@@ -87,22 +85,23 @@ module _ (ps : List ℕ) (start : Stream Seen) (now : Place) (last : Option ℕ)
     carries = carries_many (pair ps) (laws_pair ps) digit_no_space causes so_far.carries (search rules);
   }
 
-  pub pair_fails : comes 32 now.rest ≡ true → (o : Option (Found CertCause)) → ((pairs : Pairs) →
-      pairs.last ≡ last → Stops causes (pair ps pairs) (at_place now) o) → Stops causes (counts_in true ps) start o
-  pair_fails h o m = stops_first causes (joint_pairs ps) start o (carries_stops causes (many (pair ps) no_pairs)
-      (many (pair ps) so_far.pairs) start (at_place now) o so_far.carries (many_fails (pair ps) (laws_pair ps)
-      digit_no_space causes so_far.pairs (at_place now) o (enters_then (byte 32) (λ _. behind_space ps so_far.pairs)
-      (grind (arith, laws_byte 32, laws_behind_space ps so_far.pairs)) _ (enters_byte 32 now h)) (grind arith)))
+  pub pair_fails : next_byte now ≡ Some 32 → (o : Option (Found CertCause)) → ((pairs : Pairs) →
+      pairs.last ≡ last → Stops causes (pair ps pairs) now o) → Stops causes (counts_in true ps) start o
+  pair_fails h o m = stops_first causes (chain_pairs ps).joint start o (carries_stops causes (many (pair ps) no_pairs)
+      (many (pair ps) so_far.pairs) start now o so_far.carries (many_fails (pair ps) (laws_pair ps)
+      digit_no_space causes so_far.pairs now o (enters_then (byte 32) (λ _. behind_space ps so_far.pairs)
+      (chain_pair ps so_far.pairs).joint _ (enters_byte CertCause 32 now h)) (grind arith)))
 
-  pairs_read : comes 32 now.rest ≡ false → Reads (many (pair ps) no_pairs) start so_far.pairs (at_place now)
-  pairs_read h = so_far.carries (Ok so_far.pairs) (at_place now)
-      (many_ends (pair ps) (laws_pair ps) digit_no_space so_far.pairs (at_place now) (avoids 32 now h))
+  pairs_read : (next_byte now ≡ Some 32 → ⊥) → Reads (many (pair ps) no_pairs) start so_far.pairs now
+  pairs_read h = so_far.carries (Ok so_far.pairs) now
+      (many_ends (pair ps) (laws_pair ps) digit_no_space so_far.pairs now (avoids 32 now h))
 
-  pub pairs_fail : comes 32 now.rest ≡ false → (o : Option (Found CertCause))
-      → Stops causes (byte 10) (at_place now) o → Stops causes (counts_in true ps) start o
-  pairs_fail h o m = search (rules, stops_behind, joint_pairs, pairs_read, stops_mapped)
+  pub pairs_fail : (next_byte now ≡ Some 32 → ⊥) → (o : Option (Found CertCause))
+      → Stops causes (byte 10) now o → Stops causes (counts_in true ps) start o
+  pairs_fail h o m = stops_behind causes (chain_pairs ps).joint (pairs_read h) o
+      (stops_mapped causes (λ _. map so_far.pairs.count ps) (byte 10) now o m)
 
-  pub pairs_done : comes 32 now.rest ≡ false → (new : Place) → Reads (byte 10) (at_place now) tt (at_place new)
-      → Reads (counts_in true ps) start counts (at_place new)
-  pairs_done h new m = subst (λ cs. Reads (counts_in true ps) start cs (at_place new)) (sym so_far.counts_are)
-      (reads_then (joint_pairs ps) (pairs_read h) (reads_mapped (λ _. map so_far.pairs.count ps) m))
+  pub pairs_done : (next_byte now ≡ Some 32 → ⊥) → (new : Stream Seen) → Reads {F = CertCause} (byte 10) now tt new
+      → Reads (counts_in true ps) start counts new
+  pairs_done h new m = subst (λ cs. Reads (counts_in true ps) start cs new) (sym so_far.counts_are)
+      (reads_then (chain_pairs ps).joint (pairs_read h) (reads_mapped (λ _. map so_far.pairs.count ps) m))

@@ -1,142 +1,152 @@
 -- How the reader's functions read their parts of the text, and fail at them, byte by byte.
---     stops_at      a fault of the code, and its place
---     refused_here      the next sign can't stand there
---     byte_reads, byte_fails, two_first, two_second, two_fails      one byte
+--     two_first, two_second, two_fails      one of two bytes
+--     zero_passed, digits_passed, none_passed      a number, or none
 --     end_reads, end_missing, end_fails      the end of a line of priorities, where some of these are left
 --     ends_true, ends_false      what the test of a field's end says
-use Rattle.std.proofs.Common.{◌≡◌, ℕ, ◌<◌, ◌≤◌, true, false, List, [], ◌∷◌, length, Option, Some}
-use Rattle.std.proofs.Common.{refl, sym, subst, inl, inr, arith, rules}
-use Rattle.std.proofs.lemmas.Bool.{eq-eqb, ne_eqb, eqb-true, eqb-false}
-use Rattle.ps_text.specs.Answers.{signs, first_of, next_of}
-use Rattle.ps_text.specs.Parts.{NoBad, one, refusal_of}
-use Rattle.ps_text.specs.Readers.{StopsWith, Reads, Stops}
+use Rattle.std.proofs.Common.{◌≡◌, ℕ, ◌+◌, ◌^◌, ◌<◌, ◌≤◌, ◌⊎◌, Bool, true, false, List, [], ◌∷◌, ◌++◌, length, take}
+use Rattle.std.proofs.Common.{Some, refl, sym, ap, inl, inr, ◌∙◌, arith, rules}
+use Rattle.std.proofs.Math.Seq.{take-append_seam}
+use Rattle.std.specs.Char.{is_ascii_digit}
+use Rattle.std.proofs.lemmas.Bool.{ne_eqb, eqb-true, eqb-false}
+use Rattle.ps_text.specs.Answers.{Stream, first_of, next_of, offset_of}
+use Rattle.ps_text.specs.Parts.{NoBad, one}
+use Rattle.ps_text.specs.Readers.{tail, tail_of, Reads, Stops}
 use Rattle.ps_text.specs.Faults.{found_of}
+use Rattle.ps_text.specs.Digits.{decimal_value}
 use Rattle.ps_text.specs.declared.faults.Fault.TheVariants.{Text}
-use Rattle.ps_text.proofs.Laws.{Laws, Or, Nothing}
-use Rattle.ps_text.proofs.Simple.{none_is_some, same_some, Taken, BadSign, laws_one, read_one, bad_one, refused}
-use Rattle.ps_text.proofs.Covered.{Enters, Avoids, enters_one}
-use Rattle.ps_certificate.specs.declared.fault.CertCause.{CertCause}
+use Rattle.ps_text.specs.Bytes.{Seen, pieces_at, take_byte, is_digit}
+use Rattle.ps_text.specs.Cursors.{next_byte, place_of, IsAhead, Passes}
+use Rattle.ps_text.proofs.ByteRuns.{run_len}
+use Rattle.ps_text.proofs.Laws.{Or}
+use Rattle.ps_text.proofs.Simple.{none_is_some, same_some}
+use Rattle.ps_text.proofs.Exits.{reads_next, stops_bad}
+use Rattle.ps_text.proofs.Bytes.Pieces.{next_at}
+use Rattle.ps_text.proofs.Bytes.Single.{At, byte_taken, next_is, avoids, stops_here}
 use Rattle.ps_certificate.specs.declared.fault.CertCause.TheVariants.{Syntax, OtherGame}
 use Rattle.ps_certificate.specs.Faults.{CertFault, cause_number}
-use Rattle.ps_certificate.specs.Places.{Place}
-use Rattle.ps_certificate.specs.Reading.{at_place, comes, ends, step_on, step_of}
-use Rattle.ps_certificate.specs.Texts.{Seen, Field, pieces_at, stream_at, causes, EndsField, take_byte, take_two, byte}
-use Rattle.ps_certificate.specs.Texts.{two, IsMissing}
-use Rattle.ps_certificate.proofs.NumberPart.{Odd, stops_here}
-use Rattle.ps_certificate.proofs.TextLaws.{At, byte_taken, laws_byte, laws_newline, first_taken}
-
-abbrev sees : ℕ → List ℕ → Seen
-sees b bytes = record { byte = b; behind = bytes }
-
--- ## Faults
-
-pub stops_at : {V : Type 0} {P : Field V} (old : Place) (f : CertCause) {e : CertFault} → StopsWith causes P (at_place
-    old) (record { cause = f; offset = old.at }) → e ≡ Text f old.at → Stops causes P (at_place old) (found_of e)
-stops_at {P} old f s is = subst (λ x. Stops causes P (at_place old) (found_of x)) (sym is) s
-
-pub refused_here : {V : Type 0} {P : Field V} {First More : Seen → Type 0} → Laws Odd P First More ⊥ → (place : Place)
-    → ((b : ℕ) (bytes : List ℕ) → place.rest ≡ b ∷ bytes → First (sees b bytes) → ⊥)
-    → StopsWith causes P (at_place place) (record { cause = Syntax; offset = place.at })
-refused_here {P = P} {First = First} l place none = grind (arith, stops_here, syntax, refused, avoided)
-  where
-    syntax : (there : Option Seen) → refusal_of causes there ≡ Syntax
-    syntax there = grind arith
-
-    avoided : (bytes : List ℕ) →
-        place.rest ≡ bytes → (t : Seen) → first_of (signs (pieces_at place.at bytes)) ≡ Some t → First t → ⊥
-    avoided [] e t s h = none_is_some t s
-    avoided (b ∷ bytes) e t s h = none b bytes e (subst First (sym (same_some (sees b bytes) t s)) h)
-
--- ## The next byte
-
-comes_not : {b c : ℕ} (bytes : List ℕ) {rest : List ℕ} → rest ≡ c ∷ bytes → comes b rest ≡ false → c ≡ b → ⊥
-comes_not {b} {c} bytes e h = eqb-false c b (subst (λ r. comes b r ≡ false) e h)
-
-module _ {V : Type 0} (take : Seen → Option V) (Bad : Seen → CertCause → Type 0) (old new : Place) (b : ℕ) (v : V) where
-  -- the byte that comes is taken
-  pub taken : comes b old.rest ≡ true → new ≡ step_of old → ((bytes : List ℕ) → take (sees b bytes) ≡ Some v) → ((bytes
-      : List ℕ) (f : CertCause) → Bad (sees b bytes) f → ⊥) → Reads (one take Bad) (at_place old) v (at_place new)
-  taken h next takes good = subst (λ q. Reads (one take Bad) (at_place old) v (at_place q)) (sym next) (go old.rest h)
-    where
-      go : (rest : List ℕ) → comes b rest ≡ true → Reads (one take Bad) (stream_at old.at rest) v
-          (at_place (step_on old.at rest))
-      go [] h = absurd cc
-      go (c ∷ bytes) h =
-          let same : b ≡ c = sym (eqb-true c b h) in (
-            record { taken = record { sign = sees c bytes; start = old.at } ∷ []; split = refl; end = omega arith },
-            read_one take Bad (subst (λ x. take (sees x bytes) ≡ Some v) same (takes bytes))
-                (subst (λ x. (f : CertCause) → Bad (sees x bytes) f → ⊥) same (good bytes)),
-          )
-
-pub byte_reads : (b : ℕ) (old : Place) {new : Place} → comes b old.rest ≡ true → new ≡ step_of old
-    → Reads (byte b) (at_place old) tt (at_place new)
-byte_reads b old {new} h next = search (rules, taken, byte_taken)
-
-pub byte_fails : (b : ℕ) (old : Place) {e : CertFault} → comes b old.rest ≡ false → e ≡ Text Syntax old.at
-    → Stops causes (byte b) (at_place old) (found_of e)
-byte_fails b old h is = stops_at old Syntax (refused_here (laws_byte b) old (λ c bytes s k. comes_not bytes s h k)) is
+use Rattle.ps_certificate.specs.Reading.{is_end, comes, numeral, IsNumberRead, HasNoNumber}
+use Rattle.ps_certificate.specs.Texts.{causes, EndsField, take_two, two, IsMissing}
+use Rattle.ps_certificate.proofs.NumberPart.{stops_at_place}
+use Rattle.ps_certificate.proofs.TextLaws.{lawful_two, lawful_newline, first_taken, second_taken}
 
 -- ## One of two bytes
 
-module _ {V : Type 0} (a b : ℕ) (v w : V) (old new : Place) where
-  pub two_first : comes a old.rest ≡ true → new ≡ step_of old → Reads (two a b v w) (at_place old) v (at_place new)
-  two_first h next = search (rules, taken, first_taken)
+module _ {V : Type 0} (a b : ℕ) (v w : V) (old : Stream Seen) where
+  pub two_first : {new : Stream Seen} → next_byte old ≡ Some a → new ≡ tail old → Reads (two a b v w) old v new
+  two_first {new} e next =
+      let t = next_is (next_of old) e in
+      reads_next (take_two a b v w) NoBad old new t.0 v t.1 next (first_taken b w t.0 t.2) (λ f x. x)
 
-  pub two_second : (a ≡ b → ⊥) → comes b old.rest ≡ true → new ≡ step_of old
-      → Reads (two a b v w) (at_place old) w (at_place new)
-  two_second other h next = taken (take_two a b v w) NoBad old new b w h next second (λ bytes f x. x)
+  pub two_second : {new : Stream Seen} → (a ≡ b → ⊥) → next_byte old ≡ Some b → new ≡ tail old →
+      Reads (two a b v w) old w new
+  two_second {new} other e next =
+      let t = next_is (next_of old) e in
+      reads_next (take_two a b v w) NoBad old new t.0 w t.1 next (second_taken a v t.0 other t.2) (λ f x. x)
+
+  pub two_fails : {e : CertFault} → (next_byte old ≡ Some a → ⊥) → (next_byte old ≡ Some b → ⊥) →
+      e ≡ Text Syntax (place_of old) → Stops causes (two a b v w) old (found_of e)
+  two_fails h k is = stops_at_place (stops_here cause_number Syntax (lawful_two a b v w).laws none) is
     where
-      second : (bytes : List ℕ) → take_two a b v w (sees b bytes) ≡ Some w
-      second bytes = search (rules, ne_eqb, eq-eqb)
+      none : (t : Seen) → next_of old ≡ Some t → Or (At a) (At b) t → ⊥
+      none t n (inl e) = avoids a old h t n e
+      none t n (inr e) = avoids b old k t n e
 
-  pub two_fails : {e : CertFault} → comes a old.rest ≡ false → comes b old.rest ≡ false → e ≡ Text Syntax old.at
-      → Stops causes (two a b v w) (at_place old) (found_of e)
-  two_fails h k is = stops_at old Syntax (refused_here laws old none) is
-    where
-      laws : Laws Odd (two a b v w) (Or (Taken (take_two a b v w)) (BadSign {F = CertCause} NoBad)) Nothing ⊥
-      laws = laws_one (take_two a b v w) NoBad Odd (sees a []) v (first_taken b w (sees a []) refl)
-          (λ t a o. none_is_some o.0 o.1) (λ t a o. none_is_some o.0 o.1)
+-- ## Numbers
 
-      none : (c : ℕ) (bytes : List ℕ) → old.rest ≡ c ∷ bytes
-          → Or (Taken (take_two a b v w)) (BadSign {F = CertCause} NoBad) (sees c bytes) → ⊥
-      none c bytes s (inr x) = x.1
-      none c bytes s (inl x) = search (rules, ne_eqb, comes_not, none_is_some)
+pub zero_passed : {old new : Stream Seen} → next_byte old ≡ Some 48 → IsAhead old → new ≡ tail old →
+    IsNumberRead old new 0
+zero_passed {old} {new} e ahead next = go ahead.0 ahead.1 ahead.2
+  where
+    go : (at : ℕ) (bytes : List ℕ) → old.pieces ≡ pieces_at at bytes → IsNumberRead old new 0
+    go at [] x = absurd (none_is_some 48 (sym (next_at old at [] x) ∙ e))
+    go at (b ∷ more) x =
+        let zero : b ≡ 48 = same_some b 48 (sym (next_at old at (b ∷ more) x) ∙ e) in
+        let there : old.pieces ≡ pieces_at at (48 ∷ more) = x ∙ ap (λ c. pieces_at at (c ∷ more)) zero in
+        record {
+          at = at;
+          digits = 48 ∷ [];
+          rest = more;
+          old_is = there;
+          new_is = ap (λ s. s.pieces) next ∙ ap tail_of there;
+          end = ap (λ s. s.end) next;
+          place = sym (ap (λ ps. offset_of ps old.end) there);
+          whole = refl;
+          some = omega arith;
+          value = refl;
+          small = omega arith;
+        }
+
+module _ {old new : Stream Seen} {digits : List ℕ} (other : next_byte old ≡ Some 48 → ⊥)
+    (x : Passes is_digit old new digits) where
+  no_zero : (at : ℕ) (bytes : List ℕ) → old.pieces ≡ pieces_at at bytes → comes 48 bytes ≡ false
+  no_zero at [] e = refl
+  no_zero at (b ∷ more) e = ne_eqb b 48 (λ z. other (next_at old at (b ∷ more) e ∙ ap Some z))
+
+  -- digits that don't begin with 0 are the longest number
+  whole_run : numeral (digits ++ x.rest) ≡ digits
+  whole_run = rw (no_zero x.at (digits ++ x.rest) x.old_is)
+      (ap (λ n. take n (digits ++ x.rest)) (run_len is_ascii_digit digits x.rest x.all x.longest) ∙
+      take-append_seam digits x.rest)
+
+  pub digits_passed : {n : ℕ} → 0 < length digits → n ≡ decimal_value digits → n < 2 ^ 64 → IsNumberRead old new n
+  digits_passed some value small = record {
+    at = x.at;
+    digits = digits;
+    rest = x.rest;
+    old_is = x.old_is;
+    new_is = x.new_is;
+    end = x.end;
+    place = x.place;
+    whole = whole_run;
+    some = some;
+    value = value;
+    small = small;
+  }
+
+  pub none_passed : (digits ≡ []) ⊎ ((0 < length digits) × (2 ^ 64 ≤ decimal_value digits)) → HasNoNumber old
+  none_passed h = record {
+    at = x.at;
+    bytes = digits ++ x.rest;
+    old_is = x.old_is;
+    none = rw whole_run h;
+  }
 
 -- ## The end of a line of priorities
 
-module _ (left : List ℕ) (old new : Place) where
-  pub end_reads : comes 10 old.rest ≡ true → new ≡ step_of old → length left ≡ 0
-      → Reads (one (take_byte 10) (IsMissing left)) (at_place old) tt (at_place new)
-  end_reads h next none = taken (take_byte 10) (IsMissing left) old new 10 tt h next
-      (λ bytes. byte_taken (sees 10 bytes) refl) (λ bytes f x. omega (arith, x.1, none))
+module _ (left : List ℕ) (old : Stream Seen) where
+  pub end_reads : {new : Stream Seen} → next_byte old ≡ Some 10 → new ≡ tail old → length left ≡ 0 →
+      Reads (one (take_byte 10) (IsMissing left)) old tt new
+  end_reads {new} e next none =
+      let t = next_is (next_of old) e in
+      reads_next (take_byte 10) (IsMissing left) old new t.0 tt t.1 next (byte_taken t.0 t.2)
+      (λ f x. omega (arith, x.1, none))
 
-  pub end_fails : {e : CertFault} → comes 10 old.rest ≡ false → e ≡ Text Syntax old.at
-      → Stops causes (one (take_byte 10) (IsMissing left)) (at_place old) (found_of e)
-  end_fails h is = stops_at old Syntax (refused_here (laws_newline left) old (λ c bytes s k. comes_not bytes s h k)) is
+  pub end_fails : {e : CertFault} → (next_byte old ≡ Some 10 → ⊥) → e ≡ Text Syntax (place_of old) →
+      Stops causes (one (take_byte 10) (IsMissing left)) old (found_of e)
+  end_fails h is = stops_at_place (stops_here cause_number Syntax (lawful_newline left).laws (avoids 10 old h)) is
 
-  pub end_missing : {e : CertFault} → comes 10 old.rest ≡ true → 0 < length left → e ≡ Text OtherGame old.at
-      → Stops causes (one (take_byte 10) (IsMissing left)) (at_place old) (found_of e)
-  end_missing {e} h some is = stops_at old OtherGame (go old.rest h) is
+  pub end_missing : {e : CertFault} → next_byte old ≡ Some 10 → 0 < length left → e ≡ Text OtherGame (place_of old) →
+      Stops causes (one (take_byte 10) (IsMissing left)) old (found_of e)
+  end_missing {e} h some is =
+      let t = next_is (next_of old) h in
+      stops_bad causes (take_byte 10) (IsMissing left) old t.0 OtherGame (found_of e) t.1 (t.2, some, refl)
+      (λ g k. rw k.2 (omega arith)) (ap found_of is)
+
+-- ## The end of a field
+
+module _ {old new : Stream Seen} {n : ℕ} (r : IsNumberRead old new n) where
+  next_end : (rest : List ℕ) → new.pieces ≡ pieces_at (r.at + length r.digits) rest → {b : Bool} →
+      is_end (next_byte new) ≡ b → is_end (first_of rest) ≡ b
+  next_end rest e h = ap is_end (sym (next_at new (r.at + length r.digits) rest e)) ∙ h
+
+  pub ends_true : is_end (next_byte new) ≡ true → EndsField r.rest
+  ends_true h = go r.rest (next_end r.rest r.new_is h)
     where
-      least : (s : Seen) (g : CertCause) → IsMissing left s g → cause_number OtherGame ≤ cause_number g
-      least s g k = rw k.2 (omega arith)
+      go : (rest : List ℕ) → is_end (first_of rest) ≡ true → EndsField rest
+      go rest h = search (rules, eqb-true)
 
-      go : (rest : List ℕ) → comes 10 rest ≡ true → StopsWith causes (one (take_byte 10) (IsMissing left))
-          (stream_at old.at rest) (record { cause = OtherGame; offset = old.at })
-      go [] h = absurd cc
-      go (c ∷ bytes) h = stops_here old.at (c ∷ bytes) (bad_one (take_byte 10) (IsMissing left) causes _
-          (sees c bytes) OtherGame refl (eqb-true c 10 h, some, refl) (least (sees c bytes)))
-
--- ## Where a part begins, and where none does
-
-pub avoids : (b : ℕ) (place : Place) → comes b place.rest ≡ false → Avoids (At b) (next_of (at_place place))
-avoids b place e = search (rules, Avoids, At, none_is_some, eqb-false, same_some)
-
-pub enters_byte : (b : ℕ) (place : Place) → comes b place.rest ≡ true → Enters (byte b) (next_of (at_place place))
-enters_byte b place e = search (rules, Enters, enters_one, byte_taken, eqb-true)
-
-pub ends_true : (bytes : List ℕ) → ends bytes ≡ true → EndsField bytes
-ends_true bytes h = search (rules, eqb-true)
-
-pub ends_false : (bytes : List ℕ) → ends bytes ≡ false → EndsField bytes → ⊥
-ends_false bytes h k = search (rules, eqb-false)
+  pub ends_false : is_end (next_byte new) ≡ false → EndsField r.rest → ⊥
+  ends_false h k = go r.rest (next_end r.rest r.new_is h) k
+    where
+      go : (rest : List ℕ) → is_end (first_of rest) ≡ false → EndsField rest → ⊥
+      go rest h k = search (rules, eqb-false)

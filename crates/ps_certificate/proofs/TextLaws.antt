@@ -1,134 +1,95 @@
--- The laws of the parts of a certificate text, by `ps_text`: with which signs a part begins, and with which it goes on.
+-- The parts of a certificate text are lawful (`ps_text`): with which signs a part begins, and with which it goes on.
 -- Only numbers and moves go on with anything, which are digits, and what stands behind them begins with a space or a
--- newline.
+-- newline. A chain is named by its first part.
 use Rattle.std.proofs.Common.{◌≡◌, ℕ, zero, suc, ◌⊎◌, Bool, true, false, cond, eqb, List, [], ◌∷◌, length, drop, Option}
-use Rattle.std.proofs.Common.{Some, None, refl, ap, inl, inr, ⊎_elim, arith, rules}
+use Rattle.std.proofs.Common.{Some, None, refl, ap, inl, inr, arith, rules}
 use Rattle.std.specs.Prelude.{codes, map}
 use Rattle.std.specs.List.{Contains}
-use Rattle.std.proofs.lemmas.Bool.{eqb-true, eq-eqb}
+use Rattle.std.proofs.lemmas.Bool.{eqb-true, eq-eqb, ne_eqb, cases_eq}
 use Rattle.ps_text.specs.Parts.{NoBad, one, then_by, many, mapped}
-use Rattle.ps_text.proofs.Laws.{Laws, Joint, Nothing, Or, When, Apart, weaker}
-use Rattle.ps_text.proofs.Joined.{joint}
-use Rattle.ps_text.proofs.Simple.{none_is_some, Taken, BadSign, laws_give, laws_one, laws_mapped, laws_then}
-use Rattle.ps_text.proofs.Following.{laws_next, laws_tight}
-use Rattle.ps_text.proofs.Covered.{laws_either}
-use Rattle.ps_text.proofs.Repeated.{laws_many}
+use Rattle.ps_text.specs.Bytes.{Seen, take_byte, byte, word}
+use Rattle.ps_text.proofs.Laws.{Laws, Nothing, Or, Apart}
+use Rattle.ps_text.proofs.Simple.{Taken, none_is_some}
+use Rattle.ps_text.proofs.Decisions.{decide_not, decide_in, judge_none}
+use Rattle.ps_text.proofs.Bytes.Single.{Odd, At, Any, seen, byte_taken, taken_byte}
+use Rattle.ps_text.proofs.Bytes.Lawful.{larger, chained, next, tight, given, mapped_by, either_of, many_by, one_sign}
+use Rattle.ps_text.proofs.Bytes.Lawful.{byte_of, chain_word}
 use Rattle.ps_certificate.specs.declared.fault.CertCause.{CertCause}
+use Rattle.ps_certificate.specs.Faults.{cause_number}
 use Rattle.ps_certificate.specs.Certificates.{EntryData, CertificateData}
 use Rattle.ps_certificate.specs.Pairs.{Pairs, no_pairs, with_pair}
-use Rattle.ps_certificate.specs.Words.{vertices_word, odd_word, even_word}
+use Rattle.ps_certificate.specs.Words.{vertices_word, odd_word, even_word, first_word}
 use Rattle.ps_certificate.specs.Reading.{all_entries}
-use Rattle.ps_certificate.specs.Texts.{Seen, Field, take_byte, take_two, byte, two, word, judged, number, Never}
-use Rattle.ps_certificate.specs.Texts.{NotNext, priority, IsMissing, priorities, winner, vertex_of, choice, counts}
-use Rattle.ps_certificate.specs.Texts.{WrongPriority, IsZero, pair, counts_in, lost_by, entry, entries, version}
-use Rattle.ps_certificate.specs.Texts.{certificate}
-use Rattle.ps_certificate.proofs.NumberPart.{Odd, AtDigit, laws_judged, laws_number}
+use Rattle.ps_certificate.specs.Texts.{Field, take_two, two, judged, number, Never, NotNext, priority, IsMissing}
+use Rattle.ps_certificate.specs.Texts.{priorities, winner, vertex_of, choice, counts, WrongPriority, IsZero, pair}
+use Rattle.ps_certificate.specs.Texts.{counts_in, lost_by, entry, entries, version, certificate}
+use Rattle.ps_certificate.proofs.Lawful.{Lawful, Chain}
+use Rattle.ps_certificate.proofs.NumberPart.{AtDigit, settled_zero, settled_priority}
+use Rattle.ps_certificate.proofs.NumberOutcomes.{judged_by, number_by, decide_next, judge_priority, judge_zero}
+use Rattle.ps_certificate.proofs.NumberOutcomes.{judge_missing}
 
 -- ## Sets of signs
-
-abbrev pub At : ℕ → Seen → Type 0
-At b s = s.byte ≡ b
-
-abbrev pub Any : Seen → Type 0
-Any s = Unit {0}
 
 abbrev pub Separates : Seen → Type 0
 Separates s = (s.byte ≡ 32) ⊎ (s.byte ≡ 10)
 
-pub no_digit_separates : Apart AtDigit Separates
-no_digit_separates = search rules
-
-not_odd : (A : Seen → Type 0) → Apart A Odd
-not_odd A t a o = none_is_some o.0 o.1
-
--- ## Two parts, the first of which does not go on, or goes on with digits
-
-module _ {A B : Type 0} {P : Field A} {Q : A → Field B} {First First' More' : Seen → Type 0} {Null' : Type 0} where
-  pub tight_joint : {Null : Type 0} → Laws Odd P First Nothing Null →
-      ((a : A) → Laws Odd (Q a) First' More' Null') → Joint P Q
-  tight_joint l r = joint l r (λ t x y. x)
-
-  pub tight_then : Laws Odd P First Nothing ⊥ → ((a : A) → Laws Odd (Q a) First' More' Null') →
-      Laws Odd (then_by P Q) First More' ⊥
-  tight_then l r = laws_tight l r
-
-module _ {A B : Type 0} {P : Field A} {Q : A → Field B} {First : Seen → Type 0} where
-  pub loose_joint : Laws Odd P First AtDigit ⊥ → ((a : A) → Laws Odd (Q a) Separates Nothing ⊥) → Joint P Q
-  loose_joint l r = joint l r no_digit_separates
-
-  pub loose_then : Laws Odd P First AtDigit ⊥ → ((a : A) → Laws Odd (Q a) Separates Nothing ⊥) →
-      Laws Odd (then_by P Q) First Nothing ⊥
-  loose_then l r = laws_next l r no_digit_separates
-
--- ## Bytes
-
-pub byte_taken : {b : ℕ} (s : Seen) → s.byte ≡ b → take_byte b s ≡ Some tt
-byte_taken {b} s e = ap (λ x. cond x (Some tt) None) (eq-eqb s.byte b e)
-
-pub taken_byte : {b : ℕ} (s : Seen) {u : Unit {0}} → take_byte b s ≡ Some u → s.byte ≡ b
-taken_byte {b} s {u} e = search (rules, eqb-true)
-
-pub laws_byte : (b : ℕ) → Laws Odd (byte b) (At b) Nothing ⊥
-laws_byte b = weaker (laws_one (take_byte b) NoBad Odd (record { byte = b; behind = [] }) tt (grind (arith, byte_taken))
-    (grind (arith, not_odd (Taken (take_byte b)))) (not_odd (BadSign NoBad))) first (λ t h. h) (λ n. n)
-  where
-    first : (t : Seen) → Or (Taken (take_byte b)) (BadSign {F = CertCause} NoBad) t → At b t
-    first t h = grind (arith, taken_byte)
-
-pub first_taken : {V : Type 0} {a : ℕ} (b : ℕ) {v : V} (w : V) (s : Seen) → s.byte ≡ a → take_two a b v w s ≡ Some v
-first_taken {a} b {v} w s e = ap (λ x. cond x (Some v) (cond (eqb s.byte b) (Some w) None)) (eq-eqb s.byte a e)
-
-pub laws_two : {V : Type 0} (a b : ℕ) (v w : V) → Laws Odd (two a b v w) Any Nothing ⊥
-laws_two a b v w = let sign : Seen =
-    record { byte = a; behind = [] } in weaker (laws_one (take_two a b v w) NoBad Odd sign v (first_taken b w sign refl)
-    (not_odd (Taken (take_two a b v w))) (not_odd (BadSign NoBad))) (λ t h. tt) (λ t h. h) (λ n. n)
-
-pub laws_word : (bytes : List ℕ) → Laws Odd (word bytes) Any Nothing (Unit {0})
-laws_word [] = weaker (laws_give Odd tt) (λ t h. tt) (λ t h. h) (λ n. n)
-laws_word (b ∷ bytes) = weaker (tight_then (laws_byte b) (λ _. laws_word bytes)) (λ t h. tt) (λ t h. h) (λ n. tt)
-
-pub laws_word_from : (b : ℕ) (bytes : List ℕ) → Laws Odd (word (b ∷ bytes)) (At b) Nothing ⊥
-laws_word_from b bytes = tight_then (laws_byte b) (λ _. laws_word bytes)
-
-pub laws_space : {B : Type 0} {Q : Unit {0} → Field B} {First More : Seen → Type 0} {Null : Type 0} →
-    ((u : Unit {0}) → Laws Odd (Q u) First More Null) → Laws Odd (then_by (byte 32) Q) Separates More ⊥
-laws_space r = weaker (tight_then (laws_byte 32) r) (λ t h. inl h) (λ t h. h) (λ n. n)
-
--- ## Lines of priorities
-
-pub laws_priority : (ps : List ℕ) → Laws Odd (priority ps) (At 32) AtDigit ⊥
-laws_priority ps =
-    tight_then (laws_byte 32) (λ _. laws_mapped (λ _. drop 1 ps) (number (NotNext ps)) (laws_number (NotNext ps)))
+digit_separates : Apart AtDigit Separates
+digit_separates = search rules
 
 pub digit_no_space : Apart AtDigit (At 32)
 digit_no_space t d e = omega (arith, e, d.0)
 
-pub laws_newline : (left : List ℕ) → Laws Odd (one (take_byte 10) (IsMissing left)) (At 10) Nothing ⊥
-laws_newline left = weaker (laws_one (take_byte 10) (IsMissing left) Odd (record { byte = 10; behind = [] }) tt
-    (byte_taken (record { byte = 10; behind = [] }) refl) (not_odd (Taken (take_byte 10)))
-    (not_odd (BadSign (IsMissing left)))) first (λ t h. h) (λ n. n)
-  where
-    first : (t : Seen) → Or (Taken (take_byte 10)) (BadSign (IsMissing left)) t → At 10 t
-    first t h = grind (arith, taken_byte)
+digit_no_colon : Apart AtDigit (At 58)
+digit_no_colon t d e = omega (arith, e, d.1)
 
 numbers_end : Apart (Or AtDigit (At 32)) (At 10)
 numbers_end = search rules
 
-pub joint_priorities : (ps : List ℕ) → Joint (many priority ps) (λ left. one (take_byte 10) (IsMissing left))
-joint_priorities ps = joint (laws_many priority laws_priority digit_no_space ps) laws_newline numbers_end
+-- a space, and what stands behind it
+spaced : {B : Type 0} {Q : Unit {0} → Field B} {First More : Seen → Type 0} {Null : Type 0} →
+    ((u : Unit {0}) → Lawful (Q u) First More Null) → Chain (byte 32) Q Separates More ⊥
+spaced q = chained (byte_of 32) q (λ t h k. h) (λ t h. inl h) (λ t h. absurd h.0) (λ t h. h) (λ t h. absurd h.1)
+    (λ n. n.0)
 
 -- items behind spaces, and a newline
-laws_line : {A B : Type 0} {P : Field A} {Q : A → Field B} → Laws Odd P (At 32) (Or AtDigit (At 32)) (Unit {0}) →
-    ((a : A) → Laws Odd (Q a) (At 10) Nothing ⊥) → Laws Odd (then_by P Q) Separates Nothing ⊥
-laws_line l r = weaker (laws_then l r numbers_end) (λ t. grind arith) (λ t. ⊎_elim (λ x. x) (λ x. x.0)) (λ n. n.1)
+line : {A B : Type 0} {P : Field A} {Q : A → Field B} → Lawful P (At 32) (Or AtDigit (At 32)) (Unit {0}) →
+    ((a : A) → Lawful (Q a) (At 10) Nothing ⊥) → Chain P Q Separates Nothing ⊥
+line p q = chained p q numbers_end (λ t h. inl h) (λ t h. inr h.1) (λ t h. h) (λ t h. absurd h.0) (λ n. n.1)
 
-pub laws_priorities : (ps : List ℕ) → Laws Odd (priorities ps) Separates Nothing ⊥
-laws_priorities ps = laws_line (laws_many priority laws_priority digit_no_space ps) laws_newline
+-- ## One of two bytes
+
+pub first_taken : {V : Type 0} {a : ℕ} (b : ℕ) {v : V} (w : V) (s : Seen) → s.byte ≡ a → take_two a b v w s ≡ Some v
+first_taken {a} b {v} w s e = ap (λ x. cond x (Some v) (cond (eqb s.byte b) (Some w) None)) (eq-eqb s.byte a e)
+
+pub second_taken : {V : Type 0} (a : ℕ) {b : ℕ} (v : V) {w : V} (s : Seen) → (a ≡ b → ⊥) → s.byte ≡ b →
+    take_two a b v w s ≡ Some w
+second_taken a v s other e = search (rules, ne_eqb, eq-eqb)
+
+pub lawful_two : {V : Type 0} (a b : ℕ) (v w : V) → Lawful (two a b v w) (Or (At a) (At b)) Nothing ⊥
+lawful_two a b v w = one_sign (take_two a b v w) NoBad (seen a) (first_taken b w (seen a) refl)
+    (λ t. judge_none cause_number) one (λ t h. absurd h.1)
+  where
+    one : (t : Seen) → Taken (take_two a b v w) t → Or (At a) (At b) t
+    one t h = search (rules, eqb-true, none_is_some)
+
+-- ## Lines of priorities
+
+pub chain_listed : (ps : List ℕ) →
+    Chain (byte 32) (λ _. mapped (λ _. drop 1 ps) (number (NotNext ps))) (At 32) AtDigit ⊥
+chain_listed ps = tight (byte_of 32) (λ _. mapped_by (λ _. drop 1 ps) (number_by (NotNext ps) (decide_next ps)))
+
+pub laws_priority : (ps : List ℕ) → Laws (Odd CertCause) (priority ps) (At 32) AtDigit ⊥
+laws_priority ps = (chain_listed ps).whole.laws
+
+pub lawful_newline : (left : List ℕ) → Lawful (one (take_byte 10) (IsMissing left)) (At 10) Nothing ⊥
+lawful_newline left = one_sign (take_byte 10) (IsMissing left) (seen 10) (byte_taken (seen 10) refl)
+    (judge_missing left) (λ t h. taken_byte t h.1) (λ t h. h.1.0)
+
+pub chain_priorities : (ps : List ℕ) →
+    Chain (many priority ps) (λ left. one (take_byte 10) (IsMissing left)) Separates Nothing ⊥
+chain_priorities ps = line (many_by priority (λ qs. (chain_listed qs).whole) digit_no_space ps) lawful_newline
 
 -- ## Lines of vertices
-
-pub laws_winner : Laws Odd winner Any Nothing ⊥
-laws_winner = laws_two 48 49 0 1
 
 abbrev pub dash : Field (Option ℕ)
 dash = mapped (λ _. None) (byte 45)
@@ -136,143 +97,148 @@ dash = mapped (λ _. None) (byte 45)
 abbrev pub chosen : List ℕ → Field (Option ℕ)
 chosen ids = mapped (vertex_of ids) (number (λ id. ¬ Contains ids id))
 
-pub laws_dash : Laws Odd dash (At 45) Nothing ⊥
-laws_dash = laws_mapped (λ _. None) (byte 45) (laws_byte 45)
+pub lawful_dash : Lawful dash (At 45) Nothing ⊥
+lawful_dash = mapped_by (λ _. None) (byte_of 45)
 
-pub laws_chosen : (ids : List ℕ) → Laws Odd (chosen ids) AtDigit AtDigit ⊥
-laws_chosen ids = laws_mapped (vertex_of ids) (number (λ id. ¬ Contains ids id)) (laws_number (λ id. ¬ Contains ids id))
+pub lawful_chosen : (ids : List ℕ) → Lawful (chosen ids) AtDigit AtDigit ⊥
+lawful_chosen ids =
+    mapped_by (vertex_of ids) (number_by (λ id. ¬ Contains ids id) (λ id. decide_not (decide_in ids id)))
 
-pub dash_no_digit : Apart (At 45) AtDigit
-dash_no_digit t e d = omega (arith, e, d.0)
+lawful_choice : (ids : List ℕ) → Lawful (choice ids) Any AtDigit ⊥
+lawful_choice ids = either_of lawful_dash (lawful_chosen ids) (λ t e d. omega (arith, e, d.0)) (λ t h. tt) (λ t h. tt)
+    (λ t h. absurd h) (λ t h. h) (λ t h. absurd h.0)
 
-pub laws_choice : (ids : List ℕ) → Laws Odd (choice ids) Any AtDigit ⊥
-laws_choice ids = weaker (laws_either laws_dash (laws_chosen ids) dash_no_digit (λ a b. a)) (λ t h. tt) more none
-  where
-    more : (t : Seen) → Or (Or Nothing AtDigit) (Or (When ⊥ AtDigit) (When ⊥ (At 45))) t → AtDigit t
-    more t h = grind arith
+abbrev counts_behind : ℕ → ℕ → Field (List ℕ)
+counts_behind n count = mapped (λ others. count ∷ others) (counts n)
 
-    none : ⊥ ⊎ ⊥ → ⊥
-    none h = grind arith
+count_by : (n : ℕ) → Lawful (counts n) Separates Nothing ⊥ → Chain (number Never) (counts_behind n) AtDigit Nothing ⊥
+count_by n l = next (number_by Never (λ m. inr (λ h. h))) (λ count. mapped_by (λ others. count ∷ others) l)
+    digit_separates
 
-pub laws_counts : (n : ℕ) → Laws Odd (counts n) Separates Nothing ⊥
-laws_counts zero = weaker (laws_mapped (λ _. []) (byte 10) (laws_byte 10)) (λ t h. inr h) (λ t h. h) (λ n. n)
-laws_counts (suc n) = laws_space
-    (λ _. loose_then (laws_number Never) (λ count. laws_mapped (λ others. count ∷ others) (counts n) (laws_counts n)))
+lawful_counts : (n : ℕ) → Lawful (counts n) Separates Nothing ⊥
+lawful_counts zero = larger (mapped_by (λ _. []) (byte_of 10)) (λ t h. inr h) (λ t h. h) (λ n. n)
+lawful_counts (suc n) = (spaced (λ _. (count_by n (lawful_counts n)).whole)).whole
+
+pub chain_count : (n : ℕ) → Chain (number Never) (counts_behind n) AtDigit Nothing ⊥
+chain_count n = count_by n (lawful_counts n)
+
+pub chain_counts : (n : ℕ) → Chain (byte 32) (λ _. then_by (number Never) (counts_behind n)) Separates Nothing ⊥
+chain_counts n = spaced (λ _. (chain_count n).whole)
 
 -- a pair begins with a space, and goes on with digits
-pub laws_colon : (ps : List ℕ) (pairs : Pairs) (p : ℕ) → Laws Odd
-    (then_by (byte 58) (λ _. mapped (λ m. with_pair pairs p m) (judged IsZero))) (At 58) AtDigit ⊥
-laws_colon ps pairs p =
-    tight_then (laws_byte 58) (λ _. laws_mapped (λ m. with_pair pairs p m) (judged IsZero) (laws_judged IsZero))
+pub chain_colon : (pairs : Pairs) (p : ℕ) →
+    Chain (byte 58) (λ _. mapped (λ m. with_pair pairs p m) (judged IsZero)) (At 58) AtDigit ⊥
+chain_colon pairs p =
+    tight (byte_of 58) (λ _. mapped_by (λ m. with_pair pairs p m) (judged_by IsZero settled_zero judge_zero))
 
-pub digit_no_colon : Apart AtDigit (At 58)
-digit_no_colon t d e = omega (arith, e, d.1)
+pub chain_priority : (ps : List ℕ) (pairs : Pairs) → Chain (judged (WrongPriority ps pairs))
+    (λ p. then_by (byte 58) (λ _. mapped (λ m. with_pair pairs p m) (judged IsZero))) AtDigit AtDigit ⊥
+chain_priority ps pairs = next (judged_by (WrongPriority ps pairs) (settled_priority ps pairs)
+    (judge_priority ps pairs)) (λ p. (chain_colon pairs p).whole) digit_no_colon
 
 abbrev pub behind_space : List ℕ → Pairs → Field Pairs
 behind_space ps pairs = then_by
     (judged (WrongPriority ps pairs)) (λ p. then_by (byte 58) (λ _. mapped (λ m. with_pair pairs p m) (judged IsZero)))
 
-pub joint_priority : (ps : List ℕ) (pairs : Pairs) → Joint (judged (WrongPriority ps pairs))
-    (λ p. then_by (byte 58) (λ _. mapped (λ m. with_pair pairs p m) (judged IsZero)))
-joint_priority ps pairs = joint (laws_judged (WrongPriority ps pairs)) (λ p. laws_colon ps pairs p) digit_no_colon
+pub chain_pair : (ps : List ℕ) (pairs : Pairs) → Chain (byte 32) (λ _. behind_space ps pairs) (At 32) AtDigit ⊥
+chain_pair ps pairs = tight (byte_of 32) (λ _. (chain_priority ps pairs).whole)
 
-pub joint_colon : (pairs : Pairs) (p : ℕ) → Joint (byte 58) (λ _. mapped (λ m. with_pair pairs p m) (judged IsZero))
-joint_colon pairs p =
-    tight_joint (laws_byte 58) (λ _. laws_mapped (λ m. with_pair pairs p m) (judged IsZero) (laws_judged IsZero))
+pub laws_pair : (ps : List ℕ) (pairs : Pairs) → Laws (Odd CertCause) (pair ps pairs) (At 32) AtDigit ⊥
+laws_pair ps pairs = (chain_pair ps pairs).whole.laws
 
-pub laws_behind_space : (ps : List ℕ) (pairs : Pairs) → Laws Odd (behind_space ps pairs) AtDigit AtDigit ⊥
-laws_behind_space ps pairs = laws_next (search (rules, laws_judged)) (λ p. laws_colon ps pairs p) digit_no_colon
+pub chain_pairs : (ps : List ℕ) →
+    Chain (many (pair ps) no_pairs) (λ pairs. mapped (λ _. map pairs.count ps) (byte 10)) Separates Nothing ⊥
+chain_pairs ps = line (many_by (pair ps) (λ pairs. (chain_pair ps pairs).whole) digit_no_space no_pairs)
+    (λ pairs. mapped_by (λ _. map pairs.count ps) (byte_of 10))
 
-pub joint_pair : (ps : List ℕ) (pairs : Pairs) → Joint (byte 32) (λ _. behind_space ps pairs)
-joint_pair ps pairs = tight_joint (laws_byte 32) (λ _. laws_behind_space ps pairs)
-
-pub laws_pair : (ps : List ℕ) (pairs : Pairs) → Laws Odd (pair ps pairs) (At 32) AtDigit ⊥
-laws_pair ps pairs = tight_then (laws_byte 32) (λ _. laws_behind_space ps pairs)
-
-abbrev pub pairs_end : List ℕ → Pairs → Field (List ℕ)
-pairs_end ps pairs = mapped (λ _. map pairs.count ps) (byte 10)
-
-pub laws_pairs_end : (ps : List ℕ) (pairs : Pairs) → Laws Odd (pairs_end ps pairs) (At 10) Nothing ⊥
-laws_pairs_end ps pairs = laws_mapped (λ _. map pairs.count ps) (byte 10) (laws_byte 10)
-
-pub joint_pairs : (ps : List ℕ) → Joint (many (pair ps) no_pairs) (pairs_end ps)
-joint_pairs ps = joint (laws_many (pair ps) (laws_pair ps) digit_no_space no_pairs) (laws_pairs_end ps) numbers_end
-
-pub laws_pairs : (ps : List ℕ) → Laws Odd (counts_in true ps) Separates Nothing ⊥
-laws_pairs ps = laws_line (laws_many (pair ps) (laws_pair ps) digit_no_space no_pairs) (laws_pairs_end ps)
-
-pub laws_counts_in : (compact : Bool) (ps : List ℕ) → Laws Odd (counts_in compact ps) Separates Nothing ⊥
-laws_counts_in false ps = laws_counts (length ps)
-laws_counts_in true ps = laws_pairs ps
+lawful_counts_in : (compact : Bool) (ps : List ℕ) → Lawful (counts_in compact ps) Separates Nothing ⊥
+lawful_counts_in false ps = lawful_counts (length ps)
+lawful_counts_in true ps = (chain_pairs ps).whole
 
 module _ (compact : Bool) (odd even ids : List ℕ) where
   abbrev pub entry_counts : ℕ → Option ℕ → Field EntryData
   entry_counts w c =
       mapped (λ cs. record { winner = w; choice = c; counts = cs }) (counts_in compact (lost_by odd even w))
 
-  pub laws_entry_counts : (w : ℕ) (c : Option ℕ) → Laws Odd (entry_counts w c) Separates Nothing ⊥
-  laws_entry_counts w c = search (rules, laws_mapped, laws_counts_in)
+  abbrev pub behind_winner : ℕ → Field EntryData
+  behind_winner w = then_by (byte 32) (λ _. then_by (choice ids) (entry_counts w))
 
-  pub laws_entry_choice : (w : ℕ) → Laws Odd (then_by (choice ids) (entry_counts w)) Any Nothing ⊥
-  laws_entry_choice w = loose_then (laws_choice ids) (laws_entry_counts w)
+  abbrev pub behind_id : Field EntryData
+  behind_id = then_by (byte 32) (λ _. then_by winner behind_winner)
 
-  pub laws_entry_winner : Laws Odd (then_by winner (λ w. then_by (byte 32)
-      (λ _. then_by (choice ids) (entry_counts w)))) Any Nothing ⊥
-  laws_entry_winner = tight_then laws_winner (λ w. laws_space (λ _. laws_entry_choice w))
+  pub chain_choice : (w : ℕ) → Chain (choice ids) (entry_counts w) Any Nothing ⊥
+  chain_choice w = next (lawful_choice ids) (λ c. mapped_by
+      (λ cs. record { winner = w; choice = c; counts = cs }) (lawful_counts_in compact (lost_by odd even w)))
+      digit_separates
 
-  pub laws_entry_rest : Laws Odd (then_by (byte 32) (λ _. then_by winner
-      (λ w. then_by (byte 32) (λ _. then_by (choice ids) (entry_counts w))))) Separates Nothing ⊥
-  laws_entry_rest = laws_space (λ _. laws_entry_winner)
+  pub chain_second : (w : ℕ) → Chain (byte 32) (λ _. then_by (choice ids) (entry_counts w)) Separates Nothing ⊥
+  chain_second w = spaced (λ _. (chain_choice w).whole)
 
-  pub laws_entry : (id : ℕ) → Laws Odd (entry compact odd even ids id) Any Nothing ⊥
-  laws_entry id =
-      weaker (loose_then (laws_number (λ n. n ≡ id → ⊥)) (λ _. laws_entry_rest)) (λ t h. tt) (λ t h. h) (λ n. n)
+  pub chain_winner : Chain winner behind_winner (Or (At 48) (At 49)) Nothing ⊥
+  chain_winner = tight (lawful_two 48 49 0 1) (λ w. (chain_second w).whole)
 
-  pub laws_entries : (rest : List ℕ) → Laws Odd (entries compact odd even ids rest) Any Nothing (Unit {0})
-  laws_entries [] = weaker (laws_give Odd []) (λ t h. absurd h) (λ t h. h) (λ n. n)
-  laws_entries (id ∷ rest) = weaker (tight_then (laws_entry id) (λ first. laws_mapped (λ others. first ∷ others)
-      (entries compact odd even ids rest) (laws_entries rest))) (λ t h. h) (λ t h. h) (λ n. tt)
+  pub chain_space : Chain (byte 32) (λ _. then_by winner behind_winner) Separates Nothing ⊥
+  chain_space = spaced (λ _. chain_winner.whole)
+
+  pub chain_id : (id : ℕ) → Chain (number (λ n. n ≡ id → ⊥)) (λ _. behind_id) AtDigit Nothing ⊥
+  chain_id id = next (number_by (λ n. n ≡ id → ⊥) (λ n. decide_not (cases_eq n id))) (λ _. chain_space.whole)
+      digit_separates
+
+  entries_by : (id : ℕ) (rest : List ℕ) → Lawful (entries compact odd even ids rest) AtDigit Nothing (Unit {0}) →
+      Chain (entry compact odd even ids id) (λ first. mapped (λ others. first ∷ others)
+      (entries compact odd even ids rest)) AtDigit Nothing ⊥
+  entries_by id rest l = tight (chain_id id).whole (λ first. mapped_by (λ others. first ∷ others) l)
+
+  lawful_entries : (rest : List ℕ) → Lawful (entries compact odd even ids rest) AtDigit Nothing (Unit {0})
+  lawful_entries [] = larger (given []) (λ t h. absurd h) (λ t h. h) (λ n. n)
+  lawful_entries (id ∷ rest) =
+      larger (entries_by id rest (lawful_entries rest)).whole (λ t h. h) (λ t h. h) (λ n. tt)
+
+  pub chain_entries : (id : ℕ) (rest : List ℕ) → Chain (entry compact odd even ids id)
+      (λ first. mapped (λ others. first ∷ others) (entries compact odd even ids rest)) AtDigit Nothing ⊥
+  chain_entries id rest = entries_by id rest (lawful_entries rest)
 
   -- ## The text
 
-  pub laws_all_entries : Laws Odd (all_entries compact odd even ids) Any Nothing (Unit {0})
-  laws_all_entries = search (rules, laws_mapped, laws_entries)
-
-  pub laws_even : Laws Odd (then_by (priorities even) (λ _. all_entries compact odd even ids)) Separates Nothing ⊥
-  laws_even = tight_then (laws_priorities even) (λ _. laws_all_entries)
-
-  pub laws_even_word : Laws Odd (then_by (word even_word) (λ _.
-      then_by (priorities even) (λ _. all_entries compact odd even ids))) (At 101) Nothing ⊥
-  laws_even_word = tight_then (laws_word_from 101 (codes "ven")) (λ _. laws_even)
-
-  pub laws_odd : Laws Odd (then_by (priorities odd) (λ _. then_by (word even_word)
-      (λ _. then_by (priorities even) (λ _. all_entries compact odd even ids)))) Separates Nothing ⊥
-  laws_odd = tight_then (laws_priorities odd) (λ _. laws_even_word)
+  abbrev pub behind_odd : Field CertificateData
+  behind_odd = then_by (word even_word) (λ _. then_by (priorities even) (λ _. all_entries compact odd even ids))
 
   abbrev pub behind_count : Field CertificateData
-  behind_count = then_by (word odd_word) (λ _. then_by (priorities odd)
-      (λ _. then_by (word even_word) (λ _. then_by (priorities even) (λ _. all_entries compact odd even ids))))
+  behind_count = then_by (word odd_word) (λ _. then_by (priorities odd) (λ _. behind_odd))
 
-  pub laws_behind_count : Laws Odd behind_count Separates Nothing ⊥
-  laws_behind_count =
-      weaker (tight_then (laws_word_from 10 (codes "odd")) (λ _. laws_odd)) (λ t h. inr h) (λ t h. h) (λ n. n)
+  pub chain_even : Chain (priorities even) (λ _. all_entries compact odd even ids) Separates Nothing ⊥
+  chain_even = tight (chain_priorities even).whole (λ _. mapped_by
+      (λ es. record { odd = odd; even = even; entries = es }) (lawful_entries ids))
 
-  pub laws_count : Laws Odd (then_by (number (λ n. n ≡ length ids → ⊥)) (λ _. behind_count)) AtDigit Nothing ⊥
-  laws_count = loose_then (laws_number (λ n. n ≡ length ids → ⊥)) (λ _. laws_behind_count)
+  pub chain_even_word :
+      Chain (word even_word) (λ _. then_by (priorities even) (λ _. all_entries compact odd even ids)) (At 101) Nothing ⊥
+  chain_even_word = tight (chain_word 101 (codes "ven")).whole (λ _. chain_even.whole)
 
-  pub laws_vertices_word : Laws Odd (then_by (word vertices_word)
-      (λ _. then_by (number (λ n. n ≡ length ids → ⊥)) (λ _. behind_count))) (At 10) Nothing ⊥
-  laws_vertices_word = tight_then (laws_word_from 10 (codes "vertices ")) (λ _. laws_count)
+  pub chain_odd : Chain (priorities odd) (λ _. behind_odd) Separates Nothing ⊥
+  chain_odd = tight (chain_priorities odd).whole (λ _. chain_even_word.whole)
 
-pub laws_version : Laws Odd version Any Nothing ⊥
-laws_version = laws_two 49 50 false true
+  pub chain_odd_word : Chain (word odd_word) (λ _. then_by (priorities odd) (λ _. behind_odd)) Separates Nothing ⊥
+  chain_odd_word = chained (chain_word 10 (codes "odd")).whole (λ _. chain_odd.whole) (λ t h k. h) (λ t h. inr h)
+      (λ t h. absurd h.0) (λ t h. h) (λ t h. absurd h.1) (λ n. n.0)
+
+  pub chain_number : Chain (number (λ n. n ≡ length ids → ⊥)) (λ _. behind_count) AtDigit Nothing ⊥
+  chain_number = next (number_by (λ n. n ≡ length ids → ⊥) (λ n. decide_not (cases_eq n (length ids))))
+      (λ _. chain_odd_word.whole) digit_separates
+
+  pub chain_vertices : Chain (word vertices_word)
+      (λ _. then_by (number (λ n. n ≡ length ids → ⊥)) (λ _. behind_count)) (At 10) Nothing ⊥
+  chain_vertices = tight (chain_word 10 (codes "vertices ")).whole (λ _. chain_number.whole)
 
 abbrev pub behind_version : List ℕ → List ℕ → List ℕ → Bool → Field CertificateData
 behind_version odd even ids compact = then_by
     (word vertices_word) (λ _. then_by (number (λ n. n ≡ length ids → ⊥)) (λ _. behind_count compact odd even ids))
 
-pub laws_from_version : (odd even ids : List ℕ) → Laws Odd (then_by version (behind_version odd even ids)) Any Nothing ⊥
-laws_from_version odd even ids = tight_then laws_version (λ compact. laws_vertices_word compact odd even ids)
+module _ (odd even ids : List ℕ) where
+  pub chain_version : Chain version (behind_version odd even ids) (Or (At 49) (At 50)) Nothing ⊥
+  chain_version = tight (lawful_two 49 50 false true) (λ compact. (chain_vertices compact odd even ids).whole)
 
-pub laws_certificate : (odd even ids : List ℕ) → Laws Odd (certificate odd even ids) (At 112) Nothing ⊥
-laws_certificate odd even ids = tight_then (laws_word_from 112 (codes "syncert ")) (λ _. laws_from_version odd even ids)
+  pub chain_first : Chain (word first_word) (λ _. then_by version (behind_version odd even ids)) (At 112) Nothing ⊥
+  chain_first = tight (chain_word 112 (codes "syncert ")).whole (λ _. chain_version.whole)
+
+  pub lawful_certificate : Lawful (certificate odd even ids) (At 112) Nothing ⊥
+  lawful_certificate = chain_first.whole

@@ -2,7 +2,6 @@ pub mod Certificates
 pub mod Faults
 pub mod Lines
 pub mod Pairs
-pub mod Places
 pub mod Prefixes
 pub mod Reading
 pub mod Regions

@@ -19,52 +19,27 @@
 use Rattle.std.specs.Prelude.{◌≡◌, ◌≢◌, ℕ, zero, suc, ◌+◌, ◌^◌, ◌<◌, ◌≤◌, ◌⊎◌, List, [], ◌∷◌, ◌++◌, length, map, drop}
 use Rattle.std.specs.Prelude.{Option, Some, None, Result, Bool, true, false, ◌==◌, if◌then◌else◌, slice_get, position}
 use Rattle.std.specs.List.{Contains}
-use Rattle.ps_text.specs.Answers.{Piece, Stream, Found}
+use Rattle.ps_text.specs.Answers.{Found}
 use Rattle.ps_text.specs.Parts.{Part, Causes, PartAnswers, NoBad, give, one, then_by, either, many, mapped}
+use Rattle.ps_text.specs.Bytes.{Seen, stream_at, bytes_of, byte_causes, take_byte, byte, word}
 use Rattle.ps_text.specs.Digits.{IsPlainNumber, decimal_value}
 use Rattle.ps_game.specs.Games.{NamedGameData}
 use Rattle.ps_certificate.specs.declared.fault.CertCause.{CertCause}
 use Rattle.ps_certificate.specs.declared.fault.CertCause.TheVariants.{Syntax, OtherGame}
-use Rattle.ps_certificate.specs.Faults.{CertFault}
+use Rattle.ps_certificate.specs.Faults.{CertFault, cause_number}
 use Rattle.ps_text.specs.Faults.{UnlessMemory}
-use Rattle.ps_certificate.specs.Faults.{cause_number}
 use Rattle.ps_game.specs.Ranking.{ListsPriorities}
 use Rattle.ps_certificate.specs.Certificates.{EntryData, CertificateData}
 use Rattle.ps_certificate.specs.Pairs.{Pairs, no_pairs, with_pair, DoesNotRise}
 use Rattle.ps_certificate.specs.Words.{first_word, vertices_word, odd_word, even_word}
 
--- a sign of the text: a byte, and what a reader sees behind it
-pub record Seen : Type 0 where
-  pub byte : ℕ
-  pub behind : List ℕ
-
-abbrev pub pieces_at : ℕ → List ℕ → List (Piece Seen)
-pieces_at at [] = []
-pieces_at at (b ∷ bytes) = record { sign = record { byte = b; behind = bytes }; start = at } ∷ pieces_at (at + 1) bytes
-
-abbrev pub stream_at : ℕ → List ℕ → Stream Seen
-stream_at at bytes = record { pieces = pieces_at at bytes; end = at + length bytes }
-
-abbrev pub bytes_of : List Seen → List ℕ
-bytes_of signs = map (λ s. s.byte) signs
-
 abbrev pub causes : Causes Seen CertCause
-causes = record { number = cause_number; own = λ _. None; syntax = Syntax }
+causes = byte_causes cause_number Syntax
 
 abbrev pub Field : Type 0 → Type 1
 Field V = Part Seen V CertCause
 
 -- ## Bytes
-
-abbrev pub take_byte : ℕ → Seen → Option (Unit {0})
-take_byte b s = if s.byte == b then Some tt else None
-
-abbrev pub byte : ℕ → Field (Unit {0})
-byte b = one (take_byte b) NoBad
-
-abbrev pub word : List ℕ → Field (Unit {0})
-word [] = give tt
-word (b ∷ bytes) = then_by (byte b) (λ _. word bytes)
 
 -- one of two bytes, each with its value
 abbrev pub take_two : {V : Type 0} → ℕ → ℕ → V → V → Seen → Option V

@@ -30,9 +30,9 @@
 mod certificate;
 mod checking;
 mod closing;
-mod cursor;
 mod entries;
 mod fault;
+mod fields;
 mod fitted;
 mod flaw;
 mod laws;

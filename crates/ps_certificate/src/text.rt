@@ -12,11 +12,13 @@ ghost use Rattle.ps_certificate.specs.Texts.{ReadsCertificate, IsCertificateAnsw
 ghost use Rattle.ps_certificate.specs.declared.fault.CertCause.{CertCause};
 
 use crate::certificate::Certificate;
-use crate::cursor::Cursor;
 use crate::entries::{Entries, Entry};
 use crate::fault::{CertCause, CertFault};
+use crate::fields::{choice, exactly, priorities, version, winner};
+use crate::pairs::counts_for;
 use ps_game::{Arena, NamedGame, priorities_of};
 use ps_ids::Ids;
+use ps_text::cursor::Cursor;
 use std::alloc::{AllocError, Global};
 
 /// What is known of a game before the text is read.
@@ -59,14 +61,14 @@ fn head(cursor: &mut Cursor, known: &Known, count: usize) -> Result<bool, CertFa
     ensures { (ids : List ℕ) → count ≡ length ids → TellsHead known.now.odd.items known.now.even.items ids cursor.old
         result cursor.new }
 {
-    cursor.word(b"psyncert ")?;
-    let compact = cursor.version()?;
-    cursor.word(b"\nvertices ")?;
-    cursor.exactly(count as u64)?;
-    cursor.word(b"\nodd")?;
-    cursor.priorities(&known.odd)?;
-    cursor.word(b"even")?;
-    cursor.priorities(&known.even)?;
+    cursor.word(b"psyncert ", CertCause::Syntax)?;
+    let compact = version(cursor)?;
+    cursor.word(b"\nvertices ", CertCause::Syntax)?;
+    exactly(cursor, count as u64)?;
+    cursor.word(b"\nodd", CertCause::Syntax)?;
+    priorities(cursor, &known.odd)?;
+    cursor.word(b"even", CertCause::Syntax)?;
+    priorities(cursor, &known.even)?;
     Ok(compact)
 }
 
@@ -90,13 +92,13 @@ fn entry(
     ensures { Tells (λ won. record { winner = won.winner; choice = won.choice; counts = counts.new.items })
         (parts.entry compact known.now.odd.items known.now.even.items known.now.ids id) cursor.old result cursor.new }
 {
-    cursor.exactly(id)?;
-    cursor.byte(b' ')?;
-    let winner = cursor.winner()?;
-    cursor.byte(b' ')?;
-    let choice = cursor.choice(&known.ids)?;
+    exactly(cursor, id)?;
+    cursor.byte(b' ', CertCause::Syntax)?;
+    let winner = winner(cursor)?;
+    cursor.byte(b' ', CertCause::Syntax)?;
+    let choice = choice(cursor, &known.ids)?;
     let priorities = known.lost_by(winner);
-    cursor.counts_for(priorities, compact, counts)?;
+    counts_for(cursor, priorities, compact, counts)?;
     Ok(Won { winner, choice })
 }
 
@@ -145,7 +147,7 @@ fn entries_of(
     if cursor.is_at_end() {
         Ok(entries)
     } else {
-        Err(cursor.fault(CertCause::Syntax))
+        Err(cursor.refusal(CertCause::Syntax))
     }
 }
 

@@ -10,13 +10,14 @@ use Rattle.std.specs.Global.{Global}
 use Rattle.std.proofs.lemmas.List.{length-map, map-append}
 use Rattle.std.proofs.lemmas.List.Elements.{All-append, All-map}
 use Rattle.ps_text.specs.Parts.{times}
-use Rattle.ps_circuit.specs.declared.cursor.Number.{Number}
+use Rattle.ps_circuit.specs.declared.number.Number.{Number}
 use Rattle.ps_circuit.specs.Drafts.{name_bytes}
 use Rattle.ps_circuit.specs.declared.parts.Latch.{Latch}
 use Rattle.ps_circuit.specs.declared.parts.Gate.{Gate}
 use Rattle.ps_circuit.specs.Circuits.{IsName, IsDefinition}
 use Rattle.ps_circuit.specs.Literals.{variable}
-use Rattle.ps_circuit.specs.Signs.{Seen, Field}
+use Rattle.ps_text.specs.Bytes.{Seen}
+use Rattle.ps_circuit.specs.Signs.{Field}
 use Rattle.ps_circuit.specs.Texts.{HeaderData, Lines, no_lines, next_lines, NamesData, draft_of as drafted, input_line}
 use Rattle.ps_circuit.specs.Texts.{latch_line, output_line, gate_line, DraftData, symbols, body, circuit_text}
 use Rattle.ps_circuit.specs.Reading.{Defines, IsKnownIn, AddsInput, AddsLatch, AddsOutput, AddsGate, Grown, none, more}

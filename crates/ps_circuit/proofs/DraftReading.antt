@@ -22,15 +22,19 @@ use Rattle.ps_circuit.specs.declared.fault.AigCause.TheVariants.{Syntax}
 use Rattle.ps_circuit.specs.Causes.{AigFault}
 use Rattle.ps_text.specs.declared.faults.Fault.TheVariants.{Text, OutOfMemory}
 use Rattle.ps_circuit.specs.Circuits.{CircuitData, IsCircuit}
-use Rattle.ps_circuit.specs.Signs.{Seen, Field, aig_causes, stream_of}
-use Rattle.ps_circuit.specs.Cursors.{next_byte, place_of, found_of, saturated}
+use Rattle.ps_text.specs.Bytes.{Seen, stream_of}
+use Rattle.ps_circuit.specs.Signs.{Field, aig_causes}
+use Rattle.ps_text.specs.Cursors.{next_byte, place_of}
+use Rattle.ps_text.specs.Faults.{found_of}
+use Rattle.ps_circuit.specs.Cursors.{saturated}
 use Rattle.ps_circuit.specs.Texts.{HeaderData, header, Lines, no_lines, input_line, NamesData, no_names, symbol_line}
 use Rattle.ps_circuit.specs.Texts.{comment, DraftData, draft_of as drafted, symbols, body, circuit_text, IsDefined}
 use Rattle.ps_circuit.specs.Texts.{refused, undefined, cyclic, meaning, IsCircuitAnswer}
 use Rattle.ps_circuit.specs.Reading.{FoundAnswers, TellsDraft, TellsDefined, TellsCyclic}
-use Rattle.ps_circuit.proofs.Exits.{Left, unread, past, stops_at, reads_last}
-use Rattle.ps_circuit.proofs.Lawful.{Chain}
-use Rattle.ps_circuit.proofs.SignLaws.{Any, AtBody}
+use Rattle.ps_text.proofs.Bytes.Lefts.{unread, past, stops_at, reads_last}
+use Rattle.ps_circuit.proofs.Lawful.{Left, Chain}
+use Rattle.ps_text.proofs.Bytes.Single.{Any}
+use Rattle.ps_circuit.proofs.SignLaws.{AtBody}
 use Rattle.ps_circuit.proofs.SymbolLemmas.{comment_other}
 use Rattle.ps_circuit.proofs.TextLaws.{laws_text, chain_text, chain_symbols, first_names, body_latches}
 

@@ -1,5 +1,5 @@
 -- What may be wrong with the numbers and the symbols of an AIGER text is decided.
-use Rattle.std.proofs.Common.{◌≡◌, ℕ, suc, ◌+◌, ◌*◌, ◌^◌, ◌<◌, List, ◌++◌, length, slice_get, Option, None, Some}
+use Rattle.std.proofs.Common.{◌≡◌, ℕ, suc, ◌+◌, ◌*◌, ◌^◌, ◌<◌, ◌≤◌, List, ◌++◌, length, slice_get, Option, None, Some}
 use Rattle.std.proofs.Common.{refl, sym, ◌∙◌, rules}
 use Rattle.std.proofs.lemmas.Bool.{cases_eq}
 use Rattle.ps_text.specs.Digits.{decimal_value}
@@ -13,11 +13,14 @@ use Rattle.ps_circuit.specs.declared.fault.AigCause.{AigCause}
 use Rattle.ps_circuit.specs.declared.fault.AigCause.TheVariants.{Syntax, Literal, UnsetLatch, Sections}
 use Rattle.ps_circuit.specs.Causes.{cause_number}
 use Rattle.ps_circuit.specs.Circuits.{IsDefinition}
-use Rattle.ps_circuit.specs.Signs.{Seen, is_digit}
+use Rattle.ps_text.specs.Bytes.{Seen, is_digit}
 use Rattle.ps_circuit.specs.Texts.{AnyNumber, WrongMost, WrongCount, WrongLiteral, WrongDefinition, WrongReset, Kind}
 use Rattle.ps_circuit.specs.Texts.{NamesData, names_of, take_kind, IsBadSymbol}
-use Rattle.ps_circuit.proofs.RunOutcomes.{Spanned, run_of, stops_bytes}
+use Rattle.ps_text.proofs.Bytes.RunOutcomes.{Spanned, run_of, stops_bytes}
 use Rattle.ps_circuit.proofs.Lawful.{Judges}
+
+pub syntax_least : (g : AigCause) → cause_number Syntax ≤ cause_number g
+syntax_least g = search rules
 
 pub judge_any : Judges AnyNumber
 judge_any n = judge_none cause_number

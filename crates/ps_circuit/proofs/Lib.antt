@@ -1,11 +1,9 @@
-pub mod Runs
-pub mod RunOutcomes
 pub mod Lawful
 pub mod SignLaws
 pub mod Judges
 pub mod TextLaws
 pub mod Exits
-pub mod CursorLemmas
+pub mod FieldLemmas
 pub mod NumberLemmas
 pub mod LineLemmas
 pub mod SymbolLemmas

@@ -1,14 +1,14 @@
 -- The number lines of a text: how they are read, and how they fail.
 --     past_..      what is left of a line behind what was read of it
 --     Lining      the invariant of a loop over the lines of one kind
-use Rattle.std.proofs.Common.{◌≡◌, ℕ, ◌+◌, ◌-◌, ◌*◌, ◌^◌, ◌<◌, ◌≤◌, Bool, true, false, List, [], ◌∷◌, ◌++◌}
-use Rattle.std.proofs.Common.{length, Option, Result, Ok, Err, Contains, refl, subst, inl, inr, arith, rules}
+use Rattle.std.proofs.Common.{◌≡◌, ℕ, ◌+◌, ◌-◌, ◌*◌, ◌^◌, ◌<◌, ◌≤◌, Bool, true, false, List, [], ◌∷◌, ◌++◌, length}
+use Rattle.std.proofs.Common.{Option, Result, Ok, Err, Contains, refl, subst, inl, inr, arith, rules}
 use Rattle.ps_text.specs.Answers.{Stream, Found}
 use Rattle.ps_text.specs.Parts.{give, then_by, times, mapped}
 use Rattle.ps_text.specs.Readers.{Reads, Stops, Goes, Carries}
 use Rattle.ps_text.proofs.Exits.{reads_give}
 use Rattle.ps_text.proofs.Branches.{reads_shrinks, times_reads, times_fails, times_fails_later}
-use Rattle.ps_circuit.specs.declared.cursor.Number.{Number}
+use Rattle.ps_circuit.specs.declared.number.Number.{Number}
 use Rattle.ps_circuit.specs.declared.parts.Latch.{Latch}
 use Rattle.ps_circuit.specs.declared.parts.Gate.{Gate}
 use Rattle.ps_circuit.specs.declared.fault.AigCause.{AigCause}
@@ -17,14 +17,17 @@ use Rattle.ps_circuit.specs.Causes.{AigFault, cause_number}
 use Rattle.ps_text.specs.declared.faults.Fault.TheVariants.{Text}
 use Rattle.ps_circuit.specs.Circuits.{IsDefinition}
 use Rattle.ps_circuit.specs.Literals.{variable}
-use Rattle.ps_circuit.specs.Signs.{Seen, Field, aig_causes, number, line_end, more, by_more}
-use Rattle.ps_circuit.specs.Cursors.{found_of, saturated, NumberIs}
+use Rattle.ps_text.specs.Bytes.{Seen}
+use Rattle.ps_circuit.specs.Signs.{Field, aig_causes, number, line_end, more, by_more}
+use Rattle.ps_text.specs.Faults.{found_of}
+use Rattle.ps_circuit.specs.Cursors.{saturated, NumberIs}
 use Rattle.ps_circuit.specs.Texts.{WrongLiteral, WrongDefinition, WrongReset, field, Lines, add_input, add_latch}
 use Rattle.ps_circuit.specs.Texts.{add_output, add_gate, input_line, reset, latch_line, output_line, gate_line}
 use Rattle.ps_circuit.specs.Reading.{AddsVariable, Grown, none, more as grow, IsRow, TellsField}
-use Rattle.ps_circuit.proofs.Lawful.{Lawful}
+use Rattle.ps_circuit.proofs.Lawful.{Lawful, Left}
 use Rattle.ps_circuit.proofs.Judges.{judge_literal}
-use Rattle.ps_circuit.proofs.Exits.{Left, unread, past, comes, none_comes}
+use Rattle.ps_text.proofs.Bytes.Lefts.{unread, past}
+use Rattle.ps_circuit.proofs.Exits.{comes, none_comes}
 use Rattle.ps_circuit.proofs.TextLaws.{is_one, chain_input, chain_output, chain_reset, latch_end, latch_next}
 use Rattle.ps_circuit.proofs.TextLaws.{chain_next, chain_latch, gate_end, gate_second, gate_first, chain_second}
 use Rattle.ps_circuit.proofs.TextLaws.{chain_first, chain_gate}

@@ -8,21 +8,24 @@ use Rattle.ps_text.specs.Parts.{give, then_by}
 use Rattle.ps_text.specs.Readers.{Reads, Stops}
 use Rattle.ps_text.specs.Digits.{decimal_value}
 use Rattle.ps_text.proofs.Exits.{reads_give, reads_then, stops_first, stops_behind}
-use Rattle.ps_circuit.specs.declared.cursor.Number.{Number}
+use Rattle.ps_circuit.specs.declared.number.Number.{Number}
 use Rattle.ps_circuit.specs.declared.header.Header.{Header}
 use Rattle.ps_circuit.specs.declared.fault.AigCause.{AigCause}
-use Rattle.ps_circuit.specs.declared.fault.AigCause.TheVariants.{Literal, Sections}
+use Rattle.ps_circuit.specs.declared.fault.AigCause.TheVariants.{Syntax, Literal, Sections}
 use Rattle.ps_circuit.specs.Causes.{AigFault, cause_number}
 use Rattle.ps_text.specs.declared.faults.Fault.TheVariants.{Text}
-use Rattle.ps_circuit.specs.Signs.{Seen, aig_causes, Field, word, is_digit, number_at, number, gap, line_end, more}
-use Rattle.ps_circuit.specs.Signs.{by_more}
-use Rattle.ps_circuit.specs.Cursors.{place_of, found_of, Tells, saturated, NumberIs, TellsNumber}
+use Rattle.ps_text.specs.Bytes.{Seen, word, is_digit}
+use Rattle.ps_circuit.specs.Signs.{aig_causes, Field, number_at, number, gap, line_end, more, by_more}
+use Rattle.ps_text.specs.Cursors.{place_of}
+use Rattle.ps_text.specs.Faults.{found_of}
+use Rattle.ps_circuit.specs.Cursors.{Tells, saturated, NumberIs, TellsNumber}
 use Rattle.ps_circuit.specs.Texts.{AnyNumber, WrongMost, WrongCount, sections, field, header}
 use Rattle.ps_circuit.specs.Reading.{TellsField, TellsCount, TellsHeader}
-use Rattle.ps_circuit.proofs.Runs.{run_reads, run_bad, run_stops}
-use Rattle.ps_circuit.proofs.Exits.{Left, unread, past, comes, none_comes}
+use Rattle.ps_text.proofs.Bytes.Runs.{run_reads, run_bad, run_stops}
+use Rattle.ps_text.proofs.Bytes.Lefts.{unread, past}
+use Rattle.ps_circuit.proofs.Lawful.{Left, Judges}
+use Rattle.ps_circuit.proofs.Exits.{comes, none_comes}
 use Rattle.ps_circuit.proofs.Judges.{judge_any, judge_most}
-use Rattle.ps_circuit.proofs.Lawful.{Judges}
 use Rattle.ps_circuit.proofs.TextLaws.{laws_sections, chain_sections, chain_counted, chain_field, chain_header, chain_0}
 use Rattle.ps_circuit.proofs.TextLaws.{chain_1, chain_2, chain_3, chain_4, header_0, header_1, header_2, header_3}
 use Rattle.ps_circuit.proofs.TextLaws.{header_4, header_5}
@@ -64,7 +67,8 @@ number_wrong Wrong {old} {new} f x wrong least is = subst (λ y. Stops aig_cause
 pub number_none : (Wrong : ℕ → AigCause → Type 0) {old : Stream Seen} (new : Stream Seen) (e : AigFault) →
     TellsNumber old (Err e) new → Stops aig_causes (number Wrong) old (found_of e)
 unfolding number
-number_none Wrong {old} new e m = grind (arith, run_stops is_digit number_at (BadDigits Wrong) 48 refl m.0)
+number_none Wrong {old} new e m =
+    grind (arith, run_stops is_digit number_at (BadDigits Wrong) cause_number Syntax 48 refl m.0)
 
 -- ## Numbers behind a gap
 
@@ -158,7 +162,8 @@ unfolding header
 header_unread = unread
 
 -- what is left of it behind the numbers that were read
-module _ {old : Stream Seen} {s0 s1 : Stream Seen} {m : Number} (w : Reads (word (codes "aag")) old tt s0)
+module _ {old : Stream Seen} {s0 s1 : Stream Seen} {m : Number}
+    (w : Reads {F = AigCause} (word (codes "aag")) old tt s0)
     (r1 : Reads (field WrongMost) s0 m s1) where
   pub past_most : Left header old (header_1 m) s1
   past_most = past chain_0 (past chain_header header_unread w) r1

@@ -7,14 +7,15 @@ use Rattle.ps_text.specs.Answers.{Found, AreNumbered}
 use Rattle.ps_text.specs.Parts.{PartAnswers, IsWrong}
 use Rattle.ps_text.proofs.OneAnswer.{has_one_answer}
 use Rattle.ps_text.proofs.Splits.{Compared, shorter, same, longer, compared, same_head}
-use Rattle.ps_circuit.specs.declared.cursor.Number.{Number}
+use Rattle.ps_circuit.specs.declared.number.Number.{Number}
 use Rattle.ps_circuit.specs.declared.fault.AigCause.{AigCause}
 use Rattle.ps_circuit.specs.declared.fault.AigCause.TheVariants as causes
 use Rattle.ps_circuit.specs.Causes.{cause_number}
 use Rattle.ps_components.specs.Graphs.{Way}
 use Rattle.ps_components.specs.Orders.{IsFirstOnCycle}
 use Rattle.ps_circuit.specs.Circuits.{CircuitData, ReadsGate}
-use Rattle.ps_circuit.specs.Signs.{stream_of, aig_causes}
+use Rattle.ps_text.specs.Bytes.{stream_of}
+use Rattle.ps_circuit.specs.Signs.{aig_causes}
 use Rattle.ps_circuit.specs.Texts.{DraftData, circuit_text, IsDefined, IsFirstUndefined, ReadsCircuit, refused}
 use Rattle.ps_circuit.specs.Texts.{undefined, cyclic, meaning}
 use Rattle.ps_circuit.proofs.TextLaws.{laws_text}

@@ -16,10 +16,10 @@ use Rattle.ps_components.specs.Orders.{IsFirstOnCycle}
 use Rattle.ps_circuit.specs.Causes.{AigFault}
 use Rattle.ps_text.specs.declared.faults.Fault.TheVariants.{Text}
 use Rattle.ps_circuit.specs.declared.fault.AigCause.TheVariants.{Cyclic}
-use Rattle.ps_circuit.specs.Cursors.{found_of}
+use Rattle.ps_text.specs.Faults.{found_of}
 use Rattle.ps_circuit.specs.Texts.{IsDefined, IsFirstUndefined}
 use Rattle.ps_circuit.specs.Reading.{AddsVariable, Defines, IsKnownIn, TellsCyclic}
-use Rattle.ps_circuit.specs.declared.cursor.Number.{Number}
+use Rattle.ps_circuit.specs.declared.number.Number.{Number}
 use Rattle.std.specs.Bool.{OnTrue}
 
 -- a variable that is none of those goes behind them

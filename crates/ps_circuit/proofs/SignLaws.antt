@@ -1,41 +1,36 @@
 -- The laws of the signs of an AIGER text: sets of signs, bytes, words, numbers, gaps and ends of lines.
---     Separates      a blank or a newline: what stands behind a number
+--     Separates      a space, a tab or a newline: what stands behind a number
 --     AtBody, AtTail      the first byte of what stands behind the first line, and behind the number lines
 --     numbers, optional      the chains of a number, and of a further field or none, and what stands behind them
-use Rattle.std.proofs.Common.{◌≡◌, ℕ, ◌⊎◌, Bool, true, false, cond, List, [], ◌∷◌, None, Some, refl, sym, ap, inl}
-use Rattle.std.proofs.Common.{inr, ◌∙◌, rules}
-use Rattle.std.proofs.lemmas.Bool.{eqb-true, eq-eqb}
-use Rattle.ps_text.specs.Parts.{NoBad, give, then_by, either, mapped}
+use Rattle.std.proofs.Common.{◌≡◌, ℕ, ◌⊎◌, Bool, true, false, refl, sym, ap, inl, inr, ◌∙◌, rules}
+use Rattle.std.proofs.lemmas.Bool.{eqb-true}
+use Rattle.ps_text.specs.Parts.{give, then_by, either, mapped}
 use Rattle.ps_text.specs.Digits.{decimal_value}
 use Rattle.ps_text.proofs.Decisions.{judge_none}
 use Rattle.ps_text.proofs.Laws.{Nothing, Apart}
-use Rattle.ps_circuit.specs.declared.cursor.Number.{Number}
+use Rattle.ps_circuit.specs.declared.number.Number.{Number}
 use Rattle.ps_circuit.specs.declared.fault.AigCause.{AigCause}
 use Rattle.ps_circuit.specs.Causes.{cause_number}
-use Rattle.ps_circuit.specs.Signs.{Seen, Field, take_byte, byte, word, is_digit, is_blank, is_inner, number_at, number}
-use Rattle.ps_circuit.specs.Signs.{gap, rest_of_line, newline, line_end, more, by_more, NoBadRun}
-use Rattle.ps_circuit.proofs.Lawful.{Lawful, Chain, Judges, larger, chained, next, given, mapped_by, either_of}
-use Rattle.ps_circuit.proofs.Lawful.{or_nothing, one_sign, run_by}
+use Rattle.ps_text.specs.Bytes.{Seen, byte, is_digit, is_space, is_inner, NoBadRun}
+use Rattle.ps_circuit.specs.Signs.{Field, number_at, number, gap, rest_of_line, newline, line_end, more, by_more}
+use Rattle.ps_text.proofs.Bytes.Single as bytes
+use Rattle.ps_text.proofs.Bytes.Single.{At}
+use Rattle.ps_text.proofs.Bytes.Lawful.{byte_of, larger, chained, next, given, mapped_by, either_of, or_nothing, run_by}
+use Rattle.ps_circuit.proofs.Lawful.{Lawful, Chain, Judges}
 
 -- ## Sets of signs
-
-abbrev pub At : ℕ → Seen → Type 0
-At b s = s.byte ≡ b
-
-abbrev pub Any : Seen → Type 0
-Any s = Unit {0}
 
 abbrev pub AtDigit : Seen → Type 0
 AtDigit s = is_digit s.byte ≡ true
 
-abbrev pub AtBlank : Seen → Type 0
-AtBlank s = is_blank s.byte ≡ true
+abbrev pub AtSpace : Seen → Type 0
+AtSpace s = is_space s.byte ≡ true
 
 abbrev pub AtInner : Seen → Type 0
 AtInner s = is_inner s.byte ≡ true
 
 abbrev pub Separates : Seen → Type 0
-Separates s = AtBlank s ⊎ At 10 s
+Separates s = AtSpace s ⊎ At 10 s
 
 -- a letter of a symbol
 abbrev pub AtKind : Seen → Type 0
@@ -51,20 +46,20 @@ AtBody s = AtDigit s ⊎ AtTail s
 test_at : (p : ℕ → Bool) {b : ℕ} (t : Seen) → t.byte ≡ b → p t.byte ≡ true → p b ≡ false → ⊥
 test_at p {b} t e h k = let g : p b ≡ true = ap p (sym e) ∙ h in cc
 
-pub blank_newline : Apart AtBlank (At 10)
-blank_newline t h e = test_at is_blank t e h refl
+pub space_newline : Apart AtSpace (At 10)
+space_newline t h e = test_at is_space t e h refl
 
 pub inner_newline : Apart AtInner (At 10)
 inner_newline t h e = test_at is_inner t e h refl
 
-blank_is : (t : Seen) → AtBlank t → (t.byte ≡ 32) ⊎ (t.byte ≡ 9)
-blank_is t h = search (rules, eqb-true)
+space_is : (t : Seen) → AtSpace t → (t.byte ≡ 32) ⊎ (t.byte ≡ 9)
+space_is t h = search (rules, eqb-true)
 
-pub blank_digit : Apart AtBlank AtDigit
-blank_digit t h d = search (rules, blank_is, test_at)
+pub space_digit : Apart AtSpace AtDigit
+space_digit t h d = search (rules, space_is, test_at)
 
 pub digit_separates : Apart AtDigit Separates
-digit_separates = search (rules, blank_digit, test_at)
+digit_separates = search (rules, space_digit, test_at)
 
 pub separates_digit : Apart Separates AtDigit
 separates_digit t h d = digit_separates t d h
@@ -72,45 +67,17 @@ separates_digit t h d = digit_separates t d h
 pub digit_space : Apart AtDigit (At 32)
 digit_space t d e = test_at is_digit t e d refl
 
-tail_blank : (t : Seen) → AtTail t → AtBlank t → ⊥
-tail_blank t h k = search (rules, test_at)
+tail_space : (t : Seen) → AtTail t → AtSpace t → ⊥
+tail_space t h k = search (rules, test_at)
 
 tail_newline : (t : Seen) → AtTail t → At 10 t → ⊥
 tail_newline t h k = search rules
 
 pub separates_body : Apart Separates AtBody
-separates_body = search (rules, separates_digit, tail_blank, tail_newline)
+separates_body = search (rules, separates_digit, tail_space, tail_newline)
 
 pub kind_comment : Apart AtKind (At 99)
 kind_comment = search rules
-
--- ## Bytes
-
-pub byte_taken : {b : ℕ} (s : Seen) → s.byte ≡ b → take_byte b s ≡ Some tt
-byte_taken {b} s e = ap (λ x. cond x (Some tt) None) (eq-eqb s.byte b e)
-
-pub taken_byte : {b : ℕ} (s : Seen) {u : Unit {0}} → take_byte b s ≡ Some u → s.byte ≡ b
-taken_byte {b} s {u} e = search (rules, eqb-true)
-
-abbrev pub seen : ℕ → Seen
-seen b = record { byte = b; at = 0; behind = [] }
-
-pub laws_byte : (b : ℕ) → Lawful (byte b) (At b) Nothing ⊥
-unfolding byte
-laws_byte b = one_sign (take_byte b) NoBad (seen b) (byte_taken (seen b) refl) (λ t. judge_none cause_number)
-    (λ t h. taken_byte t h.1) (λ t h. absurd h.1)
-
-letter_of : (b : ℕ) (bytes : List ℕ) → Lawful (word bytes) Any Nothing (Unit {0}) →
-    Chain (byte b) (λ _. word bytes) Any Nothing (Unit {0})
-letter_of b bytes l =
-    chained (laws_byte b) (λ _. l) (λ t h k. h) (λ t h. tt) (λ t h. tt) (λ t h. h) (λ t h. h.1) (λ n. tt)
-
-pub laws_word : (bytes : List ℕ) → Lawful (word bytes) Any Nothing (Unit {0})
-laws_word [] = larger (given tt) (λ t h. tt) (λ t h. h) (λ n. n)
-laws_word (b ∷ bytes) = (letter_of b bytes (laws_word bytes)).whole
-
-pub chain_word : (b : ℕ) (bytes : List ℕ) → Chain (byte b) (λ _. word bytes) Any Nothing (Unit {0})
-chain_word b bytes = letter_of b bytes (laws_word bytes)
 
 -- ## Numbers, gaps and ends of lines
 
@@ -119,9 +86,9 @@ unfolding number
 laws_number {Wrong} judge = run_by is_digit number_at (λ digits f. Wrong (decimal_value digits) f) 48 refl
     (λ digits. judge (decimal_value digits))
 
-pub laws_gap : Lawful gap AtBlank AtBlank ⊥
+pub laws_gap : Lawful gap AtSpace AtSpace ⊥
 unfolding gap
-laws_gap = run_by is_blank (λ at bytes. tt) NoBadRun 32 refl (λ bytes. judge_none cause_number)
+laws_gap = run_by is_space (λ at bytes. tt) NoBadRun 32 refl (λ bytes. judge_none cause_number)
 
 pub laws_rest : Lawful rest_of_line AtInner AtInner ⊥
 unfolding rest_of_line
@@ -129,11 +96,11 @@ laws_rest = run_by is_inner (λ at bytes. bytes) NoBadRun 32 refl (λ bytes. jud
 
 pub laws_newline : Lawful newline (At 10) Nothing ⊥
 unfolding newline
-laws_newline = laws_byte 10
+laws_newline = byte_of 10
 
 pub chain_line_end : Chain (either gap (give tt)) (λ _. newline) Separates Separates ⊥
-chain_line_end = chained (or_nothing {More = AtBlank} tt laws_gap (λ t h. h) (λ t h. h)) (λ _. laws_newline)
-    blank_newline (λ t h. inl h) (λ t h. inr h.1) (λ t h. absurd h) (λ t h. absurd h.0) (λ n. n.1)
+chain_line_end = chained (or_nothing {More = AtSpace} tt laws_gap (λ t h. h) (λ t h. h)) (λ _. laws_newline)
+    space_newline (λ t h. inl h) (λ t h. inr h.1) (λ t h. absurd h) (λ t h. absurd h.0) (λ n. n.1)
 
 pub laws_line_end : Lawful line_end Separates Separates ⊥
 unfolding line_end
@@ -151,13 +118,13 @@ laws_ends_here = mapped_by (λ _. false) laws_newline
 abbrev pub gap_more : Field Bool
 gap_more = then_by gap (λ _. behind_gap)
 
-pub chain_gap_more : Chain gap (λ _. behind_gap) AtBlank Separates ⊥
+pub chain_gap_more : Chain gap (λ _. behind_gap) AtSpace Separates ⊥
 chain_gap_more = chained laws_gap (λ _. or_nothing {More = At 10} true laws_ends_here (λ t h. h) (λ t h. absurd h))
-    blank_newline (λ t h. h) (λ t h. absurd h.0) (λ t h. inr h) (λ t h. inl h.1) (λ n. n.0)
+    space_newline (λ t h. h) (λ t h. absurd h.0) (λ t h. inr h) (λ t h. inl h.1) (λ n. n.0)
 
 pub laws_more : Lawful more Separates Separates ⊥
 unfolding more
-laws_more = either_of laws_ends_here chain_gap_more.whole (λ t e h. blank_newline t h e) (λ t h. inr h) (λ t h. inl h)
+laws_more = either_of laws_ends_here chain_gap_more.whole (λ t e h. space_newline t h e) (λ t h. inr h) (λ t h. inl h)
     (λ t h. absurd h) (λ t h. h) (λ t h. absurd h.0)
 
 -- a number, and what stands behind it

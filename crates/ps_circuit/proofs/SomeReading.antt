@@ -1,7 +1,7 @@
 -- Each text of a circuit has an answer: the text's first cause, or the first literal that is not defined, or the first
 -- gate that depends on itself, or else its circuit.
-use Rattle.std.proofs.Common.{ℕ, ◌<◌, ◌⊎◌, List, [], ◌∷◌, length, get_or, All, Result, Ok, Err, refl, ap}
-use Rattle.std.proofs.Common.{inl, inr, arith}
+use Rattle.std.proofs.Common.{ℕ, ◌<◌, ◌⊎◌, List, [], ◌∷◌, length, get_or, All, Result, Ok, Err, refl, ap, inl, inr}
+use Rattle.std.proofs.Common.{arith}
 use Rattle.std.proofs.lemmas.Bool.{cases_eq}
 use Rattle.std.proofs.lemmas.Option.{slice_get-get_or}
 use Rattle.ps_text.specs.Answers.{Found}
@@ -10,12 +10,13 @@ use Rattle.ps_text.proofs.Outcomes.{some_answer}
 use Rattle.ps_text.proofs.Decisions.{Decided, decide_one, decide_in}
 use Rattle.ps_components.specs.Graphs.{Way}
 use Rattle.ps_components.specs.Orders.{IsFirstOnCycle}
-use Rattle.ps_circuit.specs.declared.cursor.Number.{Number}
+use Rattle.ps_circuit.specs.declared.number.Number.{Number}
 use Rattle.ps_circuit.specs.declared.fault.AigCause.{AigCause}
 use Rattle.ps_circuit.specs.declared.fault.AigCause.TheVariants.{Undefined, Cyclic}
 use Rattle.ps_circuit.specs.Circuits.{CircuitData, ReadsGate}
 use Rattle.ps_circuit.specs.Literals.{variable}
-use Rattle.ps_circuit.specs.Signs.{aig_causes, stream_of}
+use Rattle.ps_text.specs.Bytes.{stream_of}
+use Rattle.ps_circuit.specs.Signs.{aig_causes}
 use Rattle.ps_circuit.specs.Texts.{DraftData, circuit_text, IsDefined, IsFirstUndefined, ReadsCircuit, refused}
 use Rattle.ps_circuit.specs.Texts.{undefined, cyclic, meaning}
 use Rattle.ps_circuit.proofs.DraftLemmas.{gates_placed}

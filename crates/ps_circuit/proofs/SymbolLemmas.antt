@@ -20,30 +20,29 @@ use Rattle.ps_text.proofs.Covered.{Avoids, Enters, enters_one, enters_then}
 use Rattle.ps_text.proofs.Exits.{reads_next, stops_bad, reads_give, reads_then}
 use Rattle.ps_text.proofs.Branches.{reads_as, left_entered, right_otherwise, many_ends, many_fails, carries_many}
 use Rattle.ps_text.proofs.Branches.{reads_shrinks}
-use Rattle.ps_circuit.specs.declared.cursor.Number.{Number}
+use Rattle.ps_circuit.specs.declared.number.Number.{Number}
 use Rattle.ps_circuit.specs.declared.fault.AigCause.{AigCause}
 use Rattle.ps_circuit.specs.declared.fault.AigCause.TheVariants.{Syntax}
 use Rattle.ps_circuit.specs.Causes.{AigFault}
 use Rattle.ps_text.specs.declared.faults.Fault.TheVariants.{Text}
 use Rattle.ps_circuit.specs.Drafts.{name_bytes}
-use Rattle.ps_circuit.specs.Signs.{Seen, pieces_at, bytes_of, aig_causes, is_digit, is_inner, byte}
-use Rattle.ps_circuit.specs.Signs.{rest_of_line, newline}
-use Rattle.ps_circuit.specs.Cursors.{next_byte, place_of, found_of, Passes, IsAhead, NumberIs}
+use Rattle.ps_text.specs.Bytes.{Seen, pieces_at, is_digit, is_inner, byte}
+use Rattle.ps_circuit.specs.Signs.{aig_causes, rest_of_line, newline}
+use Rattle.ps_text.specs.Cursors.{next_byte, place_of, Passes, IsAhead}
+use Rattle.ps_text.specs.Faults.{found_of}
+use Rattle.ps_circuit.specs.Cursors.{NumberIs}
 use Rattle.ps_circuit.specs.Texts.{Kind, NamesData, names_of, put_names, add_name, take_kind, IsBadSymbol, symbol_line}
 use Rattle.ps_circuit.specs.Texts.{anything, comment}
 use Rattle.ps_circuit.specs.Names.{is_kind}
-use Rattle.ps_circuit.proofs.Runs.{Odd, syntax_least, stops_here}
-use Rattle.ps_circuit.proofs.Exits.{Left, unread, past, stops_at, reads_last}
-use Rattle.ps_circuit.proofs.Judges.{Digits, bad_symbol}
+use Rattle.ps_circuit.proofs.Lawful.{Odd, Left}
+use Rattle.ps_circuit.proofs.Judges.{syntax_least, Digits, bad_symbol}
+use Rattle.ps_text.proofs.Bytes.Pieces.{bytes_at}
+use Rattle.ps_text.proofs.Bytes.Single.{stops_here, byte_taken, next_is, byte_reads}
+use Rattle.ps_text.proofs.Bytes.Lefts.{unread, past, stops_at, reads_last}
 use Rattle.ps_circuit.proofs.TextLaws.{letter, symbol_number, symbol_space, symbol_name, symbol_end, chain_letter}
 use Rattle.ps_circuit.proofs.TextLaws.{chain_number, chain_space, chain_name, laws_symbol_line, chain_c_line, any_sign}
-use Rattle.ps_circuit.proofs.SignLaws.{byte_taken, AtKind}
-use Rattle.ps_circuit.proofs.CursorLemmas.{next_is, byte_reads}
+use Rattle.ps_circuit.proofs.SignLaws.{AtKind}
 use Rattle.ps_circuit.proofs.NumberLemmas.{number_any}
-
-bytes_at : (at : ℕ) (bytes : List ℕ) → bytes_of (signs (pieces_at at bytes)) ≡ bytes
-bytes_at at [] = refl
-bytes_at at (b ∷ bytes) = ap (λ xs. b ∷ xs) (bytes_at (at + 1) bytes)
 
 -- what the next sign sees is what stands behind it
 behind_is : {old new : Stream Seen} {t : Seen} (at : ℕ) {bytes : List ℕ} → IsAhead old → next_of old ≡ Some t →
@@ -106,7 +105,7 @@ module _ {all : NamesData} {kind : Kind} {names : List (Option (Vec ℕ Global))
         past (chain_number all kind) (past_letter (λ f b. (bad_symbol a.is (seen_digits x.passes) b).1
         (rw (value, a.same) free))) (number_any x).2
 
-    module _ {s3 : Stream Seen} (m : Reads (byte 32) s2 tt s3) where
+    module _ {s3 : Stream Seen} (m : Reads {F = AigCause} (byte 32) s2 tt s3) where
       pub past_space : Left (symbol_line all) old (symbol_name all kind k) s3
       past_space = past (chain_space all kind k) past_number m
 

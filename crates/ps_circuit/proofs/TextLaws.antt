@@ -7,12 +7,13 @@ use Rattle.std.proofs.lemmas.Bool.{eqb-true}
 use Rattle.ps_text.specs.Parts.{NoBad, one, then_by, times, many, mapped, give}
 use Rattle.ps_text.proofs.Decisions.{judge_none}
 use Rattle.ps_text.proofs.Laws.{Nothing}
-use Rattle.ps_circuit.specs.declared.cursor.Number.{Number}
+use Rattle.ps_circuit.specs.declared.number.Number.{Number}
 use Rattle.ps_circuit.specs.declared.fault.AigCause.{AigCause}
 use Rattle.ps_circuit.specs.declared.parts.Latch.{Latch}
 use Rattle.ps_circuit.specs.declared.parts.Gate.{Gate}
 use Rattle.ps_circuit.specs.Causes.{cause_number}
-use Rattle.ps_circuit.specs.Signs.{Seen, Field, byte, word, number, gap, rest_of_line, newline, line_end, more, by_more}
+use Rattle.ps_text.specs.Bytes.{Seen, byte, word}
+use Rattle.ps_circuit.specs.Signs.{Field, number, gap, rest_of_line, newline, line_end, more, by_more}
 use Rattle.ps_circuit.specs.Texts.{HeaderData, AnyNumber, WrongMost, WrongCount, WrongLiteral, WrongDefinition}
 use Rattle.ps_circuit.specs.Texts.{WrongReset, sections, field, header, Lines, no_lines, next_lines, add_input}
 use Rattle.ps_circuit.specs.Texts.{add_latch, add_output, add_gate, input_line, reset, latch_line, output_line}
@@ -20,12 +21,13 @@ use Rattle.ps_circuit.specs.Texts.{gate_line, Kind, OfInput, NamesData, no_names
 use Rattle.ps_circuit.specs.Texts.{symbol_line, anything, comment, DraftData, draft_of, symbols, body, circuit_text}
 use Rattle.ps_circuit.proofs.Judges.{judge_any, judge_most, judge_count, judge_literal, judge_definition, judge_reset}
 use Rattle.ps_circuit.proofs.Judges.{judge_symbol}
-use Rattle.ps_circuit.proofs.Lawful.{Lawful, Chain, Judges, larger, chained, next, tight, given, mapped_by, or_nothing}
-use Rattle.ps_circuit.proofs.Lawful.{many_of, one_sign}
-use Rattle.ps_circuit.proofs.SignLaws.{At, Any, AtDigit, AtInner, Separates, AtKind, AtTail, AtBody, inner_newline}
-use Rattle.ps_circuit.proofs.SignLaws.{blank_digit, digit_separates, separates_digit, digit_space, separates_body}
-use Rattle.ps_circuit.proofs.SignLaws.{kind_comment, seen, laws_byte, laws_word, laws_number, laws_gap, laws_rest}
-use Rattle.ps_circuit.proofs.SignLaws.{laws_newline, laws_line_end, numbers, optional}
+use Rattle.ps_text.proofs.Bytes.Lawful.{larger, chained, next, tight, given, mapped_by, or_nothing, many_of, one_sign}
+use Rattle.ps_text.proofs.Bytes.Lawful.{byte_of, word_of}
+use Rattle.ps_circuit.proofs.Lawful.{Lawful, Chain, Judges}
+use Rattle.ps_text.proofs.Bytes.Single.{At, Any, seen}
+use Rattle.ps_circuit.proofs.SignLaws.{AtDigit, AtInner, Separates, AtKind, AtTail, AtBody, inner_newline, space_digit}
+use Rattle.ps_circuit.proofs.SignLaws.{digit_separates, separates_digit, digit_space, separates_body, kind_comment}
+use Rattle.ps_circuit.proofs.SignLaws.{laws_number, laws_gap, laws_rest, laws_newline, laws_line_end, numbers, optional}
 
 -- ## The first line
 
@@ -43,7 +45,7 @@ pub chain_sections : (n : ℕ) → Chain more (by_more (then_by (number WrongCou
 chain_sections n = optional (chain_counted n (laws_sections n)).whole tt
 
 pub chain_field : {Wrong : ℕ → AigCause → Type 0} → Judges Wrong → Chain gap (λ _. number Wrong) Separates AtDigit ⊥
-chain_field judge = chained laws_gap (λ _. laws_number judge) blank_digit (λ t h. inl h) (λ t h. absurd h.0) (λ t h. h)
+chain_field judge = chained laws_gap (λ _. laws_number judge) space_digit (λ t h. inl h) (λ t h. absurd h.0) (λ t h. h)
     (λ t h. absurd h.0) (λ n. n.0)
 
 -- a number behind a gap, and what stands behind it
@@ -90,7 +92,7 @@ pub chain_0 : Chain (field WrongMost) header_1 Separates Separates ⊥
 chain_0 = fields judge_most (λ m. (chain_1 m).whole)
 
 pub chain_header : Chain (word (codes "aag")) (λ _. header_0) Any Separates ⊥
-chain_header = chained (laws_word (codes "aag")) (λ _. chain_0.whole) (λ t h k. h) (λ t h. tt) (λ t h. tt) (λ t h. h)
+chain_header = chained (word_of (codes "aag")) (λ _. chain_0.whole) (λ t h k. h) (λ t h. tt) (λ t h. tt) (λ t h. h)
     (λ t h. absurd h.0) (λ n. n.1)
 
 -- ## Number lines
@@ -209,7 +211,7 @@ module _ (names : NamesData) where
   chain_name kind k = next laws_rest (λ name. search (rules, mapped_by, laws_newline)) inner_newline
 
   pub chain_space : (kind : Kind) (k : Number) → Chain (byte 32) (λ _. symbol_name names kind k) (At 32) Nothing ⊥
-  chain_space kind k = tight (laws_byte 32) (λ _. (chain_name kind k).whole)
+  chain_space kind k = tight (byte_of 32) (λ _. (chain_name kind k).whole)
 
   pub chain_number : (kind : Kind) → Chain (number AnyNumber) (symbol_space names kind) AtDigit Nothing ⊥
   chain_number kind = next (laws_number judge_any) (λ k. (chain_space kind k).whole) digit_space
@@ -231,7 +233,7 @@ laws_anything = many_of any_sign (λ u. one_sign (λ s. Some tt) NoBad (seen 0) 
     (λ t. judge_none cause_number) (λ t h. tt) (λ t h. tt)) tt
 
 pub chain_c_line : Chain (byte 99) (λ _. anything) (At 99) Any ⊥
-chain_c_line = tight (laws_byte 99) (λ _. laws_anything)
+chain_c_line = tight (byte_of 99) (λ _. laws_anything)
 
 laws_comment : Lawful comment (At 99) Any (Unit {0})
 unfolding comment

@@ -8,9 +8,9 @@ use Rattle.ps_text.specs.declared.faults.Fault.TheVariants.{Text}
 use Rattle.ps_circuit.specs.declared.fault.AigCause.TheVariants.{Syntax}
 use Rattle.ps_circuit.specs.declared.names.Names.{Names}
 use Rattle.ps_circuit.specs.Circuits.{IsName}
-use Rattle.ps_circuit.specs.Cursors.{next_byte, place_of}
+use Rattle.ps_text.specs.Cursors.{next_byte, place_of}
 use Rattle.ps_circuit.specs.Drafts.{name_bytes}
-use Rattle.ps_circuit.specs.Signs.{Seen}
+use Rattle.ps_text.specs.Bytes.{Seen}
 use Rattle.ps_circuit.specs.Texts.{NamesData, comment}
 
 abbrev pub names_data : Names → NamesData

@@ -13,11 +13,13 @@ use Rattle.ps_components.specs.Orders.{IsFirstOnCycle}
 use Rattle.ps_circuit.specs.Circuits.{IsDefinition, IsDraft, ReadsGate}
 use Rattle.ps_circuit.specs.Literals.{variable}
 use Rattle.ps_circuit.specs.Drafts.{data_of}
-use Rattle.ps_circuit.specs.Signs.{Seen, Field, aig_causes, gap, stream_of}
-use Rattle.ps_circuit.specs.Cursors.{found_of, saturated, NumberIs, TellsNumber}
+use Rattle.ps_text.specs.Bytes.{Seen, stream_of}
+use Rattle.ps_circuit.specs.Signs.{Field, aig_causes, gap}
+use Rattle.ps_text.specs.Faults.{found_of}
+use Rattle.ps_circuit.specs.Cursors.{saturated, NumberIs, TellsNumber}
 use Rattle.ps_circuit.specs.Texts.{AnyNumber, HeaderData, header, field, Lines, add_input, add_latch, add_output}
 use Rattle.ps_circuit.specs.Texts.{add_gate, DraftData, circuit_text, IsFirstUndefined, IsDefined}
-use Rattle.ps_circuit.specs.declared.cursor.Number.{Number}
+use Rattle.ps_circuit.specs.declared.number.Number.{Number}
 use Rattle.ps_circuit.specs.Causes.{AigFault}
 use Rattle.ps_text.specs.declared.faults.Fault.TheVariants.{Text}
 use Rattle.ps_circuit.specs.declared.fault.AigCause.{AigCause}

@@ -30,9 +30,9 @@ use Rattle.ps_components.specs.Graphs.{Way}
 use Rattle.ps_components.specs.Orders.{IsFirstOnCycle}
 use Rattle.ps_circuit.specs.Circuits.{CircuitData, IsDefinition, ReadsGate}
 use Rattle.ps_circuit.specs.Literals.{variable}
-use Rattle.ps_circuit.specs.Signs.{Seen, stream_of, aig_causes, Field, BeginsRun, is_digit, byte, word, number, gap}
-use Rattle.ps_circuit.specs.Signs.{rest_of_line, newline, line_end, more, by_more}
-use Rattle.ps_circuit.specs.declared.cursor.Number.{Number}
+use Rattle.ps_text.specs.Bytes.{Seen, stream_of, BeginsRun, is_digit, byte, word}
+use Rattle.ps_circuit.specs.Signs.{aig_causes, Field, number, gap, rest_of_line, newline, line_end, more, by_more}
+use Rattle.ps_circuit.specs.declared.number.Number.{Number}
 use Rattle.ps_circuit.specs.declared.fault.AigCause.{AigCause}
 use Rattle.ps_circuit.specs.declared.fault.AigCause.TheVariants.{Syntax, Literal, DefinedTwice, Undefined, Cyclic}
 use Rattle.ps_circuit.specs.declared.fault.AigCause.TheVariants.{UnsetLatch, Sections}

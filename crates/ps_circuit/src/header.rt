@@ -6,8 +6,10 @@ ghost use Rattle.ps_circuit.specs.Reading.{TellsField, TellsCount, TellsHeader};
 ghost use Rattle.ps_circuit.specs.Texts as parts;
 ghost use Rattle.ps_circuit.specs.Texts.{WrongMost};
 
-use crate::cursor::{Cursor, Number};
 use crate::fault::{AigCause, AigFault};
+use crate::fields::{gap, line_end, more, number};
+use crate::number::Number;
+use ps_text::cursor::Cursor;
 
 /// The greatest number that a text may have as its greatest variable.
 const MOST: u64 = 2_147_483_647;
@@ -36,7 +38,7 @@ pub fn read_header(cursor: &mut Cursor) -> Result<Header, AigFault>
     ensures exact { TellsHeader cursor.old result cursor.new }
     ensures small { IfOk result (λ h. h.most < 2 ^ 31) }
 {
-    cursor.first_word()?;
+    cursor.word(b"aag", AigCause::Syntax)?;
     let most = most(cursor)?;
     let inputs = count(cursor)?;
     let latches = count(cursor)?;
@@ -56,12 +58,12 @@ pub fn read_header(cursor: &mut Cursor) -> Result<Header, AigFault>
 ///
 /// # Errors
 ///
-/// [`AigCause::Syntax`] where no blank or no digit comes.
+/// [`AigCause::Syntax`] where no space, no tab or no digit comes.
 pub fn field(cursor: &mut Cursor) -> Result<Number, AigFault>
     ensures { TellsField cursor.old result cursor.new }
 {
-    cursor.gap()?;
-    cursor.number()
+    gap(cursor)?;
+    number(cursor)
 }
 
 /// Reads the greatest variable.
@@ -89,12 +91,12 @@ fn sections(cursor: &mut Cursor, left: u32) -> Result<(), AigFault>
     ensures { Tells (λ u. u) (parts.sections left) cursor.old result cursor.new }
 {
     if left == 0 {
-        return cursor.line_end();
+        return line_end(cursor);
     }
-    if !cursor.more()? {
+    if !more(cursor)? {
         return Ok(());
     }
-    let count = cursor.number()?;
+    let count = number(cursor)?;
     if count.value != 0 {
         return Err(count.refused(AigCause::Sections));
     }

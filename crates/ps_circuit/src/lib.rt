@@ -25,9 +25,9 @@
 
 mod builder;
 mod circuit;
-mod cursor;
 mod encode_fault;
 mod fault;
+mod fields;
 mod gate_graph;
 mod header;
 mod laws;
@@ -35,6 +35,7 @@ mod lines;
 mod links;
 mod literal;
 mod names;
+mod number;
 mod parts;
 mod reader;
 mod writer;

@@ -14,12 +14,14 @@ ghost use Rattle.ps_circuit.specs.Texts as parts;
 ghost use Rattle.ps_circuit.specs.Texts.{Lines, WrongDefinition, WrongLiteral, no_lines};
 ghost use Rattle.ps_circuit.specs.Signs.{Field};
 
-use crate::cursor::{Cursor, Number};
 use crate::fault::{AigCause, AigFault};
+use crate::fields::{line_end, more, number};
 use crate::header::field;
 use crate::literal::Literal;
+use crate::number::Number;
 use crate::parts::{Gate, Latch};
 use ps_ids::Ids;
+use ps_text::cursor::Cursor;
 use std::alloc::Global;
 
 /// The variables that were defined, the literals that were read, and the offset of each gate's line, in the text's
@@ -125,7 +127,7 @@ fn definition(cursor: &mut Cursor, variables: &mut Ids, most: u32) -> Result<Num
     ensures small { IfOk result (λ n. n.value < 2 ^ 32) }
     ensures defined { IfOk result (λ n. Defines most variables.old (n.value ∷ []) variables.new) }
 {
-    let number = cursor.number()?;
+    let number = number(cursor)?;
     if !can_define(number.value, most) {
         return Err(number.refused(AigCause::Literal));
     }
@@ -167,7 +169,7 @@ impl Line for InputLine {
         items: &mut Vec<Literal>,
     ) -> Result<(), AigFault> {
         let input = definition(cursor, &mut noted.variables, most)?;
-        cursor.line_end()?;
+        line_end(cursor)?;
         items.push(input.literal())?;
         Ok(())
     }
@@ -178,17 +180,17 @@ fn reset(cursor: &mut Cursor, literal: u64) -> Result<bool, AigFault>
     requires { literal < 2 ^ 32 }
     ensures { Tells (λ b. b) (parts.reset literal) cursor.old result cursor.new }
 {
-    if !cursor.more()? {
+    if !more(cursor)? {
         return Ok(false);
     }
-    let number = cursor.number()?;
+    let number = number(cursor)?;
     if number.value == literal {
         return Err(number.refused(AigCause::UnsetLatch));
     }
     if number.value > 1 {
         return Err(number.refused(AigCause::Literal));
     }
-    cursor.line_end()?;
+    line_end(cursor)?;
     Ok(number.value == 1)
 }
 
@@ -236,11 +238,11 @@ impl Line for OutputLine {
         most: u32,
         items: &mut Vec<Literal>,
     ) -> Result<(), AigFault> {
-        let output = cursor.number()?;
+        let output = number(cursor)?;
         if output.value > 2 * u64::from(most) + 1 {
             return Err(output.refused(AigCause::Literal));
         }
-        cursor.line_end()?;
+        line_end(cursor)?;
         noted.readings.push(output)?;
         items.push(output.literal())?;
         Ok(())
@@ -266,7 +268,7 @@ impl Line for GateLine {
         let own = definition(cursor, &mut noted.variables, most)?;
         let first = reading(cursor, &mut noted.readings, most)?;
         let second = reading(cursor, &mut noted.readings, most)?;
-        cursor.line_end()?;
+        line_end(cursor)?;
         noted.starts.push(own.offset)?;
         items.push(Gate {
             literal: own.literal(),

@@ -8,13 +8,14 @@ ghost use Rattle.ps_circuit.specs.Circuits.{IsName};
 ghost use Rattle.ps_circuit.specs.Cursors.{Tells};
 ghost use Rattle.ps_circuit.specs.Drafts.{name_bytes};
 ghost use Rattle.ps_circuit.specs.Names.{AreNames, AreNone, TellsComment, is_kind, names_data};
-ghost use Rattle.ps_circuit.specs.Signs.{Seen};
+ghost use Rattle.ps_text.specs.Bytes.{Seen};
 ghost use Rattle.ps_text.specs.declared.faults.Fault.TheVariants.{OutOfMemory};
 ghost use Rattle.ps_circuit.specs.Texts as parts;
 ghost use Rattle.ps_circuit.specs.Texts.{Kind, NamesData, names_of, put_names, take_kind};
 
-use crate::cursor::Cursor;
-use crate::fault::AigFault;
+use crate::fault::{AigCause, AigFault};
+use crate::fields::{newline, number, rest_of_line};
+use ps_text::cursor::Cursor;
 use std::alloc::Global;
 
 /// The names of the inputs, latches and outputs.
@@ -108,7 +109,7 @@ fn symbol_line(alloc: Global, cursor: &mut Cursor, names: &mut Names) -> Result<
     if cursor.comes(b'o') {
         return name_line(alloc, cursor, &mut names.outputs);
     }
-    Err(cursor.refusal())
+    Err(cursor.refusal(AigCause::Syntax))
 }
 
 /// Reads a line that begins with a letter and names one of these.
@@ -125,15 +126,15 @@ fn name_line(
     ensures names { All IsName (map name_bytes names.new.items) }
     ensures stay { vec_len names.new ≡ vec_len names.old }
 {
-    let refusal = cursor.refusal();
+    let refusal = cursor.refusal(AigCause::Syntax);
     cursor.step();
-    let number = cursor.number()?;
+    let number = number(cursor)?;
     if !is_free(names, number.value) {
         return Err(refusal);
     }
-    cursor.byte(b' ')?;
-    let name = cursor.rest_of_line()?;
-    cursor.newline()?;
+    cursor.byte(b' ', AigCause::Syntax)?;
+    let name = rest_of_line(cursor)?;
+    newline(cursor)?;
     names[number.value as usize] = Some(name.to_vec(alloc)?);
     Ok(())
 }
@@ -162,6 +163,6 @@ pub fn comment(cursor: &mut Cursor) -> Result<(), AigFault>
             cursor.finish();
             Ok(())
         }
-        Some(_) => Err(cursor.refusal()),
+        Some(_) => Err(cursor.refusal(AigCause::Syntax)),
     }
 }

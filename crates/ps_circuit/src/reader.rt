@@ -6,20 +6,20 @@ ghost use Rattle.ps_text.specs.declared.faults.Fault.{Fault};
 ghost use Rattle.ps_text.specs.declared.faults.Fault.TheVariants as faults;
 ghost use Rattle.ps_text.specs.Answers.{Found};
 ghost use Rattle.ps_circuit.specs.Circuits.{CircuitData, IsDraft, IsCircuit};
-ghost use Rattle.ps_circuit.specs.Cursors.{found_of};
+ghost use Rattle.ps_text.specs.Faults.{found_of};
 ghost use Rattle.ps_circuit.specs.Drafts.{data_of};
 ghost use Rattle.ps_circuit.specs.Reading.{TellsDraft, TellsDefined, TellsCyclic, IsSoundDraft, draft_data};
 ghost use Rattle.ps_circuit.specs.Texts.{IsCircuitAnswer};
 ghost use Rattle.ps_circuit.specs.declared.fault.AigCause.{AigCause};
 
 use crate::circuit::{Circuit, CircuitFault};
-use crate::cursor::Cursor;
 use crate::fault::{AigCause, AigFault};
 use crate::header::read_header;
 use crate::lines::{GateLine, InputLine, LatchLine, Noted, OutputLine, lines};
 use crate::names::{Names, comment, symbols};
 use crate::parts::Parts;
 use ps_ids::Ids;
+use ps_text::cursor::Cursor;
 use std::alloc::Global;
 
 /// What was read of a text.
@@ -49,7 +49,7 @@ fn read_draft(alloc: Global, text: &[u8]) -> Result<Draft, AigFault>
     ensures exact { TellsDraft text.now result }
     ensures sound { IfOk result (λ d. IsSoundDraft (draft_data d)) }
 {
-    let mut cursor = Cursor::new(text);
+    let mut cursor = Cursor::of_lines(text);
     let header = read_header(&mut cursor)?;
     let mut noted = Noted::nothing(alloc);
     let inputs = lines::<InputLine>(alloc, &mut cursor, &mut noted, header.most, header.inputs)?;

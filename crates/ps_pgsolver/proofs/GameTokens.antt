@@ -15,7 +15,8 @@ use Rattle.ps_text.specs.Runs.{AllOf, StopsBefore}
 use Rattle.ps_text.specs.Tokens.{NextToken, TokensFrom, TokensDiffer}
 use Rattle.ps_text.proofs.ByteRuns.{run_len, run_all, run_ends}
 use Rattle.ps_text.proofs.OneTokenisation.{has_one_tokenisation}
-use Rattle.ps_pgsolver.specs.Bytes.{is_blank, is_digit, is_letter, is_inner, ends_in}
+use Rattle.ps_text.specs.Bytes.{is_blank, is_digit, is_letter, is_unquoted}
+use Rattle.ps_pgsolver.specs.Ends.{ends_in}
 use Rattle.ps_pgsolver.specs.Signs.{Sign, Number, Word, Name, Comma, Semicolon, OpenName, Wrong}
 use Rattle.ps_pgsolver.specs.Lexer.{lex, first_sign, first_size, number_sign, word_sign, name_sign, name_size}
 use Rattle.ps_pgsolver.specs.Lexer.{mark_sign, is_closed, stream_of}
@@ -40,7 +41,7 @@ letter_no_blank b h = grind arith
 letter_no_digit : (b : ℕ) → is_letter b ≡ true → is_digit b ≡ false
 letter_no_digit b h = grind arith
 
-inner_no_quote : {b : ℕ} → is_inner b ≡ false → b ≡ 34
+inner_no_quote : {b : ℕ} → is_unquoted b ≡ false → b ≡ 34
 inner_no_quote h = grind arith
 
 -- ## What the lexer finds is a token
@@ -76,17 +77,17 @@ name_found : (before bs : List ℕ) → Found before (34 ∷ bs) (name_sign bs) 
 name_found before bs = go (is_closed bs) refl
   where
     n : ℕ
-    n = prefix_len is_inner bs
+    n = prefix_len is_unquoted bs
 
-    closed : n < length bs → IsToken before (Name (take_while is_inner bs)) (take (n + 2) (34 ∷ bs))
+    closed : n < length bs → IsToken before (Name (take_while is_unquoted bs)) (take (n + 2) (34 ∷ bs))
         (drop (n + 2) (34 ∷ bs))
-    closed l = (text, run_all is_inner bs)
+    closed l = (text, run_all is_unquoted bs)
       where
         size : n + 2 ≡ suc (n + 1)
         size = omega arith
 
         quote : get_or bs n 0 ≡ 34
-        quote = inner_no_quote (prefix_len_stops is_inner bs 0 l)
+        quote = inner_no_quote (prefix_len_stops is_unquoted bs 0 l)
 
         text : take (n + 2) (34 ∷ bs) ≡ 34 ∷ (take n bs ++ 34 ∷ [])
         text = ap (λ k. take k (34 ∷ bs)) size ∙ ap (λ z. 34 ∷ z) (take_more bs n 0 l)
@@ -96,14 +97,14 @@ name_found before bs = go (is_closed bs) refl
     open_name l = (
       take n bs,
       ap (λ k. take k (34 ∷ bs)) size,
-      run_all is_inner bs,
+      run_all is_unquoted bs,
       ap (λ k. drop k (34 ∷ bs)) size ∙ drop_all n bs l,
     )
       where
         size : n + 1 ≡ suc n
         size = omega arith
 
-    go : (e : Bool) → is_closed bs ≡ e → IsToken before (cond e (Name (take_while is_inner bs)) OpenName)
+    go : (e : Bool) → is_closed bs ≡ e → IsToken before (cond e (Name (take_while is_unquoted bs)) OpenName)
         (take (cond e (n + 2) (n + 1)) (34 ∷ bs)) (drop (cond e (n + 2) (n + 1)) (34 ∷ bs))
     go true x = closed (ltb-true n (length bs) x)
     go false x = open_name (ltb-false n (length bs) x)
@@ -166,11 +167,11 @@ letters_are before {text} {rest} r =
     let p = at_letter before s.0 (s.1 ++ rest) (ap (λ z. z ++ rest) s.2) (letter_no_digit s.0 s.3) s.3 in
     (p.0, p.1 ∙ (run_taken r).0)
 
-closed_name : (inner rest : List ℕ) → AllOf is_inner inner → (name_sign ((inner ++ 34 ∷ []) ++ rest) ≡ Name inner) ×
+closed_name : (inner rest : List ℕ) → AllOf is_unquoted inner → (name_sign ((inner ++ 34 ∷ []) ++ rest) ≡ Name inner) ×
     (name_size ((inner ++ 34 ∷ []) ++ rest) ≡ length (34 ∷ (inner ++ 34 ∷ [])))
 closed_name inner rest a = grind (arith, append_assoc, run_len, length-append, lt-ltb, take-append_seam)
 
-open_name_is : (inner : List ℕ) {rest : List ℕ} → AllOf is_inner inner → rest ≡ [] →
+open_name_is : (inner : List ℕ) {rest : List ℕ} → AllOf is_unquoted inner → rest ≡ [] →
     (name_sign (inner ++ rest) ≡ OpenName) × (name_size (inner ++ rest) ≡ length (34 ∷ inner))
 open_name_is inner a e = search (rules, run_len)
 

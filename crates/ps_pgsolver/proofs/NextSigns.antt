@@ -6,7 +6,8 @@ use Rattle.std.proofs.lemmas.Bool.{cases_Bool, eqb-true}
 use Rattle.std.specs.Prelude.{not, ◌&&◌}
 use Rattle.std.specs.List.{prefix_len}
 use Rattle.ps_text.specs.Answers.{next_of, first_of, signs}
-use Rattle.ps_pgsolver.specs.Bytes.{is_blank, is_digit, is_letter, begins_in, ends_in}
+use Rattle.ps_text.specs.Bytes.{is_blank, is_digit, is_letter}
+use Rattle.ps_pgsolver.specs.Ends.{begins_in, ends_in}
 use Rattle.ps_pgsolver.specs.Heads.{is_number, is_comma, name_of}
 use Rattle.ps_pgsolver.specs.Lexer.{lex, first_sign, number_sign, word_sign, name_sign, mark_sign, is_closed}
 use Rattle.ps_pgsolver.specs.Lexer.{stream_from}

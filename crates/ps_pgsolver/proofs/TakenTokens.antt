@@ -6,7 +6,8 @@ use Rattle.std.specs.List.{prefix_len, take_while}
 use Rattle.ps_text.specs.Answers.{Stream, next_of}
 use Rattle.ps_text.specs.Digits.{decimal_value}
 use Rattle.ps_text.specs.Readers.{tail}
-use Rattle.ps_pgsolver.specs.Bytes.{is_blank, is_digit, is_letter, begins_in, ends_in}
+use Rattle.ps_text.specs.Bytes.{is_blank, is_digit, is_letter}
+use Rattle.ps_pgsolver.specs.Ends.{begins_in, ends_in}
 use Rattle.ps_pgsolver.specs.Heads.{sign_of}
 use Rattle.ps_pgsolver.specs.Lexer.{first_sign, first_size, stream_from}
 use Rattle.ps_pgsolver.specs.Signs.{Sign, Number, Comma, Semicolon}

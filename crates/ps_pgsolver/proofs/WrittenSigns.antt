@@ -15,7 +15,8 @@ use Rattle.ps_text.specs.Answers.{Piece, Stream, signs}
 use Rattle.ps_text.specs.Runs.{AllOf, StopsBefore}
 use Rattle.ps_text.specs.Tokens.{TokensFrom}
 use Rattle.ps_text.proofs.Decimals.{number_text}
-use Rattle.ps_pgsolver.specs.Bytes.{is_blank, is_digit, is_letter, is_inner, ends_in}
+use Rattle.ps_text.specs.Bytes.{is_blank, is_digit, is_letter, is_unquoted}
+use Rattle.ps_pgsolver.specs.Ends.{ends_in}
 use Rattle.ps_pgsolver.specs.GameTokens.{IsToken, AreGameTokens}
 use Rattle.ps_pgsolver.specs.Nodes.{NodeData}
 use Rattle.ps_pgsolver.specs.Signs.{Sign, Number, Word, Name, Comma, Semicolon}
@@ -71,7 +72,7 @@ comma_number n rest ss small stops more before =
 semicolon_token : (rest : List ℕ) (ss : List Sign) → Lexes rest ss → Lexes (59 ∷ rest) (Semicolon ∷ ss)
 semicolon_token rest ss more before = token before [] (59 ∷ []) rest Semicolon ss tt refl (more _)
 
-name_token : (name rest : List ℕ) (ss : List Sign) → AllOf is_inner name → Lexes rest ss →
+name_token : (name rest : List ℕ) (ss : List Sign) → AllOf is_unquoted name → Lexes rest ss →
     Lexes (32 ∷ 34 ∷ (name ++ 34 ∷ rest)) (Name name ∷ ss)
 name_token name rest ss inner more before = grind (
   arith,
@@ -123,7 +124,7 @@ lexes_list : (ids ws rest : List ℕ) (ss : List Sign) → ((w : ℕ) → IsWord
     is_digit rest → Lexes rest ss → Lexes (32 ∷ (list_text ids ws ++ rest)) (list_signs (map (id_at ids) ws) ss)
 lexes_list ids ws rest ss small some stops more = grind (arith, append_assoc, blank_number, commas_stop, lexes_commas)
 
-inner_of : (name : List ℕ) → (Contains name 34 → ⊥) → AllOf is_inner name
+inner_of : (name : List ℕ) → (Contains name 34 → ⊥) → AllOf is_unquoted name
 inner_of [] h = tt
 inner_of (b ∷ name) h = let other : b ≡ 34 → ⊥ = λ e. h (0, omega arith, e) in
     (rw (ne_eqb b 34 other) refl, inner_of name (λ c. h (suc c.0, omega (arith, c.1), c.2)))

@@ -9,7 +9,8 @@ use Rattle.ps_text.specs.Answers.{Stream}
 use Rattle.ps_text.specs.Digits.{decimal_value}
 use Rattle.ps_text.specs.Runs.{AllOf, StopsBefore}
 use Rattle.ps_text.specs.Tokens.{AreTokens}
-use Rattle.ps_pgsolver.specs.Bytes.{is_blank, is_digit, is_letter, is_inner, ends_in}
+use Rattle.ps_text.specs.Bytes.{is_blank, is_digit, is_letter, is_unquoted}
+use Rattle.ps_pgsolver.specs.Ends.{ends_in}
 use Rattle.ps_pgsolver.specs.Signs.{Sign, Number, Word, Name, Comma, Semicolon, OpenName, Wrong}
 
 pub record IsRun (p : ℕ → Bool) (text rest : List ℕ) : Type 0 where
@@ -36,10 +37,10 @@ IsToken before (Number n) text rest =
     IsRun is_digit text rest × (n ≡ decimal_value text) × (ends_in is_letter before ≡ false)
 IsToken before (Word letters) text rest =
     IsRun is_letter text rest × (letters ≡ text) × (ends_in is_digit before ≡ false)
-IsToken before (Name inner) text rest = (text ≡ 34 ∷ (inner ++ 34 ∷ [])) × AllOf is_inner inner
+IsToken before (Name inner) text rest = (text ≡ 34 ∷ (inner ++ 34 ∷ [])) × AllOf is_unquoted inner
 IsToken before Comma text rest = text ≡ 44 ∷ []
 IsToken before Semicolon text rest = text ≡ 59 ∷ []
-IsToken before OpenName text rest = (inner : List ℕ) × (text ≡ 34 ∷ inner) × AllOf is_inner inner × (rest ≡ [])
+IsToken before OpenName text rest = (inner : List ℕ) × (text ≡ 34 ∷ inner) × AllOf is_unquoted inner × (rest ≡ [])
 IsToken before Wrong text rest = IsWrong before text rest
 
 abbrev pub AreGameTokens : List ℕ → Stream Sign → Type 0

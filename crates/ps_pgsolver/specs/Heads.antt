@@ -4,7 +4,7 @@ use Rattle.std.specs.List.{AllPass}
 use Rattle.ps_text.specs.Answers.{Stream, next_of, offset_of}
 use Rattle.ps_text.specs.Readers.{tail}
 use Rattle.ps_text.specs.Digits.{decimal_value}
-use Rattle.ps_pgsolver.specs.Bytes.{is_inner}
+use Rattle.ps_text.specs.Bytes.{is_unquoted}
 use Rattle.ps_pgsolver.specs.GameTexts.{too_large}
 use Rattle.ps_pgsolver.specs.Lexer.{stream_from}
 use Rattle.ps_pgsolver.specs.Signs.{Sign, Number, Word, Name, Comma, Semicolon, OpenName, Wrong}
@@ -45,7 +45,7 @@ name_of _ = None
 abbrev pub IsPlain : Kind → Type 0
 IsPlain (kinds.Number value) = value < too_large
 IsPlain (kinds.LargeNumber digits) = too_large ≤ decimal_value digits.now
-IsPlain (kinds.Name inner) = AllPass is_inner inner.now
+IsPlain (kinds.Name inner) = AllPass is_unquoted inner.now
 IsPlain _ = Unit {0}
 
 -- a number that a word holds was the next sign, and was read

@@ -4,7 +4,8 @@ use Rattle.std.specs.Prelude.{if◌then◌else◌}
 use Rattle.std.specs.List.{prefix_len, take_while}
 use Rattle.ps_text.specs.Answers.{Piece, Stream}
 use Rattle.ps_text.specs.Digits.{decimal_value}
-use Rattle.ps_pgsolver.specs.Bytes.{is_blank, is_digit, is_letter, is_inner, ends_in}
+use Rattle.ps_text.specs.Bytes.{is_blank, is_digit, is_letter, is_unquoted}
+use Rattle.ps_pgsolver.specs.Ends.{ends_in}
 use Rattle.ps_pgsolver.specs.Signs.{Sign, Number, Word, Name, Comma, Semicolon, OpenName, Wrong}
 
 -- a run of digits behind the bytes `before`
@@ -16,13 +17,13 @@ word_sign before text = if ends_in is_digit before then Wrong else Word (take_wh
 
 -- a quote, and what stands behind it
 abbrev pub is_closed : List ℕ → Bool
-is_closed behind = nat_lt (prefix_len is_inner behind) (length behind)
+is_closed behind = nat_lt (prefix_len is_unquoted behind) (length behind)
 
 abbrev pub name_sign : List ℕ → Sign
-name_sign behind = if is_closed behind then Name (take_while is_inner behind) else OpenName
+name_sign behind = if is_closed behind then Name (take_while is_unquoted behind) else OpenName
 
 abbrev pub name_size : List ℕ → ℕ
-name_size behind = if is_closed behind then prefix_len is_inner behind + 2 else prefix_len is_inner behind + 1
+name_size behind = if is_closed behind then prefix_len is_unquoted behind + 2 else prefix_len is_unquoted behind + 1
 
 abbrev pub mark_sign : ℕ → Sign
 mark_sign b = if b == 44 then Comma else (if b == 59 then Semicolon else Wrong)

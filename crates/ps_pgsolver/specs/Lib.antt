@@ -1,5 +1,4 @@
-pub mod Bytes
-pub mod Classes
+pub mod Ends
 pub mod Signs
 pub mod Lexer
 pub mod Heads

@@ -3,8 +3,9 @@
 ghost use Rattle.std.specs.Prelude.{◌≡◌, ◌+◌, ◌≤◌, ◌<◌, ◌^◌, [], length, take, take_while, drop, Some, IfSome};
 ghost use Rattle.std.specs.Char.{is_ascii_digit};
 ghost use Rattle.std.specs.List.{prefix_len, AllPass};
-ghost use Rattle.ps_pgsolver.specs.Bytes.{is_blank, is_digit, is_letter, begins_in, ends_in};
-ghost use Rattle.ps_pgsolver.specs.Classes.{in_class};
+ghost use Rattle.ps_text.specs.Bytes.{is_blank, is_digit, is_letter};
+ghost use Rattle.ps_pgsolver.specs.Ends.{begins_in, ends_in};
+ghost use Rattle.ps_text.specs.Cursors.{in_class};
 ghost use Rattle.ps_text.specs.Answers.{Stream};
 ghost use Rattle.ps_text.specs.Digits.{decimal_value};
 ghost use Rattle.ps_pgsolver.specs.Signs.{Sign, Number};
@@ -12,56 +13,12 @@ ghost use Rattle.ps_pgsolver.specs.Heads.{sign_of, IsPlain, IsAhead};
 ghost use Rattle.ps_pgsolver.specs.Lexer.{stream_of, stream_from, first_sign, first_size, number_sign, word_sign};
 ghost use Rattle.ps_pgsolver.specs.Lexer.{name_sign, name_size, mark_sign};
 
+use ps_text::cursor::{Class, run_length};
 use ps_text::numbers::{LeadingNumber, leading_number};
 use std::marker::Model;
 
 /// From so many digits on, a number may be too large.
 const FEW: usize = 18;
-
-/// A class of bytes.
-#[derive(Clone, Copy)]
-pub enum Class {
-    /// A space, or one of the bytes 9 to 13.
-    Blank,
-    /// A digit.
-    Digit,
-    /// An ASCII letter.
-    Letter,
-    /// Anything but a quote.
-    Inner,
-    /// A quote.
-    Quote,
-    /// A comma.
-    Comma,
-    /// A semicolon.
-    Semicolon,
-}
-
-impl Class {
-    /// Whether a byte is of the class.
-    pub fn has(self, byte: u8) -> bool
-        ensures { result ≡ in_class self byte }
-    {
-        match self {
-            Class::Blank => matches!(byte, 9..=13 | b' '),
-            Class::Digit => byte.is_ascii_digit(),
-            Class::Letter => byte.is_ascii_alphabetic(),
-            Class::Inner => byte != b'"',
-            Class::Quote => byte == b'"',
-            Class::Comma => byte == b',',
-            Class::Semicolon => byte == b';',
-        }
-    }
-}
-
-/// How many bytes of the class the text begins with.
-pub fn run_length(text: &[u8], class: Class) -> usize
-    ensures length { result ≡ prefix_len (in_class class) text.now }
-    ensures within { result ≤ length text.now }
-    ensures run { AllPass (in_class class) (take result text.now) }
-{
-    text.iter().take_while(|byte| class.has(**byte)).count()
-}
 
 /// What a token is, with its bytes.
 #[derive(Clone, Copy)]
@@ -112,11 +69,10 @@ impl<'a> Model for Tokens<'a> {
 
 impl<'a> Tokens<'a> {
     ghost use Rattle.std.specs.Prelude.{◌↔◌, IsTrue, IfSome, IfNone, option_copied};
-    ghost use Rattle.ps_text.specs.Answers.{next_of};
+    ghost use Rattle.ps_text.specs.Answers.{next_of, offset_of};
     ghost use Rattle.ps_text.specs.Readers.{tail};
-    ghost use Rattle.ps_text.specs.Answers.{offset_of};
     ghost use Rattle.ps_pgsolver.specs.Heads.{IsHead, IsNumberTaken, IsTaken, is_number, is_comma, name_of};
-    ghost use Rattle.ps_pgsolver.specs.Bytes.{is_inner};
+    ghost use Rattle.ps_text.specs.Bytes.{is_unquoted};
     ghost use Rattle.ps_pgsolver.specs.Signs.{Word, Comma, Semicolon};
 
     /// The tokens of a text.
@@ -221,7 +177,7 @@ impl<'a> Tokens<'a> {
     /// The name that comes next, if one does.
     pub fn next_name(&self) -> Option<&'a [u8]>
         ensures name { option_copied result ≡ name_of (next_of self.now) }
-        ensures plain { IfSome result (λ inner. AllPass is_inner inner.now) }
+        ensures plain { IfSome result (λ inner. AllPass is_unquoted inner.now) }
     {
         let (_, rest) = self.text.split_at(next_start(self.text, self.at));
         if !begins_with(rest, Class::Quote) {
@@ -371,7 +327,7 @@ fn name_at<'a>(behind: &'a [u8]) -> (Kind<'a>, usize)
     ensures plain { IsPlain result.0 }
     ensures within { result.1 ≤ length behind.now + 1 }
 {
-    let size = run_length(behind, Class::Inner);
+    let size = run_length(behind, Class::Unquoted);
     if size < behind.len() {
         (Kind::Name(&behind[..size]), size + 2)
     } else {

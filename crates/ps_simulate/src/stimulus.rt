@@ -7,6 +7,7 @@ ghost use Rattle.ps_simulate.specs.StimulusTexts.{HasOneAnswer, HasSomeAnswer};
 ghost use Rattle.ps_simulate.specs.StimulusReading.{ReadsLine};
 
 use crate::fault::{StimulusCause, StimulusFault};
+use ps_text::cursor::{Class, run_length};
 use std::alloc::{AllocError, Global};
 use std::marker::Model;
 
@@ -84,12 +85,7 @@ pub(crate) fn line_end(text: &[u8], start: usize) -> usize
     ensures lines { lines_of (drop start text.now) ≡ take (result - start) (drop start text.now) ∷ lines_of
         (drop (result + 1) text.now) }
 {
-    for end in start..text.len() {
-        if text[end] == b'\n' {
-            return end;
-        }
-    }
-    text.len()
+    start + run_length(&text[start..], Class::Inner)
 }
 
 /// Whether the line is `-`.

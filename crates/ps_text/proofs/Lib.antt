@@ -19,3 +19,4 @@ pub mod OneTokenisation
 pub mod LeadingDigits
 pub mod ByteRuns
 pub mod Decimals
+pub mod Bytes

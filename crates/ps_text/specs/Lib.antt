@@ -6,3 +6,5 @@ pub mod Digits
 pub mod Tokens
 pub mod Outcomes
 pub mod Runs
+pub mod Bytes
+pub mod Cursors

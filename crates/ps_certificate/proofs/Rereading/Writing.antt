@@ -5,10 +5,10 @@
 --     read_byte, read_word, read_number, read_fields, read_version, read_winner, read_choice, read_counts, read_pairs,
 --     read_entry, read_entries, read_text      each part of the text
 --     reads_again      the whole text
-use Rattle.std.proofs.Common.{◌≡◌, ◌≢◌, ℕ, suc, ◌+◌, ◌^◌, ◌<◌, ◌⊎◌, Bool, true, false, cond, eqb, List, []}
-use Rattle.std.proofs.Common.{◌∷◌, ◌++◌, length, get_or, Option, Some, None, Ok, refl, sym, ap, subst, inl}
-use Rattle.std.proofs.Common.{inr, ◌∙◌, append_assoc, add-zero, arith, rules}
-use Rattle.std.specs.Prelude.{decimal, IfSome}
+use Rattle.std.proofs.Common.{◌≡◌, ◌≢◌, ℕ, zero, suc, ◌+◌, ◌^◌, ◌<◌, ◌⊎◌, Bool, true, false, cond, eqb, List, [], ◌∷◌}
+use Rattle.std.proofs.Common.{◌++◌, length, get_or, drop, Option, Some, None, Ok, refl, sym, ap, subst, inl, inr, ◌∙◌}
+use Rattle.std.proofs.Common.{append_assoc, add-zero, arith, rules}
+use Rattle.std.specs.Prelude.{decimal, map, IfSome}
 use Rattle.std.specs.List.{All, AllPairs, Contains}
 use Rattle.std.proofs.Math.Seq.{drop-append_seam}
 use Rattle.std.proofs.lemmas.Bool.{eq-eqb, ne_eqb, eqb-false, lt-ltb}
@@ -16,13 +16,13 @@ use Rattle.std.proofs.lemmas.List.{get_or_default}
 use Rattle.std.proofs.lemmas.List.Sums.{position_or_len_is}
 use Rattle.std.proofs.lemmas.List.Elements.{All-head, All-tail, Contains-get_or}
 use Rattle.std.proofs.lemmas.List.Kept.{AllPairs-from_increasing}
-use Rattle.ps_text.specs.Answers.{first_of}
-use Rattle.ps_text.specs.Parts.{IsRead, then_by, many, mapped}
-use Rattle.ps_text.specs.Digits.{IsDigit}
-use Rattle.ps_text.proofs.InPlace.{read_as}
-use Rattle.ps_text.proofs.Laws.{Joint}
+use Rattle.ps_text.specs.Answers.{signs, first_of}
+use Rattle.ps_text.specs.Parts.{IsRead, give, one, then_by, many, mapped}
+use Rattle.ps_text.specs.Digits.{IsDigit, decimal_value}
+use Rattle.ps_text.proofs.InPlace.{Covers, read_as}
+use Rattle.ps_text.proofs.Laws.{Laws}
 use Rattle.ps_text.proofs.Joined.{read_then}
-use Rattle.ps_text.proofs.Simple.{laws_mapped, same_some, read_give, read_one, read_mapped}
+use Rattle.ps_text.proofs.Simple.{same_some, read_give, read_one, read_mapped}
 use Rattle.ps_text.proofs.Covered.{Avoids, covers_left, covers_right}
 use Rattle.ps_text.proofs.Repeated.{read_item, read_none}
 use Rattle.ps_text.proofs.Whole.{answers_ok}
@@ -34,54 +34,98 @@ use Rattle.ps_certificate.specs.Certificates.{EntryData, CertificateData, no_ent
 use Rattle.ps_certificate.specs.Certificates.{opposing, Fits}
 use Rattle.ps_certificate.specs.Words.{first_word, vertices_word, odd_word, even_word}
 use Rattle.ps_certificate.specs.Pairs.{Pairs, no_pairs, with_pair, DoesNotRise}
-use Rattle.ps_certificate.specs.Texts.{Seen, Field, stream_at, EndsField, Verdict, byte, word, judged, number, Never}
-use Rattle.ps_certificate.specs.Texts.{NotNext, priority, priorities, version, winner, vertex_of, choice, counts, pair}
-use Rattle.ps_certificate.specs.Texts.{counts_in, lost_by, entry, entries, certificate, ReadsCertificate as ReadsText}
+use Rattle.ps_text.specs.Bytes.{Seen, pieces_at, stream_at, byte, word}
+use Rattle.ps_certificate.specs.Texts.{Field, EndsField, Verdict, judged, number, Never, NotNext, priority, priorities}
+use Rattle.ps_certificate.specs.Texts.{version, winner, vertex_of, choice, counts, pair, counts_in, lost_by, entry}
+use Rattle.ps_certificate.specs.Texts.{entries, certificate, ReadsCertificate as ReadsText}
 use Rattle.ps_certificate.specs.Written.{fields, pairs, counts_text, move_text, entry_line, entry_lines, version_digit}
 use Rattle.ps_certificate.specs.Written.{head_text, IsWord, IsWritable, HasWords, text_in}
 use Rattle.ps_certificate.proofs.OneReading.{Rises, rises as rises_of}
 use Rattle.ps_certificate.proofs.Rereading.CountsOfPairs.{after, after_counts}
+use Rattle.ps_text.proofs.Bytes.Lawful.{chain_word}
+use Rattle.ps_certificate.proofs.Lawful.{Chain}
+use Rattle.ps_certificate.proofs.TextLaws.{digit_no_space, first_taken, second_taken, dash, chosen, lawful_dash}
+use Rattle.ps_certificate.proofs.TextLaws.{lawful_chosen, laws_priority, chain_listed, chain_priorities, chain_count}
+use Rattle.ps_certificate.proofs.TextLaws.{chain_counts, laws_pair, chain_pair, chain_priority, chain_colon}
+use Rattle.ps_certificate.proofs.TextLaws.{chain_pairs, chain_id, chain_space, chain_winner, chain_second, chain_choice}
+use Rattle.ps_certificate.proofs.TextLaws.{chain_entries, chain_first, chain_version, chain_vertices, chain_number}
+use Rattle.ps_certificate.proofs.TextLaws.{chain_odd_word, chain_odd, chain_even_word, chain_even, lawful_certificate}
 use Rattle.ps_certificate.proofs.Numerals.{numeral_ended}
-use Rattle.ps_certificate.proofs.NumberPart.{AtDigit, Settled, settled_other, settled_zero, settled_priority, seen}
-use Rattle.ps_certificate.proofs.NumberPart.{signs_seen, read_run}
-use Rattle.ps_certificate.proofs.TextLaws.{At, tight_joint, digit_no_space, byte_taken, laws_byte, laws_word, dash}
-use Rattle.ps_certificate.proofs.TextLaws.{chosen, laws_dash, laws_chosen, laws_priority, joint_priorities, laws_pair}
-use Rattle.ps_certificate.proofs.TextLaws.{joint_pair, joint_priority, joint_colon, joint_pairs, laws_entry}
-use Rattle.ps_certificate.proofs.TextLaws.{laws_entries, laws_certificate}
-use Rattle.ps_certificate.proofs.Loops.{joint_listed, joint_counts, joint_count}
-use Rattle.ps_certificate.proofs.EntrySteps.{joint_id, joint_space, joint_winner, joint_second, joint_choice}
-use Rattle.ps_certificate.proofs.EntrySteps.{joint_first, joint_version, joint_vertices, joint_number, joint_odd_word}
-use Rattle.ps_certificate.proofs.EntrySteps.{joint_odd, joint_even_word, joint_even}
+use Rattle.ps_certificate.specs.Reading.{numeral}
+use Rattle.ps_certificate.proofs.NumberPart.{Odd, AtDigit, Settled, settled_other, settled_zero, settled_priority}
+use Rattle.ps_certificate.proofs.NumberPart.{run_length, read_run}
+use Rattle.ps_text.proofs.Bytes.Single.{At, byte_taken}
 
+abbrev seen : ℕ → List ℕ → List Seen
+seen at bytes = signs (pieces_at at bytes)
+
+-- wherever the bytes stand
 record IsReadFrom {V : Type 0} (P : Field V) (text : List ℕ) (v : V) (rest : List ℕ) : Type 0 where
-  read : IsRead P (seen text) v (seen rest)
+  read : (at : ℕ) → (to : ℕ) × IsRead P (seen at text) v (seen to rest)
 
-then : {A B : Type 0} {P : Field A} {Q : A → Field B} (j : Joint P Q) {a : A} {b : B} {text mid rest : List ℕ} →
-    IsReadFrom P text a mid → IsReadFrom (Q a) mid b rest → IsReadFrom (then_by P Q) text b rest
-then j p q = record { read = read_then j p.read q.read }
+then : {A B : Type 0} {P : Field A} {Q : A → Field B} {First More : Seen → Type 0} {Null : Type 0} →
+    Chain P Q First More Null → {a : A} {b : B} {text mid rest : List ℕ} → IsReadFrom P text a mid →
+    IsReadFrom (Q a) mid b rest → IsReadFrom (then_by P Q) text b rest
+then j p q = record {
+  read = λ at. let l = p.read at in let r = q.read l.0 in (r.0, read_then j.joint l.1 r.1);
+}
 
 with_value : {A B : Type 0} (h : A → B) {P : Field A} {a : A} {text rest : List ℕ} → IsReadFrom P text a rest →
     IsReadFrom (mapped h P) text (h a) rest
-with_value h {P} p = record { read = read_mapped h P p.read }
+with_value h {P} p = record { read = λ at. let r = p.read at in (r.0, read_mapped h P r.1) }
+
+-- one of several forms
+as_form : {V : Type 0} {P Q : Field V} {v : V} {text rest : List ℕ} →
+    ((at : ℕ) → Covers (first_of (seen at text)) P Q) → IsReadFrom P text v rest → IsReadFrom Q text v rest
+as_form {P = P} {Q = Q} covers p = record { read = λ at. let r = p.read at in (r.0, read_as P Q (covers at) r.1) }
+
+nothing_read : {V : Type 0} (v : V) {rest : List ℕ} → IsReadFrom (give v) rest v rest
+nothing_read v {rest} = record { read = λ at. (at, read_give (seen at rest) v) }
+
+one_byte : {V : Type 0} {take : Seen → Option V} {Bad : Seen → CertCause → Type 0} {b : ℕ} {v : V} {rest : List ℕ} →
+    ((s : Seen) → s.byte ≡ b → take s ≡ Some v) → ((s : Seen) (f : CertCause) → s.byte ≡ b → Bad s f → ⊥) →
+    IsReadFrom (one take Bad) (b ∷ rest) v rest
+one_byte {take = take} {Bad = Bad} {b = b} {rest = rest} takes good = record {
+  read = λ at.
+      let s : Seen = record { byte = b; at = at; behind = rest } in
+      (at + 1, read_one take Bad (takes s refl) (λ f x. good s f refl x));
+}
 
 -- the next sign is none of these
 avoids : (A : Seen → Type 0) (s : Seen) → (A s → ⊥) → Avoids A (Some s)
 avoids A s none t e h = none (subst A (sym (same_some s t e)) h)
 
+-- items behind spaces: no more of them, or one and then the others
+module _ {C : Type 0} (item : C → Field C) (l : (c : C) → Laws Odd (item c) (At 32) AtDigit ⊥) where
+  no_item : (c : C) (rest : List ℕ) → IsReadFrom (many item c) (10 ∷ rest) c (10 ∷ rest)
+  no_item c rest = record {
+    read = λ at. (at, read_none item l digit_no_space c _ (avoids (At 32) _ (λ e. omega (arith, e))));
+  }
+
+  item_then : {c d e : C} {text mid rest : List ℕ} → IsReadFrom (item c) text d mid →
+      IsReadFrom (many item d) mid e rest → IsReadFrom (many item c) text e rest
+  item_then p q = record {
+    read = λ at. let f = p.read at in let m = q.read f.0 in (m.0, read_item item l digit_no_space f.1 m.1);
+  }
+
 -- ## Bytes
 
 read_byte : (b : ℕ) {rest : List ℕ} → IsReadFrom (byte b) (b ∷ rest) tt rest
-read_byte b {rest} = search (rules, read_one, byte_taken)
+unfolding byte
+read_byte b {rest} = one_byte (λ s e. byte_taken s e) (λ s f e x. x)
 
 read_word : (text : List ℕ) {rest : List ℕ} → IsReadFrom (word text) (text ++ rest) tt rest
-read_word [] {rest} = record { read = read_give (seen rest) tt }
-read_word (b ∷ text) = then (tight_joint (laws_byte b) (λ _. laws_word text)) (read_byte b) (read_word text)
+read_word [] = nothing_read tt
+read_word (b ∷ text) = then (chain_word b text) (read_byte b) (read_word text)
 
 read_version : (compact : Bool) {rest : List ℕ} → IsReadFrom version (version_digit compact ∷ rest) compact rest
-read_version compact = search (rules, read_one)
+read_version false = one_byte (λ s. first_taken 50 true s) (λ s f e x. x)
+read_version true = one_byte (λ s. second_taken 49 false s (λ x. omega (arith, x))) (λ s f e x. x)
 
 read_winner : (w : ℕ) {rest : List ℕ} → w < 2 → IsReadFrom winner ((48 + w) ∷ rest) w rest
-read_winner w h = search (rules, read_one)
+read_winner zero h = one_byte (λ s. first_taken 49 1 s) (λ s f e x. x)
+read_winner (suc zero) h = one_byte (λ s. second_taken 48 0 s (λ x. omega (arith, x))) (λ s f e x. x)
+read_winner (suc (suc w)) h = absurd (omega arith)
 
 -- ## Numbers that are read
 
@@ -92,7 +136,17 @@ fields_end (x ∷ xs) rest = inl refl
 read_judged : {Wrong : Verdict} → Settled Wrong → {n : ℕ} {rest : List ℕ} → n < 2 ^ 64 → EndsField rest →
     ((f : CertCause) → Wrong rest n f → ⊥) → IsReadFrom (judged Wrong) (decimal n ++ rest) n rest
 read_judged {Wrong} settled {n} {rest} small end right =
-    search (rules, number_text, numeral_ended, plain, read_run, drop-append_seam)
+    let t = number_text n small in
+    let bytes = decimal n ++ rest in
+    let whole : numeral bytes ≡ decimal n = numeral_ended rest (plain n small) end in
+    let behind : drop (run_length bytes) bytes ≡ rest =
+    ap (λ ds. drop (length ds) bytes) whole ∙ drop-append_seam (decimal n) rest in
+    record {
+      read = λ at. (
+        at + run_length bytes,
+        read_run settled at bytes (rw whole t.some) (ap decimal_value whole ∙ t.value) small behind right,
+      );
+    }
 
 read_number : (Wrong : ℕ → Type 0) {n : ℕ} {rest : List ℕ} → n < 2 ^ 64 → EndsField rest → (Wrong n → ⊥) →
     IsReadFrom (number Wrong) (decimal n ++ rest) n rest
@@ -101,51 +155,43 @@ read_number Wrong small end right = read_judged (settled_other Wrong) small end 
 -- ## Lines of priorities
 
 read_many : (ps rest : List ℕ) → All IsWord ps → IsReadFrom (many priority ps) (fields ps ++ 10 ∷ rest) [] (10 ∷ rest)
-read_many [] rest small = record {
-  read = read_none priority laws_priority digit_no_space [] _ (avoids (At 32) _ (λ e. omega (arith, e)));
-}
+read_many [] rest small = no_item priority laws_priority [] rest
 read_many (p ∷ ps) rest small =
     let more = fields ps ++ 10 ∷ rest in
     let first : IsReadFrom (priority (p ∷ ps)) (32 ∷ (decimal p ++ more)) ps more =
-    then (joint_listed (p ∷ ps)) (read_byte 32) (with_value (λ _. ps)
+    then (chain_listed (p ∷ ps)) (read_byte 32) (with_value (λ _. ps)
     (read_number (NotNext (p ∷ ps)) (All-head IsWord p ps small) (fields_end ps rest) (λ other. other refl))) in
-    rw append_assoc (record {
-      read = read_item priority laws_priority digit_no_space first.read
-          (read_many ps rest (All-tail IsWord p ps small)).read;
-    })
+    rw append_assoc (item_then priority laws_priority first (read_many ps rest (All-tail IsWord p ps small)))
 
 read_fields : (ps : List ℕ) {rest : List ℕ} → All IsWord ps →
     IsReadFrom (priorities ps) (fields ps ++ 10 ∷ rest) tt rest
-read_fields ps {rest} small = then (joint_priorities ps) (read_many ps rest small) (grind (arith, read_one))
+read_fields ps {rest} small = then (chain_priorities ps) (read_many ps rest small)
+    (one_byte (λ s. byte_taken s) (λ s f e x. omega (arith, x.1)))
 
 -- ## Moves and counts
 
-no_dash : (digits rest : List ℕ) → 0 < length digits → All IsDigit digits →
-    Avoids (At 45) (first_of (seen (digits ++ rest)))
-no_dash [] rest some all = absurd (omega (arith, some))
-no_dash (d ∷ digits) rest some all = search (rules, avoids, At, All-head)
+no_dash : (at : ℕ) (digits rest : List ℕ) → 0 < length digits → All IsDigit digits →
+    Avoids (At 45) (first_of (seen at (digits ++ rest)))
+no_dash at [] rest some all = absurd (omega (arith, some))
+no_dash at (d ∷ digits) rest some all = search (rules, avoids, At, All-head)
 
 read_choice : (ids : List ℕ) (c : Option ℕ) {rest : List ℕ} → EndsField rest →
     IfSome c (λ v. IsWord (get_or ids v 0) × (vertex_of ids (get_or ids v 0) ≡ Some v) × Contains ids
     (get_or ids v 0)) → IsReadFrom (choice ids) (move_text ids c ++ rest) c rest
-read_choice ids None end known = record {
-  read = read_as dash (choice ids) (covers_left dash (chosen ids) (laws_chosen ids) _
-      (avoids AtDigit _ (λ h. omega (arith, h.0)))) (read_mapped (λ _. None) (byte 45) (read_byte 45).read);
-}
+read_choice ids None end known = as_form (λ at. covers_left dash (chosen ids) (lawful_chosen ids).laws _
+    (avoids AtDigit _ (λ h. omega (arith, h.0)))) (with_value (λ _. None) (read_byte 45))
 read_choice ids (Some v) {rest} end known =
     let id = get_or ids v 0 in
     let t = number_text id known.0 in
     let w = read_number (λ id. ¬ Contains ids id) known.0 end (λ none. none known.2) in
-    record {
-      read = read_as (chosen ids) (choice ids) (covers_right dash (chosen ids) laws_dash _
-          (no_dash (decimal id) rest t.some t.all)) (grind arith);
-    }
+    subst (λ c. IsReadFrom (choice ids) (decimal id ++ rest) c rest) known.1 (as_form (λ at. covers_right dash
+    (chosen ids) lawful_dash.laws _ (no_dash at (decimal id) rest t.some t.all)) (with_value (vertex_of ids) w))
 
 read_counts : (cs : List ℕ) {rest : List ℕ} → All IsWord cs →
     IsReadFrom (counts (length cs)) (fields cs ++ 10 ∷ rest) cs rest
 read_counts [] small = with_value (λ _. []) (read_byte 10)
-read_counts (c ∷ cs) {rest} small = rw append_assoc (then (joint_counts (length cs)) (read_byte 32)
-    (then (joint_count (length cs)) (read_number Never (All-head IsWord c cs small) (fields_end cs rest) (λ w. w))
+read_counts (c ∷ cs) {rest} small = rw append_assoc (then (chain_counts (length cs)) (read_byte 32)
+    (then (chain_count (length cs)) (read_number Never (All-head IsWord c cs small) (fields_end cs rest) (λ w. w))
     (with_value (λ others. c ∷ others) (read_counts cs (All-tail IsWord c cs small)))))
 
 -- ## Counts behind their priorities
@@ -161,9 +207,9 @@ counts_end compact ps cs rest = search (rules, fields_end, pairs_end)
 read_pair : (ps : List ℕ) (so_far : Pairs) (p c : ℕ) {rest : List ℕ} → (DoesNotRise so_far p → ⊥) → Contains ps p →
     IsWord p → 0 < c → IsWord c → EndsField rest →
     IsReadFrom (pair ps so_far) (32 ∷ (decimal p ++ 58 ∷ (decimal c ++ rest))) (with_pair so_far p c) rest
-read_pair ps so_far p c above there small some fits end = then (joint_pair ps so_far) (read_byte 32)
-    (then (joint_priority ps so_far) (read_judged (settled_priority ps so_far) small (inr (inr refl))
-    (λ f w. right f w.1)) (then (joint_colon so_far p) (read_byte 58)
+read_pair ps so_far p c above there small some fits end = then (chain_pair ps so_far) (read_byte 32)
+    (then (chain_priority ps so_far) (read_judged (settled_priority ps so_far) small (inr (inr refl))
+    (λ f w. right f w.1)) (then (chain_colon so_far p) (read_byte 58)
     (with_value (λ m. with_pair so_far p m) (read_judged settled_zero fits end (λ f w. omega (arith, w.1, some))))))
   where
     right : (f : CertCause) → ((f ≡ Syntax) × DoesNotRise so_far p) ⊎ ((f ≡ OtherGame) × ¬ Contains ps p) → ⊥
@@ -182,17 +228,11 @@ above_last so_far p c ps h k d lt low = omega (arith, h k d lt, low)
 pair_groups : (a b c r : List ℕ) → ((a ++ b) ++ c) ++ r ≡ a ++ (b ++ (c ++ r))
 pair_groups a b c r = simp (append_assoc)
 
-no_more : (all : List ℕ) {so_far : Pairs} (rest : List ℕ) →
-    IsReadFrom (many (pair all) so_far) (10 ∷ rest) so_far (10 ∷ rest)
-no_more all {so_far} rest = record {
-  read = read_none (pair all) (laws_pair all) digit_no_space so_far _ (avoids (At 32) _ (λ e. omega (arith, e)));
-}
-
 read_pairs : (all ps cs : List ℕ) (so_far : Pairs) (rest : List ℕ) → AllIn all ps → Rises ps → AllAbove so_far ps →
     All IsWord ps → All IsWord cs →
     IsReadFrom (many (pair all) so_far) (pairs ps cs ++ 10 ∷ rest) (after ps cs so_far) (10 ∷ rest)
-read_pairs all [] cs so_far rest there r above small fits = no_more all rest
-read_pairs all (p ∷ ps) [] so_far rest there r above small fits = no_more all rest
+read_pairs all [] cs so_far rest there r above small fits = no_item (pair all) (laws_pair all) so_far rest
+read_pairs all (p ∷ ps) [] so_far rest there r above small fits = no_item (pair all) (laws_pair all) so_far rest
 read_pairs all (p ∷ ps) (c ∷ cs) so_far rest there r above small fits =
     go (eqb c 0) refl (read_pairs all ps cs so_far rest (All-tail (λ q. Contains all q) p ps there) r.1
     (All-tail (λ q. DoesNotRise so_far q → ⊥) p ps above) (All-tail IsWord p ps small) (All-tail IsWord c cs fits))
@@ -209,14 +249,15 @@ read_pairs all (p ∷ ps) (c ∷ cs) so_far rest there r above small fits =
         (All-head (λ q. Contains all q) p ps there) (All-head IsWord p ps small)
         (let h = eqb-false c 0 e in omega (arith, h)) (All-head IsWord c cs fits) (pairs_end ps cs rest) in
         rw (pair_groups (decimal p) (58 ∷ decimal c) (pairs ps cs) (10 ∷ rest))
-        (record { read = read_item (pair all) (laws_pair all) digit_no_space one.read next.read })
+        (item_then (pair all) (laws_pair all) one next)
 
 read_counts_in : (compact : Bool) (ps : List ℕ) {cs rest : List ℕ} → Rises ps → length cs ≡ length ps → All IsWord ps →
     All IsWord cs → IsReadFrom (counts_in compact ps) (counts_text compact ps cs ++ 10 ∷ rest) cs rest
 read_counts_in false ps r same small fits = rw (← same) (read_counts _ fits)
 read_counts_in true ps {cs} {rest} r same small fits = subst (λ xs. IsReadFrom (counts_in true ps) (pairs ps cs ++
-    10 ∷ rest) xs rest) (after_counts ps cs no_pairs r same (λ k d lt. refl)) (then (joint_pairs ps) (read_pairs ps ps
-    cs no_pairs rest (λ k d lt. Contains-get_or ps k d lt) r (λ k d lt h. h) small fits) (grind (arith, read_byte 10)))
+    10 ∷ rest) xs rest) (after_counts ps cs no_pairs r same (λ k d lt. refl)) (then (chain_pairs ps) (read_pairs ps ps
+    cs no_pairs rest (λ k d lt. Contains-get_or ps k d lt) r (λ k d lt h. h) small fits)
+    (with_value (λ _. map (after ps cs no_pairs).count ps) (read_byte 10)))
 
 -- ## A certificate
 
@@ -244,23 +285,22 @@ module _ (compact : Bool) (ids odd even : List ℕ) (ids_small : All IsWord ids)
       IsReadFrom (entry compact odd even ids id) (entry_line compact odd even ids id e ++ rest) e rest
   read_entry id {e} {rest} small readable = let lost = lost_by odd even e.winner in
       rw (regroup (decimal id) (move_text ids e.choice) (counts_text compact lost e.counts) rest (48 + e.winner))
-      (then (joint_id compact odd even ids id) (read_number _ small (inl refl) (λ other. other refl))
-      (then (joint_space compact odd even ids) (read_byte 32) (then (joint_winner compact odd even ids)
-      (read_winner e.winner readable.winner) (then (joint_second compact odd even ids e.winner) (read_byte 32)
-      (then (joint_choice compact odd even ids e.winner) (read_choice ids e.choice (counts_end compact lost
+      (then (chain_id compact odd even ids id) (read_number _ small (inl refl) (λ other. other refl))
+      (then (chain_space compact odd even ids) (read_byte 32) (then (chain_winner compact odd even ids)
+      (read_winner e.winner readable.winner) (then (chain_second compact odd even ids e.winner) (read_byte 32)
+      (then (chain_choice compact odd even ids e.winner) (read_choice ids e.choice (counts_end compact lost
       e.counts rest) readable.choice) (with_value (λ cs. record { winner = e.winner; choice = e.choice; counts = cs })
       (read_counts_in compact lost (lost_rises e.winner) readable.counts (lost_small e.winner) readable.small)))))))
 
   read_entries : (left : List ℕ) (es : List EntryData) (v : ℕ) →
       ((k : ℕ) → k < length left → get_or ids (v + k) 0 ≡ get_or left k 0) → All IsWord left → length es ≡ length left →
       All IsReadable es → IsReadFrom (entries compact odd even ids left) (entry_lines compact odd even ids v es) es []
-  read_entries [] [] v here small same readable = record { read = read_give [] [] }
+  read_entries [] [] v here small same readable = nothing_read []
   read_entries [] (e ∷ es) v here small same readable = absurd (omega (arith, same))
   read_entries (id ∷ left) [] v here small same readable = absurd (omega (arith, same))
   read_entries (id ∷ left) (e ∷ es) v here small same readable =
       let is : get_or ids v 0 ≡ id = ap (λ n. get_or ids n 0) (sym (add-zero v)) ∙ here 0 (omega arith) in
-      rw is (then (tight_joint (laws_entry compact odd even ids id) (λ first. laws_mapped (λ others. first ∷ others)
-      (entries compact odd even ids left) (laws_entries compact odd even ids left))) (read_entry id
+      rw is (then (chain_entries compact odd even ids id left) (read_entry id
       (All-head IsWord id left small) (All-head IsReadable e es readable)) (with_value (λ others. e ∷ others)
       (read_entries left es (v + 1) (λ k lt. ap (λ n. get_or ids n 0) (omega arith) ∙ here (suc k) (omega (arith, lt)))
       (All-tail IsWord id left small) (omega (arith, same)) (All-tail IsReadable e es readable))))
@@ -274,11 +314,11 @@ module _ (compact : Bool) (ids odd even : List ℕ) (ids_small : All IsWord ids)
       (record { odd = odd; even = even; entries = es }) []
   read_text es small same readable = rw (head_groups first_word (version_digit compact ∷ vertices_word) (decimal (length
       ids)) odd_word (fields odd) (10 ∷ even_word) (fields even) (10 ∷ []) (entry_lines compact odd even ids 0 es))
-      (then (joint_first odd even ids) (read_word first_word) (then (joint_version odd even ids) (read_version compact)
-      (then (joint_vertices odd even ids compact) (read_word vertices_word) (then (joint_number odd even ids compact)
-      (read_number _ small (inr (inl refl)) (λ other. other refl)) (then (joint_odd_word odd even ids compact)
-      (read_word odd_word) (then (joint_odd odd even ids compact) (read_fields odd odd_small)
-      (then (joint_even_word odd even ids compact) (read_word even_word) (then (joint_even odd even ids compact)
+      (then (chain_first odd even ids) (read_word first_word) (then (chain_version odd even ids) (read_version compact)
+      (then (chain_vertices compact odd even ids) (read_word vertices_word) (then (chain_number compact odd even ids)
+      (read_number _ small (inr (inl refl)) (λ other. other refl)) (then (chain_odd_word compact odd even ids)
+      (read_word odd_word) (then (chain_odd compact odd even ids) (read_fields odd odd_small)
+      (then (chain_even_word compact odd even ids) (read_word even_word) (then (chain_even compact odd even ids)
       (read_fields even even_small) (with_value (λ es. record { odd = odd; even = even; entries = es })
       (read_entries ids es 0 (λ k lt. ap (λ n. get_or ids n 0) (omega arith)) ids_small same readable))))))))))
 
@@ -331,5 +371,5 @@ module _ (compact : Bool) (game : NamedGameData) (c : CertificateData) (named : 
         even = c.even;
         odd_listed = fits.odd_listed;
         even_listed = fits.even_listed;
-        answers = answers_ok (laws_certificate c.odd c.even game.ids) (stream_at 0 text) c (search (rules, signs_seen));
+        answers = answers_ok (lawful_certificate c.odd c.even game.ids).laws (stream_at 0 text) c (w.read 0).1;
       }

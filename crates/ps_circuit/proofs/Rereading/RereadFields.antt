@@ -6,8 +6,8 @@
 --     reread_as, reread_branch      another text; one of several forms
 --     number_then, field_then      a number, and a number behind a space, and what stands behind it
 --     reread_end, reread_more, reread_no_more      the end of a line; a further field comes, or none
-use Rattle.std.proofs.Common.{◌≡◌, ℕ, ◌+◌, ◌^◌, ◌<◌, Bool, true, false, List, [], ◌∷◌, ◌++◌, length, refl, sym}
-use Rattle.std.proofs.Common.{ap, subst, ◌∙◌, arith, rules}
+use Rattle.std.proofs.Common.{◌≡◌, ℕ, ◌+◌, ◌^◌, ◌<◌, Bool, true, false, List, [], ◌∷◌, ◌++◌, length, refl, sym, ap}
+use Rattle.std.proofs.Common.{subst, ◌∙◌, arith, rules}
 use Rattle.std.specs.Prelude.{decimal}
 use Rattle.std.proofs.lemmas.Bool.{eqb-true}
 use Rattle.ps_text.specs.Answers.{Stream, next_of, first_of, signs}
@@ -19,17 +19,19 @@ use Rattle.ps_text.proofs.Simple.{same_some, laws_give}
 use Rattle.ps_text.proofs.Covered.{Avoids}
 use Rattle.ps_text.proofs.Exits.{reads_give, reads_mapped, reads_then, reads_next}
 use Rattle.ps_text.proofs.Branches.{Stands, reads_as, right_otherwise, left_otherwise}
-use Rattle.ps_circuit.specs.declared.cursor.Number.{Number}
+use Rattle.ps_circuit.specs.declared.number.Number.{Number}
 use Rattle.ps_circuit.specs.declared.fault.AigCause.{AigCause}
-use Rattle.ps_circuit.specs.Signs.{Seen, Field, pieces_at, take_byte, byte, word, is_digit, is_blank, number, gap}
-use Rattle.ps_circuit.specs.Signs.{newline, line_end, more, NoBadRun, run}
+use Rattle.ps_text.specs.Bytes.{Seen, pieces_at, take_byte, byte, word, is_digit, is_space, NoBadRun, run}
+use Rattle.ps_circuit.specs.Signs.{Field, number, gap, newline, line_end, more}
 use Rattle.ps_circuit.specs.Texts.{field}
-use Rattle.ps_circuit.specs.Cursors.{Passes, place_of}
-use Rattle.ps_circuit.proofs.Runs.{Odd, run_reads}
-use Rattle.ps_circuit.proofs.Lawful.{Judges, Chain}
+use Rattle.ps_text.specs.Cursors.{Passes, place_of}
+use Rattle.ps_circuit.proofs.Lawful.{Odd, Judges, Chain}
+use Rattle.ps_text.proofs.Bytes.Runs.{run_reads}
 use Rattle.ps_circuit.proofs.TextLaws.{chain_field}
-use Rattle.ps_circuit.proofs.SignLaws.{At, AtBlank, AtDigit, byte_taken, laws_gap, blank_newline, ends_here}
-use Rattle.ps_circuit.proofs.SignLaws.{laws_ends_here, chain_word, chain_line_end, chain_gap_more}
+use Rattle.ps_text.proofs.Bytes.Single.{At, byte_taken}
+use Rattle.ps_text.proofs.Bytes.Lawful.{chain_word}
+use Rattle.ps_circuit.proofs.SignLaws.{AtSpace, AtDigit, laws_gap, space_newline, ends_here, laws_ends_here}
+use Rattle.ps_circuit.proofs.SignLaws.{chain_line_end, chain_gap_more}
 
 abbrev pub from : ℕ → ℕ → List ℕ → Stream Seen
 from e at text = record { pieces = pieces_at at text; end = e }
@@ -104,14 +106,14 @@ reread_run p see Bad text {rest} some all longest clean good = record {
       };
 }
 
--- digits are no blanks
-digit_no_blank : (b : ℕ) → is_digit b ≡ true → is_blank b ≡ false
-digit_no_blank b h = search (rules, eqb-true)
+-- digits are no spaces
+digit_no_space : (b : ℕ) → is_digit b ≡ true → is_space b ≡ false
+digit_no_space b h = search (rules, eqb-true)
 
-digits_no_blank : (digits rest : List ℕ) → 0 < length digits → AllOf is_digit digits →
-    StopsBefore is_blank (digits ++ rest)
-digits_no_blank [] rest some all = absurd (omega arith)
-digits_no_blank (b ∷ digits) rest some all = digit_no_blank b all.0
+digits_no_space : (digits rest : List ℕ) → 0 < length digits → AllOf is_digit digits →
+    StopsBefore is_space (digits ++ rest)
+digits_no_space [] rest some all = absurd (omega arith)
+digits_no_space (b ∷ digits) rest some all = digit_no_space b all.0
 
 abbrev pub HasValue : ℕ → Number → Type 0
 HasValue n x = x.value ≡ n
@@ -161,8 +163,8 @@ reread_space : (n : ℕ) (rest : List ℕ) → n < 2 ^ 64 → Rereads gap AnyVal
 unfolding gap
 reread_space n rest small =
     let t = number_text n small in
-    reread_run is_blank (λ at bytes. tt) NoBadRun (32 ∷ []) (omega arith) (refl, tt)
-    (digits_no_blank (decimal n) rest t.some t.pass) (λ f x. x) (λ at. tt)
+    reread_run is_space (λ at bytes. tt) NoBadRun (32 ∷ []) (omega arith) (refl, tt)
+    (digits_no_space (decimal n) rest t.some t.pass) (λ f x. x) (λ at. tt)
 
 -- the next sign is none of A
 avoids_at : (A : Seen → Type 0) (e at b : ℕ) (rest : List ℕ) → ((t : Seen) → t.byte ≡ b → A t → ⊥) →
@@ -182,13 +184,13 @@ unfolding field
 field_then {mid = mid} judge j n g longest k =
     reread_then j (reread_then (chain_field judge) (reread_space n mid g.small) (λ _ _. reread_number n g longest)) k
 
-no_blank_newline : (e at : ℕ) (rest : List ℕ) → Avoids AtBlank (next_of (from e at (10 ∷ rest)))
-no_blank_newline e at rest = avoids_at AtBlank e at 10 rest (λ t x a. blank_newline t a x)
+no_space_newline : (e at : ℕ) (rest : List ℕ) → Avoids AtSpace (next_of (from e at (10 ∷ rest)))
+no_space_newline e at rest = avoids_at AtSpace e at 10 rest (λ t x a. space_newline t a x)
 
 pub reread_end : {rest : List ℕ} → Rereads line_end AnyValue (10 ∷ rest) rest
 unfolding line_end
 reread_end {rest} = reread_then {GoodA = AnyValue} chain_line_end (reread_branch (λ at. right_otherwise laws_gap.laws
-    (laws_give Odd tt) _ (no_blank_newline 0 at rest) (λ n. n)) (reread_give tt tt)) (λ _ _. reread_newline)
+    (laws_give Odd tt) _ (no_space_newline 0 at rest) (λ n. n)) (reread_give tt tt)) (λ _ _. reread_newline)
 
 reread_ends_here : {rest : List ℕ} → Rereads ends_here (λ v. v ≡ false) (10 ∷ rest) rest
 reread_ends_here = reread_mapped (λ _. false) reread_newline (λ _ _. refl)
@@ -196,7 +198,7 @@ reread_ends_here = reread_mapped (λ _. false) reread_newline (λ _ _. refl)
 pub reread_no_more : {rest : List ℕ} → Rereads more (λ v. v ≡ false) (10 ∷ rest) rest
 unfolding more
 reread_no_more {rest} = reread_branch (λ at. left_otherwise laws_ends_here.laws chain_gap_more.whole.laws _
-    (no_blank_newline 0 at rest) (λ n. n)) reread_ends_here
+    (no_space_newline 0 at rest) (λ n. n)) reread_ends_here
 
 digit_newline : (t : Seen) → AtDigit t → At 10 t → ⊥
 digit_newline t d e = let h : is_digit 10 ≡ true = ap is_digit (sym e) ∙ d in cc

@@ -13,7 +13,8 @@ use Rattle.ps_circuit.specs.declared.fault.AigCause.{AigCause}
 use Rattle.ps_circuit.specs.declared.parts.Latch.{Latch}
 use Rattle.ps_circuit.specs.declared.parts.Gate.{Gate}
 use Rattle.ps_circuit.specs.Circuits.{CircuitData, IsDraft}
-use Rattle.ps_circuit.specs.Signs.{is_digit, by_more}
+use Rattle.ps_text.specs.Bytes.{is_digit}
+use Rattle.ps_circuit.specs.Signs.{by_more}
 use Rattle.ps_circuit.specs.Texts.{HeaderData, AnyNumber, WrongLiteral, WrongDefinition, WrongReset, sections, header}
 use Rattle.ps_circuit.specs.Texts.{Lines, add_input, add_latch, add_output, add_gate, input_line, reset, latch_line}
 use Rattle.ps_circuit.specs.Texts.{output_line, gate_line}

@@ -15,12 +15,13 @@ use Rattle.ps_text.proofs.Simple.{none_is_some, laws_give}
 use Rattle.ps_text.proofs.Exits.{reads_next}
 use Rattle.ps_text.proofs.Branches.{right_otherwise, many_reads, many_ends}
 use Rattle.ps_circuit.specs.Circuits.{IsName}
-use Rattle.ps_circuit.specs.Signs.{Seen, is_inner, rest_of_line}
+use Rattle.ps_text.specs.Bytes.{Seen, is_inner}
+use Rattle.ps_circuit.specs.Signs.{rest_of_line}
 use Rattle.ps_circuit.specs.Texts.{Kind, OfInput, OfLatch, OfOutput, NamesData, no_names, names_of, put_names, add_name}
 use Rattle.ps_circuit.specs.Texts.{take_kind, IsBadSymbol, symbol_line, comment}
 use Rattle.ps_circuit.specs.Written as written
 use Rattle.ps_circuit.specs.Written.{symbol_lines}
-use Rattle.ps_circuit.proofs.Runs.{Odd}
+use Rattle.ps_circuit.proofs.Lawful.{Odd}
 use Rattle.ps_circuit.proofs.Judges.{bad_symbol}
 use Rattle.ps_circuit.proofs.TextLaws.{letter, symbol_number, chain_letter, chain_number, chain_space, chain_name}
 use Rattle.ps_circuit.proofs.TextLaws.{laws_symbol_line, chain_c_line}

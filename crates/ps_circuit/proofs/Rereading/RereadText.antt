@@ -10,16 +10,17 @@ use Rattle.std.proofs.lemmas.List.{length-map, get_or-map}
 use Rattle.ps_text.specs.Answers.{signs}
 use Rattle.ps_text.specs.Parts.{many, PartAnswers, IsRead}
 use Rattle.ps_text.proofs.Whole.{answers_ok}
-use Rattle.ps_circuit.specs.declared.cursor.Number.{Number}
+use Rattle.ps_circuit.specs.declared.number.Number.{Number}
 use Rattle.ps_circuit.specs.declared.parts.Latch.{Latch}
 use Rattle.ps_circuit.specs.declared.parts.Gate.{Gate}
 use Rattle.ps_circuit.specs.Circuits.{CircuitData, definitions, readings, IsCircuit}
 use Rattle.ps_circuit.specs.Literals.{variable}
-use Rattle.ps_circuit.specs.Signs.{stream_of, ends_line, closed, aig_causes, pieces_at}
+use Rattle.ps_text.specs.Bytes.{stream_of, ends_line, closed, pieces_at}
+use Rattle.ps_circuit.specs.Signs.{aig_causes}
 use Rattle.ps_circuit.specs.Texts.{Lines, no_lines, OfInput, OfLatch, OfOutput, NamesData, no_names, symbol_line}
 use Rattle.ps_circuit.specs.Texts.{DraftData, draft_of, symbols, body, circuit_text, IsDefined, ReadsCircuit, meaning}
-use Rattle.ps_circuit.specs.Written.{line, symbol_line as symbol_line_of}
-use Rattle.ps_circuit.specs.Written.{header_line, literal_lines, latch_lines, gate_lines, symbol_lines, text_of}
+use Rattle.ps_circuit.specs.Written.{line, symbol_line as symbol_line_of, header_line, literal_lines, latch_lines}
+use Rattle.ps_circuit.specs.Written.{gate_lines, symbol_lines, text_of}
 use Rattle.ps_circuit.proofs.TextLaws.{laws_text, first_names, chain_text, chain_inputs, chain_latches, chain_outputs}
 use Rattle.ps_circuit.proofs.TextLaws.{chain_gates, chain_symbols}
 use Rattle.ps_circuit.proofs.Adding.{values}

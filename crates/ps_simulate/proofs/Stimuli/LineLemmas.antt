@@ -1,54 +1,35 @@
 -- The lines of a text, and what is wrong in one line.
-use Rattle.std.proofs.Common.{◌≡◌, ◌≢◌, ℕ, zero, suc, ◌+◌, ◌-◌, ◌<◌, ◌≤◌, ◌==◌, ◌⊎◌, Bool, true, false, rules}
-use Rattle.std.proofs.Common.{List, [], ◌∷◌, ◌++◌, length, get_or, take, drop, refl, ap, arith, Some}
-use Rattle.std.proofs.Common.{slice_get, All, length-take, length-drop}
-use Rattle.std.proofs.lemmas.List.{length-map, get_or-take, get_or-drop, take-append-drop, drop-drop, drop_more}
-use Rattle.std.proofs.lemmas.List.{drop_all, take_all}
-use Rattle.std.proofs.lemmas.List.Elements.{All-head, All-tail, All-from_get_or}
+use Rattle.std.proofs.Common.{◌≡◌, ◌≢◌, ℕ, zero, suc, ◌+◌, ◌-◌, ◌<◌, ◌≤◌, ◌==◌, ◌⊎◌, Bool, true, false, rules, List, []}
+use Rattle.std.proofs.Common.{◌∷◌, length, get_or, take, drop, ap, ap₂, ◌∙◌, arith, Some, slice_get, length-take, length-drop}
+use Rattle.std.proofs.lemmas.List.{length-map, drop-drop, take_all}
 use Rattle.std.proofs.lemmas.List.Sums.{sum_by-cons}
 use Rattle.std.proofs.lemmas.Option.{slice_get-map, slice_get_within}
-use Rattle.std.proofs.lemmas.Bool.{ne_eqb}
+use Rattle.std.proofs.lemmas.Bool.{cases_Bool}
+use Rattle.std.specs.List.{prefix_len}
+use Rattle.ps_text.specs.Bytes.{is_inner}
 use Rattle.ps_simulate.specs.declared.fault.StimulusCause.{StimulusCause}
 use Rattle.ps_simulate.specs.StimulusTexts.{lines_of, start_of, digit_of, digits_of, divider, IsDigit, StandsInLine}
 
 -- ## Lines
 
-abbrev NoNewline : ℕ → Type 0
-NoNewline b = b ≢ 10
+-- the first line, up to a newline or the end
+lines_of-first : (bytes : List ℕ) → 0 < length bytes →
+    lines_of bytes ≡ take (prefix_len is_inner bytes) bytes ∷ lines_of (drop (prefix_len is_inner bytes + 1) bytes)
+lines_of-first [] some = absurd (omega arith)
+lines_of-first (b ∷ []) some = search (rules, cases_Bool)
+lines_of-first (b ∷ c ∷ bytes) some = search (rules, cases_Bool, lines_of-first (c ∷ bytes) (omega arith))
 
-lines_of-ended : (front rest : List ℕ) → All NoNewline front → lines_of (front ++ 10 ∷ rest) ≡ front ∷ lines_of rest
-lines_of-ended [] rest none = refl
-lines_of-ended (b ∷ front) rest none =
-    search (rules, ne_eqb, All-head, All-tail, lines_of-ended front rest (All-tail NoNewline b front none))
-
-lines_of-last : (b : ℕ) (front : List ℕ) → All NoNewline (b ∷ front) → lines_of (b ∷ front) ≡ (b ∷ front) ∷ []
-lines_of-last b [] none = rw (ne_eqb b 10 (All-head NoNewline b [] none))
-lines_of-last b (c ∷ front) none =
-    search (rules, ne_eqb, All-head, All-tail, lines_of-last c front (All-tail NoNewline b (c ∷ front) none))
-
-module _ (text : List ℕ) (start end : ℕ) (from : start ≤ end) (within : end ≤ length text)
-    (none : (k : ℕ) → start ≤ k → k < end → get_or text k 0 ≢ 10) where
-  front_has_none : All NoNewline (take (end - start) (drop start text))
-  front_has_none = All-from_get_or NoNewline (take (end - start) (drop start text)) 0
-      (λ k lt e. grind (arith, length-take, get_or-drop, get_or-take))
-
-  split_here : take (end - start) (drop start text) ++ drop end text ≡ drop start text
-  split_here = grind (arith, drop-drop, take-append-drop (end - start) (drop start text))
-
-  -- a line that a newline ends
-  pub lines_of-drop_ended : end < length text → get_or text end 0 ≡ 10
-      → lines_of (drop start text) ≡ take (end - start) (drop start text) ∷ lines_of (drop (end + 1) text)
-  lines_of-drop_ended lt newline = search (rules, split_here, drop_more, lines_of-ended, front_has_none)
-
--- the last line, which no newline ends
-pub lines_of-drop_last : (text : List ℕ) (start : ℕ) → start < length text →
-    ((k : ℕ) → start ≤ k → k < length text → get_or text k 0 ≢ 10)
-    → lines_of (drop start text) ≡ take (length text - start) (drop start text) ∷ lines_of (drop (length text + 1) text)
-lines_of-drop_last text start lt none = grind (arith, take_all, length-drop, drop_all, last, front_has_none)
-  where
-    last : (bytes : List ℕ) → 0 < length bytes → All NoNewline bytes → lines_of bytes ≡ bytes ∷ []
-    last [] some none = absurd (omega arith)
-    last (b ∷ bytes) some none = lines_of-last b bytes none
+pub lines_of-drop : (text : List ℕ) (start : ℕ) {n : ℕ} → start < length text →
+    n ≡ prefix_len is_inner (take (length text - start) (drop start text)) →
+    lines_of (drop start text) ≡ take ((start + n) - start) (drop start text) ∷ lines_of (drop ((start + n) + 1) text)
+lines_of-drop text start {n} some is =
+    let bytes = drop start text in
+    let size : n ≡ prefix_len is_inner bytes = is ∙ ap (prefix_len is_inner)
+    (take_all (length text - start) bytes (omega (arith, length-drop start text))) in
+    let first : prefix_len is_inner bytes ≡ (start + n) - start = omega (arith, size) in
+    let rest : drop (prefix_len is_inner bytes + 1) bytes ≡ drop ((start + n) + 1) text = grind (arith, drop-drop) in
+    lines_of-first bytes (omega (arith, length-drop start text)) ∙
+    ap₂ (λ (k : ℕ) (others : List ℕ). take k bytes ∷ lines_of others) first rest
 
 -- a line ends where it was found to end
 pub line_length : (text : List ℕ) (start end : ℕ) → start ≤ end → end ≤ length text →

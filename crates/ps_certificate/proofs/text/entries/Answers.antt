@@ -1,27 +1,23 @@
 use Rattle.std.proofs.Common.{ℕ, List, [], ◌∷◌, ◌++◌, ◌∙◌, ap, arith}
 use Rattle.ps_game.specs.Games.{vertex_count}
-use Rattle.ps_certificate.specs.Reading.{at_place}
 use Rattle.ps_certificate.specs.Texts.{entries}
 use Rattle.ps_certificate.proofs.Loops.{fails, entry_fails, entry_next, entries_end}
 use Rattle.ps_certificate.proofs.text.entries.Goals as goal
 
 pub returns-in_err-won : goal.returns-in_err-won
-returns-in_err-won c = fails _ (entries c.args.compact c.args.known.now.odd.items c.args.known.now.even.items
-    c.args.known.now.ids c.args.game.now.ids) c.args.cursor.now _ _ _ (entry_fails c.args.compact
-    c.args.known.now.odd.items c.args.known.now.even.items c.args.known.now.ids c.args.game.now.ids c.loop-vertex.vertex
-    (at_place c.args.cursor.now) (at_place c.loop-vertex.cursor) c.loop-vertex.entries c.loop-vertex.invariant
-    (grind arith) c.id.ensures _ c.in_err-won.ensures) c.from_residual-in_err-won.ensures.1
+returns-in_err-won c =
+    fails _ _ _ _ _ _ (entry_fails _ _ _ _ _ _ _ _ _ c.loop-vertex.invariant (grind arith) c.id.ensures _
+    c.in_err-won.ensures) c.from_residual-in_err-won.ensures.1
 
 pub loop-vertex-preserved : goal.loop-vertex-preserved
-loop-vertex-preserved c = entry_next c.args.compact c.args.known.now.odd.items c.args.known.now.even.items
-    c.args.known.now.ids c.args.game.now.ids c.loop-vertex.vertex (at_place c.args.cursor.now)
-    (at_place c.loop-vertex.cursor) c.loop-vertex.entries c.loop-vertex.invariant (omega (
+loop-vertex-preserved c =
+    entry_next _ _ _ _ _ _ _ _ _ c.loop-vertex.invariant (omega (
       arith,
       c.count-vertices.ensures.vertices,
       ap vertex_count c.game.ensures.game,
       c.game.ensures.well_formed.id_each,
-    )) c.id.ensures c.in_ok-won.ensures
-    (c.in_ok-push.ensures.ok ∙ ap (λ (counts : List ℕ). c.loop-vertex.entries ++ record
+    )) c.id.ensures c.in_ok-won.ensures (c.in_ok-push.ensures.ok
+    ∙ ap (λ (counts : List ℕ). c.loop-vertex.entries ++ record
     { winner = c.in_ok-won.won.winner; choice = c.in_ok-won.won.choice; counts = counts } ∷ []) c.deref.ensures.value)
 
 pub returns : goal.returns

@@ -1,4 +1,6 @@
-use Rattle.std.proofs.Common.{rules}
+use Rattle.std.proofs.Common.{◌≡◌, Ok, sym, subst, rules}
+use Rattle.ps_certificate.specs.Texts.{ReadsCertificate}
+use Rattle.ps_certificate.specs.Written.{HasWords, text_in}
 use Rattle.ps_certificate.proofs.Rereading.Writing.{writable, reads_again}
 use Rattle.ps_certificate.proofs.writer.write_text.Goals as goal
 
@@ -8,4 +10,9 @@ write_entries-requires-clause-writable c =
     search rules
 
 pub returns-clause-read_again : goal.returns-clause-read_again
-returns-clause-read_again c = search (rules, reads_again)
+returns-clause-read_again c =
+    let bytes : c.write_entries.new.out.items ≡ text_in c.args.compact c.args.game.now c.args.certificate.now =
+    search rules in
+    let words : HasWords c.args.game.now.ids c.args.certificate.now = search rules in
+    subst (λ text. ReadsCertificate c.args.game.now text (Ok c.args.certificate.now)) (sym bytes)
+    (reads_again c.args.compact c.args.game.now c.args.certificate.now c.game.ensures.well_formed c.requires words)

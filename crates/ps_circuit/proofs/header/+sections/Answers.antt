@@ -1,6 +1,6 @@
 use Rattle.std.proofs.Common.{◌-◌, arith}
 use Rattle.ps_circuit.specs.Texts.{WrongCount}
-use Rattle.ps_circuit.proofs.Exits.{stops_at, exits_at}
+use Rattle.ps_text.proofs.Bytes.Lefts.{stops_at, exits_at}
 use Rattle.ps_circuit.proofs.NumberLemmas.{number_none, sections_end, sections_unread, section_unread, sections_ended}
 use Rattle.ps_circuit.proofs.NumberLemmas.{sections_next, count_zero, count_wrong}
 use Rattle.ps_circuit.proofs.TextLaws.{laws_sections, chain_sections, chain_counted}
@@ -19,7 +19,7 @@ returns-then-not-branch t c = sections_ended c.args.left (omega arith) c.if-not-
 pub returns-in_err-count : goal.returns-in_err-count
 returns-in_err-count t c = exits_at (chain_counted (c.args.left - 1) (laws_sections (c.args.left - 1)))
     (section_unread c.args.left (omega arith) c.if-not-branch.false c.in_ok-more.ensures) _ _ _ _
-    (number_none WrongCount c.number.new.self _ c.in_err-count.ensures) c.from_residual-in_err-count.ensures.1
+    (number_none WrongCount c.number.new.cursor _ c.in_err-count.ensures) c.from_residual-in_err-count.ensures.1
 
 pub returns-then-count-ne0 : goal.returns-then-count-ne0
 returns-then-count-ne0 t c = stops_at (chain_counted (c.args.left - 1) (laws_sections (c.args.left - 1)))

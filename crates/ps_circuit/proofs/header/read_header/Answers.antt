@@ -1,25 +1,25 @@
 use Rattle.std.proofs.Common.{arith, refl}
-use Rattle.ps_circuit.proofs.Exits.{past, stops_at, stops_last, reads_last}
+use Rattle.ps_text.proofs.Bytes.Lefts.{past, stops_at, stops_last, reads_last}
 use Rattle.ps_circuit.proofs.TextLaws.{chain_header, chain_0, chain_1, chain_2, chain_3, chain_4, header_of}
 use Rattle.ps_circuit.proofs.NumberLemmas.{header_exit, header_unread, past_most, past_inputs, past_latches}
 use Rattle.ps_circuit.proofs.NumberLemmas.{past_outputs, past_gates}
 use Rattle.ps_circuit.proofs.header.read_header.Goals as goal
 
-pub returns-in_err-first_word-clause-exact : goal.returns-in_err-first_word-clause-exact
-returns-in_err-first_word-clause-exact c = header_exit c.args.cursor.now _ _ _
-    (stops_at chain_header header_unread _ c.in_err-first_word.ensures) c.from_residual.ensures.1
+pub returns-in_err-word-clause-exact : goal.returns-in_err-word-clause-exact
+returns-in_err-word-clause-exact c = header_exit c.args.cursor.now _ _ _
+    (stops_at chain_header header_unread _ c.in_err-word.ensures) c.from_residual.ensures.1
 
 pub returns-in_err-most-clause-exact : goal.returns-in_err-most-clause-exact
 returns-in_err-most-clause-exact c = grind (
   arith,
-  stops_at chain_0 (past chain_header header_unread c.in_ok-first_word.ensures) _ c.in_err-most.ensures.exact,
+  stops_at chain_0 (past chain_header header_unread c.in_ok-word.ensures) _ c.in_err-most.ensures.exact,
 )
 
 pub returns-in_err-inputs-clause-exact : goal.returns-in_err-inputs-clause-exact
 returns-in_err-inputs-clause-exact c = grind (
   arith,
   stops_at (chain_1 c.in_ok-most.most)
-      (past_most c.in_ok-first_word.ensures c.in_ok-most.ensures.exact) _ c.in_err-inputs.ensures,
+      (past_most c.in_ok-word.ensures c.in_ok-most.ensures.exact) _ c.in_err-inputs.ensures,
 )
 
 pub returns-in_err-latches-clause-exact : goal.returns-in_err-latches-clause-exact
@@ -28,7 +28,7 @@ returns-in_err-latches-clause-exact c =
     grind (
       arith,
       stops_at (chain_2 c.in_ok-most.most i.0)
-          (past_inputs c.in_ok-first_word.ensures c.in_ok-most.ensures.exact i.2) _ c.in_err-latches.ensures,
+          (past_inputs c.in_ok-word.ensures c.in_ok-most.ensures.exact i.2) _ c.in_err-latches.ensures,
     )
 
 pub returns-in_err-outputs-clause-exact : goal.returns-in_err-outputs-clause-exact
@@ -38,7 +38,7 @@ returns-in_err-outputs-clause-exact c =
     grind (
       arith,
       stops_at (chain_3 c.in_ok-most.most i.0 l.0)
-          (past_latches c.in_ok-first_word.ensures c.in_ok-most.ensures.exact i.2 l.2) _ c.in_err-outputs.ensures,
+          (past_latches c.in_ok-word.ensures c.in_ok-most.ensures.exact i.2 l.2) _ c.in_err-outputs.ensures,
     )
 
 pub returns-in_err-gates-clause-exact : goal.returns-in_err-gates-clause-exact
@@ -49,7 +49,7 @@ returns-in_err-gates-clause-exact c =
     grind (
       arith,
       stops_at (chain_4 c.in_ok-most.most i.0 l.0 o.0)
-          (past_outputs c.in_ok-first_word.ensures c.in_ok-most.ensures.exact i.2 l.2 o.2) _ c.in_err-gates.ensures,
+          (past_outputs c.in_ok-word.ensures c.in_ok-most.ensures.exact i.2 l.2 o.2) _ c.in_err-gates.ensures,
     )
 
 pub returns-in_err-sections-clause-exact : goal.returns-in_err-sections-clause-exact
@@ -59,7 +59,7 @@ returns-in_err-sections-clause-exact c =
     let o = c.in_ok-outputs.ensures in
     let a = c.in_ok-gates.ensures in
     header_exit c.args.cursor.now _ _ _ (stops_last (header_of c.in_ok-most.most i.0 l.0 o.0 a.0)
-    (past_gates c.in_ok-first_word.ensures c.in_ok-most.ensures.exact i.2 l.2 o.2 a.2) _ c.in_err-sections.ensures)
+    (past_gates c.in_ok-word.ensures c.in_ok-most.ensures.exact i.2 l.2 o.2 a.2) _ c.in_err-sections.ensures)
     c.from_residual-in_err-sections.ensures.1
 
 pub returns-clause-exact : goal.returns-clause-exact
@@ -71,6 +71,6 @@ returns-clause-exact c =
     let of = header_of c.in_ok-most.most i.0 l.0 o.0 a.0 in (
       of tt,
       record { most = refl; inputs = i.1; latches = l.1; outputs = o.1; gates = a.1 },
-      reads_last of (past_gates c.in_ok-first_word.ensures c.in_ok-most.ensures.exact i.2 l.2 o.2 a.2)
+      reads_last of (past_gates c.in_ok-word.ensures c.in_ok-most.ensures.exact i.2 l.2 o.2 a.2)
           c.in_ok-sections.ensures refl,
     )

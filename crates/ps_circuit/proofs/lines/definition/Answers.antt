@@ -2,7 +2,7 @@ use Rattle.std.proofs.Common.{arith, ◌∙◌, Ok, ap}
 use Rattle.ps_circuit.specs.Literals.{variable}
 use Rattle.ps_circuit.specs.Texts.{WrongDefinition}
 use Rattle.ps_circuit.specs.Reading.{AddsVariable}
-use Rattle.ps_circuit.proofs.Exits.{refuted}
+use Rattle.ps_text.proofs.Bytes.Single.{refuted}
 use Rattle.ps_circuit.proofs.NumberLemmas.{number_none}
 use Rattle.ps_circuit.proofs.LineLemmas.{definition_reads, definition_wrong, definition_twice}
 use Rattle.ps_circuit.proofs.ReadingLemmas.{defines_one, at_true}
@@ -11,7 +11,7 @@ use Rattle.ps_circuit.proofs.lines.definition.Goals as goal
 pub returns-in_err-number-clause-exact : goal.returns-in_err-number-clause-exact
 returns-in_err-number-clause-exact c =
     let Wrong = WrongDefinition c.args.most c.args.variables.now in
-    grind (arith, number_none Wrong c.number.new.self _ c.in_err-number.ensures)
+    grind (arith, number_none Wrong c.number.new.cursor _ c.in_err-number.ensures)
 
 pub returns-then-not-can_define-clause-exact : goal.returns-then-not-can_define-clause-exact
 returns-then-not-can_define-clause-exact c = definition_wrong c.args.most c.args.variables.now c.requires

@@ -1,7 +1,9 @@
 use Rattle.std.proofs.Common.{rules, arith, []}
 use Rattle.ps_text.specs.Parts.{times}
 use Rattle.ps_circuit.specs.Reading.{lines_of}
-use Rattle.ps_circuit.proofs.Exits.{exit}
+use Rattle.ps_text.specs.Faults.{found_of}
+use Rattle.ps_text.proofs.Exits.{exits}
+use Rattle.ps_circuit.specs.Signs.{aig_causes}
 use Rattle.ps_circuit.proofs.LineLemmas.{lining_from, lining_next, lining_fails, lining_ends}
 use Rattle.ps_circuit.proofs.lines.lines.Goals as goal
 
@@ -15,7 +17,7 @@ loop-preserved g c = lining_next (g.L.Line.part c.args.most) (g.L.Line.adds c.ar
     c.in_ok-read.ensures.adds
 
 pub returns-in_err-read-clause-exact : goal.returns-in_err-read-clause-exact
-returns-in_err-read-clause-exact g c = λ n k short. exit _ (times n (g.L.Line.part c.args.most)
+returns-in_err-read-clause-exact g c = λ n k short. exits found_of aig_causes _ (times n (g.L.Line.part c.args.most)
     (lines_of [] c.args.noted.now)) c.args.cursor.now _ _ _ (lining_fails (g.L.Line.part c.args.most)
     (g.L.Line.adds c.args.most) c.requires.row c.args.count c.args.cursor.now (lines_of [] c.args.noted.now) _
     c.loop-test.true c.loop.invariant c.in_err-read.ensures.exact n k) c.from_residual.ensures.1

@@ -1,13 +1,16 @@
 use Rattle.std.proofs.Common.{arith}
 use Rattle.ps_circuit.specs.Texts.{WrongLiteral, field}
-use Rattle.ps_circuit.proofs.Exits.{exit}
+use Rattle.ps_text.specs.Faults.{found_of}
+use Rattle.ps_text.proofs.Exits.{exits}
+use Rattle.ps_circuit.specs.Signs.{aig_causes}
 use Rattle.ps_circuit.proofs.Judges.{judge_literal}
 use Rattle.ps_circuit.proofs.NumberLemmas.{field_none}
 use Rattle.ps_circuit.proofs.LineLemmas.{reading_reads, reading_wrong}
 use Rattle.ps_circuit.proofs.lines.reading.Goals as goal
 
 pub returns-in_err-number-clause-exact : goal.returns-in_err-number-clause-exact
-returns-in_err-number-clause-exact c = exit (λ n. n) (field (WrongLiteral c.args.most)) c.args.cursor.now _ _ _
+returns-in_err-number-clause-exact c =
+    exits found_of aig_causes (λ n. n) (field (WrongLiteral c.args.most)) c.args.cursor.now _ _ _
     (field_none (judge_literal c.args.most) c.field.new.cursor _ c.in_err-number.ensures) c.from_residual.ensures.1
 
 pub returns-then-number-from-clause-exact : goal.returns-then-number-from-clause-exact

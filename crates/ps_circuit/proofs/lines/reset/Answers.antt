@@ -1,6 +1,6 @@
 use Rattle.std.proofs.Common.{arith, refl}
 use Rattle.ps_circuit.specs.Texts.{WrongReset}
-use Rattle.ps_circuit.proofs.Exits.{past, stops_at, exits_at, exits_last, reads_last}
+use Rattle.ps_text.proofs.Bytes.Lefts.{past, stops_at, exits_at, exits_last, reads_last}
 use Rattle.ps_circuit.proofs.NumberLemmas.{number_none}
 use Rattle.ps_circuit.proofs.TextLaws.{is_one, chain_value, chain_reset}
 use Rattle.ps_circuit.proofs.LineLemmas.{reset_unread, reset_none, past_more, reset_unset, reset_wrong, reset_good}
@@ -16,7 +16,7 @@ returns-then-not-branch c = reset_none c.args.literal c.if-not-branch.true c.in_
 pub returns-in_err-number : goal.returns-in_err-number
 returns-in_err-number c = exits_at (chain_value c.args.literal)
     (grind (arith, past_more c.args.literal c.if-not-branch.false c.in_ok-more.ensures)) _ _ _ _ (number_none
-    (WrongReset c.args.literal) c.number.new.self _ c.in_err-number.ensures) c.from_residual-in_err-number.ensures.1
+    (WrongReset c.args.literal) c.number.new.cursor _ c.in_err-number.ensures) c.from_residual-in_err-number.ensures.1
 
 pub returns-then-number-literal : goal.returns-then-number-literal
 returns-then-number-literal c =

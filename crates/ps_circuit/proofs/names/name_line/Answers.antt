@@ -1,6 +1,6 @@
 use Rattle.std.proofs.Common.{arith, refl}
 use Rattle.ps_circuit.specs.Texts.{AnyNumber}
-use Rattle.ps_circuit.proofs.Exits.{exits_at, exits_last}
+use Rattle.ps_text.proofs.Bytes.Lefts.{exits_at, exits_last}
 use Rattle.ps_circuit.proofs.NumberLemmas.{number_any, number_none}
 use Rattle.ps_circuit.proofs.ReadingLemmas.{name_set}
 use Rattle.ps_circuit.proofs.TextLaws.{chain_number, chain_space, chain_name}
@@ -11,8 +11,8 @@ use Rattle.ps_circuit.proofs.names.name_line.Goals as goal
 pub returns-in_err-number-clause-exact : goal.returns-in_err-number-clause-exact
 returns-in_err-number-clause-exact c = λ all kind t same next is.
     let a = at_letter all kind c.args.names.now.items t same next is c.step.ensures.ahead c.step.ensures.next in
-    exits_at (chain_number all kind) (past_no_number a c.number.new.self c.in_err-number.ensures.0) _ _ _ _
-    (number_none AnyNumber c.number.new.self _ c.in_err-number.ensures) c.from_residual.ensures.1
+    exits_at (chain_number all kind) (past_no_number a c.number.new.cursor c.in_err-number.ensures.0) _ _ _ _
+    (number_none AnyNumber c.number.new.cursor _ c.in_err-number.ensures) c.from_residual.ensures.1
 
 pub returns-then-not-is_free-clause-exact : goal.returns-then-not-is_free-clause-exact
 returns-then-not-is_free-clause-exact c = grind (arith, at_letter, letter_stops)

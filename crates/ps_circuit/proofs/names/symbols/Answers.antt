@@ -2,7 +2,9 @@ use Rattle.std.proofs.Common.{arith, Ok, Err}
 use Rattle.ps_text.specs.Parts.{many}
 use Rattle.ps_circuit.specs.Texts.{symbol_line}
 use Rattle.ps_circuit.specs.Names.{names_data}
-use Rattle.ps_circuit.proofs.Exits.{exit}
+use Rattle.ps_text.specs.Faults.{found_of}
+use Rattle.ps_text.proofs.Exits.{exits}
+use Rattle.ps_circuit.specs.Signs.{aig_causes}
 use Rattle.ps_circuit.proofs.SymbolLemmas.{symbol_shrinks, names_next, names_fail, names_end}
 use Rattle.ps_circuit.proofs.names.symbols.Goals as goal
 
@@ -13,7 +15,8 @@ pub more-preserved : goal.more-preserved
 more-preserved c = grind (arith, names_next)
 
 pub returns-in_err-symbol_line-clause-exact : goal.returns-in_err-symbol_line-clause-exact
-returns-in_err-symbol_line-clause-exact c = exit _ (many symbol_line (names_data c.args.names.now)) c.args.cursor.now _
+returns-in_err-symbol_line-clause-exact c =
+    exits found_of aig_causes _ (many symbol_line (names_data c.args.names.now)) c.args.cursor.now _
     _ _ (c.more.invariant.carries (Err _) c.more.cursor (names_fail (names_data c.more.names) c.more.cursor _
     (grind arith) c.in_err-symbol_line.ensures.exact)) c.from_residual.ensures.1
 

@@ -4,7 +4,7 @@ use Rattle.ps_circuit.specs.declared.parts.Latch.{Latch}
 use Rattle.ps_circuit.specs.Names.{names_data}
 use Rattle.ps_circuit.specs.Reading.{lines_of}
 use Rattle.ps_circuit.specs.Texts.{Lines, input_line, latch_line, output_line, gate_line, symbols, HeaderData}
-use Rattle.ps_circuit.proofs.Exits.{stops_at}
+use Rattle.ps_text.proofs.Bytes.Lefts.{stops_at}
 use Rattle.ps_circuit.proofs.TextLaws.{laws_input_line, laws_latch_line, laws_output_line, laws_gate_line, body_latches}
 use Rattle.ps_circuit.proofs.TextLaws.{body_outputs, body_gates, first_names, chain_text, chain_inputs, chain_latches}
 use Rattle.ps_circuit.proofs.TextLaws.{chain_outputs, chain_gates}
@@ -47,18 +47,19 @@ abbrev gates_of : After-symbols → Lines Gate
 gates_of c = lines_of c.in_ok-gates.gates.items c.lines-4.new.noted
 
 inputs_ahead : (c : After-lines) → Ahead (input_line c.in_ok-header.header.most) (body_latches (header_of c))
-    c.new-cursor.result c.read_header.new.cursor c.in_ok-header.header.inputs (lines_of [] c.nothing-noted.result)
+    c.of_lines-cursor.result c.read_header.new.cursor c.in_ok-header.header.inputs (lines_of [] c.nothing-noted.result)
 inputs_ahead c = record {
   n = (header_of c).inputs;
   counted = c.in_ok-header.ensures.exact.1.inputs;
   chain = chain_inputs (header_of c) _;
-  reached = past_header c.in_ok-header.ensures.exact.1.most c.new-cursor.ensures.small c.in_ok-header.ensures.exact.2
+  reached =
+      past_header c.in_ok-header.ensures.exact.1.most c.of_lines-cursor.ensures.small c.in_ok-header.ensures.exact.2
       c.nothing-noted.ensures;
 }
 
 latches_ahead : (c : After-lines-2) →
     Ahead (latch_line c.in_ok-header.header.most) (body_outputs (header_of (one c)) (inputs_of c))
-    c.new-cursor.result c.lines.new.cursor c.in_ok-header.header.latches (lines_of [] c.lines.new.noted)
+    c.of_lines-cursor.result c.lines.new.cursor c.in_ok-header.header.latches (lines_of [] c.lines.new.noted)
 latches_ahead c = grind (
   arith,
   chain_latches (header_of (one c)) (inputs_of c),
@@ -68,7 +69,7 @@ latches_ahead c = grind (
 outputs_ahead : (c : After-lines-3) →
     Ahead (output_line c.in_ok-header.header.most)
     (body_gates (header_of (one (two c))) (inputs_of (two c)) (latches_of c))
-    c.new-cursor.result c.lines-2.new.cursor c.in_ok-header.header.outputs (lines_of [] c.lines-2.new.noted)
+    c.of_lines-cursor.result c.lines-2.new.cursor c.in_ok-header.header.outputs (lines_of [] c.lines-2.new.noted)
 outputs_ahead c = grind (
   arith,
   chain_outputs (header_of (one (two c))) (inputs_of (two c)) (latches_of c),
@@ -78,14 +79,15 @@ outputs_ahead c = grind (
 gates_ahead : (c : After-lines-4) → let b = two (three c) in
     Ahead (gate_line c.in_ok-header.header.most)
     (symbols c.in_ok-header.header.most (inputs_of b) (latches_of (three c)) (outputs_of c))
-    c.new-cursor.result c.lines-3.new.cursor c.in_ok-header.header.gates (lines_of [] c.lines-3.new.noted)
+    c.of_lines-cursor.result c.lines-3.new.cursor c.in_ok-header.header.gates (lines_of [] c.lines-3.new.noted)
 gates_ahead c = let b = two (three c) in grind (
   arith,
   chain_gates (header_of (one b)) (inputs_of b) (latches_of (three c)) (outputs_of c),
   past_lines (outputs_ahead (three c)) (outputs_of c) c.in_ok-outputs.ensures.exact,
 )
 
-behind_gates : (c : After-symbols) → let b = two (three (four c)) in Reached c.new-cursor.result c.lines-4.new.cursor
+behind_gates : (c : After-symbols) → let b = two (three (four c)) in
+    Reached c.of_lines-cursor.result c.lines-4.new.cursor
     (symbols (header_of (one b)).most (inputs_of b) (latches_of (three (four c))) (outputs_of (four c)) (gates_of c))
 behind_gates c = past_lines (gates_ahead (four c)) (gates_of c) c.in_ok-gates.ensures.exact
 
@@ -102,26 +104,26 @@ none_yet c =
 -- ## The exits
 
 pub returns-in_err-header-clause-exact : goal.returns-in_err-header-clause-exact
-returns-in_err-header-clause-exact c = draft_fails c.args.text.now _ _ c.new-cursor.ensures.stream
+returns-in_err-header-clause-exact c = draft_fails c.args.text.now _ _ c.of_lines-cursor.ensures.stream
     (stops_at chain_text text_unread _ c.in_err-header.ensures.exact) c.from_residual.ensures.1
 
 pub returns-in_err-inputs-clause-exact : goal.returns-in_err-inputs-clause-exact
-returns-in_err-inputs-clause-exact c = draft_fails c.args.text.now _ _ c.new-cursor.ensures.stream
+returns-in_err-inputs-clause-exact c = draft_fails c.args.text.now _ _ c.of_lines-cursor.ensures.stream
     (lines_fail (inputs_ahead (goal.at.returns-in_err-inputs-clause-exact c).After-lines) _
     c.in_err-inputs.ensures.exact) c.from_residual-in_err-inputs.ensures.1
 
 pub returns-in_err-latches-clause-exact : goal.returns-in_err-latches-clause-exact
-returns-in_err-latches-clause-exact c = draft_fails c.args.text.now _ _ c.new-cursor.ensures.stream
+returns-in_err-latches-clause-exact c = draft_fails c.args.text.now _ _ c.of_lines-cursor.ensures.stream
     (lines_fail (latches_ahead (goal.at.returns-in_err-latches-clause-exact c).After-lines-2) _
     c.in_err-latches.ensures.exact) c.from_residual-in_err-latches.ensures.1
 
 pub returns-in_err-outputs-clause-exact : goal.returns-in_err-outputs-clause-exact
-returns-in_err-outputs-clause-exact c = draft_fails c.args.text.now _ _ c.new-cursor.ensures.stream
+returns-in_err-outputs-clause-exact c = draft_fails c.args.text.now _ _ c.of_lines-cursor.ensures.stream
     (lines_fail (outputs_ahead (goal.at.returns-in_err-outputs-clause-exact c).After-lines-3) _
     c.in_err-outputs.ensures.exact) c.from_residual-in_err-outputs.ensures.1
 
 pub returns-in_err-gates-clause-exact : goal.returns-in_err-gates-clause-exact
-returns-in_err-gates-clause-exact c = draft_fails c.args.text.now _ _ c.new-cursor.ensures.stream
+returns-in_err-gates-clause-exact c = draft_fails c.args.text.now _ _ c.of_lines-cursor.ensures.stream
     (lines_fail (gates_ahead (goal.at.returns-in_err-gates-clause-exact c).After-lines-4) _
     c.in_err-gates.ensures.exact) c.from_residual-in_err-gates.ensures.1
 
@@ -131,21 +133,21 @@ returns-in_err-names-clause-exact c = search (rules, draft_memory)
 pub returns-in_err-symbols-clause-exact : goal.returns-in_err-symbols-clause-exact
 returns-in_err-symbols-clause-exact c =
     let b = (goal.at.returns-in_err-symbols-clause-exact c).After-symbols in
-    draft_fails c.args.text.now _ _ c.new-cursor.ensures.stream
+    draft_fails c.args.text.now _ _ c.of_lines-cursor.ensures.stream
     (symbols_fail _ _ _ _ _ (behind_gates b) (none_yet b) _ c.in_err-symbols.ensures.exact)
     c.from_residual-in_err-symbols.ensures.1
 
 pub returns-in_err-comment-clause-exact : goal.returns-in_err-comment-clause-exact
 returns-in_err-comment-clause-exact c =
     let b = (goal.at.returns-in_err-comment-clause-exact c).After-symbols in
-    draft_trails c.args.text.now c.comment.new.cursor _ c.new-cursor.ensures.stream c.in_err-comment.ensures
+    draft_trails c.args.text.now c.comment.new.cursor _ c.of_lines-cursor.ensures.stream c.in_err-comment.ensures
     (λ m. all_reads _ _ _ _ _ (behind_gates b) (none_yet b) c.in_ok-symbols.ensures.exact m)
     c.from_residual-in_err-comment.ensures.1
 
 pub returns-clause-exact : goal.returns-clause-exact
 returns-clause-exact c =
     let b = (goal.at.returns-clause-exact c).After-symbols in
-    draft_reads c.args.text.now c.new-cursor.ensures.stream c.in_ok-comment.ensures.1
+    draft_reads c.args.text.now c.of_lines-cursor.ensures.stream c.in_ok-comment.ensures.1
     (all_reads _ _ _ _ _ (behind_gates b) (none_yet b) c.in_ok-symbols.ensures.exact c.in_ok-comment.ensures.0)
 
 pub returns-clause-sound : goal.returns-clause-sound
@@ -154,7 +156,7 @@ returns-clause-sound c =
     let most = c.in_ok-header.header.most in
     let n = c.in_ok-symbols.ensures.named in
     let k = c.in_ok-names.ensures.names in
-    let read = draft_reads c.args.text.now c.new-cursor.ensures.stream c.in_ok-comment.ensures.1
+    let read = draft_reads c.args.text.now c.of_lines-cursor.ensures.stream c.in_ok-comment.ensures.1
     (all_reads _ _ _ _ _ (behind_gates b) (none_yet b) c.in_ok-symbols.ensures.exact c.in_ok-comment.ensures.0) in
     sound_draft most (names_data c.symbols.new.names) c.in_ok-header.ensures.small (gates_placed _ _ read.0)
     (search (rules, c.nothing-noted.ensures, c.in_ok-inputs.ensures.grown)) c.in_ok-latches.ensures.grown

@@ -1,7 +1,7 @@
 use Rattle.std.proofs.Common.{arith}
 use Rattle.ps_circuit.specs.Reading.{lines_of}
 use Rattle.ps_circuit.specs.Texts.{add_latch, latch_line}
-use Rattle.ps_circuit.proofs.Exits.{unread, exits_at, exits_last, reads_last}
+use Rattle.ps_text.proofs.Bytes.Lefts.{unread, exits_at, exits_last, reads_last}
 use Rattle.ps_circuit.proofs.TextLaws.{chain_latch, chain_next}
 use Rattle.ps_circuit.proofs.LineLemmas.{past_latch, past_next}
 use Rattle.ps_circuit.proofs.lines.LatchLineLine.read.Goals as goal
@@ -28,7 +28,5 @@ returns-in_err-reset-clause-exact c =
 pub returns-clause-exact : goal.returns-clause-exact
 returns-clause-exact c =
     let before = lines_of c.args.items.now.items c.args.noted.now in
-    reads_last (λ r. add_latch before c.in_ok-own.own c.in_ok-next.next r) (grind (
-      arith,
-      past_next c.args.most before c.in_ok-own.ensures.exact c.in_ok-next.ensures.exact,
-    )) c.in_ok-reset.ensures (grind arith)
+    reads_last (λ r. add_latch before c.in_ok-own.own c.in_ok-next.next r) (past_next c.args.most before
+    c.in_ok-own.ensures.exact c.in_ok-next.ensures.exact) c.in_ok-reset.ensures (grind arith)

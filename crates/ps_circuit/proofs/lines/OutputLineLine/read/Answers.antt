@@ -1,7 +1,7 @@
 use Rattle.std.proofs.Common.{arith}
 use Rattle.ps_circuit.specs.Reading.{lines_of}
 use Rattle.ps_circuit.specs.Texts.{WrongLiteral, add_output, output_line}
-use Rattle.ps_circuit.proofs.Exits.{unread, stops_at, exits_at, exits_last, reads_last}
+use Rattle.ps_text.proofs.Bytes.Lefts.{unread, stops_at, exits_at, exits_last, reads_last}
 use Rattle.ps_circuit.proofs.NumberLemmas.{number_none}
 use Rattle.ps_circuit.proofs.TextLaws.{chain_output}
 use Rattle.ps_circuit.proofs.LineLemmas.{literal_reads, literal_wrong, past_output, output_is}
@@ -11,7 +11,7 @@ pub returns-in_err-output-clause-exact : goal.returns-in_err-output-clause-exact
 unfolding output_line
 returns-in_err-output-clause-exact c =
     exits_at (chain_output c.args.most (lines_of c.args.items.now.items c.args.noted.now)) unread _ _ _ _
-    (number_none (WrongLiteral c.args.most) c.number.new.self _ c.in_err-output.ensures) c.from_residual.ensures.1
+    (number_none (WrongLiteral c.args.most) c.number.new.cursor _ c.in_err-output.ensures) c.from_residual.ensures.1
 
 pub returns-then-output-from-clause-exact : goal.returns-then-output-from-clause-exact
 unfolding output_line

@@ -1,0 +1,164 @@
+//! The fields of the text of a certificate.
+
+ghost use Rattle.std.specs.Prelude.{◌≡◌, ◌≢◌, ◌<◌, drop};
+ghost use Rattle.std.specs.List.{Contains};
+ghost use Rattle.ps_text.specs.Parts.{one};
+ghost use Rattle.ps_text.specs.Bytes.{take_byte};
+ghost use Rattle.ps_text.specs.Cursors.{next_byte};
+ghost use Rattle.ps_certificate.specs.Reading.{Tells, TellsNumber, is_end};
+ghost use Rattle.ps_certificate.specs.Texts as parts;
+ghost use Rattle.ps_certificate.specs.Texts.{IsMissing};
+
+use crate::fault::{CertCause, CertFault};
+use ps_ids::Ids;
+use ps_text::cursor::Cursor;
+
+/// Whether a space, a newline or a colon comes next.
+pub(crate) fn ends(cursor: &Cursor) -> bool
+    ensures { result ≡ is_end (next_byte cursor.now) }
+{
+    matches!(cursor.peek(), Some(b' ' | b'\n' | b':'))
+}
+
+/// The number that comes next: 0, or digits that don't begin with it.
+pub(crate) fn number(cursor: &mut Cursor) -> Result<u64, CertFault>
+    ensures { TellsNumber cursor.old result cursor.new }
+{
+    let refusal = cursor.refusal(CertCause::Syntax);
+    if cursor.comes(b'0') {
+        cursor.step();
+        return Ok(0);
+    }
+    let digits = cursor.digits();
+    if digits.bytes.is_empty() {
+        return Err(refusal);
+    }
+    match digits.value {
+        Some(value) => Ok(value),
+        None => Err(refusal),
+    }
+}
+
+/// The number that comes next, which has to be that one if it is ended.
+pub(crate) fn exactly(cursor: &mut Cursor, wanted: u64) -> Result<u64, CertFault>
+    ensures { Tells (λ n. n) (parts.number (λ n. n ≢ wanted)) cursor.old result cursor.new }
+{
+    let other_game = cursor.refusal(CertCause::OtherGame);
+    let found = number(cursor)?;
+    if found != wanted && ends(cursor) {
+        return Err(other_game);
+    }
+    Ok(found)
+}
+
+/// Goes behind the rest of a line that has to list these numbers, each behind a space.
+pub(crate) fn priorities(cursor: &mut Cursor, priorities: &[u64]) -> Result<(), CertFault>
+    ensures { Tells (λ u. u) (parts.priorities priorities.now) cursor.old result cursor.new }
+{
+    let mut left = priorities;
+    'more: while cursor.comes(b' ') {
+        left = listed(cursor, left)?;
+    }
+    line_end(cursor, left)
+}
+
+/// Goes behind a space and a number, which has to be the first of these: those that are left.
+fn listed<'p>(cursor: &mut Cursor, priorities: &'p [u64]) -> Result<&'p [u64], CertFault>
+    ensures { Tells (λ left. left.now) (parts.priority priorities.now) cursor.old result cursor.new }
+{
+    cursor.byte(b' ', CertCause::Syntax)?;
+    let other_game = cursor.refusal(CertCause::OtherGame);
+    let number = number(cursor)?;
+    if priorities.first().copied() != Some(number) && ends(cursor) {
+        return Err(other_game);
+    }
+    Ok(without_first(priorities))
+}
+
+/// Goes to the next line, where none of these is wanted any more.
+fn line_end(cursor: &mut Cursor, left: &[u64]) -> Result<(), CertFault>
+    ensures { Tells (λ u. u) (one (take_byte 10) (IsMissing left.now)) cursor.old result cursor.new }
+{
+    if !cursor.comes(b'\n') {
+        return Err(cursor.refusal(CertCause::Syntax));
+    }
+    if !left.is_empty() {
+        return Err(cursor.refusal(CertCause::OtherGame));
+    }
+    cursor.step();
+    Ok(())
+}
+
+/// The version that comes next, 1 or 2: whether the text is a compact one.
+pub(crate) fn version(cursor: &mut Cursor) -> Result<bool, CertFault>
+    ensures { Tells (λ v. v) parts.version cursor.old result cursor.new }
+{
+    if cursor.comes(b'1') {
+        cursor.step();
+        return Ok(false);
+    }
+    if cursor.comes(b'2') {
+        cursor.step();
+        return Ok(true);
+    }
+    Err(cursor.refusal(CertCause::Syntax))
+}
+
+/// The winner that comes next, 0 or 1.
+pub(crate) fn winner(cursor: &mut Cursor) -> Result<u8, CertFault>
+    ensures { Tells (λ w. w) parts.winner cursor.old result cursor.new }
+{
+    if cursor.comes(b'0') {
+        cursor.step();
+        return Ok(0);
+    }
+    if cursor.comes(b'1') {
+        cursor.step();
+        return Ok(1);
+    }
+    Err(cursor.refusal(CertCause::Syntax))
+}
+
+/// The move that comes next: none, or the vertex with the id that is given.
+pub(crate) fn choice(cursor: &mut Cursor, ids: &Ids) -> Result<Option<usize>, CertFault>
+    ensures { Tells (λ c. c) (parts.choice ids.now) cursor.old result cursor.new }
+{
+    if cursor.comes(b'-') {
+        cursor.step();
+        return Ok(None);
+    }
+    let other_game = cursor.refusal(CertCause::OtherGame);
+    let id = number(cursor)?;
+    let vertex = ids.place(id);
+    if vertex.is_none() && ends(cursor) {
+        return Err(other_game);
+    }
+    Ok(vertex)
+}
+
+/// So many counts, each behind a space, and the end of the line.
+pub(crate) fn all_counts(
+    cursor: &mut Cursor,
+    count: usize,
+    counts: &mut Vec<u64>,
+) -> Result<(), CertFault>
+    ensures { Tells (λ _. counts.new.items) (parts.counts count) cursor.old result cursor.new }
+{
+    counts.clear();
+    for _ in 0..count {
+        cursor.byte(b' ', CertCause::Syntax)?;
+        counts.push(number(cursor)?)?;
+    }
+    cursor.byte(b'\n', CertCause::Syntax)?;
+    Ok(())
+}
+
+/// A list without its first element.
+fn without_first(list: &[u64]) -> &[u64]
+    ensures { result.now ≡ drop 1 list.now }
+{
+    match list {
+        [_, others @ ..] => others,
+        [] => list,
+    }
+}

@@ -1,7 +1,0 @@
-use Rattle.std.proofs.Common.{◌∙◌, ap}
-use Rattle.ps_circuit.specs.Cursors.{place_of}
-use Rattle.ps_circuit.proofs.CursorLemmas.{place_is}
-use Rattle.ps_circuit.proofs.cursor.Cursor.offset.Goals as goal
-
-pub returns : goal.returns
-returns c = place_is c.self.inside.rest.now c.self.inside.unended ∙ ap place_of c.self.view_is

@@ -1,0 +1,44 @@
+//! The numbers of the text of a circuit.
+
+ghost use Rattle.std.specs.Prelude.{◌≡◌, ◌<◌, ◌^◌};
+ghost use Rattle.ps_text.specs.declared.faults.Fault.TheVariants as faults;
+ghost use Rattle.ps_circuit.specs.Literals.{variable};
+
+use crate::fault::{AigCause, AigFault};
+use crate::literal::Literal;
+
+/// A number of the text, and the offset of its first digit. A number beyond 64 bits counts as the greatest of 64 bits.
+#[derive(Clone, Copy)]
+pub struct Number {
+    /// Its value.
+    pub value: u64,
+    /// The offset of its first digit, from 0.
+    pub offset: usize,
+}
+
+impl Number {
+    /// The literal with that number.
+    pub fn literal(self) -> Literal
+        requires { self.value < 2 ^ 32 }
+        ensures { result ≡ self.value }
+    {
+        Literal::new(self.value as u32)
+    }
+
+    /// The variable of the literal with that number.
+    pub fn variable(self) -> u64
+        ensures { result ≡ variable self.value }
+    {
+        self.value / 2
+    }
+
+    /// The refusal for this cause, at the number.
+    pub fn refused(self, cause: AigCause) -> AigFault
+        ensures { result ≡ faults.Text cause self.offset }
+    {
+        AigFault::Text {
+            cause,
+            offset: self.offset,
+        }
+    }
+}

@@ -1,0 +1,137 @@
+-- Parts that are lawful, and how they are joined to larger ones.
+--     Lawful number syntax part First More Null      the laws of the part with these sets of signs, and its outcome
+--               from each list
+--     Chain number syntax P Q First More Null      P and Q behind it: their joint, and that they are lawful as one part
+--     larger      with larger sets
+--     chained, next, tight      a chain: of any two; neither is empty; the first goes on with no sign
+--     given, mapped_by, either_of, or_nothing, many_by, many_of, one_sign, run_by      for the other combinators
+--     byte_of, word_of, word_from, chain_word      bytes and words
+use Rattle.std.proofs.Common.{◌≡◌, ◌⊎◌, ℕ, Bool, true, List, [], ◌∷◌, Option, Some, rules}
+use Rattle.ps_text.specs.Parts.{Part, give, one, then_by, either, many, mapped}
+use Rattle.ps_text.specs.Outcomes.{HasOutcomes}
+use Rattle.ps_text.specs.Bytes.{Seen, byte_causes, byte, word, run}
+use Rattle.ps_text.proofs.Laws.{Laws, Joint, Nothing, Or, When, Within, Apart, weaker}
+use Rattle.ps_text.proofs.Joined.{joint}
+use Rattle.ps_text.proofs.Simple.{Taken, BadSign, laws_give, laws_one, laws_mapped, laws_then}
+use Rattle.ps_text.proofs.Covered.{laws_either}
+use Rattle.ps_text.proofs.Repeated.{laws_many}
+use Rattle.ps_text.proofs.Outcomes.{Judged, has_give, has_one, has_mapped, has_then, has_either, has_many}
+use Rattle.ps_text.proofs.Bytes.Single.{Odd, At, Any, not_odd, laws_byte, has_byte}
+use Rattle.ps_text.proofs.Bytes.Runs.{laws_run}
+use Rattle.ps_text.proofs.Bytes.RunOutcomes.{has_run}
+
+pub record Lawful {V C : Type 0} (number : C → ℕ) (syntax : C) (part : Part Seen V C) (First More : Seen → Type 0)
+    (Null : Type 0) : Type 0 where
+  pub laws : Laws (Odd C) part First More Null
+  pub has : HasOutcomes (byte_causes number syntax) part
+
+pub record Chain {A B C : Type 0} (number : C → ℕ) (syntax : C) (P : Part Seen A C) (Q : A → Part Seen B C)
+    (First More : Seen → Type 0) (Null : Type 0) : Type 0 where
+  pub joint : Joint P Q
+  pub whole : Lawful number syntax (then_by P Q) First More Null
+
+or_in : {A B C : Seen → Type 0} → Within A C → Within B C → Within (Or A B) C
+or_in h k = search rules
+
+module _ {C : Type 0} {number : C → ℕ} {syntax : C} where
+  pub larger : {V : Type 0} {P : Part Seen V C} {F M First More : Seen → Type 0} {N Null : Type 0} →
+      Lawful number syntax P F M N →
+      Within F First → Within M More → (N → Null) → Lawful number syntax P First More Null
+  larger p f m n = record { laws = weaker p.laws f m n; has = p.has }
+
+  -- ## One part behind another
+
+  module _ {A B : Type 0} {P : Part Seen A C} {Q : A → Part Seen B C} {F M G L : Seen → Type 0} where
+    pub chained : {First More : Seen → Type 0} {N K Null : Type 0} → Lawful number syntax P F M N →
+        ((a : A) → Lawful number syntax (Q a) G L K) →
+        Apart M G → Within F First → Within (When N G) First → Within L More → Within (When K M) More →
+        (N × K → Null) → Chain number syntax P Q First More Null
+    chained p q apart f g l m n =
+        let j : Joint P Q = joint p.laws (λ a. (q a).laws) apart in
+        record {
+          joint = j;
+          whole = record {
+            laws = weaker (laws_then p.laws (λ a. (q a).laws) apart) (or_in f g) (or_in l m) n;
+            has = has_then (byte_causes number syntax) j p.has (λ a. (q a).has);
+          };
+        }
+
+    pub next : Lawful number syntax P F M ⊥ → ((a : A) → Lawful number syntax (Q a) G L ⊥) → Apart M G →
+        Chain number syntax P Q F L ⊥
+    next p q apart =
+        chained p q apart (λ t h. h) (λ t h. absurd h.0) (λ t h. h) (λ t h. absurd h.0) (λ n. n.0)
+
+  pub tight : {A B : Type 0} {P : Part Seen A C} {Q : A → Part Seen B C} {F G L : Seen → Type 0} {K : Type 0} →
+      Lawful number syntax P F Nothing ⊥ → ((a : A) → Lawful number syntax (Q a) G L K) → Chain number syntax P Q F L ⊥
+  tight p q = chained p q (λ t h k. h) (λ t h. h) (λ t h. absurd h.0) (λ t h. h) (λ t h. absurd h.1) (λ n. n.0)
+
+  -- ## The other combinators
+
+  pub given : {V : Type 0} (v : V) → Lawful number syntax (give v) Nothing Nothing (Unit {0})
+  given v = record { laws = laws_give (Odd C) v; has = has_give (byte_causes number syntax) v }
+
+  pub mapped_by : {A B : Type 0} (h : A → B) {P : Part Seen A C} {F M : Seen → Type 0} {N : Type 0} →
+      Lawful number syntax P F M N →
+      Lawful number syntax (mapped h P) F M N
+  mapped_by h {P} p = record { laws = laws_mapped h P p.laws; has = has_mapped (byte_causes number syntax) h P p.has }
+
+  -- the first one is not empty
+  pub either_of : {V : Type 0} {P Q : Part Seen V C} {F M G L First More : Seen → Type 0} {N : Type 0} →
+      Lawful number syntax P F M ⊥ →
+      Lawful number syntax Q G L N → Apart F G → Within F First → Within G First → Within M More → Within L More →
+      Within (When N F) More → Lawful number syntax (either P Q) First More N
+  either_of {N} p q apart f g m l n = record {
+    laws = weaker (laws_either p.laws q.laws apart (λ x y. x)) (or_in f g) (search (rules, or_in)) null;
+    has = has_either (byte_causes number syntax) p.laws q.laws apart p.has q.has;
+  }
+    where
+      null : ⊥ ⊎ N → N
+      null h = search rules
+
+  pub or_nothing : {V : Type 0} {P : Part Seen V C} {F M More : Seen → Type 0} (v : V) → Lawful number syntax P F M ⊥ →
+      Within F More → Within M More → Lawful number syntax (either P (give v)) F More (Unit {0})
+  or_nothing v p f m =
+      either_of p (given v) (λ t x y. y) (λ t h. h) (λ t h. absurd h) m (λ t h. absurd h) (λ t h. f t h.1)
+
+  pub many_by : {A : Type 0} (item : A → Part Seen A C) {F M : Seen → Type 0} →
+      ((a : A) → Lawful number syntax (item a) F M ⊥) →
+      Apart M F → (a : A) → Lawful number syntax (many item a) F (Or M F) (Unit {0})
+  many_by item l apart a = record {
+    laws = laws_many item (λ b. (l b).laws) apart a;
+    has = has_many (byte_causes number syntax) item (λ b. (l b).laws) apart (λ b. (l b).has) a;
+  }
+
+  pub many_of : {A : Type 0} (item : A → Part Seen A C) {F : Seen → Type 0} →
+      ((a : A) → Lawful number syntax (item a) F Nothing ⊥) →
+      (a : A) → Lawful number syntax (many item a) F F (Unit {0})
+  many_of item l a =
+      larger (many_by item l (λ t x y. x) a) (λ t h. h) (or_in (λ t h. absurd h) (λ t h. h)) (λ n. n)
+
+  -- s is any sign that may stand there
+  pub one_sign : {V : Type 0} (take : Seen → Option V) (Bad : Seen → C → Type 0) {First : Seen → Type 0} (s : Seen)
+      {v : V} → take s ≡ Some v → ((t : Seen) → Judged number (Bad t)) → Within (Taken take) First →
+      Within (BadSign Bad) First → Lawful number syntax (one take Bad) First Nothing ⊥
+  one_sign take Bad s {v} e judge f b = record {
+    laws = weaker (laws_one take Bad (Odd C) s v e (not_odd C (Taken take)) (not_odd C (BadSign Bad)))
+        (or_in f b) (λ t h. h) (λ n. n);
+    has = has_one (byte_causes number syntax) take Bad s v e judge;
+  }
+
+  -- b is any byte that passes
+  pub run_by : {V : Type 0} (p : ℕ → Bool) (see : ℕ → List ℕ → V) (Bad : List ℕ → C → Type 0) (b : ℕ) → p b ≡ true →
+      ((bytes : List ℕ) → Judged number (Bad bytes)) →
+      Lawful number syntax (run p see Bad) (λ s. p s.byte ≡ true) (λ s. p s.byte ≡ true) ⊥
+  run_by p see Bad b e judge =
+      record { laws = laws_run p see Bad b e; has = has_run number syntax p see Bad b e judge }
+
+  -- ## Bytes and words
+
+  pub byte_of : (b : ℕ) → Lawful number syntax (byte b) (At b) Nothing ⊥
+  byte_of b = record { laws = laws_byte b; has = has_byte number syntax b }
+
+  pub word_of : (bytes : List ℕ) → Lawful number syntax (word bytes) Any Nothing (Unit {0})
+  word_of [] = larger (given tt) (λ t h. tt) (λ t h. h) (λ n. n)
+  word_of (b ∷ bytes) = larger (tight (byte_of b) (λ _. word_of bytes)).whole (λ t h. tt) (λ t h. h) (λ n. tt)
+
+  pub chain_word : (b : ℕ) (bytes : List ℕ) → Chain number syntax (byte b) (λ _. word bytes) (At b) Nothing ⊥
+  chain_word b bytes = tight (byte_of b) (λ _. word_of bytes)

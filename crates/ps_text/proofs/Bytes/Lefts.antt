@@ -1,0 +1,81 @@
+-- The exits of a reading function, from what is left of the part that it reads.
+--     Left number syntax whole start left now      reading left from now gives what reading whole from start gives
+--     unread, past      before the first part, and behind the next one, which was read
+--     stops_at, exits_at      the next part fails; and this error is passed on
+--     stops_last, exits_last, reads_last      at a last part, seen by another function
+--     branch      one of several forms stands there
+--     word_left, word_read      a word, byte by byte
+use Rattle.std.proofs.Common.{◌≡◌, ℕ, ◌+◌, ◌<◌, ◌≤◌, List, ◌∷◌, length, get_or, drop, Option, Result, Ok, Err, IsErrAnd}
+use Rattle.std.proofs.Common.{sym, subst, rules}
+use Rattle.std.proofs.lemmas.List.{drop_more, drop_all}
+use Rattle.ps_text.specs.Answers.{Stream, Found, signs, next_of}
+use Rattle.ps_text.specs.Parts.{Part, IsRead, then_by, mapped}
+use Rattle.ps_text.specs.Readers.{Reads, Stops, Meets, Carries}
+use Rattle.ps_text.specs.Faults.{found_of}
+use Rattle.ps_text.specs.declared.faults.Fault.{Fault}
+use Rattle.ps_text.specs.Bytes.{Seen, byte_causes, word}
+use Rattle.ps_text.proofs.Exits.{exits, reads_give, reads_mapped, stops_mapped, stops_first, carries_start}
+use Rattle.ps_text.proofs.Exits.{carries_then}
+use Rattle.ps_text.proofs.Branches.{Stands, reads_as, stops_as_well}
+use Rattle.ps_text.proofs.Bytes.Lawful.{Chain}
+
+pub value_is : {V C : Type 0} {P : Part Seen V C} {old new : Stream Seen} {v w : V} → v ≡ w → Reads P old v new →
+    Reads P old w new
+value_is {P = P} {old = old} {new = new} e m =
+    (m.0, subst (λ x. IsRead P (signs old.pieces) x (signs new.pieces)) e m.1)
+
+pub record Left {V C : Type 0} (number : C → ℕ) (syntax : C) (whole : Part Seen V C) (start : Stream Seen)
+    (left : Part Seen V C) (now : Stream Seen) : Type 0 where
+  pub carries : Carries (byte_causes number syntax) whole start left now
+
+module _ {C : Type 0} {number : C → ℕ} {syntax : C} where
+  pub unread : {V : Type 0} {P : Part Seen V C} {s : Stream Seen} → Left number syntax P s P s
+  unread {P = P} {s = s} = record { carries = carries_start (byte_causes number syntax) P s }
+
+  module _ {A V : Type 0} {P : Part Seen A C} {Q : A → Part Seen V C} {First More : Seen → Type 0} {Null : Type 0}
+      (j : Chain number syntax P Q First More Null) {whole : Part Seen V C} {start now : Stream Seen}
+      (l : Left number syntax whole start (then_by P Q) now) where
+    pub past : {a : A} {next : Stream Seen} → Reads P now a next → Left number syntax whole start (Q a) next
+    past m = record { carries = carries_then (byte_causes number syntax) j.joint l.carries m }
+
+    pub stops_at : (o : Option (Found C)) → Stops (byte_causes number syntax) P now o →
+        Stops (byte_causes number syntax) whole start o
+    stops_at o m = l.carries (Err o) now (stops_first (byte_causes number syntax) j.joint now o m)
+
+    pub exits_at : {X : Type 0} (view : X → V) (new : Stream Seen) (e : Fault C) (r : Result X (Fault C)) →
+        Stops (byte_causes number syntax) P now (found_of e) → IsErrAnd r (λ y. y ≡ e) →
+        Meets found_of (byte_causes number syntax) view whole start r new
+    exits_at view new e r m i =
+        exits found_of (byte_causes number syntax) view whole start new e r (stops_at (found_of e) m) i
+
+  module _ {A V : Type 0} (h : A → V) {P : Part Seen A C} {whole : Part Seen V C} {start now : Stream Seen}
+      (l : Left number syntax whole start (mapped h P) now) where
+    pub stops_last : (o : Option (Found C)) → Stops (byte_causes number syntax) P now o →
+        Stops (byte_causes number syntax) whole start o
+    stops_last o m = l.carries (Err o) now (stops_mapped (byte_causes number syntax) h P now o m)
+
+    pub exits_last : {X : Type 0} (view : X → V) (new : Stream Seen) (e : Fault C) (r : Result X (Fault C)) →
+        Stops (byte_causes number syntax) P now (found_of e) → IsErrAnd r (λ y. y ≡ e) →
+        Meets found_of (byte_causes number syntax) view whole start r new
+    exits_last view new e r m i =
+        exits found_of (byte_causes number syntax) view whole start new e r (stops_last (found_of e) m) i
+
+    pub reads_last : {a : A} {v : V} {new : Stream Seen} → Reads P now a new → v ≡ h a → Reads whole start v new
+    reads_last {a} {v} {new} m e = value_is (sym e) (l.carries (Ok (h a)) new (reads_mapped h m))
+
+  pub branch : {V : Type 0} {P Q whole : Part Seen V C} {start now : Stream Seen} →
+      Left number syntax whole start Q now → Stands (next_of now) P Q → Left number syntax whole start P now
+  branch {V} {P} {Q} {whole} {start} {now} l w = search (rules, reads_as, stops_as_well)
+
+  -- ## Words, byte by byte
+
+  pub word_left : (text : List ℕ) (i : ℕ) {start now : Stream Seen} → i < length text →
+      Left number syntax (word text) start (word (drop i text)) now →
+      Left number syntax (word text) start (word (get_or text i 0 ∷ drop (i + 1) text)) now
+  word_left text i {start} {now} lt l =
+      subst (λ z. Left number syntax (word text) start (word z) now) (drop_more text i 0 lt) l
+
+  pub word_read : (text : List ℕ) (i : ℕ) {start now : Stream Seen} → length text ≤ i →
+      Left number syntax (word text) start (word (drop i text)) now → Reads {F = C} (word text) start tt now
+  word_read text i {start} {now} le l = (subst (λ z. Left number syntax (word text) start (word z) now)
+      (drop_all i text le) l).carries (Ok tt) now (reads_give now tt)

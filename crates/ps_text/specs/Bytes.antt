@@ -1,0 +1,113 @@
+-- Texts whose signs are single bytes: the signs, and the parts that are made of bytes and of runs of bytes.
+--     stream_at at bytes      the signs of bytes that begin at that offset
+--     stream_of text      the signs of a text. Where its last line has no newline, one is read behind it, at the offset
+--               of the end
+--     byte_causes number syntax      the causes of a format in which no byte is a cause by itself
+--     byte b, word bytes      that byte, and those bytes
+--     run p see Bad      the longest run of bytes that pass p, at least one. Its value is see at its offset and its
+--               bytes. Bad says what may be wrong with it; it is wrong at its first byte, whatever stands behind it
+use Rattle.std.specs.Prelude.{◌≡◌, ℕ, ◌+◌, ◌<◌, Bool, false, List, [], ◌∷◌, ◌++◌, length, map, Option, None, Some, ◌==◌}
+use Rattle.std.specs.Prelude.{◌&&◌, ◌||◌, nat_le, not, if◌then◌else◌}
+use Rattle.ps_text.specs.Answers.{Piece, Stream}
+use Rattle.ps_text.specs.Parts.{Part, Causes, NoBad, give, one, then_by}
+use Rattle.ps_text.specs.Runs.{AllOf, StopsBefore}
+
+-- a sign of the text: a byte, its offset, and what a reader sees behind it
+pub record Seen : Type 0 where
+  pub byte : ℕ
+  pub at : ℕ
+  pub behind : List ℕ
+
+abbrev pub pieces_at : ℕ → List ℕ → List (Piece Seen)
+pieces_at at [] = []
+pieces_at at (b ∷ bytes) =
+    record { sign = record { byte = b; at = at; behind = bytes }; start = at } ∷ pieces_at (at + 1) bytes
+
+abbrev pub stream_at : ℕ → List ℕ → Stream Seen
+stream_at at bytes = record { pieces = pieces_at at bytes; end = at + length bytes }
+
+-- the last byte is a newline
+abbrev pub ends_line : List ℕ → Bool
+ends_line [] = false
+ends_line (b ∷ []) = b == 10
+ends_line (b ∷ c ∷ bytes) = ends_line (c ∷ bytes)
+
+-- the text, its last line ended
+abbrev pub closed : List ℕ → List ℕ
+closed text = if ends_line text then text else text ++ 10 ∷ []
+
+abbrev pub stream_of : List ℕ → Stream Seen
+stream_of text = record { pieces = pieces_at 0 (closed text); end = length text }
+
+abbrev pub bytes_of : List Seen → List ℕ
+bytes_of signs = map (λ s. s.byte) signs
+
+abbrev pub first_at : List Seen → ℕ
+first_at [] = 0
+first_at (s ∷ signs) = s.at
+
+abbrev pub byte_causes : {C : Type 0} → (C → ℕ) → C → Causes Seen C
+byte_causes number syntax = record { number = number; own = λ _. None; syntax = syntax }
+
+-- ## Bytes
+
+abbrev pub take_byte : ℕ → Seen → Option (Unit {0})
+take_byte b s = if s.byte == b then Some tt else None
+
+unfoldable pub byte : {C : Type 0} → ℕ → Part Seen (Unit {0}) C
+byte b = one (take_byte b) NoBad
+
+abbrev pub word : {C : Type 0} → List ℕ → Part Seen (Unit {0}) C
+word [] = give tt
+word (b ∷ bytes) = then_by (byte b) (λ _. word bytes)
+
+-- ## Runs
+
+-- the bytes begin with this run, and it goes no further
+pub record BeginsRun (p : ℕ → Bool) (run bytes : List ℕ) : Type 0 where
+  pub rest : List ℕ
+  pub split : bytes ≡ run ++ rest
+  pub some : 0 < length run
+  pub all : AllOf p run
+  pub longest : StopsBefore p rest
+
+-- a run begins at that sign, and is wrong
+pub record IsBadRun {C : Type 0} (p : ℕ → Bool) (Bad : List ℕ → C → Type 0) (s : Seen) (f : C) : Type 0 where
+  pub run : List ℕ
+  pub begins : BeginsRun p run (s.byte ∷ s.behind)
+  pub bad : Bad run f
+
+pub record IsRun {V : Type 0} (p : ℕ → Bool) (see : ℕ → List ℕ → V) (text : List Seen) (v : V) : Type 0 where
+  pub some : 0 < length text
+  pub all : AllOf p (bytes_of text)
+  pub value : v ≡ see (first_at text) (bytes_of text)
+
+abbrev pub run : {V C : Type 0} → (ℕ → Bool) → (ℕ → List ℕ → V) → (List ℕ → C → Type 0) → Part Seen V C
+run p see Bad = record { IsText = IsRun p see; IsCause = λ front s f. (front ≡ []) × IsBadRun p Bad s f }
+
+abbrev pub NoBadRun : {C : Type 0} → List ℕ → C → Type 0
+NoBadRun run f = ⊥
+
+-- ## Classes of bytes
+
+abbrev pub is_digit : ℕ → Bool
+is_digit b = nat_le 48 b && nat_le b 57
+
+abbrev pub is_letter : ℕ → Bool
+is_letter b = (nat_le 65 b && nat_le b 90) || (nat_le 97 b && nat_le b 122)
+
+-- a tab, a line's end, the bytes up to 13, or a space
+abbrev pub is_blank : ℕ → Bool
+is_blank b = (nat_le 9 b && nat_le b 13) || (b == 32)
+
+-- a space or a tab
+abbrev pub is_space : ℕ → Bool
+is_space b = (b == 32) || (b == 9)
+
+-- anything but a newline
+abbrev pub is_inner : ℕ → Bool
+is_inner b = not (b == 10)
+
+-- anything but a quote
+abbrev pub is_unquoted : ℕ → Bool
+is_unquoted b = not (b == 34)

@@ -1,0 +1,47 @@
+-- What is seen of a cursor over bytes: the signs that are still to come.
+--     next_byte stream, place_of stream      the byte that comes next, and where it stands, or where the text ends
+--     IsAhead stream      each sign sees what stands behind it
+--     Passes p old new run      the run of bytes that pass p was passed, or nothing where none comes
+use Rattle.std.specs.Prelude.{◌≡◌, ℕ, ◌+◌, Bool, true, false, List, [], ◌∷◌, ◌++◌, length, Option, ◌==◌}
+use Rattle.std.specs.Option.{option_map}
+use Rattle.ps_text.specs.Answers.{Stream, offset_of, next_of}
+use Rattle.ps_text.specs.Runs.{AllOf, StopsBefore}
+use Rattle.ps_text.specs.Bytes.{Seen, pieces_at, is_digit, is_letter, is_blank, is_space, is_inner, is_unquoted}
+use Rattle.ps_text.specs.declared.cursor.Class.{Class}
+use Rattle.ps_text.specs.declared.cursor.Class.TheVariants.{Digit, Letter, Blank, Space, Inner, Unquoted, Quote, Comma}
+use Rattle.ps_text.specs.declared.cursor.Class.TheVariants.{Semicolon}
+
+-- the bytes to come, with a newline behind them where the last line is open
+abbrev pub ended : Bool → List ℕ → List ℕ
+ended true rest = rest ++ 10 ∷ []
+ended false rest = rest
+
+abbrev pub next_byte : Stream Seen → Option ℕ
+next_byte stream = option_map (λ s. s.byte) (next_of stream)
+
+abbrev pub place_of : Stream Seen → ℕ
+place_of stream = offset_of stream.pieces stream.end
+
+abbrev pub IsAhead : Stream Seen → Type 0
+IsAhead stream = (at : ℕ) × (bytes : List ℕ) × (stream.pieces ≡ pieces_at at bytes)
+
+abbrev pub in_class : Class → ℕ → Bool
+in_class Digit = is_digit
+in_class Letter = is_letter
+in_class Blank = is_blank
+in_class Space = is_space
+in_class Inner = is_inner
+in_class Unquoted = is_unquoted
+in_class Quote = λ b. b == 34
+in_class Comma = λ b. b == 44
+in_class Semicolon = λ b. b == 59
+
+pub record Passes (p : ℕ → Bool) (old new : Stream Seen) (run : List ℕ) : Type 0 where
+  pub at : ℕ
+  pub rest : List ℕ
+  pub old_is : old.pieces ≡ pieces_at at (run ++ rest)
+  pub new_is : new.pieces ≡ pieces_at (at + length run) rest
+  pub end : new.end ≡ old.end
+  pub place : at ≡ place_of old
+  pub all : AllOf p run
+  pub longest : StopsBefore p rest

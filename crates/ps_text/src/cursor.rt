@@ -1,0 +1,271 @@
+//! A cursor over the bytes of a text, for readers whose signs are single bytes.
+
+ghost use Rattle.std.specs.Prelude.{◌≡◌, ℕ, ◌==◌, ◌≤◌, ◌<◌, ◌^◌, ◌↔◌, IsTrue, Some, false, [], length, take};
+ghost use Rattle.std.specs.Prelude.{take_while, IfSome};
+ghost use Rattle.std.specs.Prelude.{IfNone};
+ghost use Rattle.std.specs.List.{prefix_len, AllPass};
+ghost use Rattle.std.specs.Char.{is_ascii_digit};
+ghost use Rattle.ps_text.specs.declared.faults.Fault.TheVariants as faults;
+ghost use Rattle.ps_text.specs.Faults.{found_of};
+ghost use Rattle.ps_text.specs.Readers.{tail, Meets};
+ghost use Rattle.ps_text.specs.Digits.{decimal_value};
+ghost use Rattle.ps_text.specs.Bytes as parts;
+ghost use Rattle.ps_text.specs.Bytes.{stream_at, stream_of, byte_causes, ends_line, is_digit};
+ghost use Rattle.ps_text.specs.Cursors.{next_byte, place_of, in_class, IsAhead, Passes};
+
+use crate::faults::{Cause, Fault};
+use crate::numbers::leading_number;
+use std::marker::Model;
+
+/// A class of bytes.
+#[derive(Clone, Copy)]
+pub enum Class {
+    /// A digit.
+    Digit,
+    /// An ASCII letter.
+    Letter,
+    /// A space, or one of the bytes 9 to 13.
+    Blank,
+    /// A space or a tab.
+    Space,
+    /// Anything but a newline.
+    Inner,
+    /// Anything but a quote.
+    Unquoted,
+    /// A quote.
+    Quote,
+    /// A comma.
+    Comma,
+    /// A semicolon.
+    Semicolon,
+}
+
+impl Class {
+    /// Whether a byte is of the class.
+    pub fn has(self, byte: u8) -> bool
+        ensures { result ≡ in_class self byte }
+    {
+        match self {
+            Class::Digit => byte.is_ascii_digit(),
+            Class::Letter => byte.is_ascii_alphabetic(),
+            Class::Blank => matches!(byte, 9..=13 | b' '),
+            Class::Space => byte == b' ' || byte == b'\t',
+            Class::Inner => byte != b'\n',
+            Class::Unquoted => byte != b'"',
+            Class::Quote => byte == b'"',
+            Class::Comma => byte == b',',
+            Class::Semicolon => byte == b';',
+        }
+    }
+}
+
+/// Digits, and the number that they write.
+#[derive(Clone, Copy)]
+pub struct Digits<'a> {
+    /// The digits, leading zeros and all.
+    pub bytes: &'a [u8],
+    /// The number, which is 0 where there are no digits; none where a `u64` does not hold it.
+    pub value: Option<u64>,
+}
+
+/// How many bytes of the class the text begins with.
+pub fn run_length(text: &[u8], class: Class) -> usize
+    ensures length { result ≡ prefix_len (in_class class) text.now }
+    ensures within { result ≤ length text.now }
+    ensures run { AllPass (in_class class) (take result text.now) }
+{
+    text.iter().take_while(|byte| class.has(**byte)).count()
+}
+
+/// How many digits the text begins with, and the number that they write, if a `u64` holds it.
+fn digits_of(text: &[u8]) -> (usize, Option<u64>)
+    ensures length { result.0 ≡ prefix_len is_digit text.now }
+    ensures within { result.0 ≤ length text.now }
+    ensures value { IfSome result.1 (λ value. value ≡ decimal_value (take_while is_ascii_digit text.now)) }
+    ensures small { IfSome result.1 (λ value. value < 2 ^ 64) }
+    ensures large { IfNone result.1 (2 ^ 64 ≤ decimal_value (take_while is_ascii_digit text.now)) }
+{
+    match leading_number(text) {
+        Some(number) => (number.digits, Some(number.value)),
+        None => (run_length(text, Class::Digit), None),
+    }
+}
+
+/// Whether the last byte is a newline.
+fn is_ended(text: &[u8]) -> bool
+    ensures { result ≡ ends_line text.now }
+{
+    !text.is_empty() && text[text.len() - 1] == b'\n'
+}
+
+/// A place in a text, and what stands from there on.
+#[derive(Drop)]
+pub struct Cursor<'a> {
+    at: usize,
+    rest: &'a [u8],
+    /// Whether the last line has no newline, and one is read behind the rest.
+    unended: bool,
+}
+
+impl<'a> Model for Cursor<'a> {
+    ghost use Rattle.std.specs.Prelude.{◌+◌, ◌^◌, ◌<◌, length};
+    ghost use Rattle.ps_text.specs.Answers.{Stream};
+    ghost use Rattle.ps_text.specs.Bytes.{Seen, pieces_at};
+    ghost use Rattle.ps_text.specs.Cursors.{ended};
+
+    ghost Value = { Stream Seen };
+
+    ghost view = { λ c. record {
+      pieces = pieces_at c.at (ended c.unended c.rest.now);
+      end = c.at + length c.rest.now;
+    } };
+
+    ghost invariant = { λ c. c.at + length c.rest.now < 2 ^ 63 };
+}
+
+impl<'a> Cursor<'a> {
+    /// The beginning of a text.
+    pub fn new(text: &'a [u8]) -> Self
+        ensures { result ≡ stream_at 0 text.now }
+    {
+        Cursor {
+            at: 0,
+            rest: text,
+            unended: false,
+        }
+    }
+
+    /// The beginning of a text of lines. A last line without a newline is read with one.
+    pub fn of_lines(text: &'a [u8]) -> Self
+        ensures stream { result ≡ stream_of text.now }
+        ensures small { length result.pieces ≤ 2 ^ 63 }
+    {
+        Cursor {
+            at: 0,
+            rest: text,
+            unended: !is_ended(text),
+        }
+    }
+
+    /// The next byte, if there is one.
+    pub fn peek(&self) -> Option<u8>
+        ensures { result ≡ next_byte self.now }
+    {
+        match self.rest {
+            [byte, ..] => Some(*byte),
+            [] => { if self.unended { Some(b'\n') } else { None } }
+        }
+    }
+
+    /// Whether that byte comes next.
+    pub fn comes(&self, byte: u8) -> bool
+        ensures { IsTrue result ↔ next_byte self.now ≡ Some byte }
+    {
+        self.peek() == Some(byte)
+    }
+
+    /// Whether the text is at its end.
+    pub fn is_at_end(&self) -> bool
+        ensures { result ≡ (length self.now.pieces == 0) }
+    {
+        self.rest.is_empty() && !self.unended
+    }
+
+    /// The offset of the next byte, or of the end.
+    pub fn offset(&self) -> usize
+        ensures { result ≡ place_of self.now }
+    {
+        self.at
+    }
+
+    /// The refusal for that cause, at the next byte or at the end.
+    pub fn refusal<C>(&self, cause: C) -> Fault<C>
+        ensures { result ≡ faults.Text cause (place_of self.now) }
+    {
+        Fault::Text {
+            cause,
+            offset: self.offset(),
+        }
+    }
+
+    /// Goes behind the next byte.
+    pub fn step(&mut self)
+        ensures next { self.new ≡ tail self.old }
+        ensures ahead { IsAhead self.old }
+    {
+        match self.rest {
+            [_, rest @ ..] => {
+                self.rest = rest;
+                self.at += 1;
+            }
+            [] => self.unended = false,
+        }
+    }
+
+    /// Goes behind that byte, which has to come next.
+    ///
+    /// # Errors
+    ///
+    /// That cause, where another byte comes, or the end.
+    pub fn byte<C: Cause>(&mut self, byte: u8, cause: C) -> Result<(), Fault<C>>
+        ensures { Meets found_of (byte_causes C.number cause) (λ u. u) (parts.byte byte) self.old result self.new }
+    {
+        if self.comes(byte) {
+            self.step();
+            return Ok(());
+        }
+        Err(self.refusal(cause))
+    }
+
+    /// Goes behind these bytes, which have to come next.
+    ///
+    /// # Errors
+    ///
+    /// That cause, at the first byte that is another one, or at the end.
+    pub fn word<C: Cause>(&mut self, word: &[u8], cause: C) -> Result<(), Fault<C>>
+        ensures { Meets found_of (byte_causes C.number cause) (λ u. u) (parts.word word.now) self.old result
+            self.new }
+    {
+        for byte in word {
+            self.byte(*byte, cause)?;
+        }
+        Ok(())
+    }
+
+    /// The longest run of bytes of the class that comes next, and goes behind it. A newline must not be of the class.
+    pub fn run(&mut self, class: Class) -> &'a [u8]
+        requires { in_class class 10 ≡ false }
+        ensures { Passes (in_class class) self.old self.new result.now }
+    {
+        let count = run_length(self.rest, class);
+        let (run, rest) = self.rest.split_at(count);
+        self.rest = rest;
+        self.at += count;
+        run
+    }
+
+    /// The digits that come next, and goes behind them.
+    pub fn digits(&mut self) -> Digits<'a>
+        ensures passes { Passes is_digit self.old self.new result.bytes.now }
+        ensures value { IfSome result.value (λ value. value ≡ decimal_value result.bytes.now) }
+        ensures small { IfSome result.value (λ value. value < 2 ^ 64) }
+        ensures large { IfNone result.value (2 ^ 64 ≤ decimal_value result.bytes.now) }
+    {
+        let (count, value) = digits_of(self.rest);
+        let (bytes, rest) = self.rest.split_at(count);
+        self.rest = rest;
+        self.at += count;
+        Digits { bytes, value }
+    }
+
+    /// Goes to the end of the text.
+    pub fn finish(&mut self)
+        ensures pieces { self.new.pieces ≡ [] }
+        ensures end { self.new.end ≡ self.old.end }
+    {
+        let (_, rest) = self.rest.split_at(self.rest.len());
+        self.at += self.rest.len();
+        self.rest = rest;
+        self.unended = false;
+    }
+}
