@@ -12,8 +12,8 @@ use Rattle.ps_text.specs.Digits.{decimal_value}
 use Rattle.ps_text.specs.Parts.{Part, one}
 use Rattle.ps_hoa.specs.Operands.{InfixGrammar, operand as operand_of, rows, number_limit}
 use Rattle.ps_hoa.specs.Tokens.{Sign}
-use Rattle.ps_hoa.specs.declared.connective.Connective.{Connective}
-use Rattle.ps_hoa.specs.declared.connective.Connective.TheVariants as connectives
+use Rattle.ps_hoa.specs.declared.infix.Connective.{Connective}
+use Rattle.ps_hoa.specs.declared.infix.Connective.TheVariants as connectives
 use Rattle.ps_hoa.specs.declared.fault.HoaCause.{HoaCause}
 use Rattle.ps_hoa.specs.declared.fault.HoaCause.TheVariants as causes
 use Rattle.ps_hoa.specs.declared.tokens.Kind.{Kind}

@@ -11,8 +11,8 @@ use Rattle.ps_hoa.specs.Conditions.{Condition}
 use Rattle.ps_hoa.specs.Labels as labels
 use Rattle.ps_hoa.specs.Operands.{is_not, is_left, is_right, is_sign_of, joined}
 use Rattle.ps_hoa.specs.Tokens.{Sign}
-use Rattle.ps_hoa.specs.declared.connective.Connective.{Connective}
-use Rattle.ps_hoa.specs.declared.connective.Connective.TheVariants as connectives
+use Rattle.ps_hoa.specs.declared.infix.Connective.{Connective}
+use Rattle.ps_hoa.specs.declared.infix.Connective.TheVariants as connectives
 
 -- what each of the two grammars has of its own
 pub record Grammar (V : Type 0) : Type 1 where

@@ -8,9 +8,8 @@ ghost use Rattle.ps_hoa.specs.Inner.Reads.{ReadsAs, Takes};
 ghost use Rattle.ps_hoa.specs.Spans.{piece_of};
 ghost use Rattle.ps_hoa.specs.Values.{condition_of, set_data};
 
-use crate::connective::Connective;
 use crate::fault::{HoaCause, HoaFault};
-use crate::infix::{self, Infix};
+use crate::infix::{self, Connective, Infix};
 use crate::refusal::{fault_at, refused};
 use crate::signs::{int_of, mark};
 use crate::tokens::{Kind, Token, Tokens, is_same};
@@ -77,6 +76,7 @@ impl Infix for Conditions {
         matches!(kind, Kind::LeftParen)
     }
 
+    // Never asked for: `!` stands in front of no operand here, only in front of the number of a set.
     fn negated(&self, _alloc: Global, operand: Cond) -> Result<Cond, AllocError> {
         Ok(operand)
     }

@@ -1,12 +1,12 @@
 //! The reading of operands with connectives between them: of labels, and of acceptance conditions.
 
-ghost use Rattle.std.specs.Prelude.{◌≡◌, [], ◌∷◌, IfOk, IfSome, map};
+ghost use Rattle.std.specs.Prelude.{◌≡◌, ◌↔◌, [], ◌∷◌, IfOk, IfSome, map, true};
 ghost use Rattle.ps_hoa.specs.Operands.{InfixGrammar, between, holds as holds_at, nesting_limit, operand as operand_of};
-ghost use Rattle.ps_hoa.specs.Operands.{rows};
+ghost use Rattle.ps_hoa.specs.Operands.{kind_of, rows};
+ghost use Rattle.ps_hoa.specs.Scan.{next_of, stream_of};
 ghost use Rattle.ps_hoa.specs.Inner.Reads.{ReadsAs};
 ghost use Rattle.ps_hoa.specs.Inner.Signs.{IsLeaf};
 
-use crate::connective::{Connective, is_at};
 use crate::fault::{HoaCause, HoaFault};
 use crate::refusal::fault_at;
 use crate::signs::{is_kind, mark};
@@ -15,6 +15,15 @@ use std::alloc::{AllocError, Global};
 
 /// `!` and `(` may nest as many deep.
 const NESTING_LIMIT: usize = 256;
+
+/// A sign between operands; `&` binds tighter.
+#[derive(Clone, Copy)]
+pub(crate) enum Connective {
+    /// `&`
+    And,
+    /// `|`
+    Or,
+}
 
 /// A grammar of operands with connectives between them.
 pub(crate) trait Infix {
@@ -140,4 +149,14 @@ fn operand<G: Infix>(
     let inner = row(alloc, tokens, grammar, room - 1, Connective::Or)?;
     mark(tokens, Kind::RightParen)?;
     Ok(inner)
+}
+
+/// Whether a connective stands here.
+fn is_at(tokens: &Tokens, connective: Connective) -> bool
+    ensures { (result ≡ true) ↔ ((next_of (stream_of tokens.now)).sign.kind ≡ kind_of connective) }
+{
+    match connective {
+        Connective::And => tokens.is_at(Kind::And),
+        Connective::Or => tokens.is_at(Kind::Or),
+    }
 }

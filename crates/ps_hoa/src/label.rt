@@ -8,9 +8,8 @@ ghost use Rattle.ps_hoa.specs.Operands.{nesting_limit};
 ghost use Rattle.ps_hoa.specs.Inner.Reads.{ReadsAs, Takes};
 ghost use Rattle.ps_hoa.specs.Spans.{piece_of};
 
-use crate::connective::Connective;
 use crate::fault::{HoaCause, HoaFault};
-use crate::infix::{self, Infix};
+use crate::infix::{self, Connective, Infix};
 use crate::names::Scope;
 use crate::refusal::{fault_at, refused};
 use crate::signs::int_of;

@@ -24,7 +24,6 @@
 mod assembly;
 mod body;
 pub mod condition;
-mod connective;
 mod edges;
 pub mod expressions;
 pub mod fault;

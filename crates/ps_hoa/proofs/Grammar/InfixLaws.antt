@@ -14,8 +14,8 @@ use Rattle.ps_hoa.specs.Inner.Signs.{is_single, IsLeaf}
 use Rattle.ps_hoa.specs.Tokens.{Sign}
 use Rattle.ps_hoa.specs.Operands.{is_not, is_and, is_or, is_left, is_right, mark, inner, rows, InfixGrammar, negation}
 use Rattle.ps_hoa.specs.Operands.{holds, IsTooDeep, bar, holding, operand}
-use Rattle.ps_hoa.specs.declared.connective.Connective.{Connective}
-use Rattle.ps_hoa.specs.declared.connective.Connective.TheVariants as connectives
+use Rattle.ps_hoa.specs.declared.infix.Connective.{Connective}
+use Rattle.ps_hoa.specs.declared.infix.Connective.TheVariants as connectives
 use Rattle.ps_hoa.specs.declared.fault.HoaCause.{HoaCause}
 use Rattle.ps_hoa.specs.declared.tokens.Kind.{Kind}
 use Rattle.ps_hoa.specs.declared.tokens.Kind.TheVariants.{Not, And, Or as OrSign, LeftParen, RightParen}

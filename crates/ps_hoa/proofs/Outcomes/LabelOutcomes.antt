@@ -20,8 +20,8 @@ use Rattle.ps_hoa.specs.Labels as labels
 use Rattle.ps_hoa.specs.Labels.{ScopeData}
 use Rattle.ps_hoa.specs.Conditions as conditions
 use Rattle.ps_hoa.specs.Conditions.{visits, any_set, visit, atom}
-use Rattle.ps_hoa.specs.declared.connective.Connective.{Connective}
-use Rattle.ps_hoa.specs.declared.connective.Connective.TheVariants as connectives
+use Rattle.ps_hoa.specs.declared.infix.Connective.{Connective}
+use Rattle.ps_hoa.specs.declared.infix.Connective.TheVariants as connectives
 use Rattle.ps_hoa.specs.declared.fault.HoaCause.{HoaCause}
 use Rattle.ps_hoa.specs.declared.tokens.Kind.{Kind}
 use Rattle.ps_hoa.proofs.Grammar.OperandLaws.{Odd, Of, nothing_apart, laws_behind, joint_mark, joint_closed}

@@ -13,8 +13,8 @@ use Rattle.ps_hoa.specs.Nesting.{condition_grammar, IsCondition, Within}
 use Rattle.ps_hoa.specs.Operands.{is_not, is_left, is_right, is_sign_of, inner, joined, further, between, rows}
 use Rattle.ps_hoa.specs.Operands.{InfixGrammar, operand as operand_of}
 use Rattle.ps_hoa.specs.Tokens.{Sign}
-use Rattle.ps_hoa.specs.declared.connective.Connective.{Connective}
-use Rattle.ps_hoa.specs.declared.connective.Connective.TheVariants.{And, Or}
+use Rattle.ps_hoa.specs.declared.infix.Connective.{Connective}
+use Rattle.ps_hoa.specs.declared.infix.Connective.TheVariants.{And, Or}
 use Rattle.ps_hoa.specs.declared.fault.HoaCause.{HoaCause}
 use Rattle.ps_hoa.proofs.Grammar.OperandLaws.{taken_mark}
 use Rattle.ps_hoa.proofs.Reading.NestedRows.{mark_taken, Rest, rest_none, rest_more, row_text, rest_of}

@@ -19,8 +19,8 @@ use Rattle.ps_hoa.specs.Operands.{is_not, is_right, mark, inner, kind_of, is_sig
 use Rattle.ps_hoa.specs.Operands.{InfixGrammar, holds, IsTooDeep, bar, negation, holding, operand}
 use Rattle.ps_hoa.specs.Scan.{next_of, behind_next}
 use Rattle.ps_hoa.specs.Tokens.{Sign}
-use Rattle.ps_hoa.specs.declared.connective.Connective.{Connective}
-use Rattle.ps_hoa.specs.declared.connective.Connective.TheVariants as connectives
+use Rattle.ps_hoa.specs.declared.infix.Connective.{Connective}
+use Rattle.ps_hoa.specs.declared.infix.Connective.TheVariants as connectives
 use Rattle.ps_hoa.specs.declared.fault.HoaCause.{HoaCause}
 use Rattle.ps_hoa.specs.declared.fault.HoaCause.TheVariants.{Limit}
 use Rattle.ps_hoa.specs.declared.tokens.Kind.{Kind}

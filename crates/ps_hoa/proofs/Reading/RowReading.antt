@@ -17,8 +17,8 @@ use Rattle.ps_hoa.specs.Causes.{hoa_causes}
 use Rattle.ps_hoa.specs.Operands.{mark, single, with_last, joined, further, operands, row}
 use Rattle.ps_hoa.specs.Scan.{next_of, behind_next}
 use Rattle.ps_hoa.specs.Tokens.{Sign}
-use Rattle.ps_hoa.specs.declared.connective.Connective.{Connective}
-use Rattle.ps_hoa.specs.declared.connective.Connective.TheVariants as connectives
+use Rattle.ps_hoa.specs.declared.infix.Connective.{Connective}
+use Rattle.ps_hoa.specs.declared.infix.Connective.TheVariants as connectives
 use Rattle.ps_hoa.specs.declared.fault.HoaCause.{HoaCause}
 use Rattle.ps_hoa.specs.declared.tokens.Kind.{Kind}
 use Rattle.ps_hoa.proofs.Grammar.OperandLaws as rows

@@ -18,8 +18,8 @@ use Rattle.ps_hoa.specs.Operands.{is_not, is_left, mark, single, joined, further
 use Rattle.ps_hoa.specs.Operands.{bar, operand as operand_of}
 use Rattle.ps_hoa.specs.Sound.{IsLabel, AreLabels}
 use Rattle.ps_hoa.specs.Tokens.{Sign}
-use Rattle.ps_hoa.specs.declared.connective.Connective.{Connective}
-use Rattle.ps_hoa.specs.declared.connective.Connective.TheVariants as connectives
+use Rattle.ps_hoa.specs.declared.infix.Connective.{Connective}
+use Rattle.ps_hoa.specs.declared.infix.Connective.TheVariants as connectives
 use Rattle.ps_hoa.specs.declared.fault.HoaCause.{HoaCause}
 use Rattle.ps_hoa.specs.declared.fault.HoaCause.TheVariants as causes
 use Rattle.ps_hoa.specs.declared.tokens.Kind.{Kind}
