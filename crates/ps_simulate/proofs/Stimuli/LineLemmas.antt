@@ -1,6 +1,7 @@
 -- The lines of a text, and what is wrong in one line.
 use Rattle.std.proofs.Common.{◌≡◌, ◌≢◌, ℕ, zero, suc, ◌+◌, ◌-◌, ◌<◌, ◌≤◌, ◌==◌, ◌⊎◌, Bool, true, false, rules, List, []}
-use Rattle.std.proofs.Common.{◌∷◌, length, get_or, take, drop, ap, ap₂, ◌∙◌, arith, Some, slice_get, length-take, length-drop}
+use Rattle.std.proofs.Common.{◌∷◌, length, get_or, take, drop, ap, ap₂, ◌∙◌, arith, Some, slice_get, length-take}
+use Rattle.std.proofs.Common.{length-drop}
 use Rattle.std.proofs.lemmas.List.{length-map, drop-drop, take_all}
 use Rattle.std.proofs.lemmas.List.Sums.{sum_by-cons}
 use Rattle.std.proofs.lemmas.Option.{slice_get-map, slice_get_within}
