@@ -15,7 +15,7 @@ use Rattle.ps_machine.specs.Behaviours.{Behaviour}
 use Rattle.ps_circuit.specs.Circuits.{CircuitData, IsDraft, IsDefinition, IsKnown, IsName, ReadsGate, definitions}
 use Rattle.ps_circuit.specs.Literals.{variable}
 use Rattle.ps_circuit.specs.Building.{Drafted, AreSides, IsSoundDraft}
-use Rattle.ps_aiger.specs.Built.{IsBuilt}
+use Rattle.ps_aiger.specs.Inner.Built.{IsBuilt}
 use Rattle.ps_aiger.specs.Encoded.{IsTidy, IsTidyGate, symbols_of}
 use Rattle.ps_aiger.proofs.RangeLemmas.{even_literals, even-append, length-even, even-at}
 use Rattle.ps_circuit.proofs.GateLemmas.{sides_are}

@@ -12,7 +12,7 @@ use Rattle.ps_machine.specs.Behaviours.{Behaviour, IsMachine}
 use Rattle.ps_circuit.specs.Building.{Drafted, Meets, bit}
 use Rattle.ps_circuit.specs.Circuits.{CircuitData, IsCircuit}
 use Rattle.ps_circuit.specs.Values.{MeetsGate, Steps, bit_of, value_of, resets}
-use Rattle.ps_aiger.specs.Built.{IsBuilt}
+use Rattle.ps_aiger.specs.Inner.Built.{IsBuilt}
 use Rattle.ps_aiger.specs.Encoded.{Encodes, number_of, memory_at, memory_of, letter_over, bits_over}
 use Rattle.ps_aiger.specs.Timing.{SeesNoInput}
 use Rattle.ps_aiger.specs.Wires.{StepBit, next_bit, output_bit}

@@ -17,7 +17,7 @@ use Rattle.ps_circuit.specs.Literals.{variable}
 use Rattle.ps_circuit.proofs.MadeSound.{HasRoom}
 use Rattle.ps_circuit.proofs.Ordered.{acyclic}
 use Rattle.ps_machine.specs.Behaviours.{Behaviour, IsMachine}
-use Rattle.ps_aiger.specs.Built.{AreLatches, IsBuilt}
+use Rattle.ps_aiger.specs.Inner.Built.{AreLatches, IsBuilt}
 use Rattle.ps_aiger.specs.Encoded.{Encodes, IsTidy, symbols_of}
 use Rattle.ps_aiger.specs.Wires.{AreGates, IsOutOfLiterals, IsWired, next_bit, next_wires, output_wires}
 use Rattle.ps_aiger.proofs.CircuitShape as shape

@@ -20,7 +20,7 @@ use Rattle.ps_machine.specs.Machines.{MachineData}
 use Rattle.ps_circuit.specs.Circuits.{IsName}
 use Rattle.ps_circuit.specs.Drafts.{name_bytes}
 use Rattle.ps_aiger.specs.Encoded.{symbols_of}
-use Rattle.ps_aiger.specs.Functions.{wanted_place}
+use Rattle.ps_aiger.specs.Inner.Functions.{wanted_place}
 use Rattle.ps_aiger.proofs.LetterLemmas.{few_rise}
 use Rattle.ps_circuit.proofs.GateLemmas.{bool_cases, true_is_not_false}
 

@@ -16,7 +16,7 @@ use Rattle.ps_machine.specs.Machines.{MachineData, behaviour, row_of}
 use Rattle.ps_aiger.specs.declared.functions.Wanted.{Wanted}
 use Rattle.ps_circuit.specs.Building.{Drafted, Extends}
 use Rattle.ps_aiger.specs.Encoded.{letter_over}
-use Rattle.ps_aiger.specs.Functions.{wanted_bit, row_by, node_made}
+use Rattle.ps_aiger.specs.Inner.Functions.{wanted_bit, row_by, node_made}
 use Rattle.ps_circuit.specs.Gates.{Made, mux_of}
 use Rattle.ps_aiger.specs.Wires.{over_variables}
 use Rattle.ps_aiger.proofs.LetterLemmas.{AreFrom, bit_for, letter_bit, bit_for-at, bit_for-none, no_test}

@@ -15,10 +15,10 @@ use Rattle.ps_aiger.specs.declared.functions.Wanted.{Wanted}
 use Rattle.ps_aiger.specs.declared.functions.Wanted.TheVariants.{Next, Output}
 use Rattle.ps_circuit.specs.declared.parts.Latch.{Latch}
 use Rattle.ps_circuit.specs.Building.{Drafted, Extends, IsHeld, variables_of}
-use Rattle.ps_aiger.specs.Built.{IsBuilt}
+use Rattle.ps_aiger.specs.Inner.Built.{IsBuilt}
 use Rattle.ps_circuit.specs.Circuits.{CircuitData}
 use Rattle.ps_aiger.specs.Encoded.{memory_at}
-use Rattle.ps_aiger.specs.Functions.{KnowsMade, bits_wired, code_wanted, node_made}
+use Rattle.ps_aiger.specs.Inner.Functions.{KnowsMade, bits_wired, code_wanted, node_made}
 use Rattle.ps_circuit.specs.Gates.{Made, mux_of}
 use Rattle.ps_aiger.specs.Wires.{AreGates, IsOutOfLiterals, IsWired, IsWiredBy, Wired, code_made, next_wires}
 use Rattle.ps_aiger.specs.Wires.{output_wires, wired}

@@ -1,8 +1,6 @@
 pub mod Timing
 pub mod Encoded
-pub mod Functions
 pub mod Wires
-pub mod Built
 pub use Rattle.ps_circuit.specs.Circuits
 pub use Rattle.ps_circuit.specs.Values
 pub use Rattle.ps_circuit.specs.Building
@@ -13,3 +11,4 @@ pub use Rattle.ps_circuit.specs.CauseNames
 pub use Rattle.ps_circuit.specs.EncodeFaultNames
 pub use Rattle.ps_circuit.specs.Signs
 pub use Rattle.ps_circuit.specs.Texts
+pub mod Inner

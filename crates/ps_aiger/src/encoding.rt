@@ -9,9 +9,9 @@ ghost use Rattle.ps_circuit.specs.Drafts.{data_of, name_bytes};
 ghost use Rattle.ps_aiger.specs.Encoded.{Encodes, IsTidy, symbols_of};
 ghost use Rattle.ps_aiger.specs.Timing.{SeesNoInput};
 ghost use Rattle.ps_circuit.specs.Building.{Extends, IsSoundDraft, variables_of};
-ghost use Rattle.ps_aiger.specs.Built.{AreLatches, IsBuilt};
+ghost use Rattle.ps_aiger.specs.Inner.Built.{AreLatches, IsBuilt};
 ghost use Rattle.ps_aiger.specs.Wires.{AreGates, IsOutOfLiterals, IsWired, next_wires, output_wires};
-ghost use Rattle.ps_aiger.specs.Functions.{bits_wired, wanted_place};
+ghost use Rattle.ps_aiger.specs.Inner.Functions.{bits_wired, wanted_place};
 ghost use Rattle.ps_aiger.specs.declared.functions.Wanted.TheVariants.{Next, Output};
 
 use crate::functions::{Wanted, literal_of};

@@ -8,8 +8,8 @@ ghost use Rattle.ps_diagram.specs.Table.{IsNode};
 ghost use Rattle.ps_machine.specs.Machines.{behaviour, row_of};
 ghost use Rattle.ps_circuit.specs.Building.{Extends, IsHeld, variables_of};
 ghost use Rattle.ps_aiger.specs.Encoded.{memory_at};
-ghost use Rattle.ps_aiger.specs.Functions.{KnowsMade, code_wanted, node_made};
-ghost use Rattle.ps_aiger.specs.Functions.{wanted_bit, wanted_place};
+ghost use Rattle.ps_aiger.specs.Inner.Functions.{KnowsMade, code_wanted, node_made};
+ghost use Rattle.ps_aiger.specs.Inner.Functions.{wanted_bit, wanted_place};
 
 use indexmap::IndexMap;
 use ps_circuit::{Builder, EncodeFault, Literal};

@@ -12,7 +12,7 @@ use Rattle.ps_automaton.specs.Answers.{IsDeterministic, IsRefused}
 use Rattle.ps_automaton.specs.Automata.{AutomatonData, IsWhole, auto_of, node_of, step_of}
 use Rattle.ps_automaton.specs.Autos.{IsAutoOf, TakesEdge, TakesNone}
 use Rattle.ps_automaton.specs.Chains.{Chain, chain_of, has_complement, level}
-use Rattle.ps_automaton.specs.Drafts.{AreSteps, IsDraft, IsDraftFault, Names}
+use Rattle.ps_automaton.specs.Inner.Drafts.{AreSteps, IsDraft, IsDraftFault, Names}
 use Rattle.ps_automaton.specs.declared.fault.AutomatonFault.{AutomatonFault}
 use Rattle.ps_automaton.specs.declared.step.Step.{Step}
 use Rattle.ps_automaton.proofs.Distinct.{one_place}

@@ -8,7 +8,7 @@ use Rattle.ps_hoa.specs.Sound.{AreConditions, IsCondition}
 use Rattle.ps_hoa.proofs.Soundness.SoundLaws.{all_at}
 use Rattle.ps_automaton.specs.Chains.{Chain, Link, chain_of, chain_of_all, in_front, link_of, link_to, links_of}
 use Rattle.ps_automaton.specs.Chains.{one_link}
-use Rattle.ps_automaton.specs.Numbering.{AreSetsBelow}
+use Rattle.ps_automaton.specs.Inner.Numbering.{AreSetsBelow}
 
 module _ (n : ℕ) where
   abbrev LinkUnder : Link → Type 0

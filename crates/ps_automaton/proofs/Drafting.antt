@@ -11,7 +11,7 @@ use Rattle.ps_diagram.specs.Table.{Table, Keeps, leaf_of}
 use Rattle.ps_hoa.specs.Files.{FileData}
 use Rattle.ps_automaton.specs.Answers.{Clash}
 use Rattle.ps_automaton.specs.Chains.{Chain}
-use Rattle.ps_automaton.specs.Drafts.{Extends, IsDraftFault, IsStateFault, IsStepsOf, Moves, Names, Stops}
+use Rattle.ps_automaton.specs.Inner.Drafts.{Extends, IsDraftFault, IsStateFault, IsStepsOf, Moves, Names, Stops}
 use Rattle.ps_automaton.specs.declared.fault.AutomatonFault.{AutomatonFault}
 use Rattle.ps_automaton.specs.declared.fault.AutomatonFault.TheVariants.{ComplementedSet, NonParity, Nondeterministic}
 use Rattle.ps_automaton.specs.declared.fault.AutomatonFault.TheVariants.{OutOfMemory}

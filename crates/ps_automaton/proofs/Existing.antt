@@ -6,7 +6,7 @@ use Rattle.std.proofs.lemmas.Option.{slice_get_within}
 use Rattle.ps_hoa.specs.Files.{EdgeData, RowData, FileData}
 use Rattle.ps_hoa.specs.Edges.{row_of, is_marked, IsTaken, Goes}
 use Rattle.ps_hoa.specs.Sound.{IsSoundFile}
-use Rattle.ps_automaton.specs.Drafts.{TakenEdge}
+use Rattle.ps_automaton.specs.Inner.Drafts.{TakenEdge}
 use Rattle.ps_hoa.proofs.Soundness.SoundLaws.{row_of_state, sound_edge}
 use Rattle.ps_text.proofs.Simple.{same_some}
 use Rattle.ps_automaton.specs.Answers.{AreAlike, IsDeterministic, IsAdmitted}

@@ -17,8 +17,8 @@ use Rattle.ps_hoa.specs.Views.{edge_data}
 use Rattle.ps_hoa.specs.declared.file.Edge.{Edge}
 use Rattle.ps_hoa.proofs.Soundness.SoundLaws.{all_at, all_get, sound_edge}
 use Rattle.ps_automaton.specs.Answers.{AreAlike}
-use Rattle.ps_automaton.specs.Drafts.{IsByLetters, IsFit}
-use Rattle.ps_automaton.specs.Targets.{IsTargetOf}
+use Rattle.ps_automaton.specs.Inner.Drafts.{IsByLetters, IsFit}
+use Rattle.ps_automaton.specs.Inner.Targets.{IsTargetOf}
 use Rattle.ps_automaton.specs.declared.targets.Target.{Target}
 
 -- ## Labels are over the propositions

@@ -10,8 +10,8 @@ use Rattle.ps_hoa.specs.declared.condition.Cond.{Cond, All, Any}
 use Rattle.ps_hoa.proofs.Reading.CondRows.{condition_of-All, condition_of-Any}
 use Rattle.ps_automaton.specs.Chains as chains
 use Rattle.ps_automaton.specs.Chains.{Chain, chain_of, chain_of_all, link_of, links_of, in_front}
-use Rattle.ps_automaton.specs.Gathering.{IsGathered, whole, with_base}
-use Rattle.ps_automaton.specs.Views.{link_data}
+use Rattle.ps_automaton.specs.Inner.Gathering.{IsGathered, whole, with_base}
+use Rattle.ps_automaton.specs.Inner.Views.{link_data}
 use Rattle.ps_automaton.specs.declared.chain.Link.{Link}
 use Rattle.ps_automaton.specs.declared.chain.Gathered.{Gathered}
 use Rattle.ps_automaton.specs.declared.chain.Gathered.TheVariants as gathered

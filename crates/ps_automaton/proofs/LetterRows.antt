@@ -10,8 +10,8 @@ use Rattle.ps_hoa.specs.Edges.{IsOpen}
 use Rattle.ps_hoa.specs.Files.{EdgeData, RowData, FileData, of_state, at_letter}
 use Rattle.ps_hoa.specs.Sound.{IsSoundRow}
 use Rattle.ps_hoa.proofs.Soundness.SoundLaws.{sound_edge}
-use Rattle.ps_automaton.specs.Drafts.{AreJoined, AreTargets, IsByLetters, IsTargetAt}
-use Rattle.ps_automaton.specs.Targets.{IsTargetOf}
+use Rattle.ps_automaton.specs.Inner.Drafts.{AreJoined, AreTargets, IsByLetters, IsTargetAt}
+use Rattle.ps_automaton.specs.Inner.Targets.{IsTargetOf}
 use Rattle.ps_automaton.specs.declared.targets.Target.{Target}
 use Rattle.ps_automaton.proofs.Distinct.{at_end, at_left}
 use Rattle.ps_automaton.proofs.Fitting.{by_letter}

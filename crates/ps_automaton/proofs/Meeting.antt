@@ -12,7 +12,7 @@ use Rattle.ps_diagram.specs.Table.{Table, IsNode, Keeps, leaf_of}
 use Rattle.ps_hoa.specs.Edges.{IsOpen}
 use Rattle.ps_hoa.specs.Files.{EdgeData, RowData, FileData, of_state}
 use Rattle.ps_automaton.specs.Answers.{AreAlike, AreClashing}
-use Rattle.ps_automaton.specs.Drafts.{IsLabelNode, IsWhere, Meet, ShowsEdge}
+use Rattle.ps_automaton.specs.Inner.Drafts.{IsLabelNode, IsWhere, Meet, ShowsEdge}
 
 pub kept_leaf : {t u : Table} → Keeps t u → {node : ℕ} (letter : ℕ) → IsNode t node →
     leaf_of u node letter ≡ leaf_of t node letter

@@ -6,8 +6,8 @@ use Rattle.std.proofs.Math.Nat.{le_antisymm}
 use Rattle.std.proofs.lemmas.List.{length-map, drop-map, drop_all}
 use Rattle.std.proofs.Math.ListN.{get_or-map}
 use Rattle.ps_automaton.specs.Chains.{Link, Chain, base_number, first_number, raised, level_by, level}
-use Rattle.ps_automaton.specs.Numbering.{AreSetsBelow, IsTable}
-use Rattle.ps_automaton.specs.Views.{link_data}
+use Rattle.ps_automaton.specs.Inner.Numbering.{AreSetsBelow, IsTable}
+use Rattle.ps_automaton.specs.Inner.Views.{link_data}
 use Rattle.ps_automaton.specs.declared.chain.Link as code
 use Rattle.ps_automaton.proofs.ChainLaws.{level_below_first, raised_more}
 

@@ -2,7 +2,7 @@
 use Rattle.std.proofs.Common.{◌≡◌, ℕ, ◌⊎◌, inl, inr, true, cond, List, [], ◌∷◌, ◌++◌, length, Option, None, Some, arith}
 use Rattle.std.specs.List.{slice_get}
 use Rattle.std.specs.Ordering.{is_eq}
-use Rattle.ps_automaton.specs.Places.{AreDistinct, IsPlaced, IsTableOf, pair_cmp}
+use Rattle.ps_automaton.specs.Inner.Places.{AreDistinct, IsPlaced, IsTableOf, pair_cmp}
 use Rattle.ps_automaton.specs.declared.targets.Target.{Target}
 use Rattle.ps_automaton.proofs.Distinct.{at_end, at_last, at_left}
 

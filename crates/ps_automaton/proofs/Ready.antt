@@ -4,7 +4,7 @@ use Rattle.ps_label.specs.Expression.{Expression}
 use Rattle.ps_diagram.specs.Labels.{AreNodesOf}
 use Rattle.ps_diagram.specs.Table.{Table, Keeps}
 use Rattle.ps_hoa.specs.Files.{FileData}
-use Rattle.ps_automaton.specs.Drafts.{IsLabelNode, IsReady}
+use Rattle.ps_automaton.specs.Inner.Drafts.{IsLabelNode, IsReady}
 use Rattle.ps_automaton.specs.declared.guards.Guards.{Guards}
 
 pub kept_nodes : {t u : Table} → Keeps t u → {aliases : List Expression} {nodes : List ℕ} → AreNodesOf t aliases nodes →

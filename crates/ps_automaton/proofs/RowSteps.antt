@@ -14,9 +14,10 @@ use Rattle.ps_hoa.specs.Files.{RowData, FileData}
 use Rattle.ps_hoa.specs.Sound.{IsSoundFile, IsSoundRow}
 use Rattle.ps_automaton.specs.Answers.{AreClashing}
 use Rattle.ps_automaton.specs.Chains.{Chain, Link, level, level_by}
-use Rattle.ps_automaton.specs.Drafts.{AreJoined, ArePlaces, AreSteps, IsStepsOf, IsTargetAt, IsUnion, Moves, Names}
-use Rattle.ps_automaton.specs.Drafts.{Stops, TakenEdge, step_of_target}
-use Rattle.ps_automaton.specs.Numbering.{AreSetsBelow}
+use Rattle.ps_automaton.specs.Inner.Drafts.{AreJoined, ArePlaces, AreSteps, IsStepsOf, IsTargetAt, IsUnion, Moves}
+use Rattle.ps_automaton.specs.Inner.Drafts.{Names}
+use Rattle.ps_automaton.specs.Inner.Drafts.{Stops, TakenEdge, step_of_target}
+use Rattle.ps_automaton.specs.Inner.Numbering.{AreSetsBelow}
 use Rattle.ps_automaton.specs.declared.step.Step.{Step}
 use Rattle.ps_automaton.specs.declared.targets.Target.{Target}
 use Rattle.ps_automaton.proofs.TakenEdges.{edge_of, goes_of}

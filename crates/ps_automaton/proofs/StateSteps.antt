@@ -4,7 +4,7 @@ use Rattle.ps_text.proofs.Simple.{same_some}
 use Rattle.ps_hoa.specs.Edges.{row_of}
 use Rattle.ps_hoa.specs.Files.{RowData, FileData}
 use Rattle.ps_automaton.specs.Answers.{AreClashing, Clash}
-use Rattle.ps_automaton.specs.Drafts.{IsRowFault, IsStateFault}
+use Rattle.ps_automaton.specs.Inner.Drafts.{IsRowFault, IsStateFault}
 use Rattle.ps_automaton.specs.declared.fault.AutomatonFault.{AutomatonFault}
 use Rattle.ps_automaton.specs.declared.fault.AutomatonFault.TheVariants.{ComplementedSet, NonParity, Nondeterministic}
 use Rattle.ps_automaton.specs.declared.fault.AutomatonFault.TheVariants.{OutOfMemory}

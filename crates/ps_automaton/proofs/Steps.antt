@@ -5,7 +5,7 @@ use Rattle.std.specs.Bool.{Decides}
 use Rattle.ps_text.proofs.Simple.{same_some}
 use Rattle.indexmap.specs.IndexSet.{insert_key}
 use Rattle.ps_automaton.specs.Chains.{Chain}
-use Rattle.ps_automaton.specs.Drafts.{AreSteps, Extends, step_of_target}
+use Rattle.ps_automaton.specs.Inner.Drafts.{AreSteps, Extends, step_of_target}
 use Rattle.ps_automaton.specs.declared.targets.Target.{Target}
 use Rattle.ps_automaton.specs.declared.step.Step.{Step}
 use Rattle.ps_automaton.proofs.Distinct.{at_last, inserted_keeps, inserted_is}

@@ -6,7 +6,7 @@ use Rattle.std.proofs.lemmas.Option.{slice_get_within}
 use Rattle.ps_hoa.specs.Files.{EdgeData, RowData, FileData}
 use Rattle.ps_hoa.specs.Edges.{row_of, IsTaken, is_marked, Goes}
 use Rattle.ps_automaton.specs.Answers.{AreAlike, AreClashing}
-use Rattle.ps_automaton.specs.Drafts.{TakenEdge}
+use Rattle.ps_automaton.specs.Inner.Drafts.{TakenEdge}
 
 module _ {file : FileData} {row : RowData} where
   pub clash_of : {first second letter : ℕ} {one other : EdgeData} → first < second →

@@ -1,14 +1,8 @@
 pub mod Chains
-pub mod Views
-pub mod Gathering
 pub mod Words
 pub mod Autos
 pub mod Acceptance
 pub mod Automata
-pub mod Returning
-pub mod Numbering
-pub mod Targets
 pub mod Answers
 pub mod FaultNames
-pub mod Drafts
-pub mod Places
+pub mod Inner

@@ -10,8 +10,8 @@ ghost use Rattle.ps_automaton.specs.Answers.{IsAdmitted, IsRefused};
 ghost use Rattle.ps_automaton.specs.Automata.{IsBuiltFrom, IsWhole, auto_of, node_of, pair_of, step_of};
 ghost use Rattle.ps_automaton.specs.Autos.{greatest_along, greatest_of_laps, state_after, state_behind};
 ghost use Rattle.ps_automaton.specs.Chains.{Chain, chain_of};
-ghost use Rattle.ps_automaton.specs.Drafts.{IsDraft};
-ghost use Rattle.ps_automaton.specs.Returning.{Returns};
+ghost use Rattle.ps_automaton.specs.Inner.Drafts.{IsDraft};
+ghost use Rattle.ps_automaton.specs.Inner.Returning.{Returns};
 
 use crate::chain::{chain_of, is_complemented};
 use crate::draft::{Draft, drafted};

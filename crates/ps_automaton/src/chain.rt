@@ -4,8 +4,8 @@ ghost use Rattle.std.specs.Prelude.{◌≡◌, IfOk, Some, map, not, option_map}
 ghost use Rattle.ps_hoa.specs.Values.{condition_of};
 ghost use Rattle.ps_automaton.specs.Chains as chains;
 ghost use Rattle.ps_automaton.specs.Chains.{base_alone, has_complement, in_front, link_to};
-ghost use Rattle.ps_automaton.specs.Gathering.{IsGathered, with_base};
-ghost use Rattle.ps_automaton.specs.Views.{chain_data, link_data};
+ghost use Rattle.ps_automaton.specs.Inner.Gathering.{IsGathered, with_base};
+ghost use Rattle.ps_automaton.specs.Inner.Views.{chain_data, link_data};
 
 use ps_hoa::Cond;
 use std::alloc::{AllocError, Global};

@@ -8,10 +8,12 @@ ghost use Rattle.ps_hoa.specs.Files.{FileData};
 ghost use Rattle.ps_hoa.specs.Sound.{IsSoundFile, IsSoundRow};
 ghost use Rattle.ps_hoa.specs.Views.{row_data};
 ghost use Rattle.ps_hoa.specs.Edges.{row_of};
-ghost use Rattle.ps_automaton.specs.Drafts.{AreLevels, ArePlaces, AreSteps, AreTargets, Extends, Grows, IsByLetters};
-ghost use Rattle.ps_automaton.specs.Drafts.{IsDraft, IsDraftFault, IsLabelNode, IsReady, IsRowFault, IsStateFault};
-ghost use Rattle.ps_automaton.specs.Drafts.{IsStepsOf};
-ghost use Rattle.ps_automaton.specs.Views.{chain_data};
+ghost use Rattle.ps_automaton.specs.Inner.Drafts.{AreLevels, ArePlaces, AreSteps, AreTargets, Extends, Grows};
+ghost use Rattle.ps_automaton.specs.Inner.Drafts.{IsByLetters};
+ghost use Rattle.ps_automaton.specs.Inner.Drafts.{IsDraft, IsDraftFault, IsLabelNode, IsReady, IsRowFault};
+ghost use Rattle.ps_automaton.specs.Inner.Drafts.{IsStateFault};
+ghost use Rattle.ps_automaton.specs.Inner.Drafts.{IsStepsOf};
+ghost use Rattle.ps_automaton.specs.Inner.Views.{chain_data};
 ghost use Rattle.ps_automaton.specs.declared.targets.Target.{Target};
 
 use crate::fault::AutomatonFault;

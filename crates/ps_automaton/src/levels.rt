@@ -17,8 +17,8 @@ pub(crate) struct Levels {
 }
 
 impl Levels {
-    ghost use Rattle.ps_automaton.specs.Drafts.{AreLevels, step_of_target};
-    ghost use Rattle.ps_automaton.specs.Views.{chain_data};
+    ghost use Rattle.ps_automaton.specs.Inner.Drafts.{AreLevels, step_of_target};
+    ghost use Rattle.ps_automaton.specs.Inner.Views.{chain_data};
 
     /// The step to a target.
     pub(crate) fn step_to(&self, target: Target) -> Step

@@ -4,8 +4,8 @@ ghost use Rattle.std.specs.Prelude.{◌≡◌, ◌^◌, ◌<◌};
 ghost use Rattle.ps_label.specs.Truth as labels;
 ghost use Rattle.ps_automaton.specs.Chains as chains;
 ghost use Rattle.ps_automaton.specs.Chains.{level, raised};
-ghost use Rattle.ps_automaton.specs.Numbering.{AreSetsBelow, IsTable};
-ghost use Rattle.ps_automaton.specs.Views.{chain_data};
+ghost use Rattle.ps_automaton.specs.Inner.Numbering.{AreSetsBelow, IsTable};
+ghost use Rattle.ps_automaton.specs.Inner.Views.{chain_data};
 
 use crate::chain::Chain;
 

@@ -2,7 +2,7 @@
 
 ghost use Rattle.std.specs.Prelude.{◌≡◌, List, [], IfOk, OnOk};
 ghost use Rattle.std.specs.BTreeMap.{get};
-ghost use Rattle.ps_automaton.specs.Places.{AreDistinct, IsPlaced, IsTableOf, pair_cmp};
+ghost use Rattle.ps_automaton.specs.Inner.Places.{AreDistinct, IsPlaced, IsTableOf, pair_cmp};
 ghost use Rattle.ps_automaton.specs.declared.targets.Target.{Target};
 
 use crate::targets::Target;

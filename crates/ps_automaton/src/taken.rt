@@ -5,7 +5,7 @@ ghost use Rattle.ps_diagram.specs.Table.{IsNode, Keeps};
 ghost use Rattle.ps_hoa.specs.Files.{EdgeData};
 ghost use Rattle.ps_hoa.specs.Views.{edge_data, row_data};
 ghost use Rattle.ps_automaton.specs.Answers.{AreClashing};
-ghost use Rattle.ps_automaton.specs.Drafts.{IsFit, IsReady, Meet, ShowsEdge};
+ghost use Rattle.ps_automaton.specs.Inner.Drafts.{IsFit, IsReady, Meet, ShowsEdge};
 
 use crate::guards::Guards;
 use crate::targets::target_of;

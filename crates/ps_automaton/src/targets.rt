@@ -4,7 +4,7 @@ ghost use Rattle.std.specs.Prelude.{◌≡◌, ℕ, ◌<◌, ◌||◌, All};
 ghost use Rattle.ps_label.specs.Truth.{is_in};
 ghost use Rattle.ps_hoa.specs.Files.{is_among};
 ghost use Rattle.ps_hoa.specs.Views.{edge_data, row_data};
-ghost use Rattle.ps_automaton.specs.Targets.{IsTargetOf};
+ghost use Rattle.ps_automaton.specs.Inner.Targets.{IsTargetOf};
 
 use ps_hoa::{Edge, Row};
 

@@ -3,7 +3,7 @@
 ghost use Rattle.std.specs.Prelude.{◌≡◌, ◌+◌, ◌<◌, IfErr, IfOk, OnOk, length};
 ghost use Rattle.ps_diagram.specs.Table.{IsNode, Keeps};
 ghost use Rattle.ps_hoa.specs.Views.{row_data};
-ghost use Rattle.ps_automaton.specs.Drafts.{IsReady, IsRowFault, IsUnion};
+ghost use Rattle.ps_automaton.specs.Inner.Drafts.{IsReady, IsRowFault, IsUnion};
 
 use crate::fault::AutomatonFault;
 use crate::guards::Guards;

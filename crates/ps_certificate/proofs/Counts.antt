@@ -11,8 +11,9 @@ use Rattle.ps_certificate.specs.declared.flaw.Flaw.TheVariants.{Rank}
 use Rattle.ps_certificate.specs.Certificates.{CertificateData, Fits, Remains, HasRightMove, IsClosed, IsValid}
 use Rattle.ps_certificate.specs.Certificates.{KeepsCount, BreaksCount, IsFlaw, Precedes, IsFirstFlaw, StandsBefore}
 use Rattle.ps_certificate.specs.Certificates.{winner_of, choice_of, counts_of, opposing, opposing_at}
-use Rattle.ps_certificate.specs.Prefixes.{IsFirstBroken, IsFirstFlawAt, KeepsCounts, KeepsCountsAt, KeepCountsBefore}
-use Rattle.ps_certificate.specs.Prefixes.{IsSoundAt, stage_of, vertex_of}
+use Rattle.ps_certificate.specs.Inner.Prefixes.{IsFirstBroken, IsFirstFlawAt, KeepsCounts, KeepsCountsAt}
+use Rattle.ps_certificate.specs.Inner.Prefixes.{KeepCountsBefore}
+use Rattle.ps_certificate.specs.Inner.Prefixes.{IsSoundAt, stage_of, vertex_of}
 use Rattle.ps_certificate.proofs.Edges.{place_of, IsSomeAnd-at, Remains-own}
 use Rattle.ps_certificate.proofs.FirstFlaws.{first_of_stage, closed_has_no_flaw, stage_cases, IsClosed-from_sound}
 use Rattle.ps_certificate.proofs.Lists.{rising_far}

@@ -7,7 +7,7 @@ use Rattle.std.proofs.lemmas.Bool.{cases_order, cases_eq}
 use Rattle.ps_game.specs.Games.{ParityGame, IsGame, vertex_count, owner_of, successors_of, HasEdge}
 use Rattle.ps_certificate.specs.Certificates.{CertificateData, Fits, Remains, HasRightMove, HasWrongMove, winner_of}
 use Rattle.ps_certificate.specs.Certificates.{choice_of}
-use Rattle.ps_certificate.specs.Prefixes.{StaysInside, IsFirstEscape}
+use Rattle.ps_certificate.specs.Inner.Prefixes.{StaysInside, IsFirstEscape}
 
 pub Contains-at : (xs : List ℕ) (k : ℕ) {x : ℕ} → k < length xs → x ≡ slice_index xs k → Contains xs x
 Contains-at xs k {x} within is = (k, within, get_or_default xs k x 0 within ∙ sym is)

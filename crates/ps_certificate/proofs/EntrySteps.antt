@@ -26,7 +26,7 @@ use Rattle.ps_certificate.specs.declared.fault.CertCause.TheVariants.{Syntax}
 use Rattle.ps_certificate.specs.Faults.{CertFault}
 use Rattle.ps_certificate.specs.Certificates.{EntryData, CertificateData}
 use Rattle.ps_certificate.specs.Words.{first_word, vertices_word, odd_word, even_word}
-use Rattle.ps_certificate.specs.Reading.{all_entries, TellsHead, TellsEntries}
+use Rattle.ps_certificate.specs.Inner.Reading.{all_entries, TellsHead, TellsEntries}
 use Rattle.ps_text.specs.Bytes.{Seen, pieces_at, stream_at, byte, word}
 use Rattle.ps_certificate.specs.Texts.{Field, causes, number, priorities, winner, vertex_of, choice, counts_in, lost_by}
 use Rattle.ps_certificate.specs.Texts.{entry, entries, version, certificate}

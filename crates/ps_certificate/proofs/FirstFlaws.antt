@@ -6,7 +6,7 @@ use Rattle.ps_certificate.specs.declared.flaw.Flaw.{Flaw}
 use Rattle.ps_certificate.specs.declared.flaw.Flaw.TheVariants.{Move, Escape, Rank}
 use Rattle.ps_certificate.specs.Certificates.{CertificateData, HasRightMove, IsClosed, IsFlaw, Precedes, IsFirstFlaw}
 use Rattle.ps_certificate.specs.Certificates.{choice_of}
-use Rattle.ps_certificate.specs.Prefixes.{IsSoundAt, IsFirstFlawAt, stage_of, vertex_of}
+use Rattle.ps_certificate.specs.Inner.Prefixes.{IsSoundAt, IsFirstFlawAt, stage_of, vertex_of}
 use Rattle.ps_certificate.proofs.Edges.{HasWrongMove-from_not_right, not_wrong_when_right}
 
 -- a flaw of the same stage at a later vertex comes behind

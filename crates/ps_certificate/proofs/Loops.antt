@@ -23,7 +23,7 @@ use Rattle.ps_text.proofs.Branches.{many_ends, many_fails}
 use Rattle.ps_certificate.specs.declared.fault.CertCause.{CertCause}
 use Rattle.ps_certificate.specs.Faults.{CertFault}
 use Rattle.ps_certificate.specs.Certificates.{EntryData}
-use Rattle.ps_certificate.specs.Reading.{Tells}
+use Rattle.ps_certificate.specs.Inner.Reading.{Tells}
 use Rattle.ps_text.specs.Bytes.{Seen, byte}
 use Rattle.ps_certificate.specs.Texts.{Field, causes, number, Never, NotNext, priority, priorities, counts, entry}
 use Rattle.ps_certificate.specs.Texts.{entries}

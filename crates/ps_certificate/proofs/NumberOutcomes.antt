@@ -16,7 +16,7 @@ use Rattle.ps_certificate.specs.declared.fault.CertCause.{CertCause}
 use Rattle.ps_certificate.specs.declared.fault.CertCause.TheVariants.{Syntax, OtherGame}
 use Rattle.ps_certificate.specs.Faults.{cause_number}
 use Rattle.ps_certificate.specs.Pairs.{Pairs, DoesNotRise}
-use Rattle.ps_certificate.specs.Reading.{numeral}
+use Rattle.ps_certificate.specs.Inner.Reading.{numeral}
 use Rattle.ps_text.specs.Bytes.{Seen, byte}
 use Rattle.ps_certificate.specs.Texts.{causes, EndsField, Verdict, judged, OfOtherGame, number, NotNext, IsMissing}
 use Rattle.ps_certificate.specs.Texts.{WrongPriority, IsZero}

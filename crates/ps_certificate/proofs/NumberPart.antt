@@ -20,7 +20,7 @@ use Rattle.ps_certificate.specs.declared.fault.CertCause.TheVariants.{Syntax, Ot
 use Rattle.ps_certificate.specs.Faults.{CertFault, cause_number}
 use Rattle.ps_text.specs.Cursors.{place_of}
 use Rattle.ps_text.proofs.Bytes.Pieces.{bytes_append, bytes_at, pieces_with, pieces_split}
-use Rattle.ps_certificate.specs.Reading.{numeral, HasNoNumber, IsNumberRead}
+use Rattle.ps_certificate.specs.Inner.Reading.{numeral, HasNoNumber, IsNumberRead}
 use Rattle.ps_text.specs.Bytes.{Seen, pieces_at, bytes_of}
 use Rattle.ps_certificate.specs.Texts.{causes, EndsField, Verdict, IsBadNumber, Field, judged, OfOtherGame, number}
 use Rattle.ps_certificate.specs.Texts.{IsZero, WrongPriority}

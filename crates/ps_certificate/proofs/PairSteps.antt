@@ -19,9 +19,9 @@ use Rattle.ps_certificate.specs.declared.fault.CertCause.{CertCause}
 use Rattle.ps_certificate.specs.declared.fault.CertCause.TheVariants.{Syntax, OtherGame}
 use Rattle.ps_certificate.specs.Faults.{CertFault, cause_number}
 use Rattle.ps_certificate.specs.Pairs.{Pairs, with_pair, DoesNotRise}
-use Rattle.ps_certificate.specs.Prefixes.{IsAt}
+use Rattle.ps_certificate.specs.Inner.Prefixes.{IsAt}
 use Rattle.ps_text.specs.Cursors.{next_byte, place_of}
-use Rattle.ps_certificate.specs.Reading.{is_end, rises, IsNumberRead, TellsNumber, TellsPriority}
+use Rattle.ps_certificate.specs.Inner.Reading.{is_end, rises, IsNumberRead, TellsNumber, TellsPriority}
 use Rattle.ps_certificate.specs.Texts.{causes, judged, WrongPriority, IsZero, pair}
 use Rattle.ps_certificate.proofs.NumberPart.{settled_zero, settled_priority, syntax_least, judged_reads, judged_fails}
 use Rattle.ps_certificate.proofs.NumberPart.{judged_wrong}

@@ -24,7 +24,7 @@ use Rattle.ps_text.proofs.Bytes.Pieces.{next_at}
 use Rattle.ps_text.proofs.Bytes.Single.{At, byte_taken, next_is, avoids, stops_here}
 use Rattle.ps_certificate.specs.declared.fault.CertCause.TheVariants.{Syntax, OtherGame}
 use Rattle.ps_certificate.specs.Faults.{CertFault, cause_number}
-use Rattle.ps_certificate.specs.Reading.{is_end, comes, numeral, IsNumberRead, HasNoNumber}
+use Rattle.ps_certificate.specs.Inner.Reading.{is_end, comes, numeral, IsNumberRead, HasNoNumber}
 use Rattle.ps_certificate.specs.Texts.{causes, EndsField, take_two, two, IsMissing}
 use Rattle.ps_certificate.proofs.NumberPart.{stops_at_place}
 use Rattle.ps_certificate.proofs.TextLaws.{lawful_two, lawful_newline, first_taken, second_taken}

@@ -19,7 +19,7 @@ use Rattle.ps_certificate.specs.Faults.{cause_number}
 use Rattle.ps_certificate.specs.Certificates.{EntryData, CertificateData}
 use Rattle.ps_certificate.specs.Pairs.{Pairs, no_pairs, with_pair}
 use Rattle.ps_certificate.specs.Words.{vertices_word, odd_word, even_word, first_word}
-use Rattle.ps_certificate.specs.Reading.{all_entries}
+use Rattle.ps_certificate.specs.Inner.Reading.{all_entries}
 use Rattle.ps_certificate.specs.Texts.{Field, take_two, two, judged, number, Never, NotNext, priority, IsMissing}
 use Rattle.ps_certificate.specs.Texts.{priorities, winner, vertex_of, choice, counts, WrongPriority, IsZero, pair}
 use Rattle.ps_certificate.specs.Texts.{counts_in, lost_by, entry, entries, version, certificate}

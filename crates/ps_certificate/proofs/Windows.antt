@@ -9,7 +9,7 @@ use Rattle.std.proofs.lemmas.List.Elements.{All-from_get_or}
 use Rattle.std.proofs.lemmas.Bool.{cases_eq, cases_order, cases_lt}
 use Rattle.ps_game.specs.Games.{ParityGame, vertex_count, priority_of}
 use Rattle.ps_game.specs.Ranking.{HasPriority}
-use Rattle.ps_certificate.specs.Prefixes.{IsAt}
+use Rattle.ps_certificate.specs.Inner.Prefixes.{IsAt}
 use Rattle.ps_certificate.proofs.Lists.{rising_far}
 use Rattle.ps_certificate.proofs.Edges.{Contains-at}
 

@@ -1,9 +1,8 @@
 pub mod Certificates
 pub mod Faults
+pub mod Inner
 pub mod Lines
 pub mod Pairs
-pub mod Prefixes
-pub mod Reading
 pub mod Regions
 pub mod Sparse
 pub mod Texts

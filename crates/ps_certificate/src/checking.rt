@@ -4,8 +4,9 @@ ghost use Rattle.std.specs.Prelude.{◌≡◌, ℕ, ◌+◌, ◌<◌, ◌↔◌,
 ghost use Rattle.ps_game.specs.Games.{vertex_count};
 ghost use Rattle.ps_certificate.specs.Certificates.{Fits, IsValid, IsFirstFlaw, winner_of};
 ghost use Rattle.ps_certificate.specs.Regions.{BothHold, NoneWinsOutside};
-ghost use Rattle.ps_certificate.specs.Prefixes.{IsSoundAt, KeepsCounts, KeepsCountsAt, KeepCountsBefore, IsFirstBroken};
-ghost use Rattle.ps_certificate.specs.Prefixes.{IsFirstFlawAt, IsFirstUnranked};
+ghost use Rattle.ps_certificate.specs.Inner.Prefixes.{IsSoundAt, KeepsCounts, KeepsCountsAt, KeepCountsBefore};
+ghost use Rattle.ps_certificate.specs.Inner.Prefixes.{IsFirstBroken};
+ghost use Rattle.ps_certificate.specs.Inner.Prefixes.{IsFirstFlawAt, IsFirstUnranked};
 
 use crate::certificate::Certificate;
 use crate::closing::unsound_at;

@@ -4,7 +4,7 @@ ghost use Rattle.std.specs.Prelude.{◌≡◌, ◌≢◌, ℕ, ◌<◌, ◌↔�
 ghost use Rattle.ps_game.specs.Games.{vertex_count, owner_of, successors_of, HasEdge};
 ghost use Rattle.ps_certificate.specs.Certificates.{Fits, HasRightMove, IsClosed, IsFirstFlaw};
 ghost use Rattle.ps_certificate.specs.Regions.{BothKeep};
-ghost use Rattle.ps_certificate.specs.Prefixes.{StaysInside, IsSoundAt, IsFirstEscape, IsFirstFlawAt};
+ghost use Rattle.ps_certificate.specs.Inner.Prefixes.{StaysInside, IsSoundAt, IsFirstEscape, IsFirstFlawAt};
 
 use crate::certificate::Certificate;
 use crate::flaw::Flaw;

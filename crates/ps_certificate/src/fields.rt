@@ -5,7 +5,7 @@ ghost use Rattle.std.specs.List.{Contains};
 ghost use Rattle.ps_text.specs.Parts.{one};
 ghost use Rattle.ps_text.specs.Bytes.{take_byte};
 ghost use Rattle.ps_text.specs.Cursors.{next_byte};
-ghost use Rattle.ps_certificate.specs.Reading.{Tells, TellsNumber, is_end};
+ghost use Rattle.ps_certificate.specs.Inner.Reading.{Tells, TellsNumber, is_end};
 ghost use Rattle.ps_certificate.specs.Texts as parts;
 ghost use Rattle.ps_certificate.specs.Texts.{IsMissing};
 

@@ -6,7 +6,7 @@ ghost use Rattle.std.specs.List.Sorted.{IsStrictlyIncreasing};
 ghost use Rattle.ps_game.specs.Games.{vertex_count};
 ghost use Rattle.ps_game.specs.Ranking.{HasPriority, ListsPriorities};
 ghost use Rattle.ps_certificate.specs.Certificates.{Fits};
-ghost use Rattle.ps_certificate.specs.Prefixes.{IsComplete, EntryFits};
+ghost use Rattle.ps_certificate.specs.Inner.Prefixes.{IsComplete, EntryFits};
 
 use crate::certificate::Certificate;
 use crate::rising::{is_rising, place_of};

@@ -3,7 +3,7 @@
 ghost use Rattle.std.specs.Prelude.{◌≡◌, ◌<◌, IfOk, length, slice_index, true};
 ghost use Rattle.std.specs.List.Sorted.{IsStrictlyIncreasing};
 ghost use Rattle.ps_certificate.specs.Pairs.{Pairs, with_pair};
-ghost use Rattle.ps_certificate.specs.Reading.{Tells, TellsPriority, rises};
+ghost use Rattle.ps_certificate.specs.Inner.Reading.{Tells, TellsPriority, rises};
 ghost use Rattle.ps_certificate.specs.Texts as parts;
 ghost use Rattle.ps_certificate.specs.Texts.{IsZero};
 

@@ -3,7 +3,7 @@
 ghost use Rattle.std.specs.Prelude.{◌≡◌, ℕ, ◌+◌, ◌<◌, ◌≤◌, ◌↔◌, IsTrue, IfNone, IfSome, length, slice_index};
 ghost use Rattle.std.specs.List.{Contains};
 ghost use Rattle.std.specs.List.Sorted.{IsStrictlyIncreasing};
-ghost use Rattle.ps_certificate.specs.Prefixes.{IsAt};
+ghost use Rattle.ps_certificate.specs.Inner.Prefixes.{IsAt};
 
 /// Whether each number is below the next one.
 pub(crate) fn is_rising(list: &[u64]) -> bool

@@ -6,7 +6,7 @@ ghost use Rattle.ps_text.specs.Answers.{Found};
 ghost use Rattle.ps_game.specs.Games.{NamedGameData};
 ghost use Rattle.ps_game.specs.Ranking.{ListsPriorities};
 ghost use Rattle.ps_certificate.specs.Certificates.{CertificateData, Fits};
-ghost use Rattle.ps_certificate.specs.Reading.{Tells, TellsHead, TellsEntries};
+ghost use Rattle.ps_certificate.specs.Inner.Reading.{Tells, TellsHead, TellsEntries};
 ghost use Rattle.ps_certificate.specs.Texts as parts;
 ghost use Rattle.ps_certificate.specs.Texts.{ReadsCertificate, IsCertificateAnswer};
 ghost use Rattle.ps_certificate.specs.declared.fault.CertCause.{CertCause};

@@ -20,8 +20,9 @@ use Rattle.ps_text.specs.Bytes.{Seen}
 use Rattle.ps_circuit.specs.Signs.{Field}
 use Rattle.ps_circuit.specs.Texts.{HeaderData, Lines, no_lines, next_lines, NamesData, draft_of as drafted, input_line}
 use Rattle.ps_circuit.specs.Texts.{latch_line, output_line, gate_line, DraftData, symbols, body, circuit_text}
-use Rattle.ps_circuit.specs.Reading.{Defines, IsKnownIn, AddsInput, AddsLatch, AddsOutput, AddsGate, Grown, none, more}
-use Rattle.ps_circuit.specs.Reading.{IsSoundDraft}
+use Rattle.ps_circuit.specs.Inner.Reading.{Defines, IsKnownIn, AddsInput, AddsLatch, AddsOutput, AddsGate, Grown, none}
+use Rattle.ps_circuit.specs.Inner.Reading.{more}
+use Rattle.ps_circuit.specs.Inner.Reading.{IsSoundDraft}
 use Rattle.ps_circuit.proofs.Adding.{values, LineKind, AddsItem, none_more, one_more, input_kind, latch_kind}
 use Rattle.ps_circuit.proofs.Adding.{output_kind, gate_kind, adds_input, adds_latch, adds_output, adds_gate}
 use Rattle.ps_circuit.proofs.ReadingLemmas.{draft_of}

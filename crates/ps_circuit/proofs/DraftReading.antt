@@ -14,7 +14,7 @@ use Rattle.ps_text.specs.Readers.{Reads as ReadsPart, Stops}
 use Rattle.ps_text.proofs.Whole.{answers_ok, answers_fault, answers_trailing}
 use Rattle.ps_text.proofs.Simple.{same_some}
 use Rattle.ps_circuit.specs.declared.reader.Draft.{Draft}
-use Rattle.ps_circuit.specs.Names.{AreNone, TellsComment}
+use Rattle.ps_circuit.specs.Inner.Names.{AreNone, TellsComment}
 use Rattle.ps_circuit.specs.declared.parts.Latch.{Latch}
 use Rattle.ps_circuit.specs.declared.parts.Gate.{Gate}
 use Rattle.ps_circuit.specs.declared.fault.AigCause.{AigCause}
@@ -26,11 +26,11 @@ use Rattle.ps_text.specs.Bytes.{Seen, stream_of}
 use Rattle.ps_circuit.specs.Signs.{Field, aig_causes}
 use Rattle.ps_text.specs.Cursors.{next_byte, place_of}
 use Rattle.ps_text.specs.Faults.{found_of}
-use Rattle.ps_circuit.specs.Cursors.{saturated}
+use Rattle.ps_circuit.specs.Inner.Cursors.{saturated}
 use Rattle.ps_circuit.specs.Texts.{HeaderData, header, Lines, no_lines, input_line, NamesData, no_names, symbol_line}
 use Rattle.ps_circuit.specs.Texts.{comment, DraftData, draft_of as drafted, symbols, body, circuit_text, IsDefined}
 use Rattle.ps_circuit.specs.Texts.{refused, undefined, cyclic, meaning, IsCircuitAnswer}
-use Rattle.ps_circuit.specs.Reading.{FoundAnswers, TellsDraft, TellsDefined, TellsCyclic}
+use Rattle.ps_circuit.specs.Inner.Reading.{FoundAnswers, TellsDraft, TellsDefined, TellsCyclic}
 use Rattle.ps_text.proofs.Bytes.Lefts.{unread, past, stops_at, reads_last}
 use Rattle.ps_circuit.proofs.Lawful.{Left, Chain}
 use Rattle.ps_text.proofs.Bytes.Single.{Any}

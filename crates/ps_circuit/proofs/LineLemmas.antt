@@ -20,10 +20,10 @@ use Rattle.ps_circuit.specs.Literals.{variable}
 use Rattle.ps_text.specs.Bytes.{Seen}
 use Rattle.ps_circuit.specs.Signs.{Field, aig_causes, number, line_end, more, by_more}
 use Rattle.ps_text.specs.Faults.{found_of}
-use Rattle.ps_circuit.specs.Cursors.{saturated, NumberIs}
+use Rattle.ps_circuit.specs.Inner.Cursors.{saturated, NumberIs}
 use Rattle.ps_circuit.specs.Texts.{WrongLiteral, WrongDefinition, WrongReset, field, Lines, add_input, add_latch}
 use Rattle.ps_circuit.specs.Texts.{add_output, add_gate, input_line, reset, latch_line, output_line, gate_line}
-use Rattle.ps_circuit.specs.Reading.{AddsVariable, Grown, none, more as grow, IsRow, TellsField}
+use Rattle.ps_circuit.specs.Inner.Reading.{AddsVariable, Grown, none, more as grow, IsRow, TellsField}
 use Rattle.ps_circuit.proofs.Lawful.{Lawful, Left}
 use Rattle.ps_circuit.proofs.Judges.{judge_literal}
 use Rattle.ps_text.proofs.Bytes.Lefts.{unread, past}

@@ -16,7 +16,7 @@ use Rattle.ps_circuit.specs.Drafts.{links_by, place_in}
 use Rattle.ps_ids.specs.Ids.{AreDistinct}
 use Rattle.ps_ids.proofs.IdPlaces.{position_here}
 use Rattle.ps_ids.proofs.Members.{absent_before}
-use Rattle.ps_circuit.specs.GateGraphs.{side_of, target_of, graph_of, AreLinksOf}
+use Rattle.ps_circuit.specs.Inner.GateGraphs.{side_of, target_of, graph_of, AreLinksOf}
 use Rattle.ps_components.proofs.Ways.{Way-map}
 
 no_gate : Gate

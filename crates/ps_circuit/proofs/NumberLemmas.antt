@@ -18,9 +18,9 @@ use Rattle.ps_text.specs.Bytes.{Seen, word, is_digit}
 use Rattle.ps_circuit.specs.Signs.{aig_causes, Field, number_at, number, gap, line_end, more, by_more}
 use Rattle.ps_text.specs.Cursors.{place_of}
 use Rattle.ps_text.specs.Faults.{found_of}
-use Rattle.ps_circuit.specs.Cursors.{Tells, saturated, NumberIs, TellsNumber}
+use Rattle.ps_circuit.specs.Inner.Cursors.{Tells, saturated, NumberIs, TellsNumber}
 use Rattle.ps_circuit.specs.Texts.{AnyNumber, WrongMost, WrongCount, sections, field, header}
-use Rattle.ps_circuit.specs.Reading.{TellsField, TellsCount, TellsHeader}
+use Rattle.ps_circuit.specs.Inner.Reading.{TellsField, TellsCount, TellsHeader}
 use Rattle.ps_text.proofs.Bytes.Runs.{run_reads, run_bad, run_stops}
 use Rattle.ps_text.proofs.Bytes.Lefts.{unread, past}
 use Rattle.ps_circuit.proofs.Lawful.{Left, Judges}

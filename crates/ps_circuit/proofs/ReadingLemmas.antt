@@ -18,7 +18,7 @@ use Rattle.ps_text.specs.declared.faults.Fault.TheVariants.{Text}
 use Rattle.ps_circuit.specs.declared.fault.AigCause.TheVariants.{Cyclic}
 use Rattle.ps_text.specs.Faults.{found_of}
 use Rattle.ps_circuit.specs.Texts.{IsDefined, IsFirstUndefined}
-use Rattle.ps_circuit.specs.Reading.{AddsVariable, Defines, IsKnownIn, TellsCyclic}
+use Rattle.ps_circuit.specs.Inner.Reading.{AddsVariable, Defines, IsKnownIn, TellsCyclic}
 use Rattle.ps_circuit.specs.declared.number.Number.{Number}
 use Rattle.std.specs.Bool.{OnTrue}
 

@@ -30,10 +30,10 @@ use Rattle.ps_text.specs.Bytes.{Seen, pieces_at, is_digit, is_inner, byte}
 use Rattle.ps_circuit.specs.Signs.{aig_causes, rest_of_line, newline}
 use Rattle.ps_text.specs.Cursors.{next_byte, place_of, Passes, IsAhead}
 use Rattle.ps_text.specs.Faults.{found_of}
-use Rattle.ps_circuit.specs.Cursors.{NumberIs}
+use Rattle.ps_circuit.specs.Inner.Cursors.{NumberIs}
 use Rattle.ps_circuit.specs.Texts.{Kind, NamesData, names_of, put_names, add_name, take_kind, IsBadSymbol, symbol_line}
 use Rattle.ps_circuit.specs.Texts.{anything, comment}
-use Rattle.ps_circuit.specs.Names.{is_kind}
+use Rattle.ps_circuit.specs.Inner.Names.{is_kind}
 use Rattle.ps_circuit.proofs.Lawful.{Odd, Left}
 use Rattle.ps_circuit.proofs.Judges.{syntax_least, Digits, bad_symbol}
 use Rattle.ps_text.proofs.Bytes.Pieces.{bytes_at}

@@ -1,7 +1,6 @@
 pub mod Literals
 pub mod Circuits
 pub mod Values
-pub mod GateGraphs
 pub mod Drafts
 pub mod Building
 pub mod Gates
@@ -12,6 +11,4 @@ pub mod EncodeFaultNames
 pub mod CircuitFaultNames
 pub mod Signs
 pub mod Texts
-pub mod Cursors
-pub mod Reading
-pub mod Names
+pub mod Inner

@@ -1,7 +1,7 @@
 //! The fields of a line of the text of a circuit, and what stands between them.
 
 ghost use Rattle.ps_circuit.specs.Signs as parts;
-ghost use Rattle.ps_circuit.specs.Cursors.{Tells, TellsNumber};
+ghost use Rattle.ps_circuit.specs.Inner.Cursors.{Tells, TellsNumber};
 
 use crate::fault::{AigCause, AigFault};
 use crate::number::Number;

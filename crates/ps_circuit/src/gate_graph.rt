@@ -1,7 +1,7 @@
 //! The gates of a circuit, as a graph.
 
 ghost use Rattle.ps_components.specs.Graphs.{IsWithin};
-ghost use Rattle.ps_circuit.specs.GateGraphs.{graph_of};
+ghost use Rattle.ps_circuit.specs.Inner.GateGraphs.{graph_of};
 
 use crate::links::Links;
 use ps_components::Graph;

@@ -1,8 +1,8 @@
 //! The first line of the text of a circuit.
 
 ghost use Rattle.std.specs.Prelude.{◌≡◌, ◌<◌, ◌^◌, IfOk};
-ghost use Rattle.ps_circuit.specs.Cursors.{Tells};
-ghost use Rattle.ps_circuit.specs.Reading.{TellsField, TellsCount, TellsHeader};
+ghost use Rattle.ps_circuit.specs.Inner.Cursors.{Tells};
+ghost use Rattle.ps_circuit.specs.Inner.Reading.{TellsField, TellsCount, TellsHeader};
 ghost use Rattle.ps_circuit.specs.Texts as parts;
 ghost use Rattle.ps_circuit.specs.Texts.{WrongMost};
 

@@ -3,7 +3,7 @@
 ghost use Rattle.std.specs.Prelude.{◌≡◌, ◌≢◌, IfOk, AllPairs, map};
 ghost use Rattle.ps_circuit.specs.Literals.{variable};
 ghost use Rattle.ps_circuit.specs.Drafts.{links_by, place_in};
-ghost use Rattle.ps_circuit.specs.GateGraphs.{AreLinksOf};
+ghost use Rattle.ps_circuit.specs.Inner.GateGraphs.{AreLinksOf};
 
 use crate::parts::Gate;
 use ps_ids::Ids;

@@ -8,7 +8,7 @@ ghost use Rattle.ps_text.specs.Answers.{Found};
 ghost use Rattle.ps_circuit.specs.Circuits.{CircuitData, IsDraft, IsCircuit};
 ghost use Rattle.ps_text.specs.Faults.{found_of};
 ghost use Rattle.ps_circuit.specs.Drafts.{data_of};
-ghost use Rattle.ps_circuit.specs.Reading.{TellsDraft, TellsDefined, TellsCyclic, IsSoundDraft, draft_data};
+ghost use Rattle.ps_circuit.specs.Inner.Reading.{TellsDraft, TellsDefined, TellsCyclic, IsSoundDraft, draft_data};
 ghost use Rattle.ps_circuit.specs.Texts.{IsCircuitAnswer};
 ghost use Rattle.ps_circuit.specs.declared.fault.AigCause.{AigCause};
 

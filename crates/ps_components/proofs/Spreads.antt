@@ -7,7 +7,7 @@ use Rattle.std.proofs.lemmas.Bool.{cases_lt}
 use Rattle.ps_components.specs.declared.trail.Step.{Step}
 use Rattle.ps_components.specs.Graphs.{Digraph, Link, SameOrWay, Way, last, next}
 use Rattle.ps_components.specs.Trails.{IsTrail}
-use Rattle.ps_components.specs.Spreading.{IsSpread, AreApart, KeepsSteps, KeepsSeen, unseen}
+use Rattle.ps_components.specs.Inner.Spreading.{IsSpread, AreApart, KeepsSteps, KeepsSeen, unseen}
 use Rattle.ps_components.proofs.Places.{slice_get-append_left, slice_get-push, slice_get-push_cases}
 use Rattle.ps_components.proofs.Places.{slice_get-set_cases}
 

@@ -4,4 +4,4 @@ pub mod ComponentLists
 pub mod Trails
 pub mod Orders
 pub mod Searching
-pub mod Spreading
+pub mod Inner

@@ -3,7 +3,7 @@
 ghost use Rattle.std.specs.Prelude.{◌≡◌, ℕ, ◌+◌, ◌<◌, ◌≤◌, length, slice_get, true, Some, OnOk, IfOk, IfSome, IfNone};
 ghost use Rattle.ps_components.specs.Graphs.{SameOrWay, Link};
 ghost use Rattle.ps_components.specs.Trails.{IsTrail};
-ghost use Rattle.ps_components.specs.Spreading.{IsSpread, ComeBack, AreApart, KeepsSteps, KeepsSeen, unseen};
+ghost use Rattle.ps_components.specs.Inner.Spreading.{IsSpread, ComeBack, AreApart, KeepsSteps, KeepsSeen, unseen};
 ghost use Rattle.ps_components.specs.declared.trail.Step.{Step};
 
 use crate::graph::Graph;

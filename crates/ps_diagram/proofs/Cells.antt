@@ -11,7 +11,7 @@ use Rattle.indexmap.specs.IndexSet.{insert_key}
 use Rattle.ps_diagram.specs.declared.view.View.{View}
 use Rattle.ps_diagram.specs.declared.view.View.TheVariants.{Nothing}
 use Rattle.ps_diagram.specs.Tree.{Tree, IsFrom, IsReduced}
-use Rattle.ps_diagram.specs.Parts.{IsPart}
+use Rattle.ps_diagram.specs.Inner.Parts.{IsPart}
 use Rattle.ps_diagram.specs.Table.{Table, tree_by, trees_of, tree_at, tree_in, tree_of, IsNode, IsWithin, IsSoundTable}
 use Rattle.ps_diagram.specs.Table.{Keeps}
 

@@ -7,7 +7,7 @@ use Rattle.ps_diagram.specs.declared.fault.OverlayError.{OverlayError}
 use Rattle.ps_diagram.specs.declared.fault.OverlayError.TheVariants.{Clash, OutOfMemory}
 use Rattle.ps_diagram.specs.Letters.{letter_of}
 use Rattle.ps_diagram.specs.Table.{Table, IsNode, IsSoundTable, tree_of, leaf_of}
-use Rattle.ps_diagram.specs.Known.{IsClash}
+use Rattle.ps_diagram.specs.Inner.Known.{IsClash}
 use Rattle.ps_diagram.specs.Clashes.{TellsClash}
 use Rattle.ps_diagram.proofs.Letters.{letter_lt, leaf_by_number, same_by_numbers}
 

@@ -11,9 +11,9 @@ use Rattle.ps_diagram.specs.Letters.{assignment, letter_of, IsBefore, IsLeast, A
 use Rattle.ps_diagram.specs.Tree.{leaf_at, IsFrom}
 use Rattle.ps_diagram.specs.Table.{Table, IsNode, IsSoundTable, Keeps, tree_of, leaf_of}
 use Rattle.ps_diagram.specs.Reached.{AreLeaves, LeadsTo}
-use Rattle.ps_diagram.specs.Known.{IsMapped}
-use Rattle.ps_diagram.specs.Rests.{mixed, IsDivided}
-use Rattle.ps_diagram.specs.Numbered.{class_at, AreOf, IsPlaced}
+use Rattle.ps_diagram.specs.Inner.Known.{IsMapped}
+use Rattle.ps_diagram.specs.Inner.Rests.{mixed, IsDivided}
+use Rattle.ps_diagram.specs.Inner.Numbered.{class_at, AreOf, IsPlaced}
 use Rattle.ps_diagram.specs.Classes.{LeadAlike, IsClass, AreClasses}
 use Rattle.ps_diagram.proofs.Cells.{bool_cases}
 use Rattle.ps_diagram.proofs.Canon.{changed, changed-here, changed-other, blind-from}

@@ -6,9 +6,9 @@ use Rattle.ps_label.specs.Truth.{is_in}
 use Rattle.ps_diagram.specs.Tree.{Tree, final, leaf_at, IsBlind, IsTestOf}
 use Rattle.ps_diagram.specs.Table.{Table, IsNode, IsSoundTable, Keeps, tree_of}
 use Rattle.ps_diagram.specs.Split.{IsSides}
-use Rattle.ps_diagram.specs.Known.{Knows}
-use Rattle.ps_diagram.specs.Rests.{mixed, IsDivided, LeadsToNodes, AreTested, IsTested, IsDividedTest}
-use Rattle.ps_diagram.specs.Rests.{KnowsTests, test_eq}
+use Rattle.ps_diagram.specs.Inner.Known.{Knows}
+use Rattle.ps_diagram.specs.Inner.Rests.{mixed, IsDivided, LeadsToNodes, AreTested, IsTested, IsDividedTest}
+use Rattle.ps_diagram.specs.Inner.Rests.{KnowsTests, test_eq}
 use Rattle.ps_diagram.proofs.Canon.{same_cond}
 use Rattle.ps_diagram.proofs.Cells.{bool_cases, keeps_refl}
 use Rattle.ps_diagram.proofs.Keys.{and_both}

@@ -13,7 +13,7 @@ use Rattle.std.specs.Map.{lookup}
 use Rattle.ps_label.specs.Truth.{is_in}
 use Rattle.ps_diagram.specs.Leaves.{joined}
 use Rattle.ps_diagram.specs.Letters.{assignment, IsBefore, IsLeast}
-use Rattle.ps_diagram.specs.Parts.{IsChoice}
+use Rattle.ps_diagram.specs.Inner.Parts.{IsChoice}
 use Rattle.ps_diagram.specs.Reached.{LeadsTo, AreLeaves, IsFound, IsFirst, AreRising, Gathers, IsGathered, HaveFound}
 use Rattle.ps_diagram.specs.Split.{root_of}
 use Rattle.ps_diagram.specs.Table.{Table, tree_of}

@@ -13,7 +13,7 @@ use Rattle.std.proofs.Math.Nat.{pow-suc, mod-eq_of_lt, mod-lt}
 use Rattle.std.proofs.Math.Pow.{pow_mono}
 use Rattle.ps_label.specs.Truth.{is_in}
 use Rattle.ps_diagram.specs.Letters.{assignment}
-use Rattle.ps_diagram.specs.Rows.{AreLeafNodes, HasLeaf, IsRow, LeadsOn}
+use Rattle.ps_diagram.specs.Inner.Rows.{AreLeafNodes, HasLeaf, IsRow, LeadsOn}
 use Rattle.ps_diagram.specs.Table.{Table, IsNode, Keeps, leaf_of, tree_of}
 use Rattle.ps_diagram.specs.Tree.{IsTestOf}
 use Rattle.ps_diagram.proofs.Alone.{empty_blind, test_blind}

@@ -8,7 +8,7 @@ use Rattle.ps_diagram.specs.declared.fault.OverlayError.TheVariants.{Clash, OutO
 use Rattle.ps_diagram.specs.Tree.{Tree, IsTestOf}
 use Rattle.ps_diagram.specs.Table.{Table, IsNode, Keeps, tree_of}
 use Rattle.ps_diagram.specs.Split.{IsSides}
-use Rattle.ps_diagram.specs.Known.{IsOverlay, IsClash}
+use Rattle.ps_diagram.specs.Inner.Known.{IsOverlay, IsClash}
 use Rattle.ps_diagram.proofs.Cells.{bool_cases}
 use Rattle.ps_diagram.proofs.Canon.{changed}
 use Rattle.ps_diagram.proofs.Sides.{side_at}

@@ -4,7 +4,7 @@ use Rattle.std.specs.Option.{unwrap_or}
 use Rattle.std.proofs.lemmas.Bool.{eqb-true}
 use Rattle.ps_diagram.specs.Tree.{Tree}
 use Rattle.ps_diagram.specs.Table.{Table, IsNode, Keeps, tree_of}
-use Rattle.ps_diagram.specs.Known.{Knows, KnowsPairs, pair_eq}
+use Rattle.ps_diagram.specs.Inner.Known.{Knows, KnowsPairs, pair_eq}
 use Rattle.ps_diagram.proofs.Cells.{bool_cases, keeps_refl}
 use Rattle.ps_diagram.proofs.Keys.{and_both}
 

@@ -7,7 +7,7 @@ use Rattle.std.specs.Prelude.{AllPairs, ◌≢◌}
 use Rattle.ps_diagram.specs.declared.classes.Class.{Class}
 use Rattle.ps_diagram.specs.Table.{Table}
 use Rattle.ps_diagram.specs.Reached.{AreLeaves}
-use Rattle.ps_diagram.specs.Numbered.{class_at, pair_at, AreOf, IsPlaced}
+use Rattle.ps_diagram.specs.Inner.Numbered.{class_at, pair_at, AreOf, IsPlaced}
 use Rattle.ps_diagram.proofs.Cells.{bool_cases, push_each}
 
 -- leaves with least letters that rise are different

@@ -5,7 +5,7 @@ use Rattle.ps_diagram.specs.declared.view.View.TheVariants.{Nothing, Leaf, Test}
 use Rattle.ps_diagram.specs.Letters.{assignment}
 use Rattle.ps_diagram.specs.Tree.{leaf_at}
 use Rattle.ps_diagram.specs.Table.{Table, IsSoundTable, tree_of}
-use Rattle.ps_diagram.specs.Parts.{IsPart}
+use Rattle.ps_diagram.specs.Inner.Parts.{IsPart}
 use Rattle.ps_diagram.specs.Views.{Sees}
 use Rattle.ps_diagram.proofs.Canon.{blind-from, same_tree}
 use Rattle.ps_diagram.proofs.Letters.{same_by_numbers}

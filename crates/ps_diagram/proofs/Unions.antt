@@ -8,7 +8,7 @@ use Rattle.ps_label.specs.Truth.{truth, all_true, any_true}
 use Rattle.ps_diagram.specs.Labels.{AreOver, HaveTruths, IsOneOrNone, one_where}
 use Rattle.ps_diagram.specs.Leaves.{joined}
 use Rattle.ps_diagram.specs.Table.{Table, IsNode, Keeps, leaf_of}
-use Rattle.ps_diagram.specs.Unions.{IsTruth, first_leaf, leaves_of}
+use Rattle.ps_diagram.specs.Inner.Unions.{IsTruth, first_leaf, leaves_of}
 use Rattle.ps_diagram.proofs.Cells.{keeps_refl}
 use Rattle.ps_diagram.proofs.KnownLemmas.{keeps_trans}
 use Rattle.ps_diagram.proofs.Truths.{IsDecided, decided_more, joined_of, leaf_kept, truths_kept}

@@ -1,16 +1,11 @@
 pub mod Letters
 pub mod Tree
 pub mod Table
-pub mod Parts
 pub mod Leaves
 pub mod Labels
 pub mod Split
-pub mod Known
 pub mod Clashes
 pub mod Views
 pub mod Reached
-pub mod Rests
-pub mod Numbered
 pub mod Classes
-pub mod Rows
-pub mod Unions
+pub mod Inner

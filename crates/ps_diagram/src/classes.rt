@@ -4,11 +4,11 @@ ghost use Rattle.std.specs.Prelude.{◌≡◌, ◌≢◌, ℕ, ◌+◌, ◌<◌,
 ghost use Rattle.indexmap.specs.IndexMap.{get};
 ghost use Rattle.ps_diagram.specs.Tree.{Tree, IsBlind, leaf_at};
 ghost use Rattle.ps_diagram.specs.Table.{IsNode, IsSoundTable, Keeps, tree_of};
-ghost use Rattle.ps_diagram.specs.Known.{Knows};
+ghost use Rattle.ps_diagram.specs.Inner.Known.{Knows};
 ghost use Rattle.ps_diagram.specs.Split.{IsConstant};
 ghost use Rattle.ps_diagram.specs.Classes.{AreClasses};
-ghost use Rattle.ps_diagram.specs.Numbered.{AreOf, AreOfLeaves, IsPlaced};
-ghost use Rattle.ps_diagram.specs.Rests.{IsDivided, IsDividedTest, IsTested, KnowsTests, LeadsToNodes, test_eq};
+ghost use Rattle.ps_diagram.specs.Inner.Numbered.{AreOf, AreOfLeaves, IsPlaced};
+ghost use Rattle.ps_diagram.specs.Inner.Rests.{IsDivided, IsDividedTest, IsTested, KnowsTests, LeadsToNodes, test_eq};
 
 use crate::split::Split;
 use crate::store::Store;

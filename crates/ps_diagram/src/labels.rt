@@ -6,7 +6,7 @@ ghost use Rattle.ps_label.specs.Truth.{expressions, is_in, label_truth, truth};
 ghost use Rattle.ps_diagram.specs.Table.{IsNode, Keeps, leaf_of};
 ghost use Rattle.ps_diagram.specs.Labels.{AreNodesOf, AreOverFrom, HaveTruths, IsOneOrNone, IsOver, one_where};
 ghost use Rattle.ps_diagram.specs.Leaves.{joined};
-ghost use Rattle.ps_diagram.specs.Unions.{IsTruth, first_leaf, leaves_of};
+ghost use Rattle.ps_diagram.specs.Inner.Unions.{IsTruth, first_leaf, leaves_of};
 
 use crate::fault::OverlayError;
 use crate::store::Store;

@@ -6,8 +6,8 @@ ghost use Rattle.std.specs.Option.{option_copied};
 ghost use Rattle.indexmap.specs.IndexMap.{get, index_of};
 ghost use Rattle.ps_diagram.specs.Tree.{leaf_at};
 ghost use Rattle.ps_diagram.specs.Table.{IsNode, Keeps, leaf_of, tree_of};
-ghost use Rattle.ps_diagram.specs.Known.{IsMapped, Knows};
-ghost use Rattle.ps_diagram.specs.Parts.{IsPart};
+ghost use Rattle.ps_diagram.specs.Inner.Known.{IsMapped, Knows};
+ghost use Rattle.ps_diagram.specs.Inner.Parts.{IsPart};
 
 use crate::store::Store;
 use crate::view::{Node, View};

@@ -5,7 +5,7 @@ ghost use Rattle.indexmap.specs.IndexMap.{get};
 ghost use Rattle.ps_diagram.specs.Table.{IsNode, Keeps, leaf_of, tree_of};
 ghost use Rattle.ps_diagram.specs.Split.{IsConstant};
 ghost use Rattle.ps_diagram.specs.Leaves.{AreAlike, joined};
-ghost use Rattle.ps_diagram.specs.Known.{IsClash, IsOverlay, KnowsPairs, pair_eq};
+ghost use Rattle.ps_diagram.specs.Inner.Known.{IsClash, IsOverlay, KnowsPairs, pair_eq};
 ghost use Rattle.ps_diagram.specs.Clashes.{TellsClash};
 
 use crate::fault::OverlayError;

@@ -2,7 +2,7 @@
 //! on.
 
 ghost use Rattle.std.specs.Prelude.{◌≡◌, ℕ, ◌+◌, ◌%◌, ◌^◌, ◌<◌, ◌≤◌, List, IfOk, length, slice_get, slice_index_or};
-ghost use Rattle.ps_diagram.specs.Rows.{AreLeafNodes, IsRow, LeadsOn};
+ghost use Rattle.ps_diagram.specs.Inner.Rows.{AreLeafNodes, IsRow, LeadsOn};
 ghost use Rattle.ps_diagram.specs.Table.{IsNode, Keeps, leaf_of};
 
 use crate::store::Store;

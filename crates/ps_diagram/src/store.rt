@@ -3,7 +3,7 @@
 ghost use Rattle.std.specs.Prelude.{◌≡◌, ◌↔◌, IsTrue, ℕ, ◌+◌, ◌^◌, ◌≤◌, ◌<◌, [], IfOk, OnOk, length, slice_index_or};
 ghost use Rattle.std.specs.Prelude.{Option, Some, None, cond};
 ghost use Rattle.ps_diagram.specs.Tree.{IsBlind, IsFrom, IsReduced, IsTestOf};
-ghost use Rattle.ps_diagram.specs.Parts.{IsPart};
+ghost use Rattle.ps_diagram.specs.Inner.Parts.{IsPart};
 ghost use Rattle.ps_diagram.specs.Table.{Table, IsNode, IsSoundTable, IsWithin, Keeps, leaf_of, tree_of, tree_in};
 ghost use Rattle.ps_diagram.specs.Views.{Sees};
 ghost use Rattle.ps_diagram.specs.declared.view.View.TheVariants.{Nothing};

@@ -5,7 +5,7 @@ use Rattle.std.proofs.lemmas.List.{length_push, get_or_push, get_or_append_left}
 use Rattle.ps_game.specs.Games.{ParityGame}
 use Rattle.ps_game.specs.Regions.{has}
 use Rattle.ps_certificate.specs.Certificates.{EntryData, no_entry}
-use Rattle.ps_machine.specs.Building.{HasRow, IsEntryFor, IsEntryAmong, AreEntries}
+use Rattle.ps_machine.specs.Inner.Building.{HasRow, IsEntryFor, IsEntryAmong, AreEntries}
 use Rattle.ps_machine.proofs.GameKeys.Exploring.{less_or_last}
 
 module _ (game : ParityGame) (region : List Bool) (first second : ℕ → Option ℕ) (first_rows second_rows : List (List ℕ))

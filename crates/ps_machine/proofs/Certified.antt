@@ -12,7 +12,7 @@ use Rattle.ps_game.specs.Regions.{has}
 use Rattle.ps_certificate.specs.Certificates.{CertificateData, EntryData, no_entry, winner_of, choice_of, counts_of}
 use Rattle.ps_certificate.specs.Certificates.{opposing, opposing_at, Fits, Remains, HasRightMove, KeepsCount, IsValid}
 use Rattle.ps_measure.specs.Ranks.{AreRanks, count_of}
-use Rattle.ps_machine.specs.Building.{IsEntryAmong, AreEntries}
+use Rattle.ps_machine.specs.Inner.Building.{IsEntryAmong, AreEntries}
 use Rattle.ps_machine.specs.Solving.{DiffersInCounts, HasLeastCounts}
 use Rattle.ps_zielonka.specs.Answers.{others}
 

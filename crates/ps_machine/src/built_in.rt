@@ -7,7 +7,7 @@ ghost use Rattle.ps_game.specs.Games.{vertex_count, owner_of};
 ghost use Rattle.ps_game.specs.Plays.{Holds};
 ghost use Rattle.ps_game.specs.Regions.{has, move_at};
 ghost use Rattle.ps_measure.specs.Ranks.{AreRanks};
-ghost use Rattle.ps_machine.specs.Building.{Adds, AreEntries, IsEntryAmong, IsEntryFor};
+ghost use Rattle.ps_machine.specs.Inner.Building.{Adds, AreEntries, IsEntryAmong, IsEntryFor};
 ghost use Rattle.ps_zielonka.specs.Answers.{others};
 ghost use Rattle.ps_machine.specs.Solving.{HasLeastCounts};
 ghost use Rattle.ps_machine.specs.declared.fault.SolveFault.TheVariants as faults;

@@ -3,12 +3,12 @@
 ghost use Rattle.std.specs.Prelude.{◌≡◌, ◌≢◌, ℕ, ◌<◌, true, false, Any, IfOk, OnOk, Some, length, slice_get};
 ghost use Rattle.std.specs.List.{All, Contains};
 ghost use Rattle.ps_diagram.specs.Table.{Keeps};
-ghost use Rattle.ps_machine.specs.Drawing.{IsOwn, KeepsRows};
+ghost use Rattle.ps_machine.specs.Inner.Drawing.{IsOwn, KeepsRows};
 ghost use Rattle.ps_machine.specs.Extracting.{StandsFor};
 ghost use Rattle.ps_machine.specs.Numbering.{StandsAt};
-ghost use Rattle.ps_machine.specs.Placing.{PlaysClass};
-ghost use Rattle.ps_machine.specs.Planning.{AreDividedBy, AreRowsBy, CanEnterBy, IsDrawnBy, IsEnteredBy};
-ghost use Rattle.ps_machine.specs.Planning.{IsPlacedBy, IsPlanned, board_by};
+ghost use Rattle.ps_machine.specs.Inner.Placing.{PlaysClass};
+ghost use Rattle.ps_machine.specs.Inner.Planning.{AreDividedBy, AreRowsBy, CanEnterBy, IsDrawnBy, IsEnteredBy};
+ghost use Rattle.ps_machine.specs.Inner.Planning.{IsPlacedBy, IsPlanned, board_by};
 ghost use Rattle.ps_machine.specs.declared.key.Key.TheVariants.{First};
 
 use crate::divided::Divided;

@@ -3,7 +3,7 @@
 ghost use Rattle.std.specs.Prelude.{◌≡◌, ℕ, ◌<◌, ◌≤◌, IsTrue, length, map, slice_index};
 ghost use Rattle.ps_hoa.specs.Memory.{bytes_of};
 ghost use Rattle.ps_diagram.specs.Table.{IsNode};
-ghost use Rattle.ps_machine.specs.Assembling.{machine_of};
+ghost use Rattle.ps_machine.specs.Inner.Assembling.{machine_of};
 ghost use Rattle.ps_machine.specs.Machines.{IsWholeMachine, behaviour, row_of, step_of};
 
 use indexmap::IndexSet;

@@ -1,7 +1,7 @@
 //! What the machine of a certificate remembers.
 
 ghost use Rattle.std.specs.Prelude.{◌≡◌, IfOk, OnOk};
-ghost use Rattle.ps_machine.specs.Drawing.{AreMemories, KeepsAt, mark_of};
+ghost use Rattle.ps_machine.specs.Inner.Drawing.{AreMemories, KeepsAt, mark_of};
 
 use crate::key::Key;
 use indexmap::IndexSet;

@@ -5,10 +5,10 @@ ghost use Rattle.std.specs.List.{All, AllZip, Contains};
 ghost use Rattle.ps_automaton.specs.Automata.{pair_of};
 ghost use Rattle.ps_diagram.specs.Table.{Keeps};
 ghost use Rattle.ps_machine.specs.Boards.{IsClass};
-ghost use Rattle.ps_machine.specs.Drawing.{IsReply, KeepsRows};
+ghost use Rattle.ps_machine.specs.Inner.Drawing.{IsReply, KeepsRows};
 ghost use Rattle.ps_machine.specs.Numbering.{StandsAt};
-ghost use Rattle.ps_machine.specs.Planning.{AreDividedBy, AreRowsBy, CanEnterBy, IsAnswerBy, IsDrawnBy};
-ghost use Rattle.ps_machine.specs.Planning.{IsPlanned, IsRestBy, NamesAnswerBy, board_by};
+ghost use Rattle.ps_machine.specs.Inner.Planning.{AreDividedBy, AreRowsBy, CanEnterBy, IsAnswerBy, IsDrawnBy};
+ghost use Rattle.ps_machine.specs.Inner.Planning.{IsPlanned, IsRestBy, NamesAnswerBy, board_by};
 ghost use Rattle.ps_machine.specs.declared.key.Key.TheVariants.{First};
 
 use crate::drawing::{Drawing, Plan};

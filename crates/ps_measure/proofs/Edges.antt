@@ -10,8 +10,8 @@ use Rattle.ps_components.specs.Graphs.{Digraph, Link}
 use Rattle.ps_game.specs.Games.{ParityGame, IsGame, HasEdge, vertex_count, owner_of, successors_of}
 use Rattle.ps_game.specs.Regions.{has, move_at}
 use Rattle.ps_game.specs.Ranking.{RemainsWithin}
-use Rattle.ps_measure.specs.Remaining.{RemainingData, is_move, remaining_graph, star_graph, IsReverse}
-use Rattle.ps_measure.specs.Remaining.{LowData, low_graph, low_weight}
+use Rattle.ps_measure.specs.Inner.Remaining.{RemainingData, is_move, remaining_graph, star_graph, IsReverse}
+use Rattle.ps_measure.specs.Inner.Remaining.{LowData, low_graph, low_weight}
 use Rattle.ps_measure.specs.Sums.{counted}
 
 -- the edges that remain within the region, of the data of a graph

@@ -7,7 +7,7 @@ use Rattle.std.proofs.lemmas.Option.{slice_get_within}
 use Rattle.ps_components.specs.Graphs.{Digraph, Link, Way, last, next}
 use Rattle.ps_components.specs.ComponentLists.{ComponentsData, AreComponents, IsIn}
 use Rattle.ps_measure.specs.Sums.{sum_below}
-use Rattle.ps_measure.specs.Columns.{AreCounts, weight_from, weights_from}
+use Rattle.ps_measure.specs.Inner.Columns.{AreCounts, weight_from, weights_from}
 use Rattle.ps_measure.proofs.Summing.{sum_below-le, sum_below-more, sum_below-zero}
 
 -- counts grow along links, and so along ways

@@ -12,10 +12,10 @@ use Rattle.ps_game.specs.Plays.{greatest, other_player}
 use Rattle.ps_game.specs.Regions.{has, move_at}
 use Rattle.ps_game.specs.Ranking.{KeepRuleWithin}
 use Rattle.ps_measure.specs.Sums.{sum_below}
-use Rattle.ps_measure.specs.Remaining.{RemainingData, remaining_graph, star_graph, IsReverse, LowData, low_graph}
-use Rattle.ps_measure.specs.Remaining.{low_weight}
-use Rattle.ps_measure.specs.Columns.{AreCounts, AreLeast}
-use Rattle.ps_measure.specs.Filling.{IsLowCycle, AreLevels}
+use Rattle.ps_measure.specs.Inner.Remaining.{RemainingData, remaining_graph, star_graph, IsReverse, LowData, low_graph}
+use Rattle.ps_measure.specs.Inner.Remaining.{low_weight}
+use Rattle.ps_measure.specs.Inner.Columns.{AreCounts, AreLeast}
+use Rattle.ps_measure.specs.Inner.Filling.{IsLowCycle, AreLevels}
 use Rattle.ps_measure.specs.Ranks.{count_with, AreLeastFor, IsLostCycle}
 use Rattle.ps_measure.proofs.Summing.{sum_below-le}
 use Rattle.ps_measure.proofs.Edges.{Remains, link_remains, remains_link, low_link, heavy_level}

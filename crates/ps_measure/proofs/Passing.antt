@@ -7,8 +7,9 @@ use Rattle.std.proofs.lemmas.List.{length-set}
 use Rattle.ps_components.specs.Graphs.{Digraph, Link}
 use Rattle.ps_components.specs.ComponentLists.{ComponentsData, AreComponents, AreMet, IsIn}
 use Rattle.ps_measure.specs.Sums.{sum_below}
-use Rattle.ps_measure.specs.Columns.{AreCounts, AreRoots, weights_from, IsColumn, AreRaised, IsPassed, inside, across}
-use Rattle.ps_measure.specs.Columns.{GrowsBelow, ArePassedFrom, value_at, value_of, AreLeast}
+use Rattle.ps_measure.specs.Inner.Columns.{AreCounts, AreRoots, weights_from, IsColumn, AreRaised, IsPassed, inside}
+use Rattle.ps_measure.specs.Inner.Columns.{across}
+use Rattle.ps_measure.specs.Inner.Columns.{GrowsBelow, ArePassedFrom, value_at, value_of, AreLeast}
 use Rattle.ps_measure.proofs.Growing.{one_count, weights_from-more, weights_from-least, weights_from-bound}
 use Rattle.ps_measure.proofs.Writing.{written}
 

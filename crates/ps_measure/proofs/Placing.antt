@@ -7,7 +7,7 @@ use Rattle.std.proofs.lemmas.Bool.{cases_eq}
 use Rattle.std.proofs.lemmas.Option.{slice_get_within}
 use Rattle.ps_components.specs.Graphs.{Digraph}
 use Rattle.ps_components.specs.ComponentLists.{ComponentsData, AreComponents}
-use Rattle.ps_measure.specs.Columns.{value_of}
+use Rattle.ps_measure.specs.Inner.Columns.{value_of}
 use Rattle.ps_measure.specs.Ranks.{count_of, width_of}
 use Rattle.ps_measure.specs.Sums.{sum_below, counted}
 use Rattle.ps_measure.specs.Tables.{HasPut, HasColumn}

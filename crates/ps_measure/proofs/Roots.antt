@@ -5,9 +5,9 @@ use Rattle.std.specs.Prelude.{slice_index, slice_get}
 use Rattle.std.proofs.lemmas.Bool.{cases_eq}
 use Rattle.ps_components.specs.Graphs.{Link}
 use Rattle.ps_components.proofs.Places.{slice_get-append_left, slice_get-push, slice_get-push_cases}
-use Rattle.ps_measure.specs.Columns.{AreRoots}
-use Rattle.ps_measure.specs.Groups.{IsGroup}
-use Rattle.ps_measure.specs.Remaining.{StarData, star_graph, LowData, low_graph, low_weight}
+use Rattle.ps_measure.specs.Inner.Columns.{AreRoots}
+use Rattle.ps_measure.specs.Inner.Groups.{IsGroup}
+use Rattle.ps_measure.specs.Inner.Remaining.{StarData, star_graph, LowData, low_graph, low_weight}
 use Rattle.ps_measure.proofs.Edges.{heavy_inside, heavy_level}
 
 -- the target of a place of a vertex

@@ -10,9 +10,9 @@ use Rattle.ps_game.specs.Games.{ParityGame, vertex_count}
 use Rattle.ps_measure.specs.Sums.{counted, count_below}
 use Rattle.ps_measure.specs.Ranks.{count_of, total_of, raised_of, most_raises, count_with, AreLeastFor}
 use Rattle.ps_measure.specs.Tables.{AreZero, HasColumn}
-use Rattle.ps_measure.specs.Filling.{AreRanked, IsFilled}
-use Rattle.ps_measure.specs.Remaining.{LowData, low_graph, low_weight}
-use Rattle.ps_measure.specs.Columns.{AreRoots}
+use Rattle.ps_measure.specs.Inner.Filling.{AreRanked, IsFilled}
+use Rattle.ps_measure.specs.Inner.Remaining.{LowData, low_graph, low_weight}
+use Rattle.ps_measure.specs.Inner.Columns.{AreRoots}
 use Rattle.ps_measure.proofs.Summing.{sum_below-le, sum_below-same, sum_below-bound, sum_below-zero, sum_below-next}
 use Rattle.ps_measure.proofs.Summing.{counted-bound, count_below-bound, positive_none, positive_bound, raised_below}
 use Rattle.ps_measure.proofs.Summing.{raised_none, raised_same}

@@ -9,9 +9,10 @@ use Rattle.std.proofs.lemmas.Option.{slice_get-get_or, get_or_from_slice_get}
 use Rattle.ps_components.specs.Graphs.{Digraph, Link}
 use Rattle.ps_components.specs.ComponentLists.{ComponentsData, AreComponents, AreMet, IsIn}
 use Rattle.ps_measure.specs.Sums.{sum_below}
-use Rattle.ps_measure.specs.Remaining.{LowData, low_graph, low_weight}
-use Rattle.ps_measure.specs.Columns.{AreRoots, AreRaised, IsColumn, IsCounting, IsPassed, inside, across, GrowsBelow}
-use Rattle.ps_measure.specs.Columns.{ArePassedFrom, IsLost, AreLeast, value_of}
+use Rattle.ps_measure.specs.Inner.Remaining.{LowData, low_graph, low_weight}
+use Rattle.ps_measure.specs.Inner.Columns.{AreRoots, AreRaised, IsColumn, IsCounting, IsPassed, inside, across}
+use Rattle.ps_measure.specs.Inner.Columns.{GrowsBelow}
+use Rattle.ps_measure.specs.Inner.Columns.{ArePassedFrom, IsLost, AreLeast, value_of}
 use Rattle.ps_measure.proofs.Summing.{sum_below-bound}
 use Rattle.ps_measure.proofs.Rows.{weight_light}
 use Rattle.ps_measure.proofs.Writing.{written}

@@ -7,9 +7,9 @@ use Rattle.ps_game.specs.Regions.{has, move_at}
 use Rattle.ps_game.specs.Ranking.{ListsPriorities}
 use Rattle.ps_measure.specs.declared.fault.MeasureFault.{MeasureFault}
 use Rattle.ps_measure.specs.declared.fault.MeasureFault.TheVariants.{BadCycle, OutOfMemory}
-use Rattle.ps_measure.specs.Remaining.{RemainingData, StarData, remaining_graph, star_graph, IsReverse, LowData}
-use Rattle.ps_measure.specs.Remaining.{low_graph, low_weight}
-use Rattle.ps_measure.specs.Filling.{AreRanked, IsFilled, IsLowRefusal, AreLevels}
+use Rattle.ps_measure.specs.Inner.Remaining.{RemainingData, StarData, remaining_graph, star_graph, IsReverse, LowData}
+use Rattle.ps_measure.specs.Inner.Remaining.{low_graph, low_weight}
+use Rattle.ps_measure.specs.Inner.Filling.{AreRanked, IsFilled, IsLowRefusal, AreLevels}
 use Rattle.ps_measure.specs.Ranks.{AreRanks, IsRefusal, total_of, raised_of, most_raises}
 use Rattle.ps_measure.proofs.Least.{least_for, lost_cycle}
 use Rattle.ps_measure.proofs.Rows.{Row, ranked_more, raised-le-total, raised-le-most}

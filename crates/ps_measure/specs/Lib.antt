@@ -1,11 +1,5 @@
-pub mod Cells
-pub mod Chains
-pub mod Columns
 pub mod FaultNames
-pub mod Filling
-pub mod Groups
-pub mod Outcomes
+pub mod Inner
 pub mod Ranks
-pub mod Remaining
 pub mod Sums
 pub mod Tables

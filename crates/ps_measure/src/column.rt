@@ -4,10 +4,10 @@ ghost use Rattle.std.specs.Prelude.{◌≡◌, ℕ, ◌<◌, length, nat_lt, IfO
 ghost use Rattle.std.specs.Bool.{OnFalse, OnTrue};
 ghost use Rattle.ps_components.specs.Graphs.{Digraph, Link};
 ghost use Rattle.ps_components.specs.ComponentLists.{AreComponents, AreMet, IsIn};
-ghost use Rattle.ps_measure.specs.Remaining.{low_graph, low_weight};
-ghost use Rattle.ps_measure.specs.Columns.{AreRoots, AreRaised, IsCounting, IsPassed, GrowsBelow, ArePassedFrom};
-ghost use Rattle.ps_measure.specs.Columns.{IsLost, AreLeast, value_of};
-ghost use Rattle.ps_measure.specs.Outcomes.{IsClosing};
+ghost use Rattle.ps_measure.specs.Inner.Remaining.{low_graph, low_weight};
+ghost use Rattle.ps_measure.specs.Inner.Columns.{AreRoots, AreRaised, IsCounting, IsPassed, GrowsBelow, ArePassedFrom};
+ghost use Rattle.ps_measure.specs.Inner.Columns.{IsLost, AreLeast, value_of};
+ghost use Rattle.ps_measure.specs.Inner.Outcomes.{IsClosing};
 ghost use Rattle.ps_measure.specs.Ranks.{count_of, width_of};
 ghost use Rattle.ps_measure.specs.Tables.{HasColumn};
 ghost use Rattle.ps_measure.specs.Sums.{count_below};

@@ -1,7 +1,7 @@
 //! Cells of chains of counts, at 12 bytes each as long as their numbers are small.
 
 ghost use Rattle.std.specs.Prelude.{◌≡◌, ◌<◌, ◌∷◌, [], ◌++◌, IfOk, OnOk, OnErr, length, slice_index_or};
-ghost use Rattle.ps_measure.specs.Cells.{no_count};
+ghost use Rattle.ps_measure.specs.Inner.Cells.{no_count};
 
 use crate::packed::NARROW;
 use crate::table::CountCell;
@@ -28,7 +28,7 @@ pub struct CountCells {
 impl Model for CountCells {
     ghost use Rattle.std.specs.Prelude.{List, map, if◌then◌else◌};
     ghost use Rattle.ps_measure.specs.declared.table.CountCell.{CountCell};
-    ghost use Rattle.ps_measure.specs.Cells.{count_cell_of};
+    ghost use Rattle.ps_measure.specs.Inner.Cells.{count_cell_of};
 
     ghost Value = { List CountCell };
 

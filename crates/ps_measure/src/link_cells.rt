@@ -1,7 +1,7 @@
 //! Cells of chains of links, at 8 bytes each as long as their numbers are small.
 
 ghost use Rattle.std.specs.Prelude.{◌≡◌, ◌<◌, ◌∷◌, [], ◌++◌, IfOk, OnOk, length, slice_index_or};
-ghost use Rattle.ps_measure.specs.Cells.{no_link};
+ghost use Rattle.ps_measure.specs.Inner.Cells.{no_link};
 
 use crate::back::Cell;
 use crate::packed::NARROW;
@@ -27,7 +27,7 @@ pub(crate) struct LinkCells {
 impl Model for LinkCells {
     ghost use Rattle.std.specs.Prelude.{List, map, if◌then◌else◌};
     ghost use Rattle.ps_measure.specs.declared.back.Cell.{Cell};
-    ghost use Rattle.ps_measure.specs.Cells.{link_of};
+    ghost use Rattle.ps_measure.specs.Inner.Cells.{link_of};
 
     ghost Value = { List Cell };
 

@@ -1,7 +1,7 @@
 //! The edges that remain between vertices whose priorities do not pass a given one, against their direction.
 
 ghost use Rattle.std.specs.Prelude.{◌≡◌, ◌<◌, nat_le, slice_index};
-ghost use Rattle.ps_measure.specs.Remaining.{low_graph, low_weight};
+ghost use Rattle.ps_measure.specs.Inner.Remaining.{low_graph, low_weight};
 
 use crate::back::Back;
 use crate::packed::Packed;
@@ -20,7 +20,7 @@ pub(crate) struct Low<'a> {
 }
 
 impl<'a> Model for Low<'a> {
-    ghost use Rattle.ps_measure.specs.Remaining.{LowData, IsLow};
+    ghost use Rattle.ps_measure.specs.Inner.Remaining.{LowData, IsLow};
 
     ghost Value = { LowData };
 

@@ -2,7 +2,7 @@
 
 ghost use Rattle.std.specs.Prelude.{◌≡◌, ◌<◌};
 ghost use Rattle.ps_game.specs.Games.{vertex_count};
-ghost use Rattle.ps_measure.specs.Remaining.{remaining_graph, may_remain};
+ghost use Rattle.ps_measure.specs.Inner.Remaining.{remaining_graph, may_remain};
 
 use ps_components::Graph;
 use ps_game::{Arena, Player, Region, Strategy};
@@ -18,7 +18,7 @@ pub(crate) struct Remaining<'a, A: Arena> {
 }
 
 impl<'a, A: Arena> Model for Remaining<'a, A> {
-    ghost use Rattle.ps_measure.specs.Remaining.{RemainingData, IsRemaining};
+    ghost use Rattle.ps_measure.specs.Inner.Remaining.{RemainingData, IsRemaining};
 
     ghost Value = { RemainingData };
 

@@ -7,10 +7,10 @@ use Rattle.ps_text.specs.Readers.{tail}
 use Rattle.ps_text.proofs.Simple.{none_is_some, same_some}
 use Rattle.ps_text.proofs.Covered.{Enters, Avoids, enters_then, enters_one, enters_mapped}
 use Rattle.ps_text.proofs.Meeting.{left_entered, right_otherwise, meets_shrinks, meets_give, meets_next}
-use Rattle.ps_pgsolver.specs.Answered.{found_of}
+use Rattle.ps_pgsolver.specs.Inner.Answered.{found_of}
 use Rattle.ps_pgsolver.specs.GameTexts.{pg_causes, setting, keyword, keyword_in, value_line, name, name_in, number_in}
 use Rattle.ps_pgsolver.specs.GameTexts.{comma, comma_in, BadId, more_successor, new_id, node, entry}
-use Rattle.ps_pgsolver.specs.Heads.{is_number, is_comma, name_of}
+use Rattle.ps_pgsolver.specs.Inner.Heads.{is_number, is_comma, name_of}
 use Rattle.ps_pgsolver.specs.Nodes.{NodeData}
 use Rattle.ps_pgsolver.specs.Signs.{Sign, Number, Word, Name, Comma}
 use Rattle.ps_pgsolver.specs.declared.fault.PgCause.{PgCause}

@@ -10,7 +10,7 @@ use Rattle.ps_text.specs.Readers.{IsSuffix, Stops}
 use Rattle.ps_text.proofs.Laws.{Joint, Laws, Apart}
 use Rattle.ps_text.proofs.Covered.{Enters, Avoids}
 use Rattle.ps_text.proofs.Meeting.{many_then, many_fails, many_ends, then_meets, then_fails, exits, meets_mapped}
-use Rattle.ps_pgsolver.specs.Answered.{ReadsAs, found_of}
+use Rattle.ps_pgsolver.specs.Inner.Answered.{ReadsAs, found_of}
 use Rattle.ps_pgsolver.specs.GameTexts.{pg_causes}
 use Rattle.ps_pgsolver.specs.Signs.{Sign}
 use Rattle.ps_pgsolver.specs.declared.fault.PgCause.{PgCause}

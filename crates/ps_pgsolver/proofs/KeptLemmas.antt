@@ -13,7 +13,7 @@ use Rattle.ps_game.specs.Games.{VertexData, ParityGame, HasNoQuote}
 use Rattle.ps_game.specs.Names.{name_bytes, with_none}
 use Rattle.ps_game.proofs.NamesKept.{with_none-all}
 use Rattle.ps_pgsolver.specs.GamesOf.{draft_of, vertex_of}
-use Rattle.ps_pgsolver.specs.Kept.{AreKept, nodes_kept, node_kept, vertex_kept, names_with}
+use Rattle.ps_pgsolver.specs.Inner.Kept.{AreKept, nodes_kept, node_kept, vertex_kept, names_with}
 use Rattle.ps_pgsolver.specs.Nodes.{NodeData, IsNode, AreNodes, KnowsEach, KnowsAll, knows_each, knows_all, ids_of}
 use Rattle.ps_pgsolver.specs.Nodes.{names_of}
 use Rattle.ps_pgsolver.proofs.NodeLemmas.{AreNodes-push}

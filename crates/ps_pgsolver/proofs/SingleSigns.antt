@@ -9,8 +9,9 @@ use Rattle.ps_text.specs.Readers.{tail}
 use Rattle.ps_text.proofs.Simple.{same_some, none_is_some}
 use Rattle.ps_text.proofs.Meeting.{meets_next, meets_bad_next, meets_refusal}
 use Rattle.ps_ids.proofs.Members.{any-from_Contains, Contains-any}
-use Rattle.ps_pgsolver.specs.Answered.{ReadsAs, found_of, ReadsKnown, is_known, number_answer, id_answer, owner_answer}
-use Rattle.ps_pgsolver.specs.Answered.{successor_answer, first_answer, semicolon_answer, comma_answer}
+use Rattle.ps_pgsolver.specs.Inner.Answered.{ReadsAs, found_of, ReadsKnown, is_known, number_answer, id_answer}
+use Rattle.ps_pgsolver.specs.Inner.Answered.{owner_answer}
+use Rattle.ps_pgsolver.specs.Inner.Answered.{successor_answer, first_answer, semicolon_answer, comma_answer}
 use Rattle.ps_pgsolver.specs.Causes.{cause_number, PgFault}
 use Rattle.ps_pgsolver.specs.GameTexts.{pg_causes, too_large, number_in, comma_in, semicolon_in, BadNumber, BadId}
 use Rattle.ps_pgsolver.specs.GameTexts.{BadOwner, BadSuccessor, BadFirst, IsUnknown, number, new_id, owner, successor}

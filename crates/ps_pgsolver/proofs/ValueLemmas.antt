@@ -3,7 +3,7 @@ use Rattle.std.proofs.Common.{◌≡◌, ℕ, ◌<◌, ◌≤◌, Some, Ok, Err,
 use Rattle.std.proofs.lemmas.Bool.{lt-ltb, le-ltb}
 use Rattle.ps_text.specs.declared.faults.Fault.TheVariants as faults
 use Rattle.ps_pgsolver.specs.declared.fault.PgCause.TheVariants as causes
-use Rattle.ps_pgsolver.specs.Answered.{number_answer}
+use Rattle.ps_pgsolver.specs.Inner.Answered.{number_answer}
 use Rattle.ps_pgsolver.specs.GameTexts.{too_large}
 use Rattle.ps_pgsolver.specs.Signs.{Number}
 

@@ -3,7 +3,7 @@ use Rattle.std.proofs.Common.{rules, ◌≡◌, ℕ, List, [], ◌∷◌, Option
 use Rattle.std.proofs.lemmas.Result.{err_from_is_err_and}
 use Rattle.ps_text.specs.Answers.{Piece, Stream, signs, first_of, next_of, offset_of}
 use Rattle.ps_text.proofs.Whole.{answers_ok, answers_fault, answers_trailing}
-use Rattle.ps_pgsolver.specs.Answered.{TextAnswers, FaultAnswers, found_of, end_answer}
+use Rattle.ps_pgsolver.specs.Inner.Answered.{TextAnswers, FaultAnswers, found_of, end_answer}
 use Rattle.ps_pgsolver.specs.GameTexts.{game}
 use Rattle.ps_pgsolver.specs.Nodes.{NodeData}
 use Rattle.ps_pgsolver.specs.Signs.{Sign}

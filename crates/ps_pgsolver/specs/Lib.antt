@@ -1,13 +1,10 @@
 pub mod Ends
 pub mod Signs
-pub mod Lexer
-pub mod Heads
 pub mod Causes
 pub mod Nodes
 pub mod GameTokens
 pub mod GameTexts
-pub mod Answered
 pub mod GamesOf
-pub mod Kept
 pub mod Reading
 pub mod Written
+pub mod Inner

@@ -4,7 +4,7 @@ ghost use Rattle.std.specs.Prelude.{◌≡◌, ◌++◌, ◌∷◌, ◌<◌, ◌
 ghost use Rattle.std.specs.Prelude.{length, map, vec_len, vec_capacity};
 ghost use Rattle.ps_game.specs.Names.{name_bytes, with_none};
 ghost use Rattle.ps_pgsolver.specs.GamesOf.{named_game_of};
-ghost use Rattle.ps_pgsolver.specs.Kept.{AreKept, nodes_kept, node_with, names_with};
+ghost use Rattle.ps_pgsolver.specs.Inner.Kept.{AreKept, nodes_kept, node_with, names_with};
 ghost use Rattle.ps_pgsolver.specs.Nodes.{NodeData, IsNode, AreNodes, KnowsAll, ids_of, is_member, knows_all};
 
 use ps_game::{NamedGame, Vertices};

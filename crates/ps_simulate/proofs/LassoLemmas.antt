@@ -16,7 +16,7 @@ use Rattle.ps_circuit.specs.Values.{Moment, Steps, GoesOn, resets}
 use Rattle.ps_simulate.specs.Stimuli.{letters_of}
 use Rattle.ps_simulate.specs.Lassos.{IsLetterOf, AreLetters, laps_of, latches_along, IsVerdictOf}
 use Rattle.ps_simulate.specs.LassoRuns.{IsSeen, ReadsWord, RepeatsBy, HasRead}
-use Rattle.ps_simulate.specs.Namings.{IsNaming, names_of, bit_at_place}
+use Rattle.ps_simulate.specs.Inner.Namings.{IsNaming, names_of, bit_at_place}
 use Rattle.ps_simulate.specs.declared.naming.Naming.{Naming}
 use Rattle.ps_simulate.proofs.CountLemmas.{at_push, few_seen}
 use Rattle.std.proofs.Math.Bool.{or-false}

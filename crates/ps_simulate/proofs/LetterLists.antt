@@ -7,7 +7,7 @@ use Rattle.ps_text.specs.declared.faults.Fault.TheVariants.{Text, OutOfMemory}
 use Rattle.ps_simulate.specs.Faults.{StimulusFault}
 use Rattle.ps_simulate.specs.Stimuli.{StimulusData, letters_in}
 use Rattle.ps_simulate.specs.StimulusTexts.{lines_of, IsLettersAnswer}
-use Rattle.ps_simulate.specs.StimulusReading.{HasRead, ReadsLine}
+use Rattle.ps_simulate.specs.Inner.StimulusReading.{HasRead, ReadsLine}
 use Rattle.ps_simulate.proofs.Stimuli.StimulusSteps.{IsStimulusAnswer-line}
 
 pub length-letters_in : (width count : ℕ) (bits : List Bool) → length (letters_in width count bits) ≡ count

@@ -7,10 +7,9 @@ pub mod Lanes
 pub mod LaneRuns
 pub mod Stimuli
 pub mod StimulusTexts
-pub mod StimulusReading
 pub mod Symbols
 pub mod Lassos
 pub mod LassoFaults
 pub mod LassoFaultNames
-pub mod Namings
 pub mod LassoRuns
+pub mod Inner

@@ -10,7 +10,7 @@ ghost use Rattle.ps_simulate.specs.Stimuli.{letters_of};
 ghost use Rattle.ps_simulate.specs.Lassos.{IsVerdictOf};
 ghost use Rattle.ps_simulate.specs.LassoFaults.{HasNoLassoFault, Stands};
 ghost use Rattle.ps_simulate.specs.LassoRuns.{HavePlaces, IsSeen, ReadsWord, RepeatsBy};
-ghost use Rattle.ps_simulate.specs.Namings.{IsNaming, names_of};
+ghost use Rattle.ps_simulate.specs.Inner.Namings.{IsNaming, names_of};
 ghost use Rattle.ps_simulate.specs.declared.lassos.LassoFault.TheVariants.{OutOfMemory};
 
 use crate::fault::{StimulusCause, StimulusFault};

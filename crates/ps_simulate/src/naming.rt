@@ -8,7 +8,8 @@ ghost use Rattle.ps_hoa.specs.Files.{is_among};
 ghost use Rattle.ps_hoa.specs.Memory.{bytes_of};
 ghost use Rattle.ps_hoa.specs.Sound.{AreNames};
 ghost use Rattle.ps_simulate.specs.Symbols.{AreNamesOnce, HasSymbols};
-ghost use Rattle.ps_simulate.specs.Namings.{ArePlacesOf, ArePut, IsNaming, IsPropositionOf, bit_at_place, names_of};
+ghost use Rattle.ps_simulate.specs.Inner.Namings.{ArePlacesOf, ArePut, IsNaming, IsPropositionOf, bit_at_place};
+ghost use Rattle.ps_simulate.specs.Inner.Namings.{names_of};
 
 use crate::role::Role;
 use ps_automaton::Automaton;

@@ -4,7 +4,7 @@ ghost use Rattle.std.specs.Prelude.{◌≡◌, ◌+◌, ◌-◌, ◌^◌, ◌<�
 ghost use Rattle.std.specs.Prelude.{slice_index, All, IsTrue, IfOk, IfSome, IfNone};
 ghost use Rattle.ps_simulate.specs.StimulusTexts.{IsDigit, lines_of, digits_of, divider, IsStimulusAnswer};
 ghost use Rattle.ps_simulate.specs.StimulusTexts.{HasOneAnswer, HasSomeAnswer};
-ghost use Rattle.ps_simulate.specs.StimulusReading.{ReadsLine};
+ghost use Rattle.ps_simulate.specs.Inner.StimulusReading.{ReadsLine};
 
 use crate::fault::{StimulusCause, StimulusFault};
 use ps_text::cursor::{Class, run_length};

@@ -6,8 +6,8 @@ use Rattle.std.proofs.lemmas.Bool.{cases_eq, cases_lt, false≢true}
 use Rattle.ps_game.specs.Games.{ParityGame}
 use Rattle.ps_attractor.specs.Tables.{TablesData, FitsGame, level_of, moves_of}
 use Rattle.ps_zielonka.specs.declared.frame.Frame.{Frame}
-use Rattle.ps_zielonka.specs.Turns.{Solved}
-use Rattle.ps_zielonka.specs.Nests.{from, winner_of, StandsBetween, Waits, IsNest, IsMoved, IsKeptAt}
+use Rattle.ps_zielonka.specs.Inner.Turns.{Solved}
+use Rattle.ps_zielonka.specs.Inner.Nests.{from, winner_of, StandsBetween, Waits, IsNest, IsMoved, IsKeptAt}
 use Rattle.ps_zielonka.proofs.Turning.{in_part_or_rest, Progress-same}
 use Rattle.ps_zielonka.proofs.Sets.{from_at, to_from}
 use Rattle.ps_zielonka.proofs.Below.{Agrees, IsTurned-on, sound_on}

@@ -10,9 +10,9 @@ use Rattle.ps_attractor.specs.Aims.{IsPosed, IsTaken, IsAttracted, IsPlaced, ran
 use Rattle.ps_attractor.proofs.Placing.{stands_after, stands_longer}
 use Rattle.ps_zielonka.specs.declared.level.TheConstants.{UNPLACED}
 use Rattle.ps_zielonka.specs.declared.frame.Frame.{Frame}
-use Rattle.ps_zielonka.specs.Turns.{IsWithout, IsTurned}
-use Rattle.ps_zielonka.specs.Nests.{from, size_from, winner_of, frame_at, steps_left, IsSegment, Waits, Searches}
-use Rattle.ps_zielonka.specs.Nests.{IsSoundBoard, IsNest}
+use Rattle.ps_zielonka.specs.Inner.Turns.{IsWithout, IsTurned}
+use Rattle.ps_zielonka.specs.Inner.Nests.{from, size_from, winner_of, frame_at, steps_left, IsSegment, Waits, Searches}
+use Rattle.ps_zielonka.specs.Inner.Nests.{IsSoundBoard, IsNest}
 use Rattle.ps_zielonka.specs.Depths.{IsClosedToTops}
 use Rattle.ps_zielonka.proofs.Depths.{left_out}
 use Rattle.ps_zielonka.proofs.Forms.{progress_start}

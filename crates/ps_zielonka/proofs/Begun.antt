@@ -8,7 +8,7 @@ use Rattle.ps_attractor.specs.declared.aim.Aim.{Aim}
 use Rattle.ps_attractor.specs.Tables.{TablesData, FitsGame, level_of, moves_of}
 use Rattle.ps_attractor.specs.Aims.{StandsFrom, IsPosed, IsTaken, IsAttracted, IsPlaced, IsGrown, rank_of}
 use Rattle.ps_zielonka.specs.declared.level.TheConstants.{UNPLACED}
-use Rattle.ps_zielonka.specs.Nests.{from, Searches, IsSoundBoard, ArePlaced, IsGiven}
+use Rattle.ps_zielonka.specs.Inner.Nests.{from, Searches, IsSoundBoard, ArePlaced, IsGiven}
 use Rattle.ps_zielonka.proofs.Sets.{AgreesAt, from_at, to_from}
 use Rattle.ps_zielonka.proofs.Below.{Agrees, agrees_at}
 use Rattle.ps_zielonka.proofs.Grown.{IsGrown-both}

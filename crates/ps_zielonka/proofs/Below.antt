@@ -8,8 +8,9 @@ use Rattle.ps_game.specs.Subgames.{IsWithin, LeadsInto, IsSubgame}
 use Rattle.ps_game.specs.Attractors.{LeadsDown}
 use Rattle.ps_attractor.specs.Tables.{TablesData, FitsGame, level_of, moves_of}
 use Rattle.ps_zielonka.specs.declared.frame.Frame.{Frame}
-use Rattle.ps_zielonka.specs.Turns.{Progress, IsTurned}
-use Rattle.ps_zielonka.specs.Nests.{from, size_from, winner_of, IsCursor, IsSegment, StandsBetween, Waits, IsSoundBoard}
+use Rattle.ps_zielonka.specs.Inner.Turns.{Progress, IsTurned}
+use Rattle.ps_zielonka.specs.Inner.Nests.{from, size_from, winner_of, IsCursor, IsSegment, StandsBetween, Waits}
+use Rattle.ps_zielonka.specs.Inner.Nests.{IsSoundBoard}
 use Rattle.ps_zielonka.specs.declared.level.TheConstants.{UNPLACED}
 use Rattle.ps_zielonka.proofs.Holding.{some_more}
 use Rattle.ps_zielonka.proofs.Turning.{Progress-same}

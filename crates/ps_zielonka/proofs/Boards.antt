@@ -12,7 +12,7 @@ use Rattle.ps_attractor.specs.Aims.{StandsFrom}
 use Rattle.ps_attractor.specs.Steps.{with_placed}
 use Rattle.ps_attractor.proofs.Placing.{stands_longer}
 use Rattle.ps_zielonka.specs.declared.level.TheConstants.{UNPLACED}
-use Rattle.ps_zielonka.specs.Nests.{StandsBetween, StandsBefore, IsKeptAt, IsMoved, IsTakenOff, IsReopened}
+use Rattle.ps_zielonka.specs.Inner.Nests.{StandsBetween, StandsBefore, IsKeptAt, IsMoved, IsTakenOff, IsReopened}
 
 -- ## What is kept
 

@@ -12,9 +12,9 @@ use Rattle.ps_attractor.specs.Aims.{StandsFrom, IsPosed, IsTaken, IsAttracted, I
 use Rattle.ps_attractor.proofs.Placing.{stands_after, stands_longer}
 use Rattle.ps_zielonka.specs.declared.level.TheConstants.{UNPLACED}
 use Rattle.ps_zielonka.specs.declared.frame.Frame.{Frame}
-use Rattle.ps_zielonka.specs.Turns.{nothing, IsWithout, IsWon, Progress, Solved}
-use Rattle.ps_zielonka.specs.Nests.{from, size_from, winner_of, StandsBetween, Waits, Searches, IsGiven, IsLostAt}
-use Rattle.ps_zielonka.specs.Nests.{IsReopened}
+use Rattle.ps_zielonka.specs.Inner.Turns.{nothing, IsWithout, IsWon, Progress, Solved}
+use Rattle.ps_zielonka.specs.Inner.Nests.{from, size_from, winner_of, StandsBetween, Waits, Searches, IsGiven, IsLostAt}
+use Rattle.ps_zielonka.specs.Inner.Nests.{IsReopened}
 use Rattle.ps_zielonka.proofs.Turning.{won_by, IsWon-won_by, without, IsWithout-without, IsSubgame-left}
 use Rattle.ps_zielonka.proofs.Sets.{from_at, to_from, size_from-lt, size_from-same}
 use Rattle.ps_zielonka.proofs.Below.{IsStill, Agrees, agrees_at, agrees_from}

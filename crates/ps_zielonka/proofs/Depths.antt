@@ -9,7 +9,7 @@ use Rattle.ps_game.specs.Games.{ParityGame, vertex_count, priority_of}
 use Rattle.ps_game.specs.Subgames.{IsWithin, LeadsInto}
 use Rattle.ps_game.specs.Attractors.{IsClosed}
 use Rattle.ps_attractor.proofs.Least.{falls_least}
-use Rattle.ps_zielonka.specs.Turns.{IsTurned}
+use Rattle.ps_zielonka.specs.Inner.Turns.{IsTurned}
 use Rattle.ps_zielonka.specs.Depths.{is_vertex, HasPriorities, IsClosedToTops}
 
 -- a list without the number at a place

@@ -5,8 +5,8 @@ use Rattle.ps_game.specs.Games.{ParityGame}
 use Rattle.ps_attractor.specs.Tables.{TablesData, level_of}
 use Rattle.ps_zielonka.specs.declared.level.TheConstants.{UNPLACED}
 use Rattle.ps_zielonka.specs.declared.frame.Frame.{Frame}
-use Rattle.ps_zielonka.specs.Nests.{Searches, IsSoundBoard, IsNest}
-use Rattle.ps_zielonka.specs.Stacks.{IsSolvedBy}
+use Rattle.ps_zielonka.specs.Inner.Nests.{Searches, IsSoundBoard, IsNest}
+use Rattle.ps_zielonka.specs.Inner.Stacks.{IsSolvedBy}
 use Rattle.ps_zielonka.proofs.Turning.{Solved-done}
 use Rattle.ps_zielonka.proofs.Sets.{from_at, to_from}
 

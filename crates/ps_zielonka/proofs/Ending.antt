@@ -7,11 +7,11 @@ use Rattle.ps_game.specs.Games.{ParityGame, vertex_count}
 use Rattle.ps_game.specs.Plays.{Holds}
 use Rattle.ps_game.specs.Regions.{has, move_at}
 use Rattle.ps_game.proofs.OnPaths.{Holds-HoldsWithin}
-use Rattle.ps_zielonka.specs.Turns.{Solved}
+use Rattle.ps_zielonka.specs.Inner.Turns.{Solved}
 use Rattle.ps_zielonka.specs.Answers.{others, IsRegionTo, AreMovesTo, MovesAt, MovesWithin}
 use Rattle.ps_attractor.specs.Tables.{TablesData}
-use Rattle.ps_zielonka.specs.Nests.{from}
-use Rattle.ps_zielonka.specs.Stacks.{IsSolvedBy}
+use Rattle.ps_zielonka.specs.Inner.Nests.{from}
+use Rattle.ps_zielonka.specs.Inner.Stacks.{IsSolvedBy}
 use Rattle.ps_zielonka.proofs.Sets.{from_at, to_from}
 use Rattle.ps_zielonka.proofs.Holding.{not_in, HoldsWithin-same}
 use Rattle.ps_zielonka.proofs.Turning.{won_by, IsWon-won_by}

@@ -4,7 +4,7 @@ use Rattle.std.proofs.lemmas.Bool.{false≢true}
 use Rattle.ps_game.specs.Games.{ParityGame, IsGame, owner_of, HasEdge}
 use Rattle.ps_game.specs.Subgames.{IsWithin, IsSubgame, LeadsInto}
 use Rattle.ps_attractor.specs.Aims.{IsAttracted}
-use Rattle.ps_zielonka.specs.Turns.{nothing, IsWithout, IsWon, Progress, Solved, IsTurned}
+use Rattle.ps_zielonka.specs.Inner.Turns.{nothing, IsWithout, IsWon, Progress, Solved, IsTurned}
 use Rattle.ps_zielonka.proofs.Holding.{some_more, HoldsWithin-none, HoldsWithin-same}
 use Rattle.ps_zielonka.proofs.Turning.{won_by, IsWon-won_by, without, IsWithout-without, in_part_or_rest}
 use Rattle.ps_zielonka.proofs.Turning.{Progress-same, Progress-attracted, lost_held}

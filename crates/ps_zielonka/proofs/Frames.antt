@@ -12,8 +12,8 @@ use Rattle.ps_attractor.specs.Aims.{StandsFrom}
 use Rattle.ps_attractor.proofs.Placing.{stands_longer}
 use Rattle.ps_zielonka.specs.declared.level.TheConstants.{UNPLACED}
 use Rattle.ps_zielonka.specs.declared.frame.Frame.{Frame}
-use Rattle.ps_zielonka.specs.Turns.{Solved}
-use Rattle.ps_zielonka.specs.Nests.{from, size_from, winner_of, frame_at, IsSegment, IsOrder, Waits, IsNest}
+use Rattle.ps_zielonka.specs.Inner.Turns.{Solved}
+use Rattle.ps_zielonka.specs.Inner.Nests.{from, size_from, winner_of, frame_at, IsSegment, IsOrder, Waits, IsNest}
 use Rattle.ps_zielonka.proofs.Sets.{from_at, to_from}
 use Rattle.ps_zielonka.proofs.Below.{Agrees, waits_below}
 use Rattle.ps_zielonka.proofs.Forms.{progress_start}

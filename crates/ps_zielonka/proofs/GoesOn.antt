@@ -8,7 +8,7 @@ use Rattle.ps_attractor.specs.declared.aim.Aim.{Aim}
 use Rattle.ps_attractor.specs.Tables.{TablesData, FitsGame, level_of, moves_of}
 use Rattle.ps_attractor.specs.Aims.{StandsFrom, IsPosed, IsTaken, IsAttracted, IsGrown, rank_of}
 use Rattle.ps_zielonka.specs.declared.frame.Frame.{Frame}
-use Rattle.ps_zielonka.specs.Nests.{StandsBetween, IsNest, IsLostAt, IsReopened, IsGiven, steps_left}
+use Rattle.ps_zielonka.specs.Inner.Nests.{StandsBetween, IsNest, IsLostAt, IsReopened, IsGiven, steps_left}
 use Rattle.ps_zielonka.proofs.Measure.{falls_on}
 use Rattle.ps_zielonka.proofs.Sets.{size_from-same}
 use Rattle.ps_zielonka.proofs.Below.{agrees_at, sound_on}

@@ -6,7 +6,7 @@ use Rattle.std.proofs.lemmas.Bool.{cases_Bool, false≢true}
 use Rattle.ps_game.specs.Games.{ParityGame, IsGame, owner_of, HasEdge}
 use Rattle.ps_game.specs.Subgames.{IsWithin, LeadsInto, HoldsWithin}
 use Rattle.ps_game.specs.Attractors.{LeadsDown, Falls}
-use Rattle.ps_zielonka.specs.Turns.{nothing, IsWithout, IsWon, Progress, Solved, IsTurned}
+use Rattle.ps_zielonka.specs.Inner.Turns.{nothing, IsWithout, IsWon, Progress, Solved, IsTurned}
 use Rattle.ps_zielonka.proofs.Holding.{not_in, some_more, HoldsWithin-all}
 use Rattle.ps_zielonka.proofs.Turning.{in_part_or_rest, Progress-taken, lost_held, without, IsWithout-without}
 

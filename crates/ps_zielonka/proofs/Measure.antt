@@ -1,6 +1,6 @@
 -- The steps that are left fall with each step.
 use Rattle.std.proofs.Common.{◌≡◌, ℕ, zero, suc, ◌+◌, ◌*◌, ◌<◌, ◌≤◌, List, true, false, refl, ap, arith, rules}
-use Rattle.ps_zielonka.specs.Nests.{size_from, steps, rest_of, waiting_steps, steps_left}
+use Rattle.ps_zielonka.specs.Inner.Nests.{size_from, steps, rest_of, waiting_steps, steps_left}
 
 some_step : (m : ℕ) → 1 ≤ steps m
 some_step m = search rules

@@ -4,7 +4,7 @@ use Rattle.std.proofs.Common.{◌∙◌, arith, rules}
 use Rattle.std.specs.Prelude.{IsTrue, nat_le}
 use Rattle.std.proofs.Math.Path.{fun_ext}
 use Rattle.std.proofs.lemmas.Bool.{cases_lt, leb-true, le-leb, lt-leb}
-use Rattle.ps_zielonka.specs.Nests.{from, size_from}
+use Rattle.ps_zielonka.specs.Inner.Nests.{from, size_from}
 
 pub from_at : (levels : List ℕ) (c v : ℕ) → IsTrue (from levels c v) → c ≤ get_or levels v 0
 unfolding from

@@ -6,7 +6,7 @@ use Rattle.std.proofs.lemmas.Bool.{not_from_false, false_from_ne_true}
 use Rattle.ps_game.specs.Games.{ParityGame, IsGame, owner_of, HasEdge}
 use Rattle.ps_game.specs.Subgames.{IsWithin, IsSubgame, HoldsWithin}
 use Rattle.ps_attractor.specs.Aims.{StaysOut, IsAttracted}
-use Rattle.ps_zielonka.specs.Turns.{nothing, IsWithout, IsWon, Progress, Solved, IsTurned}
+use Rattle.ps_zielonka.specs.Inner.Turns.{nothing, IsWithout, IsWon, Progress, Solved, IsTurned}
 use Rattle.ps_zielonka.proofs.Holding.{not_in, HoldsWithin-same, HoldsWithin-larger, HoldsWithin-beside}
 use Rattle.ps_zielonka.proofs.Holding.{HoldsWithin-attracted}
 

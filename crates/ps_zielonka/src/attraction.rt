@@ -1,7 +1,7 @@
 //! What a player attracts to itself.
 
 ghost use Rattle.std.specs.Prelude.{◌≡◌, ◌<◌};
-ghost use Rattle.ps_zielonka.specs.Levels.{mark_of, aim_of};
+ghost use Rattle.ps_zielonka.specs.Inner.Levels.{mark_of, aim_of};
 
 use crate::level::Level;
 use ps_attractor::Aim;

@@ -6,9 +6,10 @@ ghost use Rattle.ps_game.specs.Games.{IsGame, vertex_count, HasEdge};
 ghost use Rattle.ps_attractor.specs.Sources.{IsSourcesOf};
 ghost use Rattle.ps_attractor.specs.Tables.{FitsGame, level_of, moves_of};
 ghost use Rattle.ps_attractor.specs.Aims.{IsPosed, IsTaken, IsAttracted, IsGrown, StandsFrom, rank_of};
-ghost use Rattle.ps_zielonka.specs.Levels.{mark_of, aim_of};
-ghost use Rattle.ps_zielonka.specs.Nests.{IsGiven, IsWonStep, IsKeptAt, IsLostAt, IsMoved, StandsBetween, IsTakenOff};
-ghost use Rattle.ps_zielonka.specs.Nests.{IsReopened};
+ghost use Rattle.ps_zielonka.specs.Inner.Levels.{mark_of, aim_of};
+ghost use Rattle.ps_zielonka.specs.Inner.Nests.{IsGiven, IsWonStep, IsKeptAt, IsLostAt, IsMoved, StandsBetween};
+ghost use Rattle.ps_zielonka.specs.Inner.Nests.{IsTakenOff};
+ghost use Rattle.ps_zielonka.specs.Inner.Nests.{IsReopened};
 
 use crate::attraction::Attraction;
 use crate::frame::Frame;

@@ -1,7 +1,7 @@
 //! Where a vertex stands among the calls.
 
 ghost use Rattle.std.specs.Prelude.{◌≡◌, ◌≤◌};
-ghost use Rattle.ps_zielonka.specs.Levels.{mark_of};
+ghost use Rattle.ps_zielonka.specs.Inner.Levels.{mark_of};
 
 /// The mark of the vertices that are not placed.
 const UNPLACED: usize = usize::MAX;

@@ -7,9 +7,9 @@ ghost use Rattle.ps_attractor.specs.Room.{HasRoom};
 ghost use Rattle.ps_attractor.specs.Sources.{IsSourcesOf};
 ghost use Rattle.ps_attractor.specs.Tables.{FitsGame, level_of, moves_of};
 ghost use Rattle.ps_zielonka.specs.Depths.{IsDepth};
-ghost use Rattle.ps_zielonka.specs.Levels.{mark_of};
-ghost use Rattle.ps_zielonka.specs.Stacks.{IsStack, IsDeep, IsSolvedBy, steps_of};
-ghost use Rattle.ps_zielonka.specs.Nests.{IsNest, IsLostAt, StandsBetween, steps_left};
+ghost use Rattle.ps_zielonka.specs.Inner.Levels.{mark_of};
+ghost use Rattle.ps_zielonka.specs.Inner.Stacks.{IsStack, IsDeep, IsSolvedBy, steps_of};
+ghost use Rattle.ps_zielonka.specs.Inner.Nests.{IsNest, IsLostAt, StandsBetween, steps_left};
 
 use crate::attraction::Attraction;
 use crate::board::Board;

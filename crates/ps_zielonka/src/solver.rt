@@ -7,7 +7,7 @@ ghost use Rattle.ps_game.specs.Regions.{has, move_at};
 ghost use Rattle.ps_attractor.specs.Room.{HasRoom};
 ghost use Rattle.ps_zielonka.specs.Answers.{others, MovesWithin};
 ghost use Rattle.ps_zielonka.specs.Depths.{IsDepth};
-ghost use Rattle.ps_zielonka.specs.Stacks.{IsSolvedBy};
+ghost use Rattle.ps_zielonka.specs.Inner.Stacks.{IsSolvedBy};
 
 use crate::answer::{region_of, strategy_of};
 use crate::board::Board;

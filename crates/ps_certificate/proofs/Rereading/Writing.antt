@@ -51,7 +51,7 @@ use Rattle.ps_certificate.proofs.TextLaws.{chain_pairs, chain_id, chain_space, c
 use Rattle.ps_certificate.proofs.TextLaws.{chain_entries, chain_first, chain_version, chain_vertices, chain_number}
 use Rattle.ps_certificate.proofs.TextLaws.{chain_odd_word, chain_odd, chain_even_word, chain_even, lawful_certificate}
 use Rattle.ps_certificate.proofs.Numerals.{numeral_ended}
-use Rattle.ps_certificate.specs.Reading.{numeral}
+use Rattle.ps_certificate.specs.Inner.Reading.{numeral}
 use Rattle.ps_certificate.proofs.NumberPart.{Odd, AtDigit, Settled, settled_other, settled_zero, settled_priority}
 use Rattle.ps_certificate.proofs.NumberPart.{run_length, read_run}
 use Rattle.ps_text.proofs.Bytes.Single.{At, byte_taken}

@@ -15,7 +15,7 @@ use Rattle.ps_diagram.proofs.Letters.{letter_lt, letter_is, no_bit}
 use Rattle.ps_automaton.specs.Automata.{AutomatonData, node_of}
 use Rattle.ps_machine.specs.BuiltBoards.{board_of}
 use Rattle.ps_machine.specs.Dividing.{AreClassesOf, AreDivided}
-use Rattle.ps_machine.specs.Placing.{PlaysClass}
+use Rattle.ps_machine.specs.Inner.Placing.{PlaysClass}
 use Rattle.ps_machine.specs.Moving.{IsFit, IsRest}
 use Rattle.ps_machine.specs.Numbering.{StandsAt}
 use Rattle.ps_machine.specs.declared.key.Key.{Key}

@@ -14,7 +14,7 @@ use Rattle.ps_automaton.specs.Automata.{AutomatonData, node_of}
 use Rattle.ps_machine.specs.Boards.{LeadsTo}
 use Rattle.ps_machine.specs.BuiltBoards.{board_of}
 use Rattle.ps_machine.specs.Dividing.{AreClassesOf, AreDivided}
-use Rattle.ps_machine.specs.Knowing.{AreRemembered, HasAnswered, IsDivided, KnowsMoves}
+use Rattle.ps_machine.specs.Inner.Knowing.{AreRemembered, HasAnswered, IsDivided, KnowsMoves}
 use Rattle.ps_machine.specs.Moving.{HasClass, IsFit, IsKnown, Remembers, class_keys}
 use Rattle.ps_machine.specs.Numbering.{StandsAt}
 use Rattle.ps_machine.specs.declared.key.Key.{Key}

@@ -19,7 +19,7 @@ use Rattle.ps_diagram.proofs.KnownLemmas.{some_nat}
 use Rattle.ps_automaton.specs.Automata.{AutomatonData}
 use Rattle.ps_machine.specs.Boards.{AreListed, Board, IsClass, IsMove, LeadsTo}
 use Rattle.ps_machine.specs.BuiltBoards.{board_of}
-use Rattle.ps_machine.specs.Drawing.{AreMemories, IsPlan, IsDrawn, KeepsRows, mark_of}
+use Rattle.ps_machine.specs.Inner.Drawing.{AreMemories, IsPlan, IsDrawn, KeepsRows, mark_of}
 use Rattle.ps_machine.specs.Extracting.{IsUsed, GoesTo, Shares, StandsFor}
 use Rattle.ps_machine.specs.Solving.{winner}
 use Rattle.ps_machine.specs.Keys.{mover_of}

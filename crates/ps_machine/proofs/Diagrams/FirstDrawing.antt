@@ -15,8 +15,8 @@ use Rattle.ps_diagram.proofs.KnownLemmas.{some_nat}
 use Rattle.ps_automaton.specs.Automata.{AutomatonData, node_of, pair_of, step_of}
 use Rattle.ps_machine.specs.Boards.{Board, IsSecondLetter, IsClass}
 use Rattle.ps_machine.specs.BuiltBoards.{board_of}
-use Rattle.ps_machine.specs.Drawing.{IsPlan, IsRow, KeepsRows, IsDrawn, LeadsToRow}
-use Rattle.ps_machine.specs.Placing.{IsEntered, IsPlaced, PlaysClass}
+use Rattle.ps_machine.specs.Inner.Drawing.{IsPlan, IsRow, KeepsRows, IsDrawn, LeadsToRow}
+use Rattle.ps_machine.specs.Inner.Placing.{IsEntered, IsPlaced, PlaysClass}
 use Rattle.ps_machine.specs.Extracting.{IsUsed, StandsFor}
 use Rattle.ps_machine.specs.Solving.{winner}
 use Rattle.ps_machine.specs.Keys.{mover_of}

@@ -25,8 +25,9 @@ use Rattle.ps_automaton.specs.declared.step.Step.{Step}
 use Rattle.ps_machine.specs.Boards.{Board, IsFirstLetter, IsSecondLetter, SameSteps, IsClass, IsMove}
 use Rattle.ps_machine.specs.BuiltBoards.{board_of}
 use Rattle.ps_machine.specs.Dividing.{AreClassesOf}
-use Rattle.ps_machine.specs.Drawing.{CanEnter, IsReplyRow, IsDrawn, IsReply, IsRow, IsRowAt, KeepsRows, LeadsToRow}
-use Rattle.ps_machine.specs.Drawing.{NamesAnswer}
+use Rattle.ps_machine.specs.Inner.Drawing.{CanEnter, IsReplyRow, IsDrawn, IsReply, IsRow, IsRowAt, KeepsRows}
+use Rattle.ps_machine.specs.Inner.Drawing.{LeadsToRow}
+use Rattle.ps_machine.specs.Inner.Drawing.{NamesAnswer}
 use Rattle.ps_machine.specs.Extracting.{IsUsed, GoesTo, StandsFor}
 use Rattle.ps_machine.specs.Solving.{winner}
 use Rattle.ps_machine.specs.Keys.{mover_of}

@@ -25,7 +25,7 @@ use Rattle.ps_machine.specs.Boards.{SameStep, SameSteps}
 use Rattle.ps_machine.specs.FileGames.{IsGameOfFile, board_of_file}
 use Rattle.ps_machine.specs.KeyNames.{key_names}
 use Rattle.ps_machine.specs.Keys.{mover_of, owner_of_key, priority_of_key}
-use Rattle.ps_machine.specs.Visits.{Comes, DraftData, IsExplored, IsNumberOf, Visits}
+use Rattle.ps_machine.specs.Inner.Visits.{Comes, DraftData, IsExplored, IsNumberOf, Visits}
 use Rattle.ps_machine.specs.declared.key.Key.{Key}
 use Rattle.ps_machine.specs.declared.key.Key.TheVariants.{First, Second}
 use Rattle.ps_machine.specs.declared.key.Order.{Order}

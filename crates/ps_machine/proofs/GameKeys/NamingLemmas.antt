@@ -9,7 +9,7 @@ use Rattle.ps_game.specs.Games.{quote, HasNoQuote}
 use Rattle.ps_label.specs.Truth.{is_in}
 use Rattle.ps_machine.specs.Boards.{Board}
 use Rattle.ps_machine.specs.KeyNames.{first_digits, digit_of}
-use Rattle.ps_machine.specs.Naming.{IsPlain, digit_if}
+use Rattle.ps_machine.specs.Inner.Naming.{IsPlain, digit_if}
 use Rattle.ps_machine.proofs.GameKeys.Standing.{range-push}
 
 plain_one : (b : ℕ) → b ≢ 34 → IsPlain (b ∷ [])

@@ -12,7 +12,7 @@ use Rattle.ps_machine.specs.Boards.{Board, LeadsTo, IsGameOf}
 use Rattle.ps_machine.specs.BuiltBoards.{board_of}
 use Rattle.ps_machine.specs.KeyNames.{key_name, key_names}
 use Rattle.ps_machine.specs.Keys.{mover_of}
-use Rattle.ps_machine.specs.Naming.{IsPlain}
+use Rattle.ps_machine.specs.Inner.Naming.{IsPlain}
 use Rattle.ps_machine.specs.Numbering.{IsGameByKeys, IsNumbered}
 use Rattle.ps_machine.specs.declared.key.Key.{Key}
 use Rattle.ps_machine.specs.declared.key.Key.TheVariants.{First}

@@ -10,9 +10,9 @@ use Rattle.ps_certificate.specs.Certificates.{CertificateData}
 use Rattle.ps_diagram.specs.Table.{Table, Keeps}
 use Rattle.ps_diagram.proofs.Cells.{true_is_not_false}
 use Rattle.ps_hoa.specs.Memory.{bytes_of}
-use Rattle.ps_machine.specs.Assembling.{AreDrawn}
+use Rattle.ps_machine.specs.Inner.Assembling.{AreDrawn}
 use Rattle.ps_machine.specs.Boards.{Board}
-use Rattle.ps_machine.specs.Drawing.{IsDrawn, IsRow, KeepsRows}
+use Rattle.ps_machine.specs.Inner.Drawing.{IsDrawn, IsRow, KeepsRows}
 use Rattle.ps_machine.specs.Extracting.{is_others}
 use Rattle.ps_machine.specs.declared.key.Key.{Key}
 use Rattle.ps_machine.specs.declared.machine.Row.{Row}

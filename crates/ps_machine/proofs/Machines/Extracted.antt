@@ -6,10 +6,10 @@ use Rattle.ps_certificate.specs.Certificates.{CertificateData, Fits, IsValid}
 use Rattle.ps_game.specs.Games.{ParityGame, vertex_count}
 use Rattle.ps_hoa.specs.Memory.{bytes_of}
 use Rattle.ps_hoa.specs.Sound.{AreNames}
-use Rattle.ps_machine.specs.Assembling.{AreDrawn, HasRoles, IsAssembled, machine_of}
+use Rattle.ps_machine.specs.Inner.Assembling.{AreDrawn, HasRoles, IsAssembled, machine_of}
 use Rattle.ps_machine.specs.Boards.{Board, IsGameOf}
 use Rattle.ps_machine.specs.BuiltBoards.{board_of}
-use Rattle.ps_machine.specs.Drawing.{AreMemories, AreUsed, IsPlan}
+use Rattle.ps_machine.specs.Inner.Drawing.{AreMemories, AreUsed, IsPlan}
 use Rattle.ps_machine.specs.Extracting.{HasPropositions, IsMachineOf}
 use Rattle.ps_machine.specs.Solving.{winner}
 use Rattle.ps_machine.specs.Keys.{mover_of}

@@ -8,7 +8,7 @@ use Rattle.std.proofs.lemmas.Option.{slice_get_within, slice_get-get_or}
 use Rattle.ps_diagram.proofs.KnownLemmas.{some_nat}
 use Rattle.ps_game.specs.Games.{ParityGame}
 use Rattle.ps_certificate.specs.Certificates.{CertificateData}
-use Rattle.ps_machine.specs.Drawing.{AreUsed, AreMemories, mark_of}
+use Rattle.ps_machine.specs.Inner.Drawing.{AreUsed, AreMemories, mark_of}
 use Rattle.ps_machine.specs.Extracting.{IsKept, Shares, StandsFor}
 use Rattle.ps_machine.specs.Numbering.{StandsAt}
 use Rattle.ps_machine.specs.declared.key.Key.{Key}

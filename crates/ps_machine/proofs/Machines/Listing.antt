@@ -6,7 +6,7 @@ use Rattle.std.specs.List.{Contains}
 use Rattle.std.proofs.lemmas.List.Quantifiers.{all_pairs_push}
 use Rattle.ps_diagram.proofs.Cells.{true_is_not_false}
 use Rattle.ps_hoa.specs.Files.{is_among}
-use Rattle.ps_machine.specs.Assembling.{AreListedBelow}
+use Rattle.ps_machine.specs.Inner.Assembling.{AreListedBelow}
 use Rattle.ps_machine.proofs.Uniqueness.Rising.{Within, same_numbers}
 
 always : (b : Bool) → cond b true true ≡ true

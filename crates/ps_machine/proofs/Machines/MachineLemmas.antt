@@ -9,10 +9,10 @@ use Rattle.ps_diagram.specs.Table.{leaf_of}
 use Rattle.ps_diagram.proofs.Cells.{true_is_not_false}
 use Rattle.ps_diagram.proofs.Letters.{no_bit}
 use Rattle.ps_hoa.specs.Files.{is_among}
-use Rattle.ps_machine.specs.Assembling.{IsAssembled}
+use Rattle.ps_machine.specs.Inner.Assembling.{IsAssembled}
 use Rattle.ps_machine.specs.Behaviours.{AreSameOn, IsMachine, IsOutput}
 use Rattle.ps_machine.specs.Boards.{Board}
-use Rattle.ps_machine.specs.Drawing.{IsOwn, IsDrawn, LeadsToRow}
+use Rattle.ps_machine.specs.Inner.Drawing.{IsOwn, IsDrawn, LeadsToRow}
 use Rattle.ps_machine.specs.Extracting.{IsPlayed, IsOther, IsStep, is_others}
 use Rattle.ps_machine.specs.Machines.{MachineData, IsWholeMachine, behaviour, row_of, step_of}
 use Rattle.ps_machine.specs.declared.key.Key.{Key}

@@ -10,10 +10,10 @@ use Rattle.ps_game.specs.Games.{ParityGame, HasEdge, vertex_count, owner_of}
 use Rattle.ps_certificate.specs.Certificates.{CertificateData, Fits, IsValid}
 use Rattle.ps_diagram.proofs.Letters.{no_bit}
 use Rattle.ps_hoa.specs.Sound.{AreNames}
-use Rattle.ps_machine.specs.Assembling.{AreListedBelow}
+use Rattle.ps_machine.specs.Inner.Assembling.{AreListedBelow}
 use Rattle.ps_machine.specs.Behaviours.{Behaviour, IsMachine, IsOutput, AreSameOn}
 use Rattle.ps_machine.specs.Boards.{Board, IsFirstLetter, IsSecondLetter, SameStep, IsGameOf}
-use Rattle.ps_machine.specs.Drawing.{AreMemories, AreUsed, IsOwn, IsRowAt}
+use Rattle.ps_machine.specs.Inner.Drawing.{AreMemories, AreUsed, IsOwn, IsRowAt}
 use Rattle.ps_machine.specs.Extracting.{HasPropositions, IsMachineOf, IsOther, IsStep, IsUsed, is_others}
 use Rattle.ps_machine.specs.Numbering.{StandsAt}
 use Rattle.ps_machine.specs.Solving.{winner}

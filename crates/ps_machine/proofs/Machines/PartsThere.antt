@@ -8,8 +8,8 @@ use Rattle.std.proofs.lemmas.Option.{slice_get-get_or}
 use Rattle.indexmap.specs.IndexSet.{insert_key}
 use Rattle.ps_game.specs.Games.{ParityGame, HasEdge, vertex_count, owner_of, successors_of}
 use Rattle.ps_certificate.specs.Certificates.{CertificateData, IsValid, choice_of}
-use Rattle.ps_machine.specs.Assembling.{AreListedBelow}
-use Rattle.ps_machine.specs.Drawing.{Adds, AreMemories, AreUsed, GoesOn, Stays, Grows, mark_of}
+use Rattle.ps_machine.specs.Inner.Assembling.{AreListedBelow}
+use Rattle.ps_machine.specs.Inner.Drawing.{Adds, AreMemories, AreUsed, GoesOn, Stays, Grows, mark_of}
 use Rattle.ps_machine.specs.Extracting.{IsUsed}
 use Rattle.ps_machine.specs.Numbering.{StandsAt}
 use Rattle.ps_machine.specs.Solving.{winner}

@@ -8,11 +8,11 @@ use Rattle.std.proofs.lemmas.Option.{slice_get_within, get_or_from_slice_get}
 use Rattle.ps_game.specs.Games.{ParityGame}
 use Rattle.ps_certificate.specs.Certificates.{CertificateData, choice_of}
 use Rattle.ps_diagram.proofs.KnownLemmas.{some_nat}
-use Rattle.ps_machine.specs.Assembling.{AreListedBelow}
+use Rattle.ps_machine.specs.Inner.Assembling.{AreListedBelow}
 use Rattle.ps_machine.specs.Behaviours.{Behaviour, IsMachine, AreSameOn}
 use Rattle.ps_machine.specs.Behaving.{BehavesAs}
 use Rattle.ps_machine.specs.Boards.{Board, IsClass, IsGameOf, SameSteps}
-use Rattle.ps_machine.specs.Drawing.{mark_of}
+use Rattle.ps_machine.specs.Inner.Drawing.{mark_of}
 use Rattle.ps_machine.specs.Extracting.{GoesTo, HasPropositions, IsKept, IsMachineOf, IsOther, IsPlayed, IsUsedFirst}
 use Rattle.ps_machine.specs.Extracting.{StandsFor, is_others}
 use Rattle.ps_machine.specs.Numbering.{StandsAt}

@@ -16,7 +16,7 @@ use Rattle.ps_simulate.specs.Stimuli.{StimulusData, letters_of}
 use Rattle.ps_simulate.specs.StimulusTexts.{lines_of, extent, start_of, digits_of, divider, spelled, Divides}
 use Rattle.ps_simulate.specs.StimulusTexts.{StandsInLine, StandsInLetter, MissesDivider, Stands, IsFirst, IsStimulus}
 use Rattle.ps_simulate.specs.StimulusTexts.{IsStimulusAnswer}
-use Rattle.ps_simulate.specs.StimulusReading.{HasRead, ReadsLine}
+use Rattle.ps_simulate.specs.Inner.StimulusReading.{HasRead, ReadsLine}
 use Rattle.ps_simulate.proofs.Stimuli.LineLemmas.{start_of-later, in_line_from, in_line_within}
 use Rattle.ps_simulate.proofs.Stimuli.StimulusLemmas.{slice_get-right, no_divider, divides_at, no_cause}
 

@@ -1,6 +1,6 @@
 use Rattle.std.proofs.Common.{◌≡◌, drop}
 use Rattle.ps_circuit.specs.Building.{Extends}
-use Rattle.ps_aiger.specs.Functions.{bits_wired}
+use Rattle.ps_aiger.specs.Inner.Functions.{bits_wired}
 use Rattle.ps_aiger.proofs.WiredLemmas.{behind}
 use Rattle.ps_aiger.proofs.encoding.literals_of.Given as goal
 

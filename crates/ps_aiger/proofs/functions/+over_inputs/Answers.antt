@@ -6,7 +6,7 @@ use Rattle.ps_diagram.specs.Table.{Table}
 use Rattle.ps_diagram.specs.Views.{SeesTest}
 use Rattle.ps_circuit.specs.Building.{variables_of}
 use Rattle.ps_circuit.specs.Gates.{Made}
-use Rattle.ps_aiger.specs.Functions.{node_made}
+use Rattle.ps_aiger.specs.Inner.Functions.{node_made}
 use Rattle.ps_circuit.proofs.GateLemmas.{passed}
 use Rattle.ps_aiger.proofs.FunctionLemmas.{held_place, place_small}
 use Rattle.ps_aiger.proofs.OverLemmas.{inputs-extends, made-nothing, made-leaf, made-low, made-test}

@@ -5,7 +5,7 @@ use Rattle.indexmap.specs.IndexMap.{get}
 use Rattle.ps_circuit.specs.Building.{variables_of}
 use Rattle.ps_circuit.specs.Gates.{Made, mux_of}
 use Rattle.ps_machine.specs.Machines.{behaviour}
-use Rattle.ps_aiger.specs.Functions.{bit_wanted, code_wanted}
+use Rattle.ps_aiger.specs.Inner.Functions.{bit_wanted, code_wanted}
 use Rattle.ps_circuit.proofs.GateLemmas.{passed}
 use Rattle.ps_aiger.proofs.FunctionLemmas.{upper_fits, lower_fits, shl_is}
 use Rattle.ps_aiger.proofs.LetterLemmas.{positive}

@@ -2,9 +2,9 @@ use Rattle.std.proofs.Common.{arith, ◌≡◌, false, Some}
 use Rattle.std.proofs.lemmas.Result.{IfErr-weaker, IfOk-weaker}
 use Rattle.ps_automaton.specs.Answers.{IsAdmitted}
 use Rattle.ps_automaton.specs.Chains.{chain_of, has_complement}
-use Rattle.ps_automaton.specs.Drafts.{IsDraft}
-use Rattle.ps_automaton.specs.Numbering.{AreSetsBelow}
-use Rattle.ps_automaton.specs.Views.{chain_data}
+use Rattle.ps_automaton.specs.Inner.Drafts.{IsDraft}
+use Rattle.ps_automaton.specs.Inner.Numbering.{AreSetsBelow}
+use Rattle.ps_automaton.specs.Inner.Views.{chain_data}
 use Rattle.ps_automaton.specs.declared.draft.Draft.{Draft}
 use Rattle.ps_automaton.proofs.Building.{draft_is_deterministic, draft_refused}
 use Rattle.ps_automaton.proofs.ChainSets.{chain_sets_below}

@@ -2,8 +2,8 @@ use Rattle.std.proofs.Common.{◌≡◌, ℕ, ◌%◌, ◌^◌, ◌<◌, length,
 use Rattle.std.proofs.lemmas.Nat.{pow_pos}
 use Rattle.std.proofs.lemmas.Option.{slice_get-get_or}
 use Rattle.ps_diagram.specs.Table.{leaf_of}
-use Rattle.ps_automaton.specs.Drafts.{ArePlaces, AreSteps}
-use Rattle.ps_automaton.specs.Views.{chain_data}
+use Rattle.ps_automaton.specs.Inner.Drafts.{ArePlaces, AreSteps}
+use Rattle.ps_automaton.specs.Inner.Views.{chain_data}
 use Rattle.ps_automaton.proofs.LetterRows.{joined_by_letters}
 use Rattle.ps_automaton.proofs.RowSteps.{steps_of_row}
 use Rattle.ps_automaton.proofs.draft.node_by_letters.Goals as goal

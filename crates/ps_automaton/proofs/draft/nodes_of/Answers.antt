@@ -1,7 +1,7 @@
 use Rattle.std.proofs.Common.{◌≡◌, ℕ, get_or, subst, sym, ap, ◌∙◌, arith, List}
 use Rattle.std.proofs.lemmas.List.{get_or_append_left, get_or_push}
 use Rattle.ps_diagram.specs.Table.{IsNode, leaf_of}
-use Rattle.ps_automaton.specs.Views.{chain_data}
+use Rattle.ps_automaton.specs.Inner.Views.{chain_data}
 use Rattle.ps_automaton.proofs.Fitting.{aliases_over}
 use Rattle.ps_automaton.proofs.Drafting.{steps_stay}
 use Rattle.ps_automaton.proofs.Steps.{extends_same}

@@ -1,5 +1,5 @@
 use Rattle.std.proofs.Common.{arith}
-use Rattle.ps_automaton.specs.Views.{chain_data}
+use Rattle.ps_automaton.specs.Inner.Views.{chain_data}
 use Rattle.ps_automaton.proofs.Ready.{kept_nodes}
 use Rattle.ps_automaton.proofs.Drafting.{steps_stay, one_more, first_fault}
 use Rattle.ps_automaton.proofs.draft.nodes_of_states.Goals as goal

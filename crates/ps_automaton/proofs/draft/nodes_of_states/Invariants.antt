@@ -1,7 +1,7 @@
 use Rattle.std.proofs.Common.{◌≡◌, ℕ, ◌<◌, length, get_or}
 use Rattle.ps_diagram.specs.Labels.{AreNodesOf}
-use Rattle.ps_automaton.specs.Drafts.{AreSteps, IsStepsOf}
-use Rattle.ps_automaton.specs.Views.{chain_data}
+use Rattle.ps_automaton.specs.Inner.Drafts.{AreSteps, IsStepsOf}
+use Rattle.ps_automaton.specs.Inner.Views.{chain_data}
 use Rattle.ps_automaton.proofs.draft.nodes_of_states.Given as goal
 
 -- the states so far have their steps

@@ -1,7 +1,7 @@
 use Rattle.std.proofs.Common.{◌≡◌, ℕ, ◌≤◌, Some, length}
 use Rattle.std.specs.List.{slice_get}
-use Rattle.ps_automaton.specs.Drafts.{AreSteps, Extends, step_of_target}
-use Rattle.ps_automaton.specs.Views.{chain_data}
+use Rattle.ps_automaton.specs.Inner.Drafts.{AreSteps, Extends, step_of_target}
+use Rattle.ps_automaton.specs.Inner.Views.{chain_data}
 use Rattle.ps_automaton.specs.declared.targets.Target.{Target}
 use Rattle.ps_automaton.proofs.draft.places_of.Given as goal
 

@@ -1,6 +1,6 @@
 use Rattle.std.proofs.Common.{◌≡◌, ◌≤◌, ◌<◌, ◌+◌, ℕ, drop, map, length, get_or, nat_eq}
 use Rattle.ps_automaton.specs.Chains.{base_number, first_number, level_by}
-use Rattle.ps_automaton.specs.Views.{link_data}
+use Rattle.ps_automaton.specs.Inner.Views.{link_data}
 use Rattle.ps_automaton.proofs.numbers.table_of.Given as goal
 
 -- the numbers of the links from place k on

@@ -2,7 +2,7 @@ use Rattle.std.proofs.Common.{◌≡◌, length, subst, ◌∙◌, arith}
 use Rattle.std.proofs.lemmas.Result.{on_ok_weaker}
 use Rattle.ps_hoa.specs.Views.{edge_data, row_data}
 use Rattle.ps_automaton.specs.Answers.{AreAlike}
-use Rattle.ps_automaton.specs.Targets.{IsTargetOf}
+use Rattle.ps_automaton.specs.Inner.Targets.{IsTargetOf}
 use Rattle.ps_automaton.proofs.Fitting.{fits, edge_at, edge_marks_few, alike_of_target, target_of_alike}
 use Rattle.ps_automaton.proofs.Meeting.{keeps_both, kept_shows}
 use Rattle.ps_automaton.proofs.taken.clashes.Goals as goal

@@ -1,7 +1,7 @@
 use Rattle.std.proofs.Common.{◌^◌, ◌<◌, subst, ◌∙◌, rules}
 use Rattle.ps_diagram.specs.Clashes.{TellsClash}
 use Rattle.ps_hoa.specs.Views.{edge_data, row_data}
-use Rattle.ps_automaton.specs.Drafts.{ShowsEdge}
+use Rattle.ps_automaton.specs.Inner.Drafts.{ShowsEdge}
 use Rattle.ps_automaton.proofs.Fitting.{fits, edge_at, edge_marks_few}
 use Rattle.ps_automaton.proofs.Meeting.{keeps_both}
 use Rattle.ps_automaton.proofs.PlaceTables.{placed_is, placed_keeps}

@@ -1,6 +1,6 @@
 use Rattle.ps_diagram.specs.Table.{Keeps}
 use Rattle.ps_hoa.specs.Views.{row_data}
-use Rattle.ps_automaton.specs.Drafts.{IsReady, IsUnion}
+use Rattle.ps_automaton.specs.Inner.Drafts.{IsReady, IsUnion}
 use Rattle.ps_automaton.proofs.union.add_all.Given as goal
 
 abbrev pub invariant-loop-place : goal.invariant-loop-place

@@ -1,6 +1,6 @@
 use Rattle.std.proofs.Common.{ℕ, ◌<◌}
 use Rattle.std.specs.Prelude.{IfNone, IfSome}
-use Rattle.ps_certificate.specs.Prefixes.{IsSoundAt, KeepCountsBefore, IsFirstUnranked}
+use Rattle.ps_certificate.specs.Inner.Prefixes.{IsSoundAt, KeepCountsBefore, IsFirstUnranked}
 use Rattle.ps_certificate.proofs.checking.check.Given as goal
 
 -- each vertex before the place is sound, and keeps the rule where no flaw in counts was found

@@ -1,6 +1,6 @@
 use Rattle.std.proofs.Common.{ℕ, ◌<◌, get_or}
 use Rattle.ps_game.specs.Games.{successors_of}
-use Rattle.ps_certificate.specs.Prefixes.{KeepsCounts}
+use Rattle.ps_certificate.specs.Inner.Prefixes.{KeepsCounts}
 use Rattle.ps_certificate.proofs.checking.unranked_at.Given as goal
 
 -- each edge before the place keeps the rule

@@ -1,7 +1,7 @@
 use Rattle.std.proofs.Common.{Option, None, Some, ◌+◌, below_more}
 use Rattle.std.specs.Prelude.{IfNone}
 use Rattle.ps_certificate.specs.declared.flaw.Flaw.{Flaw}
-use Rattle.ps_certificate.specs.Prefixes.{KeepsCountsAt, KeepCountsBefore}
+use Rattle.ps_certificate.specs.Inner.Prefixes.{KeepsCountsAt, KeepCountsBefore}
 use Rattle.ps_certificate.proofs.checking.unranked_through.Goals as goal
 
 pub returns-in-None-clause-none : goal.returns-in-None-clause-none

@@ -1,5 +1,5 @@
 use Rattle.std.proofs.Common.{ℕ, ◌<◌}
-use Rattle.ps_certificate.specs.Prefixes.{IsSoundAt}
+use Rattle.ps_certificate.specs.Inner.Prefixes.{IsSoundAt}
 use Rattle.ps_certificate.proofs.closing.closed.Given as goal
 
 -- each vertex before the place is sound

@@ -1,5 +1,5 @@
 use Rattle.std.proofs.Common.{ℕ, ◌<◌}
-use Rattle.ps_certificate.specs.Prefixes.{EntryFits}
+use Rattle.ps_certificate.specs.Inner.Prefixes.{EntryFits}
 use Rattle.ps_certificate.proofs.fitted.fits.Given as goal
 
 -- each entry before the place fits

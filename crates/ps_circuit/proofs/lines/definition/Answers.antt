@@ -1,7 +1,7 @@
 use Rattle.std.proofs.Common.{arith, ◌∙◌, Ok, ap}
 use Rattle.ps_circuit.specs.Literals.{variable}
 use Rattle.ps_circuit.specs.Texts.{WrongDefinition}
-use Rattle.ps_circuit.specs.Reading.{AddsVariable}
+use Rattle.ps_circuit.specs.Inner.Reading.{AddsVariable}
 use Rattle.ps_text.proofs.Bytes.Single.{refuted}
 use Rattle.ps_circuit.proofs.NumberLemmas.{number_none}
 use Rattle.ps_circuit.proofs.LineLemmas.{definition_reads, definition_wrong, definition_twice}

@@ -1,6 +1,6 @@
 use Rattle.std.proofs.Common.{rules, arith, []}
 use Rattle.ps_text.specs.Parts.{times}
-use Rattle.ps_circuit.specs.Reading.{lines_of}
+use Rattle.ps_circuit.specs.Inner.Reading.{lines_of}
 use Rattle.ps_text.specs.Faults.{found_of}
 use Rattle.ps_text.proofs.Exits.{exits}
 use Rattle.ps_circuit.specs.Signs.{aig_causes}

@@ -1,5 +1,5 @@
 use Rattle.std.proofs.Common.{[]}
-use Rattle.ps_circuit.specs.Reading.{lines_of}
+use Rattle.ps_circuit.specs.Inner.Reading.{lines_of}
 use Rattle.ps_circuit.proofs.LineLemmas.{Lining}
 use Rattle.ps_circuit.proofs.lines.lines.Given as goal
 

@@ -1,6 +1,6 @@
 use Rattle.std.proofs.Common.{arith, refl}
 use Rattle.ps_circuit.specs.Texts.{OfInput, OfLatch, OfOutput}
-use Rattle.ps_circuit.specs.Names.{names_data}
+use Rattle.ps_circuit.specs.Inner.Names.{names_data}
 use Rattle.ps_text.proofs.Bytes.Single.{refuted}
 use Rattle.ps_circuit.proofs.SymbolLemmas.{letter_is, symbol_refused}
 use Rattle.ps_circuit.proofs.names.symbol_line.Goals as goal

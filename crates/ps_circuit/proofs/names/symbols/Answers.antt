@@ -1,7 +1,7 @@
 use Rattle.std.proofs.Common.{arith, Ok, Err}
 use Rattle.ps_text.specs.Parts.{many}
 use Rattle.ps_circuit.specs.Texts.{symbol_line}
-use Rattle.ps_circuit.specs.Names.{names_data}
+use Rattle.ps_circuit.specs.Inner.Names.{names_data}
 use Rattle.ps_text.specs.Faults.{found_of}
 use Rattle.ps_text.proofs.Exits.{exits}
 use Rattle.ps_circuit.specs.Signs.{aig_causes}

@@ -3,7 +3,7 @@ use Rattle.ps_text.specs.Parts.{many}
 use Rattle.ps_text.specs.Readers.{Carries}
 use Rattle.ps_circuit.specs.Signs.{aig_causes}
 use Rattle.ps_circuit.specs.Texts.{symbol_line}
-use Rattle.ps_circuit.specs.Names.{AreNames, names_data}
+use Rattle.ps_circuit.specs.Inner.Names.{AreNames, names_data}
 use Rattle.ps_circuit.proofs.names.symbols.Given as goal
 
 abbrev pub invariant-more : goal.invariant-more

@@ -1,5 +1,5 @@
 use Rattle.std.proofs.Common.{arith, ◌∙◌, length, ap}
-use Rattle.ps_circuit.specs.Reading.{draft_data}
+use Rattle.ps_circuit.specs.Inner.Reading.{draft_data}
 use Rattle.ps_circuit.proofs.DraftReading.{answer_fails, answer_undefined, answered}
 use Rattle.ps_circuit.proofs.reader.read.Goals as goal
 

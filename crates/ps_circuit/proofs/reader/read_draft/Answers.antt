@@ -1,8 +1,8 @@
 use Rattle.std.proofs.Common.{◌≡◌, ℕ, [], arith, rules}
 use Rattle.ps_circuit.specs.declared.parts.Gate.{Gate}
 use Rattle.ps_circuit.specs.declared.parts.Latch.{Latch}
-use Rattle.ps_circuit.specs.Names.{names_data}
-use Rattle.ps_circuit.specs.Reading.{lines_of}
+use Rattle.ps_circuit.specs.Inner.Names.{names_data}
+use Rattle.ps_circuit.specs.Inner.Reading.{lines_of}
 use Rattle.ps_circuit.specs.Texts.{Lines, input_line, latch_line, output_line, gate_line, symbols, HeaderData}
 use Rattle.ps_text.proofs.Bytes.Lefts.{stops_at}
 use Rattle.ps_circuit.proofs.TextLaws.{laws_input_line, laws_latch_line, laws_output_line, laws_gate_line, body_latches}

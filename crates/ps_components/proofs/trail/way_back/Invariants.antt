@@ -1,6 +1,6 @@
 use Rattle.std.proofs.Common.{◌≡◌, ◌≢◌, ℕ, ◌+◌, ◌-◌, ◌<◌, length, slice_get, Some}
 use Rattle.ps_components.specs.declared.trail.Step.{Step}
-use Rattle.ps_components.specs.Spreading.{IsSpread, unseen}
+use Rattle.ps_components.specs.Inner.Spreading.{IsSpread, unseen}
 use Rattle.ps_components.proofs.trail.way_back.Given as goal
 
 abbrev pub invariant-loop-place : goal.invariant-loop-place

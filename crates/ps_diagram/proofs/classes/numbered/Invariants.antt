@@ -1,6 +1,6 @@
 use Rattle.std.proofs.Common.{nat_eq}
 use Rattle.indexmap.specs.IndexMap.{get}
-use Rattle.ps_diagram.specs.Numbered.{AreOf, IsPlaced}
+use Rattle.ps_diagram.specs.Inner.Numbered.{AreOf, IsPlaced}
 use Rattle.ps_diagram.proofs.classes.numbered.Given as goal
 
 abbrev pub invariant-loop-pair : goal.invariant-loop-pair

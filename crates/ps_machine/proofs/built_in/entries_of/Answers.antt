@@ -1,7 +1,7 @@
 use Rattle.std.proofs.Common.{◌≡◌, ◌+◌, List, Bool, true, false, refl, sym, subst}
 use Rattle.ps_game.specs.Regions.{has, move_at}
 use Rattle.ps_certificate.specs.Certificates.{EntryData}
-use Rattle.ps_machine.specs.Building.{AreEntries}
+use Rattle.ps_machine.specs.Inner.Building.{AreEntries}
 use Rattle.ps_machine.proofs.BuildingEntries.{entries_won, entries_lost}
 use Rattle.ps_machine.proofs.built_in.entries_of.Goals as goal
 

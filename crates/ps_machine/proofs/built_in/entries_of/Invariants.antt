@@ -1,5 +1,5 @@
 use Rattle.ps_game.specs.Regions.{move_at}
-use Rattle.ps_machine.specs.Building.{AreEntries}
+use Rattle.ps_machine.specs.Inner.Building.{AreEntries}
 use Rattle.ps_machine.proofs.built_in.entries_of.Given as goal
 
 -- the vertices before this one have entries

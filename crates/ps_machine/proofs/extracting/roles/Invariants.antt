@@ -1,5 +1,5 @@
 use Rattle.std.proofs.Common.{not}
-use Rattle.ps_machine.specs.Assembling.{AreListedBelow}
+use Rattle.ps_machine.specs.Inner.Assembling.{AreListedBelow}
 use Rattle.ps_machine.specs.BuiltBoards.{board_of}
 use Rattle.ps_machine.specs.Extracting.{is_others}
 use Rattle.ps_machine.proofs.extracting.roles.Given as goal

@@ -1,7 +1,7 @@
 use Rattle.std.proofs.Common.{◌≡◌, ◌++◌}
 use Rattle.ps_machine.specs.BuiltBoards.{board_of}
 use Rattle.ps_machine.specs.KeyNames.{first_digits}
-use Rattle.ps_machine.specs.Naming.{IsPlain}
+use Rattle.ps_machine.specs.Inner.Naming.{IsPlain}
 use Rattle.ps_machine.proofs.game.write_digits.Given as goal
 
 abbrev pub invariant-loop-proposition : goal.invariant-loop-proposition

@@ -1,5 +1,5 @@
 use Rattle.ps_game.specs.Regions.{has, move_at}
-use Rattle.ps_measure.specs.Filling.{AreRanked}
+use Rattle.ps_measure.specs.Inner.Filling.{AreRanked}
 use Rattle.ps_measure.proofs.measuring.raise_each.Given as goal
 
 abbrev pub invariant-loop-place : goal.invariant-loop-place

@@ -1,7 +1,7 @@
 use Rattle.std.proofs.Common.{arith, ◌≡◌, List, ℕ, [], ◌∷◌, ◌++◌, Some, sym, subst, ap, ◌∙◌}
 use Rattle.std.specs.Option.{option_copied}
 use Rattle.ps_pgsolver.specs.GameTexts.{node, entry}
-use Rattle.ps_pgsolver.specs.Kept.{node_with}
+use Rattle.ps_pgsolver.specs.Inner.Kept.{node_with}
 use Rattle.ps_pgsolver.specs.Nodes.{NodeData, KnowsNode, KnowsAll, ids_of}
 use Rattle.ps_pgsolver.proofs.NodeLemmas.{all_before, all_last}
 use Rattle.ps_pgsolver.proofs.Exits.{exit, stops_mapped, done_mapped, done_value}

@@ -1,6 +1,6 @@
 use Rattle.std.proofs.Common.{Some, subst, Ok}
 use Rattle.std.specs.Option.{option_copied}
-use Rattle.ps_pgsolver.specs.Answered.{TextAnswers}
+use Rattle.ps_pgsolver.specs.Inner.Answered.{TextAnswers}
 use Rattle.ps_pgsolver.specs.GameTexts.{game}
 use Rattle.ps_pgsolver.proofs.Exits.{stops_left, stops_right, done_then}
 use Rattle.ps_pgsolver.proofs.GameLaws.{joint_parity, joint_start}

@@ -1,7 +1,7 @@
 use Rattle.std.proofs.Common.{◌≡◌, length, take}
 use Rattle.ps_simulate.specs.Stimuli.{letters_of}
 use Rattle.ps_simulate.specs.LassoRuns.{ReadsWord}
-use Rattle.ps_simulate.specs.Namings.{names_of}
+use Rattle.ps_simulate.specs.Inner.Namings.{names_of}
 use Rattle.ps_simulate.proofs.lassos.read_word.Given as goal
 
 abbrev pub invariant-loop-letter : goal.invariant-loop-letter

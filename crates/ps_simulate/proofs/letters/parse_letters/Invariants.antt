@@ -1,6 +1,6 @@
 use Rattle.std.proofs.Common.{◌≡◌, ◌*◌, ◌-◌, ◌≤◌, false, length}
 use Rattle.ps_simulate.specs.Stimuli.{letters_in, stem_of}
-use Rattle.ps_simulate.specs.StimulusReading.{HasRead}
+use Rattle.ps_simulate.specs.Inner.StimulusReading.{HasRead}
 use Rattle.ps_simulate.proofs.letters.parse_letters.Given as goal
 
 abbrev pub invariant-loop-start : goal.invariant-loop-start

@@ -1,6 +1,6 @@
 use Rattle.std.proofs.Common.{◌≡◌, ◌<◌, ◌≤◌, ◌^◌, ℕ, None, false, get_or, length}
 use Rattle.ps_label.specs.Truth.{is_in}
-use Rattle.ps_simulate.specs.Namings.{bit_at_place}
+use Rattle.ps_simulate.specs.Inner.Namings.{bit_at_place}
 use Rattle.ps_simulate.proofs.naming.part_of.Given as goal
 
 abbrev pub invariant-loop-p : goal.invariant-loop-p

@@ -2,7 +2,7 @@ use Rattle.std.proofs.Common.{ℕ, List, Bool, Bor, Option, map, length}
 use Rattle.std.specs.Option.{option_copied}
 use Rattle.std.proofs.lemmas.List.{length-map}
 use Rattle.ps_hoa.specs.Memory.{bytes_of}
-use Rattle.ps_simulate.specs.Namings.{ArePut}
+use Rattle.ps_simulate.specs.Inner.Namings.{ArePut}
 use Rattle.ps_simulate.proofs.NamingLemmas.{all_placed, all_once, missing}
 use Rattle.ps_simulate.proofs.naming.places_of.Goals as goal
 use Rattle.ps_simulate.proofs.naming.places_of.Goals.{in_default-via-in-Some+else-is_full, in_default-via-in_default}

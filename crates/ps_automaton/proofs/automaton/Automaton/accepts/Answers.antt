@@ -2,7 +2,7 @@ use Rattle.std.proofs.Common.{◌≡◌, ℕ, ◌^◌, ◌<◌, List, length, su
 use Rattle.std.specs.Prelude.{All}
 use Rattle.ps_automaton.specs.Automata.{auto_of}
 use Rattle.ps_automaton.specs.Autos.{state_behind}
-use Rattle.ps_automaton.specs.Returning.{Returns}
+use Rattle.ps_automaton.specs.Inner.Returning.{Returns}
 use Rattle.ps_automaton.proofs.Accepting.{laps_decide}
 use Rattle.ps_automaton.proofs.automaton.Automaton.accepts.Goals as goal
 

@@ -1,6 +1,6 @@
 use Rattle.std.proofs.Common.{ℕ, ap}
 use Rattle.ps_automaton.specs.declared.step.Step.{Step}
-use Rattle.ps_automaton.specs.Views.{chain_data}
+use Rattle.ps_automaton.specs.Inner.Views.{chain_data}
 use Rattle.ps_automaton.proofs.levels.Levels.step_to.Goals as goal
 
 pub returns : goal.returns

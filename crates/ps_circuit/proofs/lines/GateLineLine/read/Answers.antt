@@ -1,5 +1,5 @@
 use Rattle.std.proofs.Common.{arith}
-use Rattle.ps_circuit.specs.Reading.{lines_of}
+use Rattle.ps_circuit.specs.Inner.Reading.{lines_of}
 use Rattle.ps_circuit.specs.Texts.{add_gate, gate_line}
 use Rattle.ps_text.proofs.Bytes.Lefts.{unread, exits_at, exits_last, reads_last}
 use Rattle.ps_circuit.proofs.TextLaws.{chain_gate, chain_first, chain_second}

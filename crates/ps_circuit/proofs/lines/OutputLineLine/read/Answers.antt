@@ -1,5 +1,5 @@
 use Rattle.std.proofs.Common.{arith}
-use Rattle.ps_circuit.specs.Reading.{lines_of}
+use Rattle.ps_circuit.specs.Inner.Reading.{lines_of}
 use Rattle.ps_circuit.specs.Texts.{WrongLiteral, add_output, output_line}
 use Rattle.ps_text.proofs.Bytes.Lefts.{unread, stops_at, exits_at, exits_last, reads_last}
 use Rattle.ps_circuit.proofs.NumberLemmas.{number_none}

@@ -1,5 +1,5 @@
 use Rattle.std.proofs.Common.{◌≡◌, ℕ, ◌+◌, ◌<◌, ◌≤◌, length, slice_get, true, Some}
-use Rattle.ps_components.specs.Spreading.{IsSpread, KeepsSteps, unseen}
+use Rattle.ps_components.specs.Inner.Spreading.{IsSpread, KeepsSteps, unseen}
 use Rattle.ps_components.proofs.trail.Spread.reach_from.Given as goal
 
 abbrev pub invariant-loop-number : goal.invariant-loop-number

@@ -3,7 +3,7 @@ use Rattle.std.proofs.lemmas.Result.{IfOk-weaker}
 use Rattle.indexmap.specs.IndexMap.{get}
 use Rattle.ps_diagram.specs.Tree.{leaf_at}
 use Rattle.ps_diagram.specs.Table.{tree_of}
-use Rattle.ps_diagram.specs.Rests.{IsDivided, test_eq}
+use Rattle.ps_diagram.specs.Inner.Rests.{IsDivided, test_eq}
 use Rattle.ps_diagram.proofs.Sides.{sides_of_test}
 use Rattle.ps_diagram.proofs.KnownLemmas.{keeps_trans, knows_more}
 use Rattle.ps_diagram.proofs.Dividing.{divided_blind, divided_leads, divided_side}

@@ -3,7 +3,7 @@ use Rattle.std.specs.Option.{option_copied, unwrap_or}
 use Rattle.indexmap.specs.IndexMap.{get}
 use Rattle.ps_diagram.specs.Tree.{leaf_at}
 use Rattle.ps_diagram.specs.Table.{tree_of}
-use Rattle.ps_diagram.specs.Known.{IsMapped}
+use Rattle.ps_diagram.specs.Inner.Known.{IsMapped}
 use Rattle.ps_diagram.proofs.Sides.{sides_of_test}
 use Rattle.ps_diagram.proofs.KnownLemmas.{keeps_trans, kept, read_keeps, knows_kept, knows_more}
 use Rattle.ps_diagram.proofs.Mapping.{mapped_blind, mapped_sides, on_side}

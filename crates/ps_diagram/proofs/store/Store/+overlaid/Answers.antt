@@ -1,7 +1,7 @@
 use Rattle.std.proofs.Common.{sym, ℕ, true, false, rules}
 use Rattle.indexmap.specs.IndexMap.{get}
 use Rattle.ps_diagram.specs.Table.{tree_of}
-use Rattle.ps_diagram.specs.Known.{IsOverlay, pair_eq}
+use Rattle.ps_diagram.specs.Inner.Known.{IsOverlay, pair_eq}
 use Rattle.ps_diagram.proofs.KnownLemmas.{keeps_trans, pairs_kept, pairs_more}
 use Rattle.ps_diagram.proofs.Joining.{overlay_sides, clash_side, clash_passes}
 use Rattle.ps_diagram.proofs.store.Store.+overlaid.Goals as goal

@@ -3,7 +3,7 @@ use Rattle.std.proofs.lemmas.Bool.{eqb-true}
 use Rattle.indexmap.specs.IndexMap.{get}
 use Rattle.ps_diagram.specs.Table.{tree_of}
 use Rattle.ps_diagram.specs.Tree.{IsBlind}
-use Rattle.ps_diagram.specs.Rests.{IsPlace, test_eq}
+use Rattle.ps_diagram.specs.Inner.Rests.{IsPlace, test_eq}
 use Rattle.ps_diagram.proofs.KnownLemmas.{keeps_trans, kept}
 use Rattle.ps_diagram.proofs.Mapping.{on_side}
 use Rattle.ps_diagram.proofs.Dividing.{tested_same, tested_kept, tested_blind, tests_kept, tests_more}

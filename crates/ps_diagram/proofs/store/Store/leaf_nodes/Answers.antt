@@ -1,6 +1,6 @@
 use Rattle.std.specs.List.{slice_get}
 use Rattle.std.proofs.lemmas.Option.{slice_get-get_or}
-use Rattle.ps_diagram.specs.Rows.{HasLeaf}
+use Rattle.ps_diagram.specs.Inner.Rows.{HasLeaf}
 use Rattle.ps_diagram.proofs.Halving.{leaf_nodes_more}
 use Rattle.ps_diagram.proofs.KnownLemmas.{keeps_trans}
 use Rattle.ps_diagram.proofs.store.Store.leaf_nodes.Goals as goal

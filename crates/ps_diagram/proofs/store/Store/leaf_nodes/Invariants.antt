@@ -1,4 +1,4 @@
-use Rattle.ps_diagram.specs.Rows.{AreLeafNodes}
+use Rattle.ps_diagram.specs.Inner.Rows.{AreLeafNodes}
 use Rattle.ps_diagram.specs.Table.{Keeps}
 use Rattle.ps_diagram.proofs.store.Store.leaf_nodes.Given as goal
 

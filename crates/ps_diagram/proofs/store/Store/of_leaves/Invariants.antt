@@ -1,4 +1,4 @@
-use Rattle.ps_diagram.specs.Rows.{IsRow, LeadsOn}
+use Rattle.ps_diagram.specs.Inner.Rows.{IsRow, LeadsOn}
 use Rattle.ps_diagram.specs.Table.{Keeps}
 use Rattle.ps_diagram.proofs.store.Store.of_leaves.Given as goal
 

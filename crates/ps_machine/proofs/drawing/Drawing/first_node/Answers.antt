@@ -1,5 +1,5 @@
 use Rattle.std.proofs.Common.{arith}
-use Rattle.ps_machine.specs.Planning.{IsDrawnBy}
+use Rattle.ps_machine.specs.Inner.Planning.{IsDrawnBy}
 use Rattle.ps_machine.proofs.GameKeys.Exploring.{both_ok}
 use Rattle.ps_machine.proofs.Diagrams.FirstDrawing.{entered, all_noted, drawn_first}
 use Rattle.ps_machine.proofs.Diagrams.ClassRests.{class_listed, left_behind, renamed, renamed_within}

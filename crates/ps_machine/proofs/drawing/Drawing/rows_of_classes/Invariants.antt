@@ -2,7 +2,7 @@ use Rattle.std.proofs.Common.{◌≡◌, take}
 use Rattle.std.specs.List.{All, AllZip}
 use Rattle.ps_diagram.specs.declared.classes.Class.{Class}
 use Rattle.ps_machine.specs.BuiltBoards.{board_of}
-use Rattle.ps_machine.specs.Drawing.{IsRow, KeepsRows, NamesAnswer}
+use Rattle.ps_machine.specs.Inner.Drawing.{IsRow, KeepsRows, NamesAnswer}
 use Rattle.ps_machine.proofs.drawing.Drawing.rows_of_classes.Given as goal
 
 -- the classes that were looked at have their rows

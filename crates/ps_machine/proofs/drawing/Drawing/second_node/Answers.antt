@@ -1,6 +1,6 @@
 use Rattle.std.proofs.Common.{rules, arith}
 use Rattle.ps_diagram.specs.declared.classes.Class.{Class}
-use Rattle.ps_machine.specs.Planning.{IsDrawnBy, NamesAnswerBy}
+use Rattle.ps_machine.specs.Inner.Planning.{IsDrawnBy, NamesAnswerBy}
 use Rattle.ps_machine.proofs.BoardSteps.{class_rests}
 use Rattle.ps_machine.proofs.Diagrams.ClassTables.{classes_there}
 use Rattle.ps_machine.proofs.Diagrams.DrawingLemmas.{kept_used}

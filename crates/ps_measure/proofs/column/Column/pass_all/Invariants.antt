@@ -1,7 +1,7 @@
 use Rattle.std.proofs.Common.{◌≡◌, ◌<◌, ℕ}
 use Rattle.ps_components.specs.Graphs.{Link}
-use Rattle.ps_measure.specs.Remaining.{low_graph, low_weight}
-use Rattle.ps_measure.specs.Columns.{IsCounting, GrowsBelow, IsPassed}
+use Rattle.ps_measure.specs.Inner.Remaining.{low_graph, low_weight}
+use Rattle.ps_measure.specs.Inner.Columns.{IsCounting, GrowsBelow, IsPassed}
 use Rattle.ps_measure.proofs.column.Column.pass_all.Given as goal
 
 abbrev pub invariant-loop-place : goal.invariant-loop-place

@@ -1,4 +1,4 @@
-use Rattle.ps_measure.specs.Columns.{value_of}
+use Rattle.ps_measure.specs.Inner.Columns.{value_of}
 use Rattle.ps_measure.proofs.Placing.{ArePut}
 use Rattle.ps_measure.proofs.column.Column.put_into.Given as goal
 

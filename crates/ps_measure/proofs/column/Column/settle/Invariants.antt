@@ -1,6 +1,6 @@
 use Rattle.std.proofs.Common.{◌≡◌, ◌≤◌, length}
-use Rattle.ps_measure.specs.Remaining.{low_graph, low_weight}
-use Rattle.ps_measure.specs.Columns.{IsCounting, GrowsBelow, ArePassedFrom}
+use Rattle.ps_measure.specs.Inner.Remaining.{low_graph, low_weight}
+use Rattle.ps_measure.specs.Inner.Columns.{IsCounting, GrowsBelow, ArePassedFrom}
 use Rattle.ps_measure.proofs.column.Column.settle.Given as goal
 
 abbrev pub invariant-loop-place : goal.invariant-loop-place

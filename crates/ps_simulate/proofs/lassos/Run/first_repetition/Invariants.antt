@@ -2,7 +2,7 @@ use Rattle.std.proofs.Common.{◌≡◌, ◌-◌, ◌^◌, Bool, List, length, v
 use Rattle.std.specs.BTreeMap.{btree_map_len}
 use Rattle.ps_simulate.specs.Stimuli.{letters_of}
 use Rattle.ps_simulate.specs.LassoRuns.{HasRead, HavePlaces}
-use Rattle.ps_simulate.specs.Namings.{names_of}
+use Rattle.ps_simulate.specs.Inner.Namings.{names_of}
 use Rattle.ps_simulate.proofs.lassos.Run.first_repetition.Given as goal
 
 abbrev pub invariant-laps : goal.invariant-laps

@@ -2,7 +2,7 @@ use Rattle.std.proofs.Common.{◌≡◌, ◌≢◌, ℕ, List, map, length, ap, 
 use Rattle.std.specs.Option.{option_copied}
 use Rattle.std.proofs.lemmas.List.{length-map}
 use Rattle.ps_hoa.specs.Memory.{bytes_of}
-use Rattle.ps_simulate.specs.Namings.{ArePlacesOf}
+use Rattle.ps_simulate.specs.Inner.Namings.{ArePlacesOf}
 use Rattle.ps_simulate.proofs.NamingLemmas.{apart}
 use Rattle.ps_simulate.proofs.naming.Naming.new.Goals as goal
 

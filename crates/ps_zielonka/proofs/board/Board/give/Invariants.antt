@@ -1,6 +1,6 @@
 use Rattle.std.proofs.Common.{◌≡◌, ℕ, ◌<◌, ◌≤◌, ◌⊎◌, length}
 use Rattle.std.specs.Prelude.{slice_index}
-use Rattle.ps_zielonka.specs.Nests.{StandsBetween}
+use Rattle.ps_zielonka.specs.Inner.Nests.{StandsBetween}
 use Rattle.ps_zielonka.proofs.board.Board.give.Given as goal
 
 abbrev pub invariant-loop-place : goal.invariant-loop-place

@@ -1,7 +1,7 @@
 use Rattle.std.proofs.Common.{◌≡◌, ℕ, ◌-◌}
 use Rattle.ps_attractor.specs.Tables.{FitsGame}
-use Rattle.ps_zielonka.specs.Levels.{mark_of}
-use Rattle.ps_zielonka.specs.Nests.{StandsBetween, IsMoved, IsKeptAt}
+use Rattle.ps_zielonka.specs.Inner.Levels.{mark_of}
+use Rattle.ps_zielonka.specs.Inner.Nests.{StandsBetween, IsMoved, IsKeptAt}
 use Rattle.ps_zielonka.proofs.board.Board.is_kept.Given as goal
 
 abbrev pub invariant-loop-place : goal.invariant-loop-place

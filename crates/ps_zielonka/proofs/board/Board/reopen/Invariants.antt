@@ -1,6 +1,6 @@
 use Rattle.std.proofs.Common.{◌≡◌}
-use Rattle.ps_zielonka.specs.Levels.{mark_of}
-use Rattle.ps_zielonka.specs.Nests.{StandsBefore, IsReopened}
+use Rattle.ps_zielonka.specs.Inner.Levels.{mark_of}
+use Rattle.ps_zielonka.specs.Inner.Nests.{StandsBefore, IsReopened}
 use Rattle.ps_zielonka.proofs.board.Board.reopen.Given as goal
 
 abbrev pub invariant-loop-place : goal.invariant-loop-place

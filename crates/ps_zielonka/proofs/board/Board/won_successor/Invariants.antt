@@ -2,7 +2,7 @@ use Rattle.std.proofs.Common.{◌≢◌, ℕ, ◌<◌}
 use Rattle.std.specs.Prelude.{slice_index}
 use Rattle.ps_game.specs.Games.{successors_of}
 use Rattle.ps_attractor.specs.Tables.{level_of}
-use Rattle.ps_zielonka.specs.Levels.{mark_of}
+use Rattle.ps_zielonka.specs.Inner.Levels.{mark_of}
 use Rattle.ps_zielonka.proofs.board.Board.won_successor.Given as goal
 
 abbrev pub invariant-loop-number : goal.invariant-loop-number

@@ -4,8 +4,8 @@ use Rattle.std.proofs.lemmas.List.{length_push}
 use Rattle.ps_game.specs.Games.{priority_of}
 use Rattle.ps_attractor.specs.declared.aim.Aim.{Aim}
 use Rattle.ps_zielonka.specs.declared.frame.Frame.{Frame}
-use Rattle.ps_zielonka.specs.Nests.{IsNest}
-use Rattle.ps_zielonka.specs.Levels.{aim_of}
+use Rattle.ps_zielonka.specs.Inner.Nests.{IsNest}
+use Rattle.ps_zielonka.specs.Inner.Levels.{aim_of}
 use Rattle.ps_zielonka.specs.declared.level.Level.TheVariants.{Attracted}
 use Rattle.ps_zielonka.proofs.Begun.{Begun}
 use Rattle.ps_zielonka.proofs.Begins.{frame_of, begun_nest, begun_falls}

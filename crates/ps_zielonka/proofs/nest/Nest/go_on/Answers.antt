@@ -1,6 +1,6 @@
 use Rattle.std.proofs.Common.{◌≡◌, ◌+◌, ◌*◌, length, refl, ap}
 use Rattle.ps_attractor.specs.declared.aim.Aim.{Aim}
-use Rattle.ps_zielonka.specs.Levels.{mark_of, aim_of}
+use Rattle.ps_zielonka.specs.Inner.Levels.{mark_of, aim_of}
 use Rattle.ps_zielonka.proofs.Climbs.{on_aim}
 use Rattle.ps_zielonka.proofs.GoesOn.{Reached, going_on, fits_reopened, on_nest, on_falls}
 use Rattle.ps_zielonka.proofs.Frames.{last_waits}

@@ -1,4 +1,4 @@
-use Rattle.ps_zielonka.specs.Stacks.{IsStack, IsDeep, steps_of}
+use Rattle.ps_zielonka.specs.Inner.Stacks.{IsStack, IsDeep, steps_of}
 use Rattle.ps_zielonka.proofs.nest.Nest.solve.Given as goal
 
 abbrev pub invariant-steps : goal.invariant-steps

@@ -15,9 +15,9 @@ use Rattle.ps_hoa.specs.Sound.{AreAtLetters, IsLabelOf, IsSoundFile, IsSoundRow}
 use Rattle.ps_hoa.specs.Views.{row_data}
 use Rattle.ps_automaton.specs.Answers.{AreClashing, Clash, IsFirstClash}
 use Rattle.ps_automaton.specs.Chains.{Chain, level}
-use Rattle.ps_automaton.specs.Numbering.{AreSetsBelow, IsTable}
-use Rattle.ps_automaton.specs.Targets.{IsTargetOf}
-use Rattle.ps_automaton.specs.Views.{chain_data}
+use Rattle.ps_automaton.specs.Inner.Numbering.{AreSetsBelow, IsTable}
+use Rattle.ps_automaton.specs.Inner.Targets.{IsTargetOf}
+use Rattle.ps_automaton.specs.Inner.Views.{chain_data}
 use Rattle.ps_automaton.specs.declared.fault.AutomatonFault.{AutomatonFault}
 use Rattle.ps_automaton.specs.declared.fault.AutomatonFault.TheVariants.{ComplementedSet, NonParity, Nondeterministic}
 use Rattle.ps_automaton.specs.declared.fault.AutomatonFault.TheVariants.{OutOfMemory}

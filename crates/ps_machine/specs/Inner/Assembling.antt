@@ -12,7 +12,7 @@ use Rattle.ps_hoa.specs.Files.{is_among}
 use Rattle.ps_hoa.specs.Memory.{bytes_of}
 use Rattle.ps_hoa.specs.Sound.{AreNames}
 use Rattle.ps_machine.specs.Boards.{Board}
-use Rattle.ps_machine.specs.Drawing.{IsDrawn, IsRow}
+use Rattle.ps_machine.specs.Inner.Drawing.{IsDrawn, IsRow}
 use Rattle.ps_machine.specs.Extracting.{is_others}
 use Rattle.ps_machine.specs.Machines.{MachineData}
 use Rattle.ps_machine.specs.declared.key.Key.{Key}

@@ -13,7 +13,7 @@ use Rattle.ps_attractor.specs.Tables.{TablesData, FitsGame, level_of, moves_of}
 use Rattle.ps_attractor.specs.Aims.{StandsFrom, IsGrown, IsPlaced}
 use Rattle.ps_zielonka.specs.declared.level.TheConstants.{UNPLACED}
 use Rattle.ps_zielonka.specs.declared.frame.Frame.{Frame}
-use Rattle.ps_zielonka.specs.Turns.{Progress, Solved, IsTurned}
+use Rattle.ps_zielonka.specs.Inner.Turns.{Progress, Solved, IsTurned}
 
 -- the vertices of a level or a higher one
 unfoldable pub from : List ℕ → ℕ → ℕ → Bool

@@ -16,7 +16,7 @@ use Rattle.ps_circuit.specs.Drafts.{data_of}
 use Rattle.ps_text.specs.Bytes.{Seen, stream_of}
 use Rattle.ps_circuit.specs.Signs.{Field, aig_causes, gap}
 use Rattle.ps_text.specs.Faults.{found_of}
-use Rattle.ps_circuit.specs.Cursors.{saturated, NumberIs, TellsNumber}
+use Rattle.ps_circuit.specs.Inner.Cursors.{saturated, NumberIs, TellsNumber}
 use Rattle.ps_circuit.specs.Texts.{AnyNumber, HeaderData, header, field, Lines, add_input, add_latch, add_output}
 use Rattle.ps_circuit.specs.Texts.{add_gate, DraftData, circuit_text, IsFirstUndefined, IsDefined}
 use Rattle.ps_circuit.specs.declared.number.Number.{Number}

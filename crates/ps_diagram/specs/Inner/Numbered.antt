@@ -1,6 +1,6 @@
 -- Leaves with their least letters as classes, and the places of these.
 use Rattle.std.specs.Prelude.{◌≡◌, ℕ, ◌<◌, List, length, Option, Some, option_and_then, slice_index_or}
-use Rattle.ps_diagram.specs.Known.{IsMapped}
+use Rattle.ps_diagram.specs.Inner.Known.{IsMapped}
 use Rattle.ps_diagram.specs.Tree.{Tree}
 use Rattle.ps_diagram.specs.declared.classes.Class.{Class}
 

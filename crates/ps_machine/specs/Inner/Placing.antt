@@ -8,7 +8,7 @@ use Rattle.std.specs.Prelude.{◌≡◌, ℕ, ◌<◌, Bool, List, length, Some,
 use Rattle.ps_certificate.specs.Certificates.{CertificateData, choice_of}
 use Rattle.ps_automaton.specs.Automata.{AutomatonData, pair_of}
 use Rattle.ps_machine.specs.Boards.{Board, IsClass}
-use Rattle.ps_machine.specs.Drawing.{CanEnter}
+use Rattle.ps_machine.specs.Inner.Drawing.{CanEnter}
 use Rattle.ps_machine.specs.Extracting.{StandsFor}
 use Rattle.ps_machine.specs.Moving.{step_key}
 use Rattle.ps_machine.specs.Numbering.{StandsAt}

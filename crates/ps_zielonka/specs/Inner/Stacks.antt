@@ -4,8 +4,8 @@ use Rattle.ps_game.specs.Games.{ParityGame, vertex_count}
 use Rattle.ps_attractor.specs.Tables.{TablesData, level_of, moves_of}
 use Rattle.ps_zielonka.specs.declared.nest.Nest.{Nest}
 use Rattle.ps_zielonka.specs.Depths.{IsDepthSoFar}
-use Rattle.ps_zielonka.specs.Turns.{Solved}
-use Rattle.ps_zielonka.specs.Nests.{IsNest, from, winner_of, steps_left}
+use Rattle.ps_zielonka.specs.Inner.Turns.{Solved}
+use Rattle.ps_zielonka.specs.Inner.Nests.{IsNest, from, winner_of, steps_left}
 
 abbrev pub IsStack : {W : Type 0} → ParityGame → Nest W → Type 0
 IsStack game nest =

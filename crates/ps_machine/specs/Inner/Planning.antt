@@ -6,13 +6,13 @@ use Rattle.std.specs.Prelude.{ℕ, nat_eq, List}
 use Rattle.std.specs.List.{All}
 use Rattle.indexmap.specs.IndexMap.{get}
 use Rattle.ps_diagram.specs.Table.{Table}
-use Rattle.ps_machine.specs.Assembling.{AreDrawn}
+use Rattle.ps_machine.specs.Inner.Assembling.{AreDrawn}
 use Rattle.ps_machine.specs.Boards.{Board}
 use Rattle.ps_machine.specs.BuiltBoards.{board_of}
 use Rattle.ps_machine.specs.Dividing.{AreDivided}
-use Rattle.ps_machine.specs.Drawing.{CanEnter, IsReplyRow, IsDrawn, IsPlan, IsRow, NamesAnswer}
+use Rattle.ps_machine.specs.Inner.Drawing.{CanEnter, IsReplyRow, IsDrawn, IsPlan, IsRow, NamesAnswer}
 use Rattle.ps_machine.specs.Moving.{IsFit, IsRest}
-use Rattle.ps_machine.specs.Placing.{IsEntered, IsPlaced}
+use Rattle.ps_machine.specs.Inner.Placing.{IsEntered, IsPlaced}
 use Rattle.ps_machine.specs.declared.drawing.Plan.{Plan}
 use Rattle.ps_machine.specs.declared.machine.Row.{Row}
 

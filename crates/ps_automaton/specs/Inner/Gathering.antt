@@ -4,7 +4,7 @@ use Rattle.ps_hoa.specs.Conditions.{row_of}
 use Rattle.ps_hoa.specs.Values.{condition_of}
 use Rattle.ps_hoa.specs.declared.condition.Cond.{Cond}
 use Rattle.ps_automaton.specs.Chains.{Chain, chain_of, chain_of_all, in_front}
-use Rattle.ps_automaton.specs.Views.{link_data}
+use Rattle.ps_automaton.specs.Inner.Views.{link_data}
 use Rattle.ps_automaton.specs.declared.chain.Link.{Link}
 use Rattle.ps_automaton.specs.declared.chain.Gathered.{Gathered}
 use Rattle.ps_automaton.specs.declared.chain.Gathered.TheVariants.{All, AllBut, TooFew}

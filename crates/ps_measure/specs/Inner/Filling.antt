@@ -6,9 +6,9 @@ use Rattle.ps_game.specs.Games.{ParityGame, vertex_count, priority_of}
 use Rattle.ps_measure.specs.declared.fault.MeasureFault.{MeasureFault}
 use Rattle.ps_measure.specs.declared.fault.MeasureFault.TheVariants.{BadCycle, OutOfMemory}
 use Rattle.ps_measure.specs.Sums.{sum_below, count_below}
-use Rattle.ps_measure.specs.Remaining.{LowData, low_graph, low_weight}
-use Rattle.ps_measure.specs.Columns.{AreLeast}
-use Rattle.ps_measure.specs.Outcomes.{IsClosing}
+use Rattle.ps_measure.specs.Inner.Remaining.{LowData, low_graph, low_weight}
+use Rattle.ps_measure.specs.Inner.Columns.{AreLeast}
+use Rattle.ps_measure.specs.Inner.Outcomes.{IsClosing}
 use Rattle.ps_measure.specs.Ranks.{AreLeastFor, AreRows, count_of}
 use Rattle.ps_measure.specs.Tables.{HasColumn}
 

@@ -1,0 +1,6 @@
+-- What private functions say of each other; no public clause cites these.
+
+pub mod Cursors
+pub mod GateGraphs
+pub mod Names
+pub mod Reading

@@ -1,0 +1,8 @@
+-- What private functions say of each other; no public clause cites these.
+
+pub mod Known
+pub mod Numbered
+pub mod Parts
+pub mod Rests
+pub mod Rows
+pub mod Unions

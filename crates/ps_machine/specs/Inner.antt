@@ -1,0 +1,10 @@
+-- What private functions say of each other; no public clause cites these.
+
+pub mod Assembling
+pub mod Building
+pub mod Drawing
+pub mod Knowing
+pub mod Naming
+pub mod Placing
+pub mod Planning
+pub mod Visits

@@ -1,0 +1,6 @@
+-- What private functions say of each other; no public clause cites these.
+
+pub mod Answered
+pub mod Heads
+pub mod Kept
+pub mod Lexer

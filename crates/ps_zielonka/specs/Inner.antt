@@ -1,0 +1,6 @@
+-- What private functions say of each other; no public clause cites these.
+
+pub mod Levels
+pub mod Nests
+pub mod Stacks
+pub mod Turns
