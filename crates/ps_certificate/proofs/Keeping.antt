@@ -1,10 +1,10 @@
 -- A closed certificate's regions keep the paths that follow its moves.
-use Rattle.std.proofs.Common.{◌≡◌, ℕ, ◌+◌, ◌<◌, List, length, arith, zero, suc, rules}
+use Rattle.std.proofs.Common.{◌≡◌, ℕ, ◌<◌, List, length, arith, zero, suc, rules}
 use Rattle.std.specs.Prelude.{slice_index}
 use Rattle.std.proofs.lemmas.Bool.{eqb-true, eq-eqb}
 use Rattle.ps_game.specs.Games.{ParityGame}
 use Rattle.ps_game.specs.Plays.{IsPath, Follows}
-use Rattle.ps_certificate.specs.Certificates.{CertificateData, Remains, IsClosed, winner_of, choice_of}
+use Rattle.ps_certificate.specs.Certificates.{CertificateData, IsClosed, winner_of, choice_of}
 use Rattle.ps_certificate.specs.Regions.{BothKeep}
 
 -- each vertex of such a path has the same winner

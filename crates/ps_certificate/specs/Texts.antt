@@ -16,7 +16,7 @@
 -- digit of a count's priority that does not rise, if a space, a newline or a colon ends it. It is refused by 54
 -- (`OtherGame`) at a number that is not the one that the game has there, if one of these ends it, and at the newline
 -- where a priority is missing.
-use Rattle.std.specs.Prelude.{◌≡◌, ◌≢◌, ℕ, zero, suc, ◌+◌, ◌^◌, ◌<◌, ◌≤◌, ◌⊎◌, List, [], ◌∷◌, ◌++◌, length, map, drop}
+use Rattle.std.specs.Prelude.{◌≡◌, ◌≢◌, ℕ, zero, suc, ◌^◌, ◌<◌, ◌≤◌, ◌⊎◌, List, [], ◌∷◌, ◌++◌, length, map, drop}
 use Rattle.std.specs.Prelude.{Option, Some, None, Result, Bool, true, false, ◌==◌, if◌then◌else◌, slice_get, position}
 use Rattle.std.specs.List.{Contains}
 use Rattle.ps_text.specs.Answers.{Found}

@@ -5,7 +5,7 @@ use Rattle.std.proofs.Common.{Bool, true, false, not, cond, nat_lt, refl, ap, ar
 use Rattle.std.specs.List.{list_any}
 use Rattle.std.proofs.lemmas.Bool.{and_parts, cases_eq, eq-eqb, eqb-false, eqb-true, ltb-false, ltb-true, or_cases}
 use Rattle.std.proofs.lemmas.Bool.{or_parts}
-use Rattle.std.proofs.Math.Bool.{and-false, and-true, and_self, and_comm, not-and_self}
+use Rattle.std.proofs.Math.Bool.{and-true, and_self, and_comm}
 use Rattle.std.proofs.lemmas.Option.{slice_get_within}
 use Rattle.ps_circuit.specs.declared.builder.Sides.{Sides}
 use Rattle.ps_circuit.specs.Building.{Drafted, AreSides, Extends, IsFull, IsHeld, IsSoundDraft, Meets, bit}

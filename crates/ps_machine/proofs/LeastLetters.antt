@@ -1,6 +1,6 @@
 -- Letters in their order: no property of letters goes down forever; and the sum of two letters without a common
 -- proposition is a letter.
-use Rattle.std.proofs.Common.{◌≡◌, ℕ, zero, suc, ◌+◌, ◌/◌, ◌%◌, ◌^◌, ◌<◌, ◌≤◌, ◌⊎◌, inl, inr, Bool, true, false, cond}
+use Rattle.std.proofs.Common.{◌≡◌, ℕ, zero, suc, ◌+◌, ◌/◌, ◌^◌, ◌<◌, ◌≤◌, ◌⊎◌, inl, inr, Bool, true, false, cond}
 use Rattle.std.proofs.Common.{List, ap, sym, ◌∙◌, arith, rules, nat_eq}
 use Rattle.std.specs.List.{Contains, list_any}
 use Rattle.std.specs.Cmp.{nat_eq_equiv}

@@ -1,5 +1,5 @@
 -- A lasso's outcome, text by text.
-use Rattle.std.proofs.Common.{arith, ◌≡◌, ◌≢◌, ◌∙◌, ◌<◌, ℕ, Bool, true, List, All, length, Result, Ok, Err, refl, inl}
+use Rattle.std.proofs.Common.{arith, ◌≡◌, ◌<◌, ℕ, Bool, true, List, All, length, Result, Ok, Err, refl, inl}
 use Rattle.std.proofs.Common.{inr, subst, sym}
 use Rattle.ps_circuit.specs.Circuits.{CircuitData, IsCircuit}
 use Rattle.ps_automaton.specs.Automata.{AutomatonData, IsBuiltFrom}
@@ -9,8 +9,7 @@ use Rattle.ps_simulate.specs.LassoFaults.{HasNoLassoFault, Stands}
 use Rattle.ps_simulate.specs.Lassos.{IsVerdictOf}
 use Rattle.ps_simulate.specs.Stimuli.{StimulusData}
 use Rattle.ps_simulate.specs.Symbols.{HasSymbols}
-use Rattle.ps_simulate.specs.declared.lassos.LassoFault.{LassoFault}
-use Rattle.ps_simulate.specs.declared.lassos.LassoFault.TheVariants.{Width, EmptyLap, Symbols, OutOfMemory}
+use Rattle.ps_simulate.specs.declared.lassos.LassoFault.TheVariants.{Width}
 use Rattle.ps_simulate.specs.declared.lassos.Verdict.{Verdict}
 use Rattle.ps_simulate.specs.declared.role.Role.{Role}
 use Rattle.ps_program.specs.declared.answer.Answer.{Answer}
@@ -18,7 +17,7 @@ use Rattle.ps_program.specs.declared.answer.Refusal.{Refusal}
 use Rattle.ps_program.specs.declared.answer.Refusal.TheVariants as refusal
 use Rattle.ps_program.specs.Automata.{ReadsAutomaton, GivesAutomaton}
 use Rattle.ps_program.specs.Faults.{fault_text}
-use Rattle.ps_program.specs.Lassos.{AnswersLasso, RunsCircuit, TellsVerdict, verdict_text, lasso_line}
+use Rattle.ps_program.specs.Lassos.{AnswersLasso, RunsCircuit, TellsVerdict, verdict_text}
 use Rattle.ps_program.specs.Outcomes.{Gives}
 use Rattle.ps_program.specs.Replies.{Reply, line_reply, reply_of}
 use Rattle.ps_program.specs.Texts.{CutsInThree, ReadsCircuitText, ReadsStimulusText}

@@ -1,8 +1,8 @@
 -- What several reads or writes do together.
 use Rattle.std.proofs.Common.{◌≡◌, ℕ, ◌+◌, ◌-◌, ◌≤◌, ◌<◌, List, [], ◌++◌, length, take, drop, Some, None}
-use Rattle.std.proofs.Common.{take-add, append-nil, length-append, arith}
+use Rattle.std.proofs.Common.{take-add, length-append, arith}
 use Rattle.std.specs.Prelude.{Option}
-use Rattle.std.specs.Io.KnownBytes.{Appends, Consumes, IsAtEnd}
+use Rattle.std.specs.Io.KnownBytes.{Appends, Consumes}
 use Rattle.std.proofs.KnownBytes.{Appends-trans, Consumes-trans}
 use Rattle.std.proofs.lemmas.List.{take_rest}
 use Rattle.ps_program.specs.Input.{AgreesWith, ConsumesAtMost, IsTooLong, input_limit}

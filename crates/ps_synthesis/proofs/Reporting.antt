@@ -19,7 +19,7 @@ use Rattle.ps_machine.specs.Behaviours.{Behaviour}
 use Rattle.ps_machine.specs.declared.key.Key.{Key}
 use Rattle.ps_machine.specs.declared.key.Order.{Order}
 use Rattle.ps_synthesis.specs.Printing.{PrintsCertificate, PrintsCircuit, PrintsGame}
-use Rattle.ps_synthesis.specs.Problems.{Gives, IsProblem, IsProblemOf, IsReportFault, ProblemData}
+use Rattle.ps_synthesis.specs.Problems.{Gives, IsProblem, IsProblemOf, ProblemData}
 use Rattle.ps_synthesis.specs.Reports.{IsReport, IsWinners, IsWinnersCircuit}
 use Rattle.ps_synthesis.specs.Promises.{KeepsPromise, MayAnswer}
 use Rattle.ps_synthesis.specs.Stages.{IsAutomatonOf, IsCircuitFault, IsCircuitOf, IsExtracted}

@@ -17,7 +17,7 @@ use Rattle.ps_zielonka.specs.Depths.{IsClosedToTops}
 use Rattle.ps_zielonka.proofs.Depths.{left_out}
 use Rattle.ps_zielonka.proofs.Forms.{progress_start}
 use Rattle.ps_zielonka.proofs.Turning.{IsSubgame-left}
-use Rattle.ps_zielonka.proofs.Sets.{AgreesAt, from_at, to_from, size_from-same, size_from-lt}
+use Rattle.ps_zielonka.proofs.Sets.{from_at, to_from, size_from-same, size_from-lt}
 use Rattle.ps_zielonka.proofs.Below.{agrees_at, progress_below, subgame_below, sound_on, waits_below}
 use Rattle.ps_zielonka.proofs.Measure.{falls_begun}
 use Rattle.ps_zielonka.proofs.Frames.{frame_last, frame_before, frames_size}

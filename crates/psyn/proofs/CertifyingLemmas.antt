@@ -1,8 +1,8 @@
 -- What a solver's answer is to a report.
-use Rattle.std.proofs.Common.{rules, arith, ◌≡◌, Result, Ok, Err, sym, subst}
+use Rattle.std.proofs.Common.{rules, arith, ◌≡◌, Result, Err, sym, subst}
 use Rattle.ps_certificate.specs.Certificates.{CertificateData}
 use Rattle.ps_game.specs.Games.{NamedGameData}
-use Rattle.ps_machine.specs.Solving.{AnswersSurely, IsCertified, NamesVertices}
+use Rattle.ps_machine.specs.Solving.{AnswersSurely, NamesVertices}
 use Rattle.ps_machine.specs.declared.fault.SolveFault.{SolveFault}
 use Rattle.ps_machine.specs.declared.fault.SolveFault.TheVariants as solver
 use Rattle.ps_synthesis.specs.Asking.{Answered}

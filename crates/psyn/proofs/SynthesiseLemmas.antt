@@ -1,7 +1,6 @@
 -- From the outcome of a problem by a certificate to that by the solver that gave it; from a solver's fault to that of
 -- synthesis.
-use Rattle.std.proofs.Common.{arith, ◌≡◌, ℕ, Bool, List, Result, Ok}
-use Rattle.std.specs.Result.{IsErrAnd}
+use Rattle.std.proofs.Common.{arith, ℕ, Bool, List, Result, Ok}
 use Rattle.ps_certificate.specs.Certificates.{CertificateData}
 use Rattle.ps_game.specs.Games.{NamedGameData}
 use Rattle.ps_hoa.specs.Files.{FileData}
@@ -11,7 +10,6 @@ use Rattle.ps_synthesis.specs.Promises.{MayAnswer}
 use Rattle.ps_synthesis.specs.Stages.{IsSolverFault}
 use Rattle.ps_synthesis.specs.SynthFaults.{IsOutcome, IsSynthFault, OfGame}
 use Rattle.ps_synthesis.specs.declared.fault.SynthFault.{SynthFault}
-use Rattle.ps_synthesis.specs.declared.fault.SynthFault.TheVariants.{OutOfMemory}
 use Rattle.ps_synthesis.specs.declared.report.Report.{Report}
 use Rattle.ps_synthesis.proofs.Outcomes.{AnswersMore, outcome_more}
 

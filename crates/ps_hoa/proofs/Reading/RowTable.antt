@@ -2,10 +2,9 @@
 --     has_place_row      a state has a place where a row is of it
 --     row_at      its row is the one at that place
 --     place_push      the places behind one more row
-use Rattle.std.proofs.Common.{◌≡◌, ℕ, false, cond, List, [], ◌∷◌, ◌++◌, length, Option, None, Some, refl, arith, rules}
+use Rattle.std.proofs.Common.{◌≡◌, ℕ, false, cond, List, [], ◌∷◌, ◌++◌, length, Option, None, Some, refl, rules}
 use Rattle.std.specs.List.{slice_get}
 use Rattle.std.specs.Option.{is_some}
-use Rattle.std.specs.Ordering.{nat_cmp, is_eq}
 use Rattle.std.specs.Prelude.{nat_eq}
 use Rattle.std.proofs.lemmas.Bool.{eqb-true, eq-eqb}
 use Rattle.ps_hoa.specs.Body.{has_row}

@@ -4,7 +4,7 @@
 --     leads_too      such a key leads to the same keys by either automaton
 --     game_too      so the game of one automaton is that of the other
 use Rattle.std.proofs.Common.{◌≡◌, ℕ, zero, suc, ◌+◌, ◌^◌, ◌<◌, ◌≤◌, List, [], ◌∷◌, length, get_or}
-use Rattle.std.proofs.Common.{codes, sym, ◌∙◌, arith, inl, inr, rules}
+use Rattle.std.proofs.Common.{sym, ◌∙◌, arith, inl, inr, rules}
 use Rattle.std.specs.List.{All, Contains}
 use Rattle.std.proofs.lemmas.Bool.{cases_lt}
 use Rattle.std.proofs.lemmas.List.Elements.{All-contains, All-map, Contains-append_cases}
@@ -17,7 +17,7 @@ use Rattle.ps_game.specs.Games.{ParityGame, NamedGameData, vertex_count, success
 use Rattle.ps_machine.specs.Boards.{Board, IsFirstLetter, IsSecondLetter, SameStep, SameSteps, IsClass, IsMove}
 use Rattle.ps_machine.specs.Boards.{AreListed, LeadsTo, IsGameOf}
 use Rattle.ps_machine.specs.FileGames.{IsGameOfFile, board_of_file}
-use Rattle.ps_machine.specs.KeyNames.{first_digits, key_name, key_names}
+use Rattle.ps_machine.specs.KeyNames.{key_names}
 use Rattle.ps_machine.specs.Keys.{mover_of}
 use Rattle.ps_machine.specs.Numbering.{listed, StandsAt, IsVertexOf}
 use Rattle.ps_machine.specs.declared.key.Key.{Key}

@@ -1,5 +1,5 @@
 -- Two lists that rise in one order and have the same members are one.
-use Rattle.std.proofs.Common.{rules, ◌≡◌, ℕ, suc, ◌<◌, ◌⊎◌, inl, inr, List, [], ◌∷◌, refl, ap₂, sym, subst, arith}
+use Rattle.std.proofs.Common.{rules, ◌≡◌, ℕ, suc, ◌<◌, ◌⊎◌, inl, inr, List, [], ◌∷◌, refl, ap₂, sym, arith}
 use Rattle.std.specs.List.{AllPairs, Contains}
 
 -- an element of a list is its head, or one of the others, at its place

@@ -1,7 +1,6 @@
 use Rattle.std.proofs.Common.{◌∙◌, sym, rules}
 use Rattle.ps_ids.proofs.Members.{Contains-any, Contains-none}
 use Rattle.ps_text.proofs.Bytes.Single.{refuted}
-use Rattle.ps_certificate.specs.Texts.{choice}
 use Rattle.ps_certificate.proofs.Loops.{fails}
 use Rattle.ps_certificate.proofs.NumberPart.{judged_fails, number_reads, number_wrong}
 use Rattle.ps_certificate.proofs.Steps.{ends_true, ends_false}

@@ -2,7 +2,6 @@ use Rattle.std.proofs.Common.{refl}
 use Rattle.std.specs.Prelude.{slice_index}
 use Rattle.ps_text.proofs.Bytes.Lefts.{unread, exits_at, exits_last, reads_last}
 use Rattle.ps_certificate.specs.Pairs.{with_pair}
-use Rattle.ps_certificate.specs.Texts.{pair}
 use Rattle.ps_certificate.proofs.Loops.{fails}
 use Rattle.ps_certificate.proofs.TextLaws.{chain_pair, chain_colon}
 use Rattle.ps_certificate.proofs.PairSteps.{past_priority, past_colon, pair_priority}

@@ -1,4 +1,4 @@
-use Rattle.std.proofs.Common.{true, rules}
+use Rattle.std.proofs.Common.{rules}
 use Rattle.ps_text.proofs.Bytes.Single.{refuted}
 use Rattle.ps_certificate.proofs.Loops.{fails}
 use Rattle.ps_certificate.proofs.PairLoops.{PairsSoFar, no_pairs_yet, pair_more, pair_fails, pairs_fail, pairs_done}

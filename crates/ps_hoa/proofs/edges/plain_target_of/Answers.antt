@@ -12,7 +12,6 @@ use Rattle.ps_hoa.specs.Body.{BadIn, IsBadState, IsBadPlainTarget, MayHaveNoLabe
 use Rattle.ps_hoa.specs.Inner.Reads.{Takes, IsWorst}
 use Rattle.ps_hoa.specs.Spans.{piece_of}
 use Rattle.ps_hoa.specs.Views.{row_data, edge_data}
-use Rattle.ps_hoa.specs.declared.edges.Labelling.{Labelling}
 use Rattle.ps_hoa.specs.declared.edges.Labelling.TheVariants.{ByEdge}
 use Rattle.ps_hoa.specs.declared.fault.HoaCause.{HoaCause}
 use Rattle.ps_hoa.specs.declared.fault.HoaCause.TheVariants.{Limit, Labels}
