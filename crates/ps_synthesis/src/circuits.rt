@@ -43,6 +43,7 @@ pub fn circuit_of_certificate(
 {
     one_game();
     let machine = machine_of_certificate(alloc, automaton, order, game, certificate)?;
+    // Told while it is there: that it is a machine. Only its circuit is needed behind that.
     let _ = machine.player();
     let circuit = encode(alloc, &machine);
     drop(machine);
