@@ -150,10 +150,15 @@ or_bits v x y neither {ny} ex ey er h = search (rules, bit-negated, de_morgan)
 choice : (a h l : Bool) → ((a && h) || (not a && l)) ≡ cond a h l
 choice a h l = search rules
 
+pub chosen_either : (v : ℕ → Bool) (s h l : ℕ) {ns : ℕ} (high low : ℕ) → ns ≡ negated s →
+    bit v high ≡ (bit v s && bit v h) → bit v low ≡ (bit v ns && bit v l) →
+    (bit v high || bit v low) ≡ cond (bit v s) (bit v h) (bit v l)
+chosen_either v s h l high low e eh el = search (rules, bit-negated, choice)
+
 pub chosen_bits : (v : ℕ → Bool) (s h l : ℕ) {ns : ℕ} (high low result : ℕ) → ns ≡ negated s →
     bit v high ≡ (bit v s && bit v h) → bit v low ≡ (bit v ns && bit v l) → bit v result ≡ (bit v high || bit v low) →
     bit v result ≡ cond (bit v s) (bit v h) (bit v l)
-chosen_bits v s h l high low result e eh el er = search (rules, bit-negated, choice)
+chosen_bits v s h l high low result e eh el er = er ∙ chosen_either v s h l high low e eh el
 
 -- a fault that is passed on
 pub passed : {X : Type 0} (result : Result X EncodeFault) (fault other : EncodeFault) →
