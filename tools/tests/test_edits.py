@@ -36,8 +36,6 @@ NAMED = (
     "unknown_names_skipped",
     "wrong_polarity_or_reset",
 )
-# One more, of how `main` hands on its solvers.
-OF_MAIN = "boxes_exchanged"
 MOST_CRATES = 10
 
 
@@ -84,9 +82,9 @@ class Edits(unittest.TestCase):
         self.assertFalse(wrong, "\n".join(wrong))
         self.assertGreater(found, 0)
 
-    def test_the_gate_tries_each_named_one_once_and_few_others(self):
+    def test_the_gate_tries_each_named_one_once_and_no_others(self):
         tried = edits_in("must-fail")
-        self.assertEqual(sorted(name for _, name in tried), sorted([*NAMED, OF_MAIN]))
+        self.assertEqual(sorted(name for _, name in tried), sorted(NAMED))
         self.assertLessEqual(len({crate for crate, _ in tried}), MOST_CRATES)
 
     def test_one_that_does_not_apply_is_seen(self):
