@@ -136,7 +136,8 @@ class Layout(unittest.TestCase):
     def test_no_entry_of_a_list_is_cut(self):
         """Behind an entry of a list what stands further in than its text is an example, and a colon leads to that."""
         cut, found = [], 0
-        for path in sorted(glob.glob(os.path.join(TOP, "crates", "*", "*", "**", "*.antt"), recursive=True)):
+        folders = [glob.glob(os.path.join(TOP, "crates", "*", it, "**", "*.antt"), recursive=True) for it in ("specs", "proofs")]
+        for path in sorted(sum(folders, [])):
             for at, comment in layout.comments_of(layout.read(path).split("\n")):
                 found += 1
                 cut += [f"{os.path.relpath(path, TOP)}:{at + place + 1}" for place in layout.cut_entries(comment)]
