@@ -4,7 +4,7 @@ import os
 import tempfile
 import unittest
 
-from psyntool.sweeps import TOP
+from upkeep.sweeps import TOP
 
 
 def why_not(crate, edit):
