@@ -36,22 +36,21 @@ class Text:
         return min(offset + self.shifts[at][1], len(self.original))
 
     def drop_mark(self):
-        """Drops a byte order mark, which is no part of any format."""
-        if self.bytes.startswith(BYTE_ORDER_MARK):
-            self.bytes = self.bytes[len(BYTE_ORDER_MARK) :]
-            self.shifts = [(0, len(BYTE_ORDER_MARK))]
+        """Drops a byte order mark, which is no part of any format; editors count no column for it."""
+        if self.original.startswith(BYTE_ORDER_MARK):
+            self.original = self.bytes = self.original[len(BYTE_ORDER_MARK) :]
             self.told.append(f"{self.name}: a byte order mark is left out")
 
     def drop_returns(self):
         """Drops the carriage return of each line's end, but none inside a name."""
-        drop, before = returns_at_line_ends(self.kind, self.bytes), self.shifts[0][1]
+        drop = returns_at_line_ends(self.kind, self.bytes)
         if not drop:
             return
         kept, start = [], 0
         for number, place in enumerate(drop):
             kept.append(self.bytes[start:place])
             start = place + 1
-            self.shifts.append((place - number, before + number + 1))
+            self.shifts.append((place - number, number + 1))
         self.bytes = b"".join([*kept, self.bytes[start:]])
         self.told.append(f"{self.name}: {len(drop)} carriage return(s) at line ends are left out")
 
@@ -127,7 +126,8 @@ class Reader:
             text.drop_returns()
         if kind is Kind.CIRCUIT and self.settings.zero_resets:
             text.zero_resets()
-        text.end_with_newline()
+        if self.left:
+            text.end_with_newline()
         if not self.settings.quiet:
             console.tell(*text.told)
         return text

@@ -37,8 +37,8 @@ SIGNS = [
     (Kind.CIRCUIT, rb"\s*a[ai]g\s+\d"),
     (Kind.SOLUTION, rb"\s*paritysol\b"),
     (Kind.ANSWER, rb"(UN)?REALIZABLE\r?\n"),
+    (Kind.STIMULUS, rb"\n*([01]+|-)\r?(\n|$)"),
     (Kind.GAME, rb"\s*(parity|start)\s+\d+\s*;|\s*\d+\s+\d+\s+[01]\s+\d+"),
-    (Kind.STIMULUS, rb"([01]*|-)\r?\n|[01]+$"),
 ]
 
 

@@ -48,6 +48,12 @@ def path():
     return os.path.abspath(named or places.PROGRAM)
 
 
+def title():
+    """How the program is called in messages."""
+    named = os.environ.get("PSYN")
+    return f"PSYN={named}" if named else places.PROGRAM
+
+
 def before_it_runs():
     """What a child does before it becomes the program: it asks to be killed when the tool is gone, where the system can do that."""
     control, tool = getattr(ctypes.CDLL(None), "prctl", None) if ctypes else None, os.getpid()
@@ -68,7 +74,7 @@ def started():
     try:
         return subprocess.Popen([program], stdin=subprocess.PIPE, stdout=subprocess.PIPE, preexec_fn=before_it_runs())
     except OSError as error:
-        raise Refused(f"{program} can't be run: {error.strerror}") from None
+        raise Refused(f"{title()} can't be run: {error.strerror}") from None
 
 
 def waited_for(child, given):
@@ -131,4 +137,4 @@ def become(given):
     try:
         os.execv(program, [program])
     except OSError as error:
-        raise Refused(f"{program} can't be run: {error.strerror}") from None
+        raise Refused(f"{title()} can't be run: {error.strerror}") from None

@@ -5,12 +5,14 @@ import os
 from psyntool import places
 from psyntool.command import EVERYWHERE, HELP, SHORT, VERSION, Request
 from psyntool.ends import Refused
+from psyntool.kinds import Kind
 
 
 def nearest(word, known):
-    """A hint at the known word that is nearest, if one is near."""
-    found = difflib.get_close_matches(word, known, 1)
-    return f" (did you mean {found[0]}?)" if found else ""
+    """A hint at the known word that is nearest, if one is near; dashes make no word near."""
+    bare = {one.strip("-"): one for one in known}
+    found = difflib.get_close_matches(word.strip("-"), bare, 1)
+    return f" (did you mean {bare[found[0]]}?)" if found else ""
 
 
 def split(words, flags):
@@ -70,5 +72,6 @@ def check_count(command, given, words):
     most, least = len(wanted), len([word for word in wanted if not word.startswith("[")])
     if not least <= len(words) <= most:
         what = " ".join([command.name, *(name for name in given if name in command.behind)])
-        count = f"{len(words)} word{'' if len(words) == 1 else 's'}"
+        unit = "file" if all(isinstance(kind, Kind) for kind in command.reads) else "word"
+        count = f"{len(words)} {unit}{'' if len(words) == 1 else 's'}"
         raise Refused(f"{what} reads {' '.join(wanted) or 'no file'}, and got {count}")

@@ -35,7 +35,7 @@ class Files(unittest.TestCase):
         text.drop_mark()
         text.drop_returns()
         self.assertEqual(text.bytes, b"0\n1\n")
-        self.assertEqual([text.place_in_file(place) for place in range(5)], [3, 5, 6, 8, 9])
+        self.assertEqual([text.place_in_file(place) for place in range(5)], [0, 2, 3, 5, 6])
 
     def test_kinds_are_known_by_beginnings(self):
         known = {

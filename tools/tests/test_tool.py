@@ -134,7 +134,7 @@ class Refusals(OnFiles):
         self.assertIn(b"can't be converted: it ends inside the gates", done.stderr)
 
     def test_a_wrong_number_of_files_and_an_unknown_command(self):
-        self.assertIn(b"check reads GAME CERTIFICATE, and got 1 word", self.tool("check", "-").stderr)
+        self.assertIn(b"check reads GAME CERTIFICATE, and got 1 file", self.tool("check", "-").stderr)
         self.assertIn(b"there is no command chek (did you mean check?)", self.tool("chek", "-").stderr)
 
     def test_a_mark_inside_a_text(self):

@@ -2,6 +2,7 @@
 from psyntool import console, places
 from psyntool.command import EVERYWHERE, Command
 from psyntool.ends import Refused
+from psyntool.words import nearest
 
 WORDS = """\
 Runs psyn on files.
@@ -81,7 +82,7 @@ def run(request):
         console.write_text(page(commands))
         return 0
     if request.words[0] not in commands:
-        raise Refused(f"there is no command {request.words[0]}")
+        raise Refused(f"there is no command {request.words[0]}{nearest(request.words[0], commands)}")
     console.write_text(use_of(commands[request.words[0]]))
     return 0
 
