@@ -2,6 +2,7 @@
 import glob
 import os
 import re
+import subprocess
 import tempfile
 import unittest
 
@@ -79,6 +80,23 @@ class Names(unittest.TestCase):
         self.assertEqual(listed.pop("ps_text"), set())
         cited.pop("ps_text")
         self.assertEqual(listed, cited)
+
+    def test_figures_of_the_gate_are_the_same(self):
+        told = {name: " ".join(documents.read(name)) for name in ("README.md", "CONTRIBUTING.md", "docs/TESTED.md")}
+        gate = re.search(r"At \w+ the whole gate passed: .*? (\d+) minutes on four processors, and (\d+) processor minutes", told["docs/TESTED.md"])
+        self.assertTrue(gate)
+        self.assertIn(f"{gate[2]} processor minutes, {gate[1]} on four processors", told["README.md"])
+        self.assertIn(f"{gate[1]} minutes on four processors, {gate[2]} processor minutes", told["CONTRIBUTING.md"])
+        edits = glob.glob(os.path.join(TOP, "crates", "*", "must-fail", "*.edit"))
+        crates = {path.split(os.sep)[-3] for path in edits}
+        self.assertIn(f"{len(edits)} edits in {len(crates)} crates", told["docs/TESTED.md"])
+        self.assertIn(f"{len(edits)} in {len(crates)} crates", told["CONTRIBUTING.md"])
+
+    def test_the_toolchain_is_what_rt_says(self):
+        said = subprocess.run(["rt", "version"], capture_output=True, text=True, check=True).stdout.strip()
+        for name in ("CONTRIBUTING.md", "docs/PROVED.md"):
+            self.assertIn(f"`{said}`", " ".join(documents.read(name)), name)
+        self.assertIn(f"`{said.split()[0]}`", " ".join(documents.read("README.md")))
 
 
 class Commands(unittest.TestCase):

@@ -1,4 +1,4 @@
-"""Lines of proof files, filled: what may stand on one line does, and a longer one is broken at the best places."""
+"""Lines of definitions, proofs and clauses: what may stand on one line does, and a longer one is broken at the best places."""
 import re
 
 from upkeep.antt import indent_of
@@ -26,6 +26,8 @@ def badness(depth, before, behind):
         kind = 7
     if last == "=" and depth > 0:
         kind = 9
+    if behind[0] == "{":
+        kind += 30
     return depth * 6 + kind
 
 
@@ -123,3 +125,125 @@ def filled_text(text):
             out.append(lines[at])
         at = end
     return "\n".join(out)
+
+
+# A line of a comment, how far in its text stands, and an entry of a list: a name and, behind a gap, what it says.
+COMMENT = re.compile(r"(\s*--)(\s*)(.*)")
+ENTRY = re.compile(r"\S.*?\s{2,}\S")
+# In code these lines are the prover's; `rt fmt` lays out all others.
+CLAUSE = re.compile(r"\s*(ghost|requires|ensures)\b")
+IMPORT = re.compile(r"(\s*(?:pub |ghost )?use [^{]*\{)(.*)(\}.*)")
+
+
+def kinds_of(lines):
+    """For each line of a comment how it goes on: as a `text`, an `entry` of a list (or the text of one), or an `example`."""
+    kinds, entry, more = [], None, None
+    for line in lines:
+        _, gap, text = COMMENT.fullmatch(line).groups()
+        if not text or text.startswith("#") or len(gap) < 2:
+            kind, entry, more = ("text" if text and not text.startswith("#") else "example"), None, None
+        elif entry is not None and len(gap) > entry:
+            more = len(gap) if more is None else more
+            kind = "entry" if len(gap) == more else "example"
+        elif ENTRY.match(text):
+            kind, entry, more = "entry", len(gap), None
+        else:
+            kind, entry, more = "example", None, None
+        kinds.append(kind)
+    return kinds
+
+
+def comment_filled(lines):
+    """The lines of a comment without any above the width: what is left over of one begins the next of its paragraph or entry."""
+    kinds, out = kinds_of(lines), []
+    starts = [kind == "entry" and bool(ENTRY.match(COMMENT.fullmatch(line)[3])) for kind, line in zip(kinds, lines)]
+    rest = ""
+    for at, (line, kind) in enumerate(zip(lines, kinds)):
+        head, gap, text = COMMENT.fullmatch(line).groups()
+        indent = head + gap
+        words = re.findall(r"\S+\s*", f"{rest} {text}" if rest else text)
+        goes_on = at + 1 < len(lines) and kinds[at + 1] == kind != "example" and not starts[at + 1]
+        further = indent + " " * {"text": 0, "entry": 10 if starts[at] else 0, "example": 4}[kind]
+        rest = ""
+        while words:
+            now = indent + words.pop(0)
+            while words and len((now + words[0]).rstrip()) <= WIDTH:
+                now += words.pop(0)
+            out.append(now.rstrip())
+            indent = further
+            if words and goes_on:
+                rest, words = "".join(words).rstrip(), []
+        if not text:
+            out.append(line)
+    return out
+
+
+def comments_of(lines):
+    """The comments of a file: where each begins, and its lines."""
+    at = 0
+    while at < len(lines):
+        end = at + 1
+        if COMMENT.fullmatch(lines[at]):
+            while end < len(lines) and COMMENT.fullmatch(lines[end]) and indent_of(lines[end]) == indent_of(lines[at]):
+                end += 1
+            yield at, lines[at:end]
+        at = end
+
+
+def cut_entries(comment):
+    """The lines of a comment at which an entry of a list is cut: it goes on further in, and is no example behind a colon."""
+    kinds, gaps = kinds_of(comment), [len(COMMENT.fullmatch(line)[2]) for line in comment]
+    cut, entry = [], 0
+    for at in range(len(comment) - 1):
+        if kinds[at] == "entry" and ENTRY.match(COMMENT.fullmatch(comment[at])[3]):
+            entry = gaps[at]
+        goes_on = kinds[at] == "entry" and kinds[at + 1] == "example" and gaps[at + 1] > entry
+        cut += [at] if goes_on and not comment[at].endswith(":") else []
+    return cut
+
+
+def imports(line):
+    """A line that takes names from a module as so many lines of the width."""
+    head, names, tail = IMPORT.fullmatch(line).groups()
+    lines = [[]]
+    for name in names.split(", "):
+        if lines[-1] and len(head + ", ".join([*lines[-1], name]) + tail) > WIDTH:
+            lines.append([])
+        lines[-1].append(name)
+    return [head + ", ".join(it) + tail for it in lines]
+
+
+def within_width(line):
+    """A line of a definition, a proof or a clause as lines of the width. A comment behind it goes above it."""
+    if IMPORT.fullmatch(line):
+        return imports(line)
+    mark = "//" if " // " in line else "--"
+    code, behind, said = line.partition(f" {mark} ")
+    space = " " * indent_of(line)
+    return [*([f"{space}{mark} {said}"] if behind else []), *broken(code.rstrip(), indent_of(line) + 4)]
+
+
+def text_within_width(text, is_code_file):
+    """A file without lines above the width where they can be broken: a whole .antt file, or the clauses of code."""
+    lines, out, opened, behind = text.split("\n"), [], 0, 0
+    comments = dict(comments_of(lines))
+    for at, line in enumerate(lines):
+        # a clause goes on as long as its braces are open
+        is_ours = not is_code_file or opened > 0 or CLAUSE.match(line)
+        opened = opened + line.count("{") - line.count("}") if is_ours else 0
+        if at < behind:
+            continue
+        if is_ours and at in comments:
+            out += comment_filled(comments[at])
+            behind = at + len(comments[at])
+        elif is_ours and len(line) > WIDTH:
+            out += within_width(line)
+        else:
+            out.append(line)
+    return "\n".join(out)
+
+
+def read(path):
+    """The text of a file."""
+    with open(path, encoding="utf-8") as file:
+        return file.read()
