@@ -24,11 +24,11 @@ def legend(rows):
     return f'  labelloc=t; labeljust=l; label=<<table border="0" cellborder="0" cellspacing="2">{"".join(cells)}</table>>;'
 
 
-def wrapped(text, ends):
+def wrapped(text, ends, width=WIDTH):
     """The text in lines of some length, broken behind the given signs and blanks."""
     lines, line = [], ""
     for part in re.findall(rf"[^{ends} ]*[{ends} ]*", text):
-        if line and len((line + part).rstrip()) > WIDTH:
+        if line and len((line + part).rstrip()) > width:
             lines.append(line.rstrip())
             line = ""
         line += part
