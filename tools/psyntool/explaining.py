@@ -5,9 +5,12 @@ from collections import Counter
 from psyntool import faults
 from psyntool.command import ENV
 from psyntool.kinds import Kind
+from psyntool.program import MOST_BYTES
 from psyntool.texts import Unreadable, automaton, circuit, labels
 
 WIDTH = 100
+# What the tool hands on can always be read, if it is not too long.
+READ_FAULT = 25
 PLAYERS_OF_A_GAME = b"spot-state-player:"
 
 
@@ -19,6 +22,8 @@ def lines(request, texts, answer):
     number = int(found[2]) if found[2] else None
     fault = next((it for it in faults.read_document() if it.number == number and (number or it.name == found[1])), None)
     told = [*wrong_kinds(request.command, texts), *games_of_spot(texts)]
+    if number == READ_FAULT:
+        return [*told, f"cause: the files have more than {MOST_BYTES:,} bytes together, the most that psyn reads"]
     if fault and fault.kind and found[4]:
         told += place_of(fault, next((it for it in texts if it.kind is fault.kind), None), int(found[4]))
     told += seen_in_texts(number, found[5] or "", request, texts)
