@@ -16,6 +16,7 @@ Ctrl-C is typed at a terminal, where both outputs are one. No program may be at 
 """
 import os
 import pty
+import shutil
 import signal
 import subprocess
 import sys
@@ -57,6 +58,7 @@ def furnish(room):
     for name in FILES:
         with open(os.path.join(TOP, "examples", "files", name), "rb") as source, open(os.path.join(room, name), "wb") as file:
             file.write(source.read())
+    shutil.copytree(os.path.join(TOP, "examples", "parts"), os.path.join(room, "parts"))
     tool = f"#!/bin/sh\nexec {sys.executable} -W error -X dev {os.path.join(TOP, 'tools', 'psyn')} \"$@\"\n"
     os.mkdir(os.path.join(room, "bin"))
     for name, text in {**PROGRAMS, os.path.join("bin", "psyn"): tool}.items():
