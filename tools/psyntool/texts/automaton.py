@@ -1,6 +1,6 @@
 """Automata, as texts of the Hanoi Omega-Automata format have them."""
 import re
-from dataclasses import dataclass, field
+from dataclasses import dataclass, field, replace
 from functools import cached_property
 
 from psyntool.texts import NUMBER, Unreadable, labels
@@ -201,7 +201,7 @@ def condition_of(reader):
 
 
 def header_of(reader, text):
-    """The items before `--BODY--`: those that are needed read, the others as they stand."""
+    """The items before `--BODY--`: those that are needed read; of each name the tokens that are not."""
     found = {"start": 0, "names": (), "controllable": None, "acceptance": "", "condition": None, "aliases": {}, "others": {}}
     while reader.now != "--BODY--":
         name = reader.take(r".*:")
@@ -221,8 +221,9 @@ def header_of(reader, text):
             found["condition"] = condition_of(reader)
             found["acceptance"] = " ".join(text[begin : reader.offset].split()[1:])
             found["place"] = begin
+        rest = found["others"].setdefault(name, [])
         while reader.now != "--BODY--" and not reader.now.endswith(":"):
-            found["others"].setdefault(name, []).append(reader.take())
+            rest.append(reader.take())
     return found
 
 
@@ -297,6 +298,21 @@ def read(text):
         edges,
         head["others"],
     )
+
+
+def place_without_owners(text):
+    """Where the body begins, if nothing before it says whose the propositions are; else None."""
+    for token in tokens_of(text):
+        if token.text == "controllable-AP:":
+            return None
+        if token.text == "--BODY--":
+            return token.offset
+    return None
+
+
+def renamed(read, names):
+    """The same automaton with other names for its propositions."""
+    return replace(read, names=names)
 
 
 def labels_in(aliases, edges):
