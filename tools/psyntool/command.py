@@ -31,6 +31,12 @@ CERT = Flag("--cert", "by a certificate that is given")
 MOORE = Flag("--moore", "outputs before inputs")
 COMPACT = Flag("--compact", "the compact text of a certificate")
 ENV = Flag("--env", "the circuit is an environment")
+TO_FILES = Flag(
+    "-o",
+    "circuit, game and certificate go to PREFIX.aag, PREFIX.pg and PREFIX.cert (then the first line alone is printed), the automaton of "
+    "a core to PREFIX.hoa",
+    "PREFIX",
+)
 # Of specifications in parts.
 ASSUME = Flag("--assume", "parts that are assumed", "PART..", many=True)
 GUARANTEE = Flag("--guarantee", "parts that are guaranteed", "PART..", many=True)
