@@ -2,16 +2,17 @@
 import glob
 import os
 import re
+import subprocess
 import tempfile
 import unittest
 
-from psyntool import counts, documents
-from psyntool.command import program
-from psyntool.sweeps import TOP
+from upkeep import counts, documents
+from psyntool.program import path as program
+from upkeep.sweeps import TOP
 
 ALL = ["README.md", "CONTRIBUTING.md", *sorted(os.path.relpath(path, TOP) for path in glob.glob(os.path.join(TOP, "docs", "*.md")))]
 WITH_COMMANDS = ["README.md", "CONTRIBUTING.md", "docs/CERTIFICATES.md", "docs/INTEROP.md", "docs/TUTORIAL.md"]
-LINES = {"README.md": 72, "CONTRIBUTING.md": 150, "docs/TESTED.md": 120}
+LINES = {"README.md": 72, "CONTRIBUTING.md": 155, "docs/TESTED.md": 120}
 
 
 class Forms(unittest.TestCase):
@@ -80,6 +81,23 @@ class Names(unittest.TestCase):
         cited.pop("ps_text")
         self.assertEqual(listed, cited)
 
+    def test_figures_of_the_gate_are_the_same(self):
+        told = {name: " ".join(documents.read(name)) for name in ("README.md", "CONTRIBUTING.md", "docs/TESTED.md")}
+        gate = re.search(r"At \w+ the whole gate passed: .*? (\d+) minutes on four processors, and (\d+) processor minutes", told["docs/TESTED.md"])
+        self.assertTrue(gate)
+        self.assertIn(f"{gate[2]} processor minutes, {gate[1]} on four processors", told["README.md"])
+        self.assertIn(f"{gate[1]} minutes on four processors, {gate[2]} processor minutes", told["CONTRIBUTING.md"])
+        edits = glob.glob(os.path.join(TOP, "crates", "*", "must-fail", "*.edit"))
+        crates = {path.split(os.sep)[-3] for path in edits}
+        self.assertIn(f"{len(edits)} edits in {len(crates)} crates", told["docs/TESTED.md"])
+        self.assertIn(f"{len(edits)} in {len(crates)} crates", told["CONTRIBUTING.md"])
+
+    def test_the_toolchain_is_what_rt_says(self):
+        said = subprocess.run(["rt", "version"], capture_output=True, text=True, check=True).stdout.strip()
+        for name in ("CONTRIBUTING.md", "docs/PROVED.md"):
+            self.assertIn(f"`{said}`", " ".join(documents.read(name)), name)
+        self.assertIn(f"`{said.split()[0]}`", " ".join(documents.read("README.md")))
+
 
 class Commands(unittest.TestCase):
     def test_each_prints_what_is_shown(self):
@@ -90,7 +108,8 @@ class Commands(unittest.TestCase):
             shown = [fence for fence in fences if fence.kind == "console" and fence.mark is None]
             ran += sum(len(fence.commands()) for fence in shown)
             with tempfile.TemporaryDirectory() as room:
-                wrong += documents.wrong_answers(name, shown, room, os.path.abspath(path))
+                documents.furnish(room)
+                wrong += documents.wrong_answers(name, shown, room, {**os.environ, "PSYN": path})
         counts.ran("examples", "commands of documents", ran)
         self.assertFalse(wrong, "\n".join(["", *wrong]))
 
@@ -99,7 +118,7 @@ class Commands(unittest.TestCase):
         shown, unmarked = documents.fences_of(lines)
         self.assertFalse(unmarked.is_known())
         with tempfile.TemporaryDirectory() as room:
-            wrong = documents.wrong_answers("it", [shown], room, "psyn")
+            wrong = documents.wrong_answers("it", [shown], room, os.environ)
         self.assertEqual(wrong, ["it:1: echo c\nc\n"])
 
 

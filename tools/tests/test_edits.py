@@ -1,10 +1,48 @@
-"""Each edit of crates/*/must-fail and crates/*/more-edits still applies: what it replaces stands once in its file."""
+"""Edits that the prover must refuse: each still applies, and stands in the folder that it belongs to.
+
+The gate tries those of crates/*/must-fail: the named wrong bodies, one edit each. All others stand in crates/*/more-edits,
+each with its verdict in docs/EDITS.tsv, where `tools/try-edits` keeps it.
+"""
 import glob
 import os
 import tempfile
 import unittest
 
-from psyntool.sweeps import TOP
+from upkeep.sweeps import TOP
+
+# What psyn's promises must not let through. A crate with one of them is proved once more in the gate.
+NAMED = (
+    "always_not_certified",
+    "always_too_large",
+    "attractor_moves_anywhere",
+    "built_in_uncertified",
+    "count_may_stay",
+    "depth_always_one",
+    "environment_sees_the_move",
+    "first_attractor_only",
+    "game_of_its_own",
+    "gate_made_twice",
+    "gates_in_text_order",
+    "implicit_bits_reversed",
+    "input_repeated_or_early_line",
+    "minimum_read_as_maximum",
+    "missing_letters_dropped",
+    "no_moves_given",
+    "one_successor_tested",
+    "overlap_accepted",
+    "raises_not_counted",
+    "region_too_small",
+    "stem_sets_counted",
+    "unknown_names_skipped",
+    "wrong_polarity_or_reset",
+)
+MOST_CRATES = 10
+
+
+def edits_in(folder):
+    """The crate and the name of each edit in the folders of that name."""
+    paths = sorted(glob.glob(os.path.join(TOP, "crates", "*", folder, "*")))
+    return [(path.split(os.sep)[-3], os.path.basename(path).removesuffix(".edit")) for path in paths]
 
 
 def why_not(crate, edit):
@@ -43,6 +81,11 @@ class Edits(unittest.TestCase):
                     wrong.append(f"{os.path.relpath(path, TOP)}: {why}")
         self.assertFalse(wrong, "\n".join(wrong))
         self.assertGreater(found, 0)
+
+    def test_the_gate_tries_each_named_one_once_and_no_others(self):
+        tried = edits_in("must-fail")
+        self.assertEqual(sorted(name for _, name in tried), sorted(NAMED))
+        self.assertLessEqual(len({crate for crate, _ in tried}), MOST_CRATES)
 
     def test_one_that_does_not_apply_is_seen(self):
         with tempfile.TemporaryDirectory() as crate:

@@ -1,12 +1,15 @@
-"""What `tools/shorten-proofs` reads of proof files, and how it lays them out."""
+"""What `tools/shorten-proofs` reads of proof files, and how it and `tools/wrap-lines` lay files out."""
 import glob
 import importlib.machinery
 import importlib.util
 import os
+import subprocess
+import sys
+import tempfile
 import unittest
 
-from psyntool import antt, layout
-from psyntool.sweeps import TOOLS, TOP
+from upkeep import antt, layout
+from upkeep.sweeps import TOOLS, TOP
 
 PROOF = """
 both : (a b : ℕ) → a ≡ b → (b ≡ a) × (a ≤ b)
@@ -20,6 +23,54 @@ both a b e =
 
     spare : ℕ
     spare = 0
+"""
+
+COMMENT = """\
+-- A paragraph whose first line is too long for the width, so that what is left over of it begins the next line of the same
+-- paragraph. It ends here.
+-- ## A heading
+--     Name a b      what the name says, which goes on in one line more since there are so many words, behind this entry alone
+--     Other      what it says goes on in a line that is there, which stands further in than the names of the entries of the list
+--               above and below it; so for two calls:
+--                   first c = answered_by_a_lemma_of_a_long_name (with_arguments a b c) (and_with_more_arguments d e f g h i j)
+--                   second c = answered
+--     Last      short
+-- So a list is
+--     number = one number_of_a_long_name (with_arguments a b c) (and_with_more_arguments d e f g h i j k l m n o p) (and_of r)
+--     more ns = then_by comma
+length_of : ℕ
+"""
+FILLED = """\
+-- A paragraph whose first line is too long for the width, so that what is left over of it begins the next line of the
+-- same paragraph. It ends here.
+-- ## A heading
+--     Name a b      what the name says, which goes on in one line more since there are so many words, behind this entry
+--               alone
+--     Other      what it says goes on in a line that is there, which stands further in than the names of the entries of
+--               the list above and below it; so for two calls:
+--                   first c = answered_by_a_lemma_of_a_long_name (with_arguments a b c) (and_with_more_arguments d e f
+--                       g h i j)
+--                   second c = answered
+--     Last      short
+-- So a list is
+--     number = one number_of_a_long_name (with_arguments a b c) (and_with_more_arguments d e f g h i j k l m n o p)
+--         (and_of r)
+--     more ns = then_by comma
+length_of : ℕ
+"""
+# A clause, an import and a line with a comment behind it; and code, which is not the prover's.
+CODE = """\
+    ghost use Rattle.crate.specs.Module.{first_name, second_name, third_name, fourth_name, fifth_name, sixth_name, seventh};
+    ensures { IfOk result (λ found. (vertex : ℕ) → vertex < length found.items → slice_index found.items vertex ≡ vertex) } // each
+    let a_very_long_line_of_code = call_of_a_function_with_a_long_name(argument_of_it, another_argument, one_more_argument, last);
+"""
+WRAPPED = """\
+    ghost use Rattle.crate.specs.Module.{first_name, second_name, third_name, fourth_name, fifth_name, sixth_name};
+    ghost use Rattle.crate.specs.Module.{seventh};
+    // each
+    ensures { IfOk result
+        (λ found. (vertex : ℕ) → vertex < length found.items → slice_index found.items vertex ≡ vertex) }
+    let a_very_long_line_of_code = call_of_a_function_with_a_long_name(argument_of_it, another_argument, one_more_argument, last);
 """
 
 
@@ -69,11 +120,52 @@ class Layout(unittest.TestCase):
         paths = glob.glob(os.path.join(TOP, "crates", "ps_text", "proofs", "**", "*.antt"), recursive=True)
         self.assertTrue(paths)
         for path in paths:
-            with open(path, encoding="utf-8") as file:
-                text = file.read()
+            text = layout.read(path)
             filled = layout.filled_text(text)
             self.assertEqual(filled.split(), text.split(), path)
             self.assertEqual(layout.filled_text(filled), filled, path)
+
+    def test_paragraphs_lists_and_examples_of_a_comment_stay_apart(self):
+        self.assertEqual(layout.text_within_width(COMMENT, False), FILLED)
+        self.assertEqual(layout.text_within_width(FILLED, False), FILLED)
+
+    def test_clauses_are_broken_and_code_is_not(self):
+        self.assertEqual(layout.text_within_width(CODE, True), WRAPPED)
+        self.assertEqual(layout.text_within_width(WRAPPED, True), WRAPPED)
+
+    def test_no_entry_of_a_list_is_cut(self):
+        """Behind an entry of a list what stands further in than its text is an example, and a colon leads to that."""
+        cut, found = [], 0
+        folders = [glob.glob(os.path.join(TOP, "crates", "*", it, "**", "*.antt"), recursive=True) for it in ("specs", "proofs")]
+        for path in sorted(sum(folders, [])):
+            for at, comment in layout.comments_of(layout.read(path).split("\n")):
+                found += 1
+                cut += [f"{os.path.relpath(path, TOP)}:{at + place + 1}" for place in layout.cut_entries(comment)]
+        self.assertEqual(cut, [])
+        self.assertGreater(found, 0)
+        self.assertEqual(layout.cut_entries(FILLED.split("\n")[:15]), [])
+        self.assertEqual(layout.cut_entries(["--     Name      the first, at", "--          once", "--                 more"]), [1])
+
+
+class Wrapping(unittest.TestCase):
+    def run_on(self, *words):
+        return subprocess.run([sys.executable, os.path.join(TOOLS, "wrap-lines"), *words], capture_output=True, text=True, check=False)
+
+    def test_a_file_is_rewritten(self):
+        with tempfile.TemporaryDirectory() as folder:
+            path = os.path.join(folder, "Words.antt")
+            with open(path, "w", encoding="utf-8") as file:
+                file.write(COMMENT)
+            done = self.run_on(path)
+            self.assertEqual((done.returncode, done.stdout, done.stderr), (0, "", ""))
+            self.assertEqual(layout.read(path), FILLED)
+
+    def test_what_cannot_be_read_is_one_line(self):
+        for words, status in (([], 2), (["--other"], 2), ([os.path.join(TOP, "nothing.antt")], 1), ([os.path.join(TOP, "docs")], 1)):
+            done = self.run_on(*words)
+            self.assertEqual(done.returncode, status, done)
+            self.assertEqual(len(done.stderr.splitlines()), 1 if status == 1 else 0, done.stderr)
+            self.assertNotIn("Traceback", done.stderr)
 
 
 if __name__ == "__main__":

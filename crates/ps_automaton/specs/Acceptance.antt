@@ -1,9 +1,7 @@
 -- When an automaton, as its text says it, accepts a word that repeats.
 --     IsRun file w count states sets      a run over the first letters of a word
 --     IsAccepted file stem lap      the lap has a letter; some run reads the stem and some laps to a state, and some
---               more laps, at least
---                                   one, back to it; and the condition is true of the sets that are met in that last
---                                   part
+--               more laps, at least one, back to it; and the condition is true of the sets met in that last part
 use Rattle.std.specs.Prelude.{◌≡◌, ℕ, zero, suc, ◌+◌, ◌*◌, ◌<◌, Bool, IsTrue, List, [], ◌∷◌, length}
 use Rattle.ps_hoa.specs.Files.{FileData}
 use Rattle.ps_hoa.specs.Edges.{Goes}

@@ -9,8 +9,7 @@
 -- in the game's order: its id, the winner, 0 or 1, the winner's move, which is the id of a vertex or `-`, and one count
 -- for each priority by which the winner loses. The compact text, on the right, has a count only where it is not 0,
 -- behind its priority, and these priorities rise.
---     A text has the form of a certificate, whichever numbers stand where a number of vertices, a priority, an id or a
---     move
+-- A text has the form of a certificate, whichever numbers stand where a number of vertices, a priority, an id or a move
 -- stands, and however many priorities are listed. Where it leaves this form it is refused by 53 (`Syntax`), and so it
 -- is at the first digit of a number that no word of 64 bits holds, at a count 0 behind its priority, and at the first
 -- digit of a count's priority that does not rise, if a space, a newline or a colon ends it. It is refused by 54

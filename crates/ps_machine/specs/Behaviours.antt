@@ -1,7 +1,6 @@
 -- What the finite machine of a player does, in the order of moves that it is made for; and the words that it makes.
 --     Behaviour      its propositions, whose it is, whether that player moves first; and, by memory and the other
---               player's letter,
---                    the memory behind a step and the letter that is played
+--               player's letter, the memory behind a step and the letter that is played
 --     IsMachine b      it is a finite machine's
 --     IsLasso b stem lap      letters of a run of the machine from memory 0 that goes back, behind the lap, to the
 --               memory before it

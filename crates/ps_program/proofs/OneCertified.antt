@@ -1,6 +1,5 @@
 -- By a certificate that is given, an automaton's text has one answer: the file, its game and the certificate leave one
--- report,
--- or one line of a fault.
+-- report, or one line of a fault.
 use Rattle.std.proofs.Common.{rules, ◌≡◌, ◌⊎◌, ◌∙◌, ◌↔◌, ◌++◌, ℕ, Bool, true, false, List, Option, None, Some, Result}
 use Rattle.std.proofs.Common.{Ok, Err, IsTrue, refl, sym, ap, ap₂, subst, inl, inr, arith}
 use Rattle.std.specs.Prelude.{codes}

@@ -4,8 +4,8 @@
 --     AgreeAsReports full a b      two reports: the same winner, and the same printed game
 --     AgreeInWinners compact a b      two certificates of one game: each vertex has the same winner
 --     HasOneAnswer solvers      any two answers are one, or are such, or one is the line of a fault
---     HasOneCertified solvers      by a certificate that is given `synth` has one answer, where it replays
---               what it is fed
+--     HasOneCertified solvers      by a certificate that is given `synth` has one answer, where it replays what it is
+--               fed
 use Rattle.std.specs.Prelude.{◌≡◌, ◌<◌, ◌⊎◌, ℕ, Bool, true, false, List, Option, Result, Ok}
 use Rattle.ps_certificate.specs.Certificates.{CertificateData, winner_of}
 use Rattle.ps_certificate.specs.Written.{text_in}

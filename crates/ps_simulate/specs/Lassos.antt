@@ -1,6 +1,5 @@
 -- What a circuit and an automaton make of a stem that is read once and a lap that is read again and again.
---     IsLetterOf names c m letter      the letter of a step: a proposition's bit is that of the input or output with
---               its name
+--     IsLetterOf names c m letter      a step's letter: a proposition's bit is that of the input or output so named
 --     Repeats c stem lap i j trace      the first repetition: before lap j the latches are those before lap i
 --     IsVerdictOf file c stem lap verdict      whether the trace so far is accepted, as a lasso that goes back to lap i
 use Rattle.std.specs.Prelude.{◌≡◌, ◌≢◌, ℕ, zero, suc, ◌+◌, ◌-◌, ◌*◌, ◌^◌, ◌<◌, ◌↔◌, Bool, false, IsTrue, List, [], ◌∷◌}

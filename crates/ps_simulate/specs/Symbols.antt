@@ -1,8 +1,7 @@
 -- Which input and output of a circuit is which proposition of an automaton, by name.
 --     IsSymbol names symbols k p      symbol k is the name of proposition p
 --     AreNamesOnce names controllable wanted symbols      the symbols are the names of the propositions that are
---               controllable (or of
---                                                         those that are not), each exactly once, in any order
+--               controllable (or of those that are not), each exactly once, in any order
 --     HasSymbols role names controllable c      the circuit has the inputs and outputs of its role
 use Rattle.std.specs.Prelude.{◌≡◌, ℕ, ◌<◌, Bool, true, false, List, [], length, Option, None, Some, slice_index_or}
 use Rattle.ps_hoa.specs.Files.{is_among}

@@ -2,9 +2,8 @@
 --     IsAcceptedText text file      the text is that of a file that has an automaton
 --     MayAnswer      what a solver may answer for a game
 --     KeepsPromise May order compact text report      the printed game is the automaton's; the printed certificate
---               parts its vertices in
---                                                     two regions, each won by the moves that are printed; the printed
---                                                     circuit is the answer of the player who wins vertex 0
+--               parts its vertices in two regions, each won by the moves that are printed; the printed circuit is the
+--               answer of the player who wins vertex 0
 use Rattle.std.specs.Prelude.{◌≡◌, ◌↔◌, ℕ, Bool, IsTrue, List, Result, Ok}
 use Rattle.ps_automaton.specs.Answers.{IsAdmitted}
 use Rattle.ps_certificate.specs.Certificates.{CertificateData}

@@ -9,12 +9,12 @@
 --               there is none
 --     reads_give, reads_mapped, stops_mapped      nothing was taken; the value is seen by another function
 --     exits found causes view part old new e r s c      at the exit of a `?`: s is the Stops of the error that was met,
---               and c says that the result r is that error, `c.from_residual.ensures.1`
---               So for `let n = number(tokens)?; semicolon(tokens)?; Ok(n)`, which reads `line = then_by number (λ n.
---               mapped (λ _. n) semicolon)`, with the joint j of the two:
---               returns-in_err-n c = exits found causes view line _ _ _ _ (stops_first causes j _ _ c.in_err-n.ensures)
---               c.from_residual.ensures.1 returns c = reads_then j c.in_ok-n.ensures (reads_mapped _
---               c.in_ok-semicolon.ensures)
+--               and c says that the result r is that error, `c.from_residual.ensures.1`. So, for these calls:
+--                   let n = number(tokens)?; semicolon(tokens)?; Ok(n)
+--               which reads `line = then_by number (λ n. mapped (λ _. n) semicolon)`, with the joint j of the two:
+--                   returns-in_err-n c = exits found causes view line _ _ _ _
+--                       (stops_first causes j _ _ c.in_err-n.ensures) c.from_residual.ensures.1
+--                   returns c = reads_then j c.in_ok-n.ensures (reads_mapped _ c.in_ok-semicolon.ensures)
 --     then_meets      a last call whose result is returned as it is
 --     carries_start, carries_then, carries_reads, carries_stops      the invariant of a loop: before it, behind a call,
 --               and at its exits

@@ -1,9 +1,8 @@
 -- Finite-state controllers, and their meeting with the circuit of an environment. Letters are lists of bits in the
 -- circuit's order: a controller reads a bit for each of its outputs, and plays one for each of its inputs.
---     FiniteController      a size, a first memory, and tables from a memory and the letter read to a memory and the
---               letter played
---     IsController order c k      the tables keep to their ranges; outputs before inputs: the letter played is from the
---               memory alone
+--     FiniteController      a size, a first memory; tables from a memory and the letter read to a memory and a letter
+--     IsController order c k      the tables keep to their ranges; where outputs come before inputs, the letter that is
+--               played is decided by the memory alone
 --     Meets c k latches memory moments      the one joint trace, from these latches and that memory
 --     MeetsInLasso c k      it goes on in a lasso trace, at whose end the controller's memory has come back too
 --     IsRejected file c k      its letters are a word that the automaton does not accept

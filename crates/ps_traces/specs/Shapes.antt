@@ -1,7 +1,6 @@
 -- What the circuit of a player looks like.
 --     HasShape order role file c      its inputs and outputs are those of the role, by name; and if that player moves
---               first, the
---                                     outputs are equal for all inputs at equal latches
+--               first, the outputs are equal for all inputs at equal latches
 use Rattle.std.specs.Prelude.{Bool, true, false, IsTrue}
 use Rattle.ps_hoa.specs.Files.{FileData}
 use Rattle.ps_circuit.specs.Circuits.{CircuitData}

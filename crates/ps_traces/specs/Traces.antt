@@ -1,6 +1,5 @@
 -- Traces of a circuit that come back to their latches, and the words that they make.
---     IsLassoTrace c stem lap      a trace of the stem and then the lap: behind both the latches are those behind the
---               stem
+--     IsLassoTrace c stem lap      a trace of the stem and then the lap, which leads back to the latches before it
 --     IsLassoWord names c stem lap      the letters of such a trace
 --     AllAccepted file c, NoneAccepted file c      the automaton accepts each of these words, or none of them
 use Rattle.std.specs.Prelude.{ℕ, ◌<◌, Bool, List, length}
