@@ -5,7 +5,7 @@ use Rattle.std.specs.List.{Contains}
 use Rattle.std.proofs.lemmas.List.{get_or_default}
 use Rattle.std.proofs.lemmas.Bool.{cases_order, cases_eq}
 use Rattle.ps_game.specs.Games.{ParityGame, IsGame, vertex_count, owner_of, successors_of, HasEdge}
-use Rattle.ps_certificate.specs.Certificates.{CertificateData, Fits, Remains, HasRightMove, HasWrongMove, winner_of}
+use Rattle.ps_certificate.specs.Certificates.{CertificateData, Remains, HasRightMove, HasWrongMove, winner_of}
 use Rattle.ps_certificate.specs.Certificates.{choice_of}
 use Rattle.ps_certificate.specs.Inner.Prefixes.{StaysInside, IsFirstEscape}
 
@@ -21,11 +21,11 @@ pub HasEdge-at : (game : ParityGame) (v k : ℕ) {w : ℕ} → v < vertex_count 
 HasEdge-at game v k in_range within is = (in_range, Contains-at (successors_of game v) k within is)
 
 -- a successor is a vertex that has an entry
-pub has_entry : {game : ParityGame} {certificate : CertificateData} →
-    IsGame game → Fits game certificate → (v k : ℕ) {w : ℕ} → v < vertex_count game →
+pub has_entry : {game : ParityGame} (certificate : CertificateData) →
+    IsGame game → length certificate.entries ≡ vertex_count game → (v k : ℕ) {w : ℕ} → v < vertex_count game →
     k < length (successors_of game v) → w ≡ slice_index (successors_of game v) k → w < length certificate.entries
-has_entry {game} well fits v k {w} in_range within is = let below : w < vertex_count game =
-    well.within v w (HasEdge-at game v k in_range within is) in omega (arith, fits.entry_each)
+has_entry {game} certificate well each v k {w} in_range within is = let below : w < vertex_count game =
+    well.within v w (HasEdge-at game v k in_range within is) in omega (arith, each)
 
 -- each edge of a vertex of the loser remains
 pub Remains-other : (game : ParityGame) (certificate : CertificateData) (v w : ℕ) →
@@ -78,3 +78,11 @@ pub StaysInside-from_all : (game : ParityGame) (certificate : CertificateData) (
     certificate v) → StaysInside game certificate v
 StaysInside-from_all game certificate v each w remains = let (j, j_within, j_is) =
     place_of (successors_of game v) remains.edge.1 in ap (λ n. winner_of certificate n) (sym j_is) ∙ each j j_within
+
+-- the winner's move is a vertex that has an entry
+pub own_entry : {game : ParityGame} (certificate : CertificateData) → IsGame game →
+    length certificate.entries ≡ vertex_count game → (v w : ℕ) → HasRightMove game certificate v →
+    owner_of game v ≡ winner_of certificate v → choice_of certificate v ≡ Some w → w < length certificate.entries
+own_entry {game} certificate well each v w right own is =
+    let edge : HasEdge game v w = IsSomeAnd-at (HasEdge game v) is (right.own own) in
+    omega (arith, well.within v w edge, each)

@@ -17,14 +17,14 @@ use Rattle.ps_certificate.proofs.Counts.{opposing_complete}
 use Rattle.ps_certificate.proofs.Keeping.{path_stays, BothKeep-from_closed}
 
 -- numbers that do not rise from each place to the next
-never_rises_along : (f : ℕ → ℕ) (i d : ℕ) → ((k : ℕ) → i ≤ k → k < i + d → f (k + 1) ≤ f k) → f (i + d) ≤ f i
+pub never_rises_along : (f : ℕ → ℕ) (i d : ℕ) → ((k : ℕ) → i ≤ k → k < i + d → f (k + 1) ≤ f k) → f (i + d) ≤ f i
 never_rises_along f i zero step = (let e : f (i + 0) ≡ f i = ap f (omega arith) in omega arith)
 never_rises_along f i (suc d) step =
     let before : f (i + d) ≤ f i = never_rises_along f i d (λ k after below. step k after (omega arith)) in
     grind arith
 
 -- and fall once, end lower
-falls_in_the_end : (f : ℕ → ℕ) (i j m : ℕ) → i ≤ m → m < j → ((k : ℕ) → i ≤ k → k < j → f (k + 1) ≤ f k) →
+pub falls_in_the_end : (f : ℕ → ℕ) (i j m : ℕ) → i ≤ m → m < j → ((k : ℕ) → i ≤ k → k < j → f (k + 1) ≤ f k) →
     f (m + 1) < f m → f j < f i
 falls_in_the_end f i j m after below step falls =
     let to_fall : f (i + (m - i)) ≤ f i = never_rises_along f i (m - i) (λ k k_after k_below. grind arith) in

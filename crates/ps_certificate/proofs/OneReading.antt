@@ -65,7 +65,7 @@ within : (game : ParityGame) (parity : ℕ) (xs ys : List ℕ) → ListsPrioriti
     ListsPriorities game parity ys → Within xs ys
 within game parity xs ys l m p c = grind (arith, All-contains (HasPriority game) xs p l.present c)
 
-one_list : {game : ParityGame} {parity : ℕ} {xs ys : List ℕ} → ListsPriorities game parity xs →
+pub one_list : {game : ParityGame} {parity : ℕ} {xs ys : List ℕ} → ListsPriorities game parity xs →
     ListsPriorities game parity ys → xs ≡ ys
 one_list {game} {parity} {xs} {ys} l m = search (rules, same_list, rises, AllPairs-from_increasing, within)
 

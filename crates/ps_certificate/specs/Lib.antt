@@ -1,6 +1,7 @@
 pub mod Certificates
 pub mod Faults
 pub mod Inner
+pub mod Least
 pub mod Lines
 pub mod Pairs
 pub mod Regions

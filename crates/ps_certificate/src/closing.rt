@@ -1,8 +1,8 @@
 //! The first half of the check: moves are right, and what remains stays with the winner.
 
-ghost use Rattle.std.specs.Prelude.{◌≡◌, ◌≢◌, ℕ, ◌<◌, ◌↔◌, IsTrue, IsOk, IfErr, OnOk, IfNone, IfSome};
+ghost use Rattle.std.specs.Prelude.{◌≡◌, ◌≢◌, ℕ, ◌<◌, ◌↔◌, IsTrue, IsOk, IfErr, OnOk, IfNone, IfSome, length};
 ghost use Rattle.ps_game.specs.Games.{vertex_count, owner_of, successors_of, HasEdge};
-ghost use Rattle.ps_certificate.specs.Certificates.{Fits, HasRightMove, IsClosed, IsFirstFlaw};
+ghost use Rattle.ps_certificate.specs.Certificates.{HasRightMove, IsClosed, IsFirstFlaw};
 ghost use Rattle.ps_certificate.specs.Regions.{BothKeep};
 ghost use Rattle.ps_certificate.specs.Inner.Prefixes.{StaysInside, IsSoundAt, IsFirstEscape, IsFirstFlawAt};
 
@@ -25,7 +25,7 @@ fn has_edge<A: Arena>(arena: &A, vertex: usize, successor: usize) -> bool
 
 /// Whether the move of a vertex is right: a successor where the winner owns the vertex, else none.
 fn has_right_move<A: Arena>(arena: &A, certificate: &Certificate, vertex: usize) -> bool
-    requires fits { Fits (A.game arena.now) certificate.now }
+    requires entry_each { length certificate.now.entries ≡ vertex_count (A.game arena.now) }
     requires vertex { vertex < vertex_count (A.game arena.now) }
     ensures { IsTrue result ↔ HasRightMove (A.game arena.now) certificate.now vertex }
 {
@@ -41,7 +41,7 @@ fn has_right_move<A: Arena>(arena: &A, certificate: &Certificate, vertex: usize)
 
 /// The first edge of a vertex that remains and leads to the other winner.
 fn first_escape<A: Arena>(arena: &A, certificate: &Certificate, vertex: usize) -> Option<usize>
-    requires fits { Fits (A.game arena.now) certificate.now }
+    requires entry_each { length certificate.now.entries ≡ vertex_count (A.game arena.now) }
     requires vertex { vertex < vertex_count (A.game arena.now) }
     requires right_move { HasRightMove (A.game arena.now) certificate.now vertex }
     ensures none { IfNone result (StaysInside (A.game arena.now) certificate.now vertex) }
@@ -70,7 +70,7 @@ pub(crate) fn unsound_at<A: Arena>(
     certificate: &Certificate,
     vertex: usize,
 ) -> Option<Flaw>
-    requires fits { Fits (A.game arena.now) certificate.now }
+    requires entry_each { length certificate.now.entries ≡ vertex_count (A.game arena.now) }
     requires vertex { vertex < vertex_count (A.game arena.now) }
     ensures none { IfNone result (IsSoundAt (A.game arena.now) certificate.now vertex) }
     ensures some { IfSome result (IsFirstFlawAt (A.game arena.now) certificate.now 0 vertex) }
@@ -86,13 +86,14 @@ pub(crate) fn unsound_at<A: Arena>(
 }
 
 /// Whether moves are right, and every edge that remains stays with the winner; else the first flaw,
-/// by vertex, at each the move before the escapes, and these in the order of successors. Takes no memory.
+/// by vertex, at each the move before the escapes, and these in the order of successors. Priorities and counts are not
+/// looked at. Takes no memory.
 ///
 /// # Errors
 ///
 /// [`Flaw::Move`] or [`Flaw::Escape`], whichever is first.
 pub fn closed<A: Arena>(arena: &A, certificate: &Certificate) -> Result<(), Flaw>
-    requires { Fits (A.game arena.now) certificate.now }
+    requires { length certificate.now.entries ≡ vertex_count (A.game arena.now) }
     ensures exact { IsOk result ↔ IsClosed (A.game arena.now) certificate.now }
     ensures flaw { IfErr result (IsFirstFlaw (A.game arena.now) certificate.now) }
     ensures regions { OnOk result (BothKeep (A.game arena.now) certificate.now) }

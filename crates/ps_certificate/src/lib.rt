@@ -11,6 +11,7 @@
 //! | `fits(arena, certificate)` | whether a certificate has the form that the game asks for, which the checks require |
 //! | `closed(arena, certificate)` | whether moves are right and stay with their winner, or the first `Flaw` |
 //! | `check(arena, certificate)` | whether, besides, each edge that remains keeps the rule, or the first `Flaw` |
+//! | `ids_of(game)` | the ids of a game, with a table of their places |
 //! | `write`, `write_compact` | the text with all counts; with those alone that are not 0, each behind its priority |
 //! | `Certificate::winner`, `choice`, `counts`, `opposing` | what it says of a vertex; by what a player loses |
 //! | `Flaw::number`, `name`, `CertCause::number`, `name` | a flaw or a cause as psyn's list of faults has it |
@@ -55,5 +56,7 @@ pub use laws::{
     winners_are_one,
 };
 pub use row::Row;
-pub use text::{certificate_text_has_one_answer, certificate_text_has_some_answer, read};
+pub use text::{
+    certificate_text_has_one_answer, certificate_text_has_some_answer, ids_of, read,
+};
 pub use writer::{write, write_compact};

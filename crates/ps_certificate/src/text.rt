@@ -46,7 +46,11 @@ impl Known {
 }
 
 /// The ids of a game, with a table of their places.
-fn ids_of(alloc: Global, game: &NamedGame) -> Result<Ids, AllocError>
+///
+/// # Errors
+///
+/// Fails where a growth was refused.
+pub fn ids_of(alloc: Global, game: &NamedGame) -> Result<Ids, AllocError>
     ensures { IfOk result (λ ids. ids ≡ game.now.ids) }
 {
     let mut ids = Ids::new(alloc);

@@ -1,8 +1,6 @@
 mod BoardLetters
 mod BoardMoves
 mod BoardSteps
-mod BuildingEntries
-mod Certified
 mod Choosing
 mod FileBoards
 mod LeastLetters

@@ -1,7 +1,6 @@
 -- What private functions say of each other; no public clause cites these.
 
 pub mod Assembling
-pub mod Building
 pub mod Drawing
 pub mod Knowing
 pub mod Moving

@@ -2,17 +2,16 @@
 --     IsCertified game c      the certificate fits the game and is valid
 --     winner c      who wins vertex 0
 --     AnswersSurely game r      what a sure solver answers: such a certificate, or that memory ran out
---     HasLeastCounts game c      no valid certificate with its winners and moves has a smaller count
 --     AnswersLeast game r      what psyn's own solver answers: such a certificate with the least counts, or that memory
 --               ran out
 --     NamesVertices game r      a cycle that is answered has vertices, and of the game only
 --     KeepsText text old new      what a solver holds once it was fed a text
 --     Replays game fed r      the answer is that of reading the text that was fed
-use Rattle.std.specs.Prelude.{◌≡◌, ℕ, ◌<◌, ◌≤◌, List, length, Option, None, Some, Result, Ok, Err, slice_index}
+use Rattle.std.specs.Prelude.{◌≡◌, ℕ, ◌<◌, List, length, Option, None, Some, Result, Ok, Err}
 use Rattle.std.specs.List.{All}
-use Rattle.ps_game.specs.Games.{ParityGame, NamedGameData, priority_of, vertex_count}
-use Rattle.ps_certificate.specs.Certificates.{CertificateData, winner_of, choice_of, counts_of, opposing_at, Fits}
-use Rattle.ps_certificate.specs.Certificates.{IsValid}
+use Rattle.ps_game.specs.Games.{NamedGameData, vertex_count}
+use Rattle.ps_certificate.specs.Certificates.{CertificateData, winner_of, Fits, IsValid}
+use Rattle.ps_certificate.specs.Least.{HasLeastCounts}
 use Rattle.ps_certificate.specs.Texts.{ReadsCertificate}
 use Rattle.ps_machine.specs.declared.fault.SolveFault.{SolveFault}
 use Rattle.ps_machine.specs.declared.fault.SolveFault.TheVariants.{BadCycle, Text, OutOfMemory}
@@ -29,24 +28,6 @@ AnswersSurely game (Ok certificate) = IsCertified game certificate
 AnswersSurely game (Err OutOfMemory) = Unit {0}
 AnswersSurely game (Err (BadCycle cycle)) = ⊥
 AnswersSurely game (Err (Text cause offset)) = ⊥
-
--- certificates that differ in counts alone
-pub record DiffersInCounts (game : ParityGame) (one other : CertificateData) : Type 0 where
-  pub odd : one.odd ≡ other.odd
-  pub even : one.even ≡ other.even
-  pub winners : (v : ℕ) → v < vertex_count game → winner_of one v ≡ winner_of other v
-  pub moves : (v : ℕ) → v < vertex_count game → choice_of one v ≡ choice_of other v
-
--- each count is the least one among valid certificates that differ in counts alone, and 0 for a priority below the
--- vertex's own, where it has no meaning
-pub record HasLeastCounts (game : ParityGame) (certificate : CertificateData) : Type 0 where
-  pub least : (other : CertificateData) → Fits game other → IsValid game other →
-      DiffersInCounts game certificate other →
-      (v k : ℕ) → v < vertex_count game → k < length (counts_of certificate v) →
-      slice_index (counts_of certificate v) k ≤ slice_index (counts_of other v) k
-  pub without_meaning : (v k : ℕ) → v < vertex_count game → k < length (counts_of certificate v) →
-      opposing_at certificate v k < priority_of game v →
-      slice_index (counts_of certificate v) k ≡ 0
 
 abbrev pub AnswersLeast : NamedGameData → Result CertificateData SolveFault → Type 0
 AnswersLeast game (Ok certificate) = IsCertified game certificate × HasLeastCounts game.game certificate

@@ -1,6 +1,9 @@
 use Rattle.std.proofs.Common.{rules}
-use Rattle.ps_certificate.proofs.Edges.{has_entry, IsFirstEscape-at, StaysInside-from_all}
+use Rattle.ps_certificate.proofs.Edges.{has_entry, own_entry, IsFirstEscape-at, StaysInside-from_all}
 use Rattle.ps_certificate.proofs.closing.first_escape.Goals as goal
+
+pub winner-requires : goal.winner-requires
+winner-requires g c = search (rules, own_entry)
 
 pub winner-requires-in-loop-number : goal.winner-requires-in-loop-number
 winner-requires-in-loop-number g c = search (rules, has_entry)

@@ -1,0 +1,30 @@
+-- Certificates with the same winners and moves, and the least counts among them.
+--     SaysTheSame game c d      the same winners and moves
+--     DiffersInCounts game c d      besides, the same priorities
+--     HasLeastCounts game c      no valid certificate with its winners and moves has a smaller count
+use Rattle.std.specs.Prelude.{◌≡◌, ℕ, ◌<◌, ◌≤◌, length, slice_index}
+use Rattle.ps_game.specs.Games.{ParityGame, priority_of, vertex_count}
+use Rattle.ps_certificate.specs.Certificates.{CertificateData, winner_of, choice_of, counts_of, opposing_at, Fits}
+use Rattle.ps_certificate.specs.Certificates.{IsValid}
+
+-- certificates that give each vertex the same winner and the same move
+pub record SaysTheSame (game : ParityGame) (one other : CertificateData) : Type 0 where
+  pub winners : (v : ℕ) → v < vertex_count game → winner_of one v ≡ winner_of other v
+  pub moves : (v : ℕ) → v < vertex_count game → choice_of one v ≡ choice_of other v
+
+-- certificates that differ in counts alone
+pub record DiffersInCounts (game : ParityGame) (one other : CertificateData) : Type 0 where
+  pub odd : one.odd ≡ other.odd
+  pub even : one.even ≡ other.even
+  pub same : SaysTheSame game one other
+
+-- each count is the least one among valid certificates that differ in counts alone, and 0 for a priority below the
+-- vertex's own, where it has no meaning
+pub record HasLeastCounts (game : ParityGame) (certificate : CertificateData) : Type 0 where
+  pub least : (other : CertificateData) → Fits game other → IsValid game other →
+      DiffersInCounts game certificate other →
+      (v k : ℕ) → v < vertex_count game → k < length (counts_of certificate v) →
+      slice_index (counts_of certificate v) k ≤ slice_index (counts_of other v) k
+  pub without_meaning : (v k : ℕ) → v < vertex_count game → k < length (counts_of certificate v) →
+      opposing_at certificate v k < priority_of game v →
+      slice_index (counts_of certificate v) k ≡ 0

@@ -1,0 +1,152 @@
+//! The call.
+
+ghost use Rattle.std.specs.Prelude.{◌≡◌, ◌<◌, ◌≤◌, All, IfOk, IfSome, length};
+ghost use Rattle.ps_game.specs.Games.{vertex_count};
+
+use crate::evaluating::evaluate;
+use crate::fuel::Fuel;
+use crate::ground::Ground;
+use crate::improving::improve;
+use crate::plan::Plan;
+use crate::row::Value;
+use crate::waiting::Waiting;
+use ps_attractor::has_room;
+use ps_game::{Arena, Region, Strategy};
+use std::alloc::{AllocError, Global};
+
+/// How many cells may be held in any game.
+const ROOM: u64 = 1 << 18;
+
+/// How many more may be held for each vertex and edge.
+const ROOM_EACH: u64 = 16;
+
+/// Which vertices player 0 may win, moves by which it may, and those by which player 1 may win the others: that they do
+/// is not promised. There is none where the fuel ends first.
+///
+/// # Errors
+///
+/// Fails where a growth was refused.
+pub fn attempt<A: Arena>(
+    alloc: Global,
+    arena: &A,
+    fuel: u64,
+) -> Result<Option<(Region, Strategy, Strategy)>, AllocError>
+    ensures region { IfOk result (λ found. IfSome found
+        (λ answer. length answer.0 ≡ vertex_count (A.game arena.now))) }
+    ensures first { IfOk result (λ found. IfSome found
+        (λ answer. length answer.1 ≡ vertex_count (A.game arena.now))) }
+    ensures second { IfOk result (λ found. IfSome found
+        (λ answer. length answer.2 ≡ vertex_count (A.game arena.now))) }
+{
+    if !has_room::<A, usize>(arena) {
+        return Ok(None);
+    }
+    let mut fuel = Fuel {
+        left: fuel,
+        room: room_of(arena),
+    };
+    let ground = Ground::of(alloc, arena)?;
+    let mut plan = Plan::new(alloc, arena.count())?;
+    if !settle_all(alloc, &ground, &mut plan, &mut fuel)? {
+        return Ok(None);
+    }
+    let answer = answer_of(alloc, arena, plan)?;
+    Ok(Some(answer))
+}
+
+/// How many cells may be held.
+fn room_of<A: Arena>(arena: &A) -> u64 {
+    let mut room = ROOM;
+    for vertex in 0..arena.count() {
+        let size = (arena.degree(vertex) as u64).saturating_add(1);
+        room = room.saturating_add(size.saturating_mul(ROOM_EACH));
+    }
+    room
+}
+
+/// Improves the plan until nothing improves in any component, those without a way out first. Answers whether the fuel
+/// was enough.
+fn settle_all<A: Arena>(
+    alloc: Global,
+    ground: &Ground<'_, A>,
+    plan: &mut Plan,
+    fuel: &mut Fuel,
+) -> Result<bool, AllocError>
+    requires rows { length plan.old.rows.items ≡ vertex_count (A.game ground.now.arena.now) }
+    ensures { length plan.new.rows.items ≡ length plan.old.rows.items }
+{
+    let mut waiting = Waiting::none(alloc, ground.arena.count())?;
+    let mut rest = ground.order();
+    for _ in 0..rest.len() {
+        let (part, others) = rest.split_at(length_of_part(ground, rest));
+        if !settle(ground, part, plan, &mut waiting, fuel)? {
+            return Ok(false);
+        }
+        rest = others;
+    }
+    Ok(true)
+}
+
+/// How many vertices at the front are of one component.
+fn length_of_part<A: Arena>(ground: &Ground<'_, A>, rest: &[usize]) -> usize
+    requires { All (λ v. v < vertex_count (A.game ground.now.arena.now)) rest.now }
+    ensures { result ≤ length rest.now }
+{
+    match rest.first() {
+        Some(first) => rest
+            .iter()
+            .position(|vertex| !ground.is_one_part(*first, *vertex))
+            .unwrap_or(rest.len()),
+        None => 0,
+    }
+}
+
+/// Improves the plan until nothing improves in a component. Answers whether the fuel was enough.
+fn settle<A: Arena>(
+    ground: &Ground<'_, A>,
+    part: &[usize],
+    plan: &mut Plan,
+    waiting: &mut Waiting,
+    fuel: &mut Fuel,
+) -> Result<bool, AllocError>
+    requires part { All (λ v. v < vertex_count (A.game ground.now.arena.now)) part.now }
+    requires rows { length plan.old.rows.items ≡ vertex_count (A.game ground.now.arena.now) }
+    requires waits { length waiting.old.waits ≡ vertex_count (A.game ground.now.arena.now) }
+    ensures rows { length plan.new.rows.items ≡ length plan.old.rows.items }
+    ensures waits { length waiting.new.waits ≡ length waiting.old.waits }
+{
+    for _ in 0..fuel.left {
+        evaluate(ground, part, plan, waiting, fuel)?;
+        if fuel.is_spent() {
+            return Ok(false);
+        }
+        if !improve(ground.arena, part, plan, fuel) {
+            return Ok(true);
+        }
+    }
+    Ok(false)
+}
+
+/// The answer that a plan has: player 0 wins where plays go on for ever.
+fn answer_of<A: Arena>(
+    alloc: Global,
+    arena: &A,
+    plan: Plan,
+) -> Result<(Region, Strategy, Strategy), AllocError>
+    requires { length plan.rows.items ≡ vertex_count (A.game arena.now) }
+    ensures region { IfOk result (λ answer. length answer.0 ≡ vertex_count (A.game arena.now)) }
+    ensures first { IfOk result (λ answer. length answer.1 ≡ vertex_count (A.game arena.now)) }
+    ensures second { IfOk result (λ answer. length answer.2 ≡ vertex_count (A.game arena.now)) }
+{
+    let mut fuel = Fuel { left: 0, room: 0 };
+    let mut won = Region::empty(alloc, arena.count())?;
+    let mut second = Strategy::empty(alloc, arena.count())?;
+    for vertex in 0..arena.count() {
+        if let Value::Endless = plan.value(vertex) {
+            won.insert(vertex);
+        } else if arena.owner(vertex) == 1 {
+            second.set(vertex, plan.least(arena, vertex, &mut fuel));
+        }
+    }
+    Ok((won, plan.first, second))
+}

@@ -1,0 +1,26 @@
+//! Regions and moves of a parity game by strategy improvement, without a promise: whoever asks has to check them.
+//!
+//! Player 0 improves. A play is worth its row: how often each priority was met before it stopped, or more than any row
+//! where it goes on for ever. At first player 0 stops everywhere, and plays stop before each vertex of player 1 too:
+//! it is closed. In a round the values are worked out, each being the least that player 1 can force; then player 0
+//! goes on where that is worth more, and vertices of player 1 open whose value is more than that of stopping. Where
+//! nothing improves any more, player 0 wins the vertices from which plays go on for ever. Components of the game are
+//! settled one by one, those without a way out first.
+//!
+//! | Call | What it gives |
+//! |---|---|
+//! | `attempt(arena, fuel)` | a region and the moves of both players, or nothing where the fuel ends |
+//!
+//! Time and memory are bounded by the fuel: it counts the cells of rows that are read or written.
+#![tactic(auto)]
+
+mod attempting;
+mod evaluating;
+mod fuel;
+mod ground;
+mod improving;
+mod plan;
+mod row;
+mod waiting;
+
+pub use attempting::attempt;

@@ -1,0 +1,214 @@
+//! What the players do so far, and what it is worth.
+
+ghost use Rattle.std.specs.Prelude.{◌≡◌, ◌<◌, ℕ, IfOk, IfSome, OnOk, length};
+ghost use Rattle.std.specs.Option.{ForSome};
+ghost use Rattle.ps_game.specs.Games.{vertex_count};
+ghost use Rattle.ps_game.specs.Regions.{move_at};
+
+use crate::fuel::Fuel;
+use crate::row::{Row, Value, with_one_more};
+use ps_game::{Arena, Region, Strategy};
+use std::alloc::{AllocError, Global};
+use std::cmp::Ordering;
+
+/// The moves of player 0, the vertices of player 1 that are open, and the value of each vertex.
+#[derive(Drop)]
+pub struct Plan {
+    alloc: Global,
+    /// Where player 0 goes on to. Without a move it stops.
+    pub first: Strategy,
+    /// The vertices of player 1 that are open.
+    pub opened: Region,
+    /// The row of each vertex, or none where its value is endless.
+    pub rows: Vec<Option<Row>>,
+    ghost moves: { length first ≡ length rows.items },
+    ghost opens: { length opened ≡ length rows.items },
+    ghost within: { (v : ℕ) → ForSome (move_at first v) (λ w. w < length rows.items) },
+}
+
+impl Plan {
+    /// Player 0 stops everywhere, and no vertex of player 1 is open.
+    ///
+    /// # Errors
+    ///
+    /// Fails where a growth was refused.
+    pub fn new(alloc: Global, count: usize) -> Result<Plan, AllocError>
+        ensures { IfOk result (λ plan. length plan.rows.items ≡ count) }
+    {
+        Ok(Plan {
+            alloc,
+            first: Strategy::empty(alloc, count)?,
+            opened: Region::empty(alloc, count)?,
+            rows: endless(alloc, count)?,
+        })
+    }
+
+    /// Whether plays stop before a vertex.
+    pub fn is_closed<A: Arena>(&self, arena: &A, vertex: usize) -> bool
+        requires places { length self.now.rows.items ≡ vertex_count (A.game arena.now) }
+        requires vertex { vertex < length self.now.rows.items }
+    {
+        arena.owner(vertex) == 1 && !self.opened.contains(vertex)
+    }
+
+    /// Opens a vertex of player 1.
+    pub fn open_up(&mut self, vertex: usize)
+        requires { vertex < length self.old.rows.items }
+        ensures { length self.new.rows.items ≡ length self.old.rows.items }
+    {
+        self.opened.insert(vertex);
+    }
+
+    /// Has player 0 go from a vertex to another.
+    pub fn go(&mut self, vertex: usize, to: usize)
+        requires vertex { vertex < length self.old.rows.items }
+        requires to { to < length self.old.rows.items }
+        ensures { length self.new.rows.items ≡ length self.old.rows.items }
+    {
+        self.first.set(vertex, to);
+    }
+
+    /// The value of a vertex.
+    pub fn value(&self, vertex: usize) -> Value<'_>
+        requires { vertex < length self.now.rows.items }
+    {
+        match &self.rows[vertex] {
+            None => Value::Endless,
+            Some(row) => Value::Stops(row),
+        }
+    }
+
+    /// What it is worth to go to a vertex, or to stop where there is none.
+    pub fn seen<A: Arena>(&self, arena: &A, to: Option<usize>) -> Value<'_>
+        requires places { length self.now.rows.items ≡ vertex_count (A.game arena.now) }
+        requires to { IfSome to (λ vertex. vertex < length self.now.rows.items) }
+    {
+        match to {
+            Some(vertex) if !self.is_closed(arena, vertex) => self.value(vertex),
+            _ => Value::Stops(&[]),
+        }
+    }
+
+    /// How many cells the row of a vertex has.
+    fn cells(&self, vertex: usize) -> usize
+        requires { vertex < length self.now.rows.items }
+    {
+        match &self.rows[vertex] {
+            None => 0,
+            Some(row) => row.len(),
+        }
+    }
+
+    /// Takes the value of a vertex for endless.
+    pub fn forget(&mut self, vertex: usize, fuel: &mut Fuel)
+        requires { vertex < length self.old.rows.items }
+        ensures { length self.new.rows.items ≡ length self.old.rows.items }
+    {
+        fuel.hold(0, self.cells(vertex));
+        self.rows[vertex] = None;
+    }
+
+    /// Lowers the value of a vertex to what follows from where its player goes, and answers whether that is less.
+    ///
+    /// # Errors
+    ///
+    /// Fails where a growth was refused.
+    pub fn lower<A: Arena>(
+        &mut self,
+        arena: &A,
+        vertex: usize,
+        fuel: &mut Fuel,
+    ) -> Result<bool, AllocError>
+        requires places { length self.old.rows.items ≡ vertex_count (A.game arena.now) }
+        requires vertex { vertex < length self.old.rows.items }
+        ensures { length self.new.rows.items ≡ length self.old.rows.items }
+    {
+        let Some(row) = self.next_row(arena, vertex, fuel)? else {
+            return Ok(false);
+        };
+        if Value::Stops(&row).order(self.value(vertex), fuel) != Ordering::Less {
+            return Ok(false);
+        }
+        fuel.hold(row.len(), self.cells(vertex));
+        self.rows[vertex] = Some(row);
+        Ok(true)
+    }
+
+    /// The row of a vertex that follows from where its player goes, or none where that is endless.
+    fn next_row<A: Arena>(
+        &self,
+        arena: &A,
+        vertex: usize,
+        fuel: &mut Fuel,
+    ) -> Result<Option<Row>, AllocError>
+        requires places { length self.now.rows.items ≡ vertex_count (A.game arena.now) }
+        requires vertex { vertex < length self.now.rows.items }
+    {
+        let to = self.target(arena, vertex, fuel);
+        let Value::Stops(row) = self.seen(arena, to) else {
+            fuel.burn(0);
+            return Ok(None);
+        };
+        fuel.burn(row.len());
+        let more = with_one_more(self.alloc, row, arena.priority(vertex))?;
+        Ok(Some(more))
+    }
+
+    /// Where the player of a vertex goes: player 0 by its move, player 1 where it is worth least.
+    fn target<A: Arena>(&self, arena: &A, vertex: usize, fuel: &mut Fuel) -> Option<usize>
+        requires places { length self.now.rows.items ≡ vertex_count (A.game arena.now) }
+        requires vertex { vertex < length self.now.rows.items }
+        ensures { IfSome result (λ to. to < length self.now.rows.items) }
+    {
+        if arena.owner(vertex) == 0 {
+            self.first.get(vertex)
+        } else {
+            Some(self.least(arena, vertex, fuel))
+        }
+    }
+
+    /// A successor of a vertex to which it is worth least to go.
+    #[tactic(auto, using(crate::proofs::Within::successor_within))]
+    pub fn least<A: Arena>(&self, arena: &A, vertex: usize, fuel: &mut Fuel) -> usize
+        requires places { length self.now.rows.items ≡ vertex_count (A.game arena.now) }
+        requires vertex { vertex < length self.now.rows.items }
+        ensures { result < length self.now.rows.items }
+    {
+        let _vertices = arena.count();
+        let mut least = arena.successor(vertex, 0);
+        for number in 1..arena.degree(vertex) {
+            let to = arena.successor(vertex, number);
+            let value = self.seen(arena, Some(to));
+            if value.order(self.seen(arena, Some(least)), fuel) == Ordering::Less {
+                least = to;
+            }
+        }
+        least
+    }
+
+    /// Where it is worth most to go from a vertex, its own move where none is worth more.
+    #[tactic(auto, using(crate::proofs::Within::successor_within))]
+    pub fn best<A: Arena>(&self, arena: &A, vertex: usize, fuel: &mut Fuel) -> Option<usize>
+        requires places { length self.now.rows.items ≡ vertex_count (A.game arena.now) }
+        requires vertex { vertex < length self.now.rows.items }
+        ensures { IfSome result (λ to. to < length self.now.rows.items) }
+    {
+        let _vertices = arena.count();
+        let mut best = self.first.get(vertex);
+        for number in 0..arena.degree(vertex) {
+            let to = Some(arena.successor(vertex, number));
+            let value = self.seen(arena, to);
+            if value.order(self.seen(arena, best), fuel) == Ordering::Greater {
+                best = to;
+            }
+        }
+        best
+    }
+}
+
+/// Endless values for so many vertices.
+fn endless(alloc: Global, count: usize) -> Result<Vec<Option<Row>>, AllocError>
+    ensures { IfOk result (λ rows. length rows.items ≡ count) }
+{
+    (0..count).map(|_| None).collect(alloc)
+}

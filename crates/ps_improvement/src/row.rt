@@ -1,0 +1,105 @@
+//! What plays are worth.
+
+ghost use Rattle.std.specs.Prelude.{◌≤◌, length};
+
+use crate::fuel::Fuel;
+use std::alloc::{AllocError, Global};
+use std::cmp::Ordering;
+
+/// How often a priority is met.
+#[derive(Clone, Copy, PartialEq, Eq)]
+pub struct Cell {
+    /// The priority.
+    pub priority: u64,
+    /// How often.
+    pub count: u64,
+}
+
+/// The priorities that are met before a play stops, falling, each with how often it is met: never 0 times.
+pub type Row = Vec<Cell>;
+
+/// What a play is worth to player 0.
+#[derive(Clone, Copy)]
+pub enum Value<'a> {
+    /// It goes on for ever: that is worth most.
+    Endless,
+    /// It stops behind these.
+    Stops(&'a [Cell]),
+}
+
+impl Value<'_> {
+    /// Which of two values is worth more.
+    pub fn order(self, other: Value<'_>, fuel: &mut Fuel) -> Ordering {
+        match (self, other) {
+            (Value::Endless, Value::Endless) => Ordering::Equal,
+            (Value::Endless, Value::Stops(_)) => Ordering::Greater,
+            (Value::Stops(_), Value::Endless) => Ordering::Less,
+            (Value::Stops(row), Value::Stops(other)) => order_of_rows(row, other, fuel),
+        }
+    }
+}
+
+/// Which of two rows is worth more: the first place where they differ tells.
+fn order_of_rows(row: &[Cell], other: &[Cell], fuel: &mut Fuel) -> Ordering {
+    let same = row
+        .iter()
+        .zip(other)
+        .take_while(|(cell, beside)| **cell == **beside)
+        .count();
+    fuel.burn(same);
+    match (row.get(same), other.get(same)) {
+        (None, None) => Ordering::Equal,
+        (Some(cell), None) => worth_of(cell.priority),
+        (None, Some(beside)) => worth_of(beside.priority).reverse(),
+        (Some(cell), Some(beside)) => order_of_cells(*cell, *beside),
+    }
+}
+
+/// Which of two cells is worth more: the greater priority tells, and where it is the same, how often it is met.
+fn order_of_cells(cell: Cell, beside: Cell) -> Ordering {
+    match cell.priority.cmp(&beside.priority) {
+        Ordering::Greater => worth_of(cell.priority),
+        Ordering::Less => worth_of(beside.priority).reverse(),
+        Ordering::Equal if cell.count < beside.count => worth_of(cell.priority).reverse(),
+        Ordering::Equal => worth_of(cell.priority),
+    }
+}
+
+/// Whether it is worth more or less to meet a priority once more.
+fn worth_of(priority: u64) -> Ordering {
+    if priority % 2 == 0 {
+        Ordering::Greater
+    } else {
+        Ordering::Less
+    }
+}
+
+/// A row with a priority once more.
+///
+/// # Errors
+///
+/// Fails where a growth was refused.
+pub fn with_one_more(alloc: Global, row: &[Cell], priority: u64) -> Result<Row, AllocError> {
+    let (front, back) = row.split_at(greater_than(row, priority));
+    let (count, rest) = match back.split_first() {
+        Some((cell, rest)) if cell.priority == priority => (cell.count, rest),
+        _ => (0, back),
+    };
+    let mut more = Vec::with_capacity(alloc, row.len().saturating_add(1))?;
+    more.extend_from_slice(front)?;
+    more.push(Cell {
+        priority,
+        count: count.saturating_add(1),
+    })?;
+    more.extend_from_slice(rest)?;
+    Ok(more)
+}
+
+/// How many cells at the front of a row have greater priorities.
+fn greater_than(row: &[Cell], priority: u64) -> usize
+    ensures { result ≤ length row.now }
+{
+    row.iter()
+        .position(|cell| cell.priority <= priority)
+        .unwrap_or(row.len())
+}

@@ -1,0 +1,58 @@
+//! Vertices that wait, each once.
+
+ghost use Rattle.std.specs.Prelude.{◌≡◌, ◌<◌, All, IfOk, IfSome, length};
+
+use ps_game::Region;
+use std::alloc::{AllocError, Global};
+use std::collections::VecDeque;
+
+/// The vertices that wait, the first one first, each once.
+#[derive(Drop)]
+pub struct Waiting {
+    queue: VecDeque<usize>,
+    /// Which vertices wait.
+    pub waits: Region,
+    ghost within: { All (λ v. v < length waits) queue.items },
+}
+
+impl Waiting {
+    /// None of so many vertices.
+    ///
+    /// # Errors
+    ///
+    /// Fails where a growth was refused.
+    pub fn none(alloc: Global, count: usize) -> Result<Waiting, AllocError>
+        ensures { IfOk result (λ waiting. length waiting.waits ≡ count) }
+    {
+        Ok(Waiting {
+            queue: VecDeque::new(alloc),
+            waits: Region::empty(alloc, count)?,
+        })
+    }
+
+    /// Has a vertex wait, if it does not yet.
+    ///
+    /// # Errors
+    ///
+    /// Fails where a growth was refused.
+    pub fn put(&mut self, vertex: usize) -> Result<(), AllocError>
+        requires { vertex < length self.old.waits }
+        ensures { length self.new.waits ≡ length self.old.waits }
+    {
+        if !self.waits.contains(vertex) {
+            self.queue.push_back(vertex)?;
+            self.waits.insert(vertex);
+        }
+        Ok(())
+    }
+
+    /// The first one, which waits no longer.
+    pub fn take(&mut self) -> Option<usize>
+        ensures places { length self.new.waits ≡ length self.old.waits }
+        ensures within { IfSome result (λ vertex. vertex < length self.old.waits) }
+    {
+        let vertex = self.queue.pop_front()?;
+        self.waits.remove(vertex);
+        Some(vertex)
+    }
+}

@@ -1,0 +1,7 @@
+pub mod ClaimLists
+pub mod Certified
+pub mod Claims
+pub mod Counted
+pub mod Judged
+pub mod OneVerdict
+pub mod Parts

@@ -1,0 +1,12 @@
+use Rattle.std.proofs.Common.{rules}
+use Rattle.ps_referee.proofs.ClaimLists.{claims_start, claims_more, claim_made}
+use Rattle.ps_referee.proofs.building.claim_of.Goals as goal
+
+pub loop-vertex-init : goal.loop-vertex-init
+loop-vertex-init g c = search (rules, claims_start)
+
+pub loop-vertex-preserved : goal.loop-vertex-preserved
+loop-vertex-preserved g c = search (rules, claims_more)
+
+pub returns : goal.returns
+returns g c = search (rules, claim_made)

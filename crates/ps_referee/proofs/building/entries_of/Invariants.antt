@@ -1,0 +1,9 @@
+use Rattle.std.proofs.Common.{◌≡◌}
+use Rattle.ps_referee.specs.Inner.Building.{claims, winner_row}
+use Rattle.ps_referee.proofs.building.entries_of.Given as goal
+
+-- the vertices before this one have entries
+abbrev pub invariant-loop-vertex : goal.invariant-loop-vertex
+invariant-loop-vertex g l =
+    l.entries ≡ claims (g.A.Arena.game l.arena) l.won l.first l.second
+    (winner_row l.won l.first_rows l.second_rows) l.vertex

@@ -1,0 +1,9 @@
+use Rattle.std.proofs.Common.{◌∙◌, ap, length}
+use Rattle.ps_certificate.specs.Certificates.{CertificateData}
+use Rattle.ps_referee.proofs.Claims.{entry_each}
+use Rattle.ps_referee.proofs.judging.closing.Goals as goal
+
+pub closed-requires : goal.closed-requires
+closed-requires g c =
+    ap (λ (d : CertificateData). length d.entries) c.in_ok-claim.ensures
+    ∙ entry_each (g.A.Arena.game c.args.arena.now) c.args.won.now c.args.first.now c.args.second.now

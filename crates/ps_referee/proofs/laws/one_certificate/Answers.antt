@@ -1,0 +1,6 @@
+-- The law is a lemma.
+use Rattle.ps_referee.proofs.OneVerdict.{one_certificate}
+use Rattle.ps_referee.proofs.laws.one_certificate.Goals as goal
+
+pub returns : goal.returns
+returns c = one_certificate

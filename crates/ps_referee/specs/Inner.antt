@@ -1,0 +1,4 @@
+-- What private functions say of each other; no public clause cites these.
+
+pub mod Building
+pub mod Counting

@@ -1,0 +1,78 @@
+-- Solutions of a game: the vertices that player 0 wins, player 1 all others, and a table of moves for each player.
+--     won_by won player      the vertices that a player wins
+--     moves_by first second player      a player's table
+--     claimed game won first second      what is claimed, as a certificate without priorities and counts
+--     IsSolution game won first second      each player holds the vertices that it wins by its table
+--     IsCycleOf game won first second player cycle      nothing leaves its winner, but the player loses a cycle
+--     IsRefusal game won first second fault      the fault says what is wrong
+--     IsCertificateOf game won first second c      the certificate of a solution that holds
+use Rattle.std.specs.Prelude.{◌≡◌, ℕ, ◌<◌, ◌==◌, if◌then◌else◌, List, [], map, Option, None, Bool, not}
+use Rattle.std.specs.List.{range_with_len}
+use Rattle.ps_game.specs.Games.{ParityGame, vertex_count, owner_of}
+use Rattle.ps_game.specs.Plays.{Holds}
+use Rattle.ps_game.specs.Regions.{has, move_at}
+use Rattle.ps_certificate.specs.Certificates.{EntryData, CertificateData, Fits, IsClosed, IsFirstFlaw, IsValid}
+use Rattle.ps_certificate.specs.Least.{SaysTheSame, HasLeastCounts}
+use Rattle.ps_measure.specs.Ranks.{IsLostCycle}
+use Rattle.ps_referee.specs.declared.fault.JudgeFault.{JudgeFault}
+use Rattle.ps_referee.specs.declared.fault.JudgeFault.TheVariants.{Unclosed, BadCycle, OutOfMemory}
+
+abbrev pub won_by : List Bool → ℕ → ℕ → Bool
+won_by won player v = if player == 0 then has won v else not (has won v)
+
+abbrev pub moves_by : List (Option ℕ) → List (Option ℕ) → ℕ → ℕ → Option ℕ
+moves_by first second player v = if player == 0 then move_at first v else move_at second v
+
+-- who wins a vertex
+abbrev pub winner_by : List Bool → ℕ → ℕ
+winner_by won v = if has won v then 0 else 1
+
+-- the winner's move at a vertex that the winner owns; a move of the other player's table is none
+abbrev pub choice_by : ParityGame → List Bool → List (Option ℕ) → List (Option ℕ) → ℕ → Option ℕ
+choice_by game won first second v =
+    if owner_of game v == winner_by won v then moves_by first second (winner_by won v) v else None
+
+-- what is claimed of a vertex, with these counts
+abbrev pub claim_with : ParityGame → List Bool → List (Option ℕ) → List (Option ℕ) → ℕ → List ℕ → EntryData
+claim_with game won first second v counts =
+    record { winner = winner_by won v; choice = choice_by game won first second v; counts = counts }
+
+unfoldable pub claimed : ParityGame → List Bool → List (Option ℕ) → List (Option ℕ) → CertificateData
+claimed game won first second = record {
+  odd = [];
+  even = [];
+  entries = map (λ v. claim_with game won first second v []) (range_with_len 0 (vertex_count game));
+}
+
+pub record IsSolution (game : ParityGame) (won : List Bool) (first second : List (Option ℕ)) : Type 0 where
+  pub first_holds : Holds game 0 (has won) (move_at first)
+  pub second_holds : Holds game 1 (λ v. not (has won v)) (move_at second)
+
+-- moves are right and no edge that remains leaves its winner, but the player loses a cycle of such edges; one of player
+-- 1's is told only where player 0 holds what it wins
+pub record IsCycleOf (game : ParityGame) (won : List Bool) (first second : List (Option ℕ)) (player : ℕ)
+    (cycle : List ℕ) : Type 0 where
+  pub closed : IsClosed game (claimed game won first second)
+  pub is_player : player < 2
+  pub lost : IsLostCycle game player (won_by won player) (moves_by first second player) cycle
+  pub first_holds : player ≡ 1 → Holds game 0 (has won) (move_at first)
+
+-- the flaw is the first one of what is claimed; that memory ran out says nothing
+abbrev pub IsRefusal : ParityGame → List Bool → List (Option ℕ) → List (Option ℕ) → JudgeFault → Type 0
+IsRefusal game won first second (Unclosed flaw) = IsFirstFlaw game (claimed game won first second) flaw
+IsRefusal game won first second (BadCycle player cycle) = IsCycleOf game won first second player cycle.items
+IsRefusal game won first second OutOfMemory = Unit {0}
+
+-- a valid certificate with the winners and moves of a solution, and the least counts
+pub record IsCertificateOf (game : ParityGame) (won : List Bool) (first second : List (Option ℕ))
+    (certificate : CertificateData) : Type 0 where
+  pub same : SaysTheSame game (claimed game won first second) certificate
+  pub fits : Fits game certificate
+  pub valid : IsValid game certificate
+  pub least : HasLeastCounts game certificate
+
+-- memory ran out
+abbrev pub IsOutOfMemory : JudgeFault → Type 0
+IsOutOfMemory (Unclosed flaw) = ⊥
+IsOutOfMemory (BadCycle player cycle) = ⊥
+IsOutOfMemory OutOfMemory = Unit {0}

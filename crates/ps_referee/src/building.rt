@@ -1,0 +1,115 @@
+//! Certificates of what is claimed: without counts, and with the counts of both players.
+
+ghost use Rattle.std.specs.Prelude.{◌≡◌, ◌<◌, length, [], Some, IfOk, OnOk, ◌++◌, ◌∷◌};
+ghost use Rattle.ps_game.specs.Games.{vertex_count};
+ghost use Rattle.ps_referee.specs.Solutions.{claim_with, claimed};
+ghost use Rattle.ps_referee.specs.Inner.Building.{claims, winner_row};
+
+use ps_certificate::{Certificate, Entries, Entry};
+use ps_game::{Arena, Region, Strategy};
+use ps_measure::CountTable;
+use std::alloc::{AllocError, Global};
+
+/// What is claimed of a game, as a certificate without priorities and counts.
+pub(crate) fn claim_of<A: Arena>(
+    alloc: Global,
+    arena: &A,
+    won: &Region,
+    first: &Strategy,
+    second: &Strategy,
+) -> Result<Certificate, AllocError>
+    requires won { length won.now ≡ vertex_count (A.game arena.now) }
+    requires first { length first.now ≡ vertex_count (A.game arena.now) }
+    requires second { length second.now ≡ vertex_count (A.game arena.now) }
+    ensures { IfOk result (λ claim. claim ≡ claimed (A.game arena.now) won.now first.now second.now) }
+{
+    let mut entries = Entries::with_capacity(alloc, arena.count())?;
+    for vertex in 0..arena.count() {
+        entries.push(&claim_at(arena, vertex, won, first, second, &[]))?;
+    }
+    Ok(Certificate {
+        odd: Vec::new(alloc),
+        even: Vec::new(alloc),
+        entries,
+    })
+}
+
+/// What is claimed of each vertex, with the row of its winner.
+pub(crate) fn entries_of<A: Arena>(
+    alloc: Global,
+    arena: &A,
+    won: &Region,
+    first: &Strategy,
+    second: &Strategy,
+    first_rows: &CountTable,
+    second_rows: &CountTable,
+) -> Result<Entries, AllocError>
+    requires won { length won.now ≡ vertex_count (A.game arena.now) }
+    requires first { length first.now ≡ vertex_count (A.game arena.now) }
+    requires second { length second.now ≡ vertex_count (A.game arena.now) }
+    requires first_rows { length first_rows.now ≡ vertex_count (A.game arena.now) }
+    requires second_rows { length second_rows.now ≡ vertex_count (A.game arena.now) }
+    ensures { IfOk result (λ entries. entries ≡ claims (A.game arena.now) won.now first.now second.now
+        (winner_row won.now first_rows.now second_rows.now) (vertex_count (A.game arena.now))) }
+{
+    let mut entries = Entries::with_capacity(alloc, arena.count())?;
+    let mut row = Vec::new(alloc);
+    for vertex in 0..arena.count() {
+        winner_row(vertex, won, first_rows, second_rows, &mut row)?;
+        entries.push(&claim_at(arena, vertex, won, first, second, &row))?;
+    }
+    Ok(entries)
+}
+
+/// Puts the counts of a vertex into a list, in the place of what was in it: the first row where player 0 wins it, else
+/// the second.
+fn winner_row(
+    vertex: usize,
+    won: &Region,
+    first_rows: &CountTable,
+    second_rows: &CountTable,
+    row: &mut Vec<u64>,
+) -> Result<(), AllocError>
+    requires won { vertex < length won.now }
+    requires first_rows { vertex < length first_rows.now }
+    requires second_rows { vertex < length second_rows.now }
+    ensures { OnOk result (row.new.items ≡ winner_row won.now first_rows.now second_rows.now vertex) }
+{
+    if won.contains(vertex) {
+        first_rows.row_into(vertex, row)
+    } else {
+        second_rows.row_into(vertex, row)
+    }
+}
+
+/// What is claimed of a vertex, with these counts.
+fn claim_at<'a, A: Arena>(
+    arena: &A,
+    vertex: usize,
+    won: &Region,
+    first: &Strategy,
+    second: &Strategy,
+    counts: &'a [u64],
+) -> Entry<'a>
+    requires vertex { vertex < vertex_count (A.game arena.now) }
+    requires won { length won.now ≡ vertex_count (A.game arena.now) }
+    requires first { length first.now ≡ vertex_count (A.game arena.now) }
+    requires second { length second.now ≡ vertex_count (A.game arena.now) }
+    ensures { result ≡ claim_with (A.game arena.now) won.now first.now second.now vertex counts.now }
+{
+    let (winner, moves) = if won.contains(vertex) {
+        (0, first)
+    } else {
+        (1, second)
+    };
+    let choice = if arena.owner(vertex) == winner {
+        moves.get(vertex)
+    } else {
+        None
+    };
+    Entry {
+        winner,
+        choice,
+        counts,
+    }
+}

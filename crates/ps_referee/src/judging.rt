@@ -1,0 +1,142 @@
+//! The call that judges a solution.
+
+ghost use Rattle.std.specs.Prelude.{◌≡◌, ℕ, ◌<◌, length, not, IfOk, IfErr, OnOk};
+ghost use Rattle.ps_game.specs.Games.{vertex_count};
+ghost use Rattle.ps_game.specs.Regions.{has, move_at};
+ghost use Rattle.ps_certificate.specs.Certificates.{Fits, IsValid, IsClosed};
+ghost use Rattle.ps_certificate.specs.Least.{SaysTheSame, HasLeastCounts};
+ghost use Rattle.ps_measure.specs.Ranks.{AreRanks};
+ghost use Rattle.ps_referee.specs.Solutions.{claimed, IsSolution, IsRefusal, IsOutOfMemory};
+ghost use Rattle.ps_referee.specs.Inner.Counting.{IsLostIn};
+
+use crate::building::{claim_of, entries_of};
+use crate::fault::JudgeFault;
+use ps_certificate::{Certificate, closed};
+use ps_game::{Arena, Counts, Region, Strategy};
+use ps_measure::{MeasureFault, Ranks, ranks};
+use std::alloc::{AllocError, Global};
+
+/// The certificate of a game by a solution of it: the vertices that player 0 wins, player 1 all others, and a table of
+/// moves for each player. Its winners and moves are the solution's, its counts the least ones. Only moves of the winner
+/// at vertices that the winner owns are looked at.
+///
+/// # Errors
+///
+/// A solution that does not hold is refused: [`JudgeFault::Unclosed`] with the first flaw of its moves and edges, as
+/// [`ps_certificate::closed`] has it, and where there is none [`JudgeFault::BadCycle`]. Else want of memory.
+pub fn judge<A: Arena>(
+    alloc: Global,
+    arena: &A,
+    won: &Region,
+    first: &Strategy,
+    second: &Strategy,
+) -> Result<Certificate, JudgeFault>
+    requires won { length won.now ≡ vertex_count (A.game arena.now) }
+    requires first { length first.now ≡ vertex_count (A.game arena.now) }
+    requires second { length second.now ≡ vertex_count (A.game arena.now) }
+
+    // Ok exactly where each player holds what it wins, if there is memory for it.
+    ensures solution { OnOk result (IsSolution (A.game arena.now) won.now first.now second.now) }
+    ensures judged { IsSolution (A.game arena.now) won.now first.now second.now → IfErr result IsOutOfMemory }
+
+    // The certificate has the winners and moves of the solution.
+    ensures same { IfOk result
+        (SaysTheSame (A.game arena.now) (claimed (A.game arena.now) won.now first.now second.now)) }
+    ensures fits { IfOk result (Fits (A.game arena.now)) }
+    ensures valid { IfOk result (IsValid (A.game arena.now)) }
+    ensures least { IfOk result (HasLeastCounts (A.game arena.now)) }
+
+    ensures refused { IfErr result (IsRefusal (A.game arena.now) won.now first.now second.now) }
+{
+    let _vertices = arena.count();
+    closing(alloc, arena, won, first, second)?;
+    counting(alloc, arena, won, first, second)
+}
+
+/// Whether the moves of a solution are right, and each edge that remains stays with its winner.
+fn closing<A: Arena>(
+    alloc: Global,
+    arena: &A,
+    won: &Region,
+    first: &Strategy,
+    second: &Strategy,
+) -> Result<(), JudgeFault>
+    requires won { length won.now ≡ vertex_count (A.game arena.now) }
+    requires first { length first.now ≡ vertex_count (A.game arena.now) }
+    requires second { length second.now ≡ vertex_count (A.game arena.now) }
+    ensures closed { OnOk result
+        (IsClosed (A.game arena.now) (claimed (A.game arena.now) won.now first.now second.now)) }
+    ensures refused { IfErr result (IsRefusal (A.game arena.now) won.now first.now second.now) }
+{
+    let claim = claim_of(alloc, arena, won, first, second)?;
+    match closed(arena, &claim) {
+        Ok(()) => Ok(()),
+        Err(flaw) => Err(JudgeFault::Unclosed(flaw)),
+    }
+}
+
+/// The certificate of a solution of which each edge that remains stays with its winner, or a cycle that a player loses.
+fn counting<A: Arena>(
+    alloc: Global,
+    arena: &A,
+    won: &Region,
+    first: &Strategy,
+    second: &Strategy,
+) -> Result<Certificate, JudgeFault>
+    requires won { length won.now ≡ vertex_count (A.game arena.now) }
+    requires first { length first.now ≡ vertex_count (A.game arena.now) }
+    requires second { length second.now ≡ vertex_count (A.game arena.now) }
+    requires closed { IsClosed (A.game arena.now) (claimed (A.game arena.now) won.now first.now second.now) }
+    ensures solution { OnOk result (IsSolution (A.game arena.now) won.now first.now second.now) }
+    ensures same { IfOk result
+        (SaysTheSame (A.game arena.now) (claimed (A.game arena.now) won.now first.now second.now)) }
+    ensures fits { IfOk result (Fits (A.game arena.now)) }
+    ensures valid { IfOk result (IsValid (A.game arena.now)) }
+    ensures least { IfOk result (HasLeastCounts (A.game arena.now)) }
+    ensures refused { IfErr result (IsRefusal (A.game arena.now) won.now first.now second.now) }
+{
+    let _vertices = arena.count();
+    let lost = others(alloc, won)?;
+    let odd = counts_of(alloc, arena, 0, won, first)?;
+    let even = counts_of(alloc, arena, 1, &lost, second)?;
+    let (odd_rows, even_rows) = (&odd.counts, &even.counts);
+    let entries = entries_of(alloc, arena, won, first, second, odd_rows, even_rows)?;
+    Ok(Certificate {
+        odd: odd.priorities,
+        even: even.priorities,
+        entries,
+    })
+}
+
+/// The vertices that are not in a region.
+fn others(alloc: Global, region: &Region) -> Result<Region, AllocError>
+    ensures places { IfOk result (λ others. length others ≡ length region.now) }
+    ensures others { IfOk result (λ others. (v : ℕ) → v < length region.now → has others v ≡ not (has region.now v)) }
+{
+    let mut others = Region::full(alloc, region.places())?;
+    others.difference_with(region);
+    Ok(others)
+}
+
+/// The least counts of what a player wins, or a cycle that it loses there.
+fn counts_of<A: Arena>(
+    alloc: Global,
+    arena: &A,
+    player: u8,
+    region: &Region,
+    strategy: &Strategy,
+) -> Result<Ranks, JudgeFault>
+    requires player { player < 2 }
+    requires region { length region.now ≡ vertex_count (A.game arena.now) }
+    requires strategy { length strategy.now ≡ vertex_count (A.game arena.now) }
+    ensures ranks { IfOk result (λ r. AreRanks (A.game arena.now) player (has region.now) (move_at strategy.now)
+        r.priorities.items r.counts) }
+    ensures lost { IfErr result (IsLostIn (A.game arena.now) player (has region.now) (move_at strategy.now)) }
+{
+    let mut counts = Counts::default();
+    match ranks(alloc, arena, player, region, strategy, &mut counts) {
+        Ok(ranks) => Ok(ranks),
+        Err(MeasureFault::BadCycle { cycle }) => Err(JudgeFault::BadCycle { player, cycle }),
+        Err(MeasureFault::OutOfMemory) => Err(JudgeFault::OutOfMemory),
+    }
+}

@@ -1,0 +1,25 @@
+//! Whether a solution of a game holds, whoever found it.
+//!
+//! A solution says which vertices player 0 wins, player 1 all others, and by which moves. [`judge`] answers the game's
+//! certificate by it, with the least counts, or why there is none: the first wrong move, or the first edge that leaves
+//! its winner, or else a cycle that a player loses among the vertices that it is said to win.
+//!
+//! | Call | What it gives |
+//! |---|---|
+//! | `judge(arena, won, first, second)` | the certificate by a solution, or the first `JudgeFault` |
+//! | `JudgeFault::number`, `name` | a fault as psyn's list has it |
+//!
+//! Two laws say that nothing but the cycle is open: a solution has one certificate at most (`one_certificate`), and its
+//! refusals are alike, and none where it holds (`one_verdict`).
+//!
+//! It takes the time of `ps_measure::ranks` for both players, and asks no solver.
+#![tactic(auto)]
+
+mod building;
+mod fault;
+mod judging;
+mod laws;
+
+pub use fault::JudgeFault;
+pub use judging::judge;
+pub use laws::{one_certificate, one_verdict};
