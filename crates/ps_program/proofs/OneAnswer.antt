@@ -200,7 +200,8 @@ module _ (games : OneGame) (certificates : OneCertificate) (flaws : OneFlaw) (ci
 
   -- each line: one outcome, or it is open and they are alike
   line_one : (solvers : Solvers) (l : Line) (texts : List ℕ) (x y : Result Reply (List ℕ)) →
-      AnswersLine solvers l texts x → AnswersLine solvers l texts y → (x ≡ y) ⊎ (IsOpen l texts × Alike (Agree l texts) x y)
+      AnswersLine solvers l texts x → AnswersLine solvers l texts y →
+      (x ≡ y) ⊎ (IsOpen l texts × Alike (Agree l texts) x y)
   line_one solvers line.Refused texts x y h k = inl (ended_one _ x y h k)
   line_one solvers line.Help texts x y h k = inl (ended_one _ x y h k)
   line_one solvers line.Closed texts x y h k = inl (search (rules, then_one, certified_one, tests_one))
@@ -227,7 +228,8 @@ module _ (games : OneGame) (certificates : OneCertificate) (flaws : OneFlaw) (ci
           IsFault a ⊎ IsFault b ⊎ Agree l (behind_line input) a b
       printed_so alike = search rules
 
-      by : (outcome ≡ outcome') ⊎ (IsOpen l (behind_line input) × Alike (Agree l (behind_line input)) outcome outcome') →
+      by : (outcome ≡ outcome') ⊎ (IsOpen l (behind_line input) × Alike (Agree l (behind_line input)) outcome outcome')
+          →
           (a ≡ b) ⊎ ((k : Line) × IsLine (first_line input) k × IsOpen k (behind_line input) ×
           (IsFault a ⊎ IsFault b ⊎ Agree k (behind_line input) a b))
       by (inl one) = inl (e ∙ ap printed one ∙ sym e')
