@@ -1,6 +1,7 @@
 //! Ids, and their places.
 
-ghost use Rattle.std.specs.Prelude.{◌≡◌, ◌==◌, ◌<◌, ◌^◌, ◌++◌, ◌∷◌, ◌↔◌, ℕ, List, [], OnOk, OnErr, IfSome, IsTrue, Contains};
+ghost use Rattle.std.specs.Prelude.{◌≡◌, ◌==◌, ◌<◌, ◌^◌, ◌++◌, ◌∷◌, ◌↔◌, ℕ, List, [], OnOk, OnErr, IfSome, IsTrue};
+ghost use Rattle.std.specs.Prelude.{Contains};
 ghost use Rattle.std.specs.Prelude.{is_some, length, position, slice_index, if◌then◌else◌};
 ghost use Rattle.std.specs.Ordering.{nat_cmp};
 ghost use Rattle.std.specs.List.{list_any};

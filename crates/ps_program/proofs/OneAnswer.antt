@@ -88,7 +88,10 @@ module _ (games : OneGame) (certificates : OneCertificate) (flaws : OneFlaw) (ci
 
   games_alike : (solver : SolverData) (compact : Bool) (named : NamedGameData) (x y : Result Reply (List ℕ)) →
       AnswersGame solver compact named x → AnswersGame solver compact named y → Alike (AgreeInWinners compact named) x y
-  games_alike solver compact named x y h k = search (rules, fault_is, certificates_agree)
+  games_alike solver compact named x y (inl (l, s, e)) k = inl (fault_is x l e)
+  games_alike solver compact named x y (inr (c, s, e)) (inl (m, t, f)) = inr (inl (fault_is y m f))
+  games_alike solver compact named x y (inr (c, s, e)) (inr (d, t, f)) = inr (inr (certificates_agree
+      files file_games winners compact named c d (printed x) (printed y) s.0 t.0 (ap printed e) (ap printed f)))
 
   solve_one_or : (solver : SolverData) (compact : Bool) (text : List ℕ) (x y : Result Reply (List ℕ)) →
       AnswersSolve solver compact text x → AnswersSolve solver compact text y
@@ -100,7 +103,11 @@ module _ (games : OneGame) (certificates : OneCertificate) (flaws : OneFlaw) (ci
       by : (x ≡ y) ⊎ ((v : NamedGameData) × ReadsGameText text (Ok v) × Alike (AgreeInWinners compact v) x y) →
           (x ≡ y) ⊎ (IsOpen (line.Solve compact) text × Alike (Agree (line.Solve compact) text) x y)
       by (inl same) = inl same
-      by (inr (v, reads, alike)) = inr ((v, reads), alike_as x y (λ a b agree. (v, reads, agree)) alike)
+      by (inr (v, reads, alike)) = inr (
+        (v, reads),
+        alike_as {P = AgreeInWinners compact v}
+            {Q = Agree (line.Solve compact) text} x y (λ a b agree. (v, reads, agree)) alike,
+      )
 
   cert_one_or : (solver : SolverData) (order : Order) (compact : Bool) (text : List ℕ) (x y : Result Reply (List ℕ)) →
       AnswersCert solver order compact text x → AnswersCert solver order compact text y
@@ -113,7 +120,11 @@ module _ (games : OneGame) (certificates : OneCertificate) (flaws : OneFlaw) (ci
           (x ≡ y) ⊎ (IsOpen (line.Cert order compact) text × Alike (Agree (line.Cert order compact) text) x y)
       by (inl same) = inl same
       by (inr (v, reads, alike)) =
-          inr (game_accepted order text v reads, alike_as x y (λ a b agree. (v, reads, agree)) alike)
+          inr (
+            game_accepted order text v reads,
+            alike_as {P = AgreeInWinners compact v}
+                {Q = Agree (line.Cert order compact) text} x y (λ a b agree. (v, reads, agree)) alike,
+          )
 
   reports_alike : (solver : SolverData) (asked : SynthLine) (text : List ℕ) (x y : Result Reply (List ℕ)) →
       AnswersReport solver asked text x → AnswersReport solver asked text y →
@@ -148,11 +159,14 @@ module _ (games : OneGame) (certificates : OneCertificate) (flaws : OneFlaw) (ci
       by (inl (l, reads, e)) (inl (m, reads', e')) =
           grind (arith, automaton_one files refusals outcomes text (Err l) (Err m) reads reads')
 
-  -- the text that is asked for, with what two reports on it have in common
+  -- two reports on the text that is asked for agree
+  abbrev ReportsAgree : (cert : Bool) → SynthLine → List ℕ → Reply → Reply → Type 0
+  ReportsAgree cert asked texts a b =
+      (text : List ℕ) × AsksFor cert texts text × AgreeAsReports asked.order asked.full text a b
+
   abbrev AskedAlike : (cert : Bool) → SynthLine → List ℕ → Result Reply (List ℕ) → Result Reply (List ℕ) → Type 0
-  AskedAlike cert asked texts x y =
-      ((text : List ℕ) × AsksFor cert texts text × HasAutomaton text) × Alike (λ a b. (text : List ℕ) ×
-      AsksFor cert texts text × AgreeAsReports asked.order asked.full text a b) x y
+  AskedAlike cert asked texts x y = ((text : List ℕ) × AsksFor cert texts text × HasAutomaton text)
+      × Alike (ReportsAgree cert asked texts) x y
 
   synth_one_or : (solvers : Solvers) (asked : SynthLine) (texts : List ℕ) (cert : Bool) (x y : Result Reply (List ℕ)) →
       AnswersBy cert solvers asked texts x → AnswersBy cert solvers asked texts y →
@@ -163,7 +177,11 @@ module _ (games : OneGame) (certificates : OneCertificate) (flaws : OneFlaw) (ci
           (x ≡ y) ⊎ AskedAlike false asked texts x y
       by (inl same) = inl same
       by (inr (choice, alike)) =
-          inr ((texts, refl, choice), alike_as x y (λ a b agree. (texts, refl, agree)) alike)
+          inr (
+            (texts, refl, choice),
+            alike_as {P = AgreeAsReports asked.order asked.full texts}
+                {Q = ReportsAgree false asked texts} x y (λ a b agree. (texts, refl, agree)) alike,
+          )
   synth_one_or solvers asked texts true x y h k =
       by (then_one_or (CutsInTwo texts) (λ (parts : List ℕ × List ℕ). AnswersReport (feed parts.1 solvers.replay) asked
       parts.0) (λ (parts : List ℕ × List ℕ). HasAutomaton parts.0 × Alike (AgreeAsReports asked.order asked.full
@@ -174,12 +192,16 @@ module _ (games : OneGame) (certificates : OneCertificate) (flaws : OneFlaw) (ci
           (HasAutomaton parts.0 × Alike (AgreeAsReports asked.order asked.full parts.0) x y)) →
           (x ≡ y) ⊎ AskedAlike true asked texts x y
       by (inl same) = inl same
-      by (inr (parts, cuts, (choice, alike))) = inr ((parts.0, (parts.1, cuts), choice),
-          alike_as x y (λ a b agree. (parts.0, (parts.1, cuts), agree)) alike)
+      by (inr (parts, cuts, (choice, alike))) = inr (
+        (parts.0, (parts.1, cuts), choice),
+        alike_as {P = AgreeAsReports asked.order asked.full parts.0} {Q = ReportsAgree true asked texts} x y
+            (λ a b agree. (parts.0, (parts.1, cuts), agree)) alike,
+      )
 
   -- each line: one outcome, or it is open and they are alike
   line_one : (solvers : Solvers) (l : Line) (texts : List ℕ) (x y : Result Reply (List ℕ)) →
-      AnswersLine solvers l texts x → AnswersLine solvers l texts y → (x ≡ y) ⊎ (IsOpen l texts × Alike (Agree l texts) x y)
+      AnswersLine solvers l texts x → AnswersLine solvers l texts y →
+      (x ≡ y) ⊎ (IsOpen l texts × Alike (Agree l texts) x y)
   line_one solvers line.Refused texts x y h k = inl (ended_one _ x y h k)
   line_one solvers line.Help texts x y h k = inl (ended_one _ x y h k)
   line_one solvers line.Closed texts x y h k = inl (search (rules, then_one, certified_one, tests_one))
@@ -206,7 +228,8 @@ module _ (games : OneGame) (certificates : OneCertificate) (flaws : OneFlaw) (ci
           IsFault a ⊎ IsFault b ⊎ Agree l (behind_line input) a b
       printed_so alike = search rules
 
-      by : (outcome ≡ outcome') ⊎ (IsOpen l (behind_line input) × Alike (Agree l (behind_line input)) outcome outcome') →
+      by : (outcome ≡ outcome') ⊎ (IsOpen l (behind_line input) × Alike (Agree l (behind_line input)) outcome outcome')
+          →
           (a ≡ b) ⊎ ((k : Line) × IsLine (first_line input) k × IsOpen k (behind_line input) ×
           (IsFault a ⊎ IsFault b ⊎ Agree k (behind_line input) a b))
       by (inl one) = inl (e ∙ ap printed one ∙ sym e')

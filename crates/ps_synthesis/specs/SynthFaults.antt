@@ -8,7 +8,8 @@
 --     IsSynthFault May order text fault      the cause of that fault
 --     IsOutcome May order compact text answer      what is answered to a text that is accepted, where the solver is
 --               sure
-use Rattle.std.specs.Prelude.{◌≡◌, ◌≢◌, ℕ, ◌<◌, Bool, List, length, map, slice_index, Option, None, Some, Result, Ok, Err}
+use Rattle.std.specs.Prelude.{◌≡◌, ◌≢◌, ℕ, ◌<◌, Bool, List, length, map, slice_index, Option, None, Some, Result, Ok}
+use Rattle.std.specs.Prelude.{Err}
 use Rattle.std.specs.List.{All}
 use Rattle.ps_aiger.specs.Wires.{IsOutOfLiterals}
 use Rattle.ps_automaton.specs.Answers.{IsRefused}

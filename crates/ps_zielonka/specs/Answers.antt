@@ -14,7 +14,8 @@ pub record MovesWithin (game : ParityGame) (player : ℕ) (set : ℕ → Bool) (
   pub within : (v : ℕ) → IsSome (move_at strategy v) → IsTrue (set v)
   pub owns : (v : ℕ) → IsSome (move_at strategy v) → owner_of game v ≡ player
 
--- player 0 holds the region by the first strategy, player 1 all other vertices by the second; each has moves there alone
+-- player 0 holds the region by the first strategy, player 1 all other vertices by the second; each has moves there
+-- alone
 pub record IsAnswer (game : ParityGame) (region : List Bool) (first second : List (Option ℕ)) : Type 0 where
   pub region_places : length region ≡ vertex_count game
   pub first_places : length first ≡ vertex_count game

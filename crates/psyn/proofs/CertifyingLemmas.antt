@@ -49,7 +49,15 @@ solver_fault May named answer fault given may names is refused = grind (arith, r
 -- where it is told by what the solver gave, it is one that the solver might give
 pub fault_might : (May Gave : MayAnswer) (named : NamedGameData) (given : SynthFault) →
     IsSolverFault (Answered May Gave) named given → IsSolverFault May named given
-fault_might May Gave named (BadCycle ids) h = record h { answered = h.answered.0 }
+fault_might May Gave named (BadCycle ids) h = record {
+  fault = h.fault;
+  answered = h.answered.0;
+  cycle = h.cycle;
+  told = h.told;
+  some = h.some;
+  vertices = h.vertices;
+  ids_are = h.ids_are;
+}
 fault_might May Gave named (Certificate cause offset) h = h.0
 fault_might May Gave named NotCertified h = grind arith
 fault_might May Gave named OutOfMemory h = h

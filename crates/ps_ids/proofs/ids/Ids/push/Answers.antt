@@ -6,7 +6,8 @@ pub invariant_of-self : goal.invariant_of-self
 invariant_of-self c = search (rules, table_same)
 
 pub invariant_of-self-in_err-keep_place : goal.invariant_of-self-in_err-keep_place
-invariant_of-self-in_err-keep_place c = table_same c.self.inside.first c.self.inside.list.items _ c.self.inside.near.items
+invariant_of-self-in_err-keep_place c =
+    table_same c.self.inside.first c.self.inside.list.items _ c.self.inside.near.items
     _ _ _ c.self.invariant c.reserve.ensures.items (search rules) (search rules)
 
 pub invariant_of-self-2 : goal.invariant_of-self-2
