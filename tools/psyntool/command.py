@@ -13,11 +13,13 @@ from psyntool.kinds import Kind
 
 @dataclass(frozen=True)
 class Flag:
-    """A flag, its dashes with it, what it says, and what its value is called, if it takes one."""
+    """A flag, its dashes with it, what it says, and what its value is called, if it takes one; one with many values takes the words
+    up to the next flag, and may stand again."""
 
     name: str
     says: str
     value: str = ""
+    many: bool = False
 
     @property
     def shown(self):
@@ -29,6 +31,18 @@ CERT = Flag("--cert", "by a certificate that is given")
 MOORE = Flag("--moore", "outputs before inputs")
 COMPACT = Flag("--compact", "the compact text of a certificate")
 ENV = Flag("--env", "the circuit is an environment")
+TO_FILES = Flag(
+    "-o",
+    "circuit, game and certificate go to PREFIX.aag, PREFIX.pg and PREFIX.cert (then the first line alone is printed), the automaton of "
+    "a core to PREFIX.hoa",
+    "PREFIX",
+)
+# Of specifications in parts.
+ASSUME = Flag("--assume", "parts that are assumed", "PART..", many=True)
+GUARANTEE = Flag("--guarantee", "parts that are guaranteed", "PART..", many=True)
+AS = Flag("--as", "the part before it has other names for its propositions", "OLD=NEW..", many=True)
+OUTS = Flag("--outs", "the controller's propositions, where the parts do not say whose theirs are", "NAME..", many=True)
+STRICT = Flag("--strict", "a guarantee that breaks while no assumption has broken loses at once")
 # Of every command.
 QUIET = Flag("--quiet", "explain nothing")
 KEEP_RETURNS = Flag("--keep-returns", "leave carriage returns where they are")

@@ -78,6 +78,12 @@ class Installed(unittest.TestCase):
         self.assertEqual(self.completed("psyn", "sim", "toggle"), ["toggle.aag"])
         self.assertEqual(self.completed("psyn", "synth", "toggle"), ["toggle.aag", "toggle.v"])
 
+    def test_bash_completes_parts_behind_their_flags(self):
+        self.assertEqual(self.completed("psyn", "compose", "--assume", "a"), ["arbiter.hoa"])
+        self.assertEqual(self.completed("psyn", "compose", "--assume", "arbiter.hoa", "--guarantee", "grant.hoa", "d"), ["delay.hoa"])
+        self.assertEqual(self.completed("psyn", "compose", "--outs", "g"), [""])
+        self.assertEqual(self.completed("psyn", "compose", "--assume", "arbiter.hoa", "--stri"), ["--strict"])
+
     def test_bash_completes_names_with_blanks(self):
         with tempfile.TemporaryDirectory() as room:
             for name in ("my spec.hoa", "my spec.cert", "my other.hoa"):

@@ -16,6 +16,7 @@ Ctrl-C is typed at a terminal, where both outputs are one. No program may be at 
 """
 import os
 import pty
+import shutil
 import signal
 import subprocess
 import sys
@@ -68,6 +69,7 @@ def furnish(room):
     for name in FILES:
         with open(os.path.join(TOP, "examples", "files", name), "rb") as source, open(os.path.join(room, name), "wb") as file:
             file.write(source.read())
+    shutil.copytree(os.path.join(TOP, "examples", "parts"), os.path.join(room, "parts"))
     tools = {os.path.join("bin", name): started(tool) for name, tool in (("psyn", "psyn"), ("install-psyn", "install"))}
     os.mkdir(os.path.join(room, "bin"))
     for name, text in {**PROGRAMS, **tools}.items():

@@ -1,5 +1,5 @@
 """Automata, as texts of the Hanoi Omega-Automata format have them."""
-from dataclasses import dataclass
+from dataclasses import dataclass, field, replace
 from functools import cached_property
 
 from psyntool.texts import hoa, labels
@@ -18,6 +18,7 @@ class Automaton:
     aliases: dict
     state_names: dict
     edges: dict
+    headers: dict = field(default_factory=dict)
 
     @cached_property
     def states(self):
@@ -67,4 +68,19 @@ def read(text):
         state, name, these = hoa.state_of(reader, head)
         edges[state], names[state] = these, name
     reader.take(hoa.STOP)
-    return Automaton(head.start, head.names, head.controllable, head.acceptance, head.condition, head.aliases, names, edges)
+    return Automaton(head.start, head.names, head.controllable, head.acceptance, head.condition, head.aliases, names, edges, head.others)
+
+
+def place_without_owners(text):
+    """Where the body begins, if nothing before it says whose the propositions are; else None."""
+    for token in hoa.tokens_of(text):
+        if token.text == "controllable-AP:":
+            return None
+        if token.text == "--BODY--":
+            return token.offset
+    return None
+
+
+def renamed(read, names):
+    """The same automaton with other names for its propositions."""
+    return replace(read, names=names)

@@ -165,7 +165,7 @@ def condition_of(reader):
 
 @dataclass
 class Header:
-    """The items before `--BODY--` that are needed: the condition also as it is written."""
+    """The items before `--BODY--`, the condition also as it is written; and by name the tokens that none of these takes."""
 
     start: int = 0
     names: tuple = ()
@@ -173,10 +173,11 @@ class Header:
     condition: object = None
     acceptance: str = ""
     aliases: dict = field(default_factory=dict)
+    others: dict = field(default_factory=dict)
 
 
 def header_of(reader, text):
-    """The header; items that are not needed are read over."""
+    """The header of a text."""
     head = Header()
     while reader.now != "--BODY--":
         name = reader.take(".*:")
@@ -195,8 +196,9 @@ def header_of(reader, text):
             reader.number()
             head.condition = condition_of(reader)
             head.acceptance = " ".join(text[begin : reader.offset].split()[1:])
+        rest = head.others.setdefault(name, [])
         while reader.now != "--BODY--" and not reader.now.endswith(":"):
-            reader.take()
+            rest.append(reader.take())
     return head
 
 
