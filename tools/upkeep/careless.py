@@ -84,9 +84,9 @@ class Run:
     def __init__(self, room, line, program):
         self.room, self.line = room, line
         environment = {**os.environ, "PATH": f"{os.path.join(room, 'bin')}:{os.environ['PATH']}", "PSYN": program, "REAL": program}
-        words = ["bash", "-c", f"{'exec env ' if line.get('cut') else ''}{line['command']}"]
         self.more = {"cwd": room, "env": environment, "stdin": subprocess.DEVNULL}
-        self.words = words
+        # whoever runs the tests may ignore signals, as a shell does for what it starts behind `&`
+        self.words = ["env", "--default-signal=INT,HUP,TERM", "bash", "-c", f"{'exec env ' if line.get('cut') else ''}{line['command']}"]
 
     def wait_until_at_work(self, child):
         """Until the program in the place of psyn has said its number, or the tool has ended."""
