@@ -18,6 +18,11 @@ One automaton of small ones, some of which are assumed, and some guaranteed:
 Why is there no controller for these parts? Which of their guarantees conflict?
   {name} core --guarantee never.hoa answered.hoa --outs g0 g1
 
+Why does the environment win? Play against it, by names, or see the play that holds out longest:
+  {name} -o out synth spec.hoa
+  {name} play out spec.hoa
+  {name} play --auto out spec.hoa
+
 Who wins this game, by which moves?
   {name} solve game.pg > solution.cert
 

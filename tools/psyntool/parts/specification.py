@@ -127,6 +127,18 @@ def asked(request):
         raise Refused(f"{request.command.name} wants parts: {GUARANTEE.shown}, {ASSUME.shown}, or a list of them")
     if [*paths, *(wish.path for wish in wishes.parts)].count("-") > 1:
         raise Refused("standard input can be one of the files only")
+    return made(wishes, reader)
+
+
+def of_list(text, reader):
+    """The specification of a list."""
+    wishes = Wishes()
+    listed(text, wishes)
+    return made(wishes, reader)
+
+
+def made(wishes, reader):
+    """The specification that is wished for."""
     read = {}
     parts = [part_of(wish, reader, read) for wish in wishes.parts]
     sides = [tuple(it for it, wish in zip(parts, wishes.parts) if wish.is_assumed == is_assumed) for is_assumed in (True, False)]
