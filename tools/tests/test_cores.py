@@ -4,7 +4,7 @@ import random
 import unittest
 
 from psyntool.parts import cores, part
-from psyntool.parts.composing import Composer
+from psyntool.parts.composing import ASSUMPTIONS_FAIL, Composer
 from psyntool.parts.specification import Specification
 from psyntool.program import path as program
 from tests.test_parts import PARTS, Table
@@ -62,6 +62,54 @@ class Commands(OnFiles):
         done = self.tool("core", "--assume", "parts/always.hoa", "--as", "it=e", *guaranteed, "--outs", "it")
         said = "UNREALIZABLE\nthis guarantee can't be kept, under all assumptions:\n  always(r)  r is true at each step\n"
         self.assertEqual((done.stdout.decode(), done.returncode), (said, 20))
+
+
+class Circuits(OnFiles):
+    """synth of parts: the answer is that of the composed automaton; where the assumptions can be made to fail a line says so."""
+
+    def setUp(self):
+        super().setUp()
+        os.symlink(PARTS, os.path.join(self.room, "parts"))
+
+    def test_the_answer_is_that_of_the_automaton(self):
+        parts = self.file("it.parts", CONFLICT.encode())
+        self.file("it.hoa", self.tool("compose", parts).stdout)
+        for flags in ((), ("--moore",), ("--full",), ("--quiet",)):
+            done, wanted = self.tool("synth", "--parts", *flags, parts), self.tool("synth", *flags, "it.hoa")
+            self.assertEqual((done.stdout, done.returncode, done.stderr), (wanted.stdout, wanted.returncode, b""))
+        done = self.tool("synth", "--parts", "-o", "out", parts)
+        self.assertEqual((done.stdout, done.returncode, done.stderr), (b"UNREALIZABLE\n", 20, b""))
+        for name, wanted in (("out.hoa", self.tool("compose", parts).stdout), ("out.pg", self.tool("game", "it.hoa").stdout)):
+            with open(os.path.join(self.room, name), "rb") as file:
+                self.assertEqual(file.read(), wanted)
+
+    def test_a_controller_that_breaks_the_assumptions(self):
+        words = ["--outs", "it", "--assume", "parts/always.hoa", "--guarantee", "parts/always.hoa", "--as", "it=r"]
+        said = b"a controller can make the assumptions fail, so this one may win without keeping the guarantees\n"
+        for flags in ((), ("--strict",), ("--moore",), ("-o", "out")):
+            done = self.tool("synth", *flags, *words)
+            self.assertEqual((done.returncode, done.stderr), (10, said), flags)
+        self.assertEqual(self.tool("synth", "--quiet", *words).stderr, b"")
+        for assumed in ([], ["--assume", "parts/always.hoa", "--as", "it=other"]):
+            done = self.tool("synth", "--outs", "it", *assumed, "--guarantee", "parts/always.hoa")
+            self.assertEqual((done.returncode, done.stderr), (10, b""))
+
+    def test_a_certificate_is_for_an_automaton(self):
+        done = self.tool("synth", "--cert", "--guarantee", "parts/always.hoa", "--outs", "it")
+        self.assertEqual((done.returncode, done.stderr), (2, b"psyn: --cert is for an automaton: compose makes one of parts\n"))
+
+    def test_failing_assumptions_are_the_guarantee_false(self):
+        draw, names, asked = random.Random(5), ["a", "b", "c"], []
+        false = part.part_of("false", "", {}, "HOA: v1 Start: 0 AP: 0 controllable-AP: Acceptance: 0 t --BODY-- State: 0 --END--")
+        for _ in range(40):
+            sides = [tuple(part.part_of(f"part{place}", "", {}, Table(draw, names).text()) for place in range(draw.randint(1, 3))) for _ in range(2)]
+            composer = Composer(Specification(sides[0], (*sides[1], false), tuple(names), frozenset(draw.sample(names, 2)), False))
+            texts = composer.composed(sides[0], sides[1]).text(ASSUMPTIONS_FAIL), composer.composed(sides[0], [false]).text()
+            asked += [rows.Row("false", f"synth\n{text}".encode(), 0) for text in texts]
+        where = program()
+        said = sweeps.at_once(lambda row: rows.answered(where, row)[1], asked)
+        self.assertEqual(said[::2], said[1::2])
+        self.assertEqual(set(said), {10, 20})
 
 
 class Sets(unittest.TestCase):

@@ -1,6 +1,6 @@
 """`core`: the guarantees that conflict, where parts have no controller; where they have one, the assumptions that it needs."""
 from psyntool import console, outputs
-from psyntool.command import AS, ASSUME, GUARANTEE, MOORE, OUTS, STRICT, TO_FILES, Command
+from psyntool.command import MOORE, OF_PARTS, TO_FILES, Command
 from psyntool.kinds import Kind
 from psyntool.parts import cores, specification
 from psyntool.parts.composing import Composer
@@ -43,7 +43,7 @@ COMMAND = Command(
     (Kind.LIST,),
     run,
     flags=(MOORE,),
-    own=(ASSUME, GUARANTEE, AS, OUTS, STRICT, TO_FILES),
+    own=(*OF_PARTS, TO_FILES),
     least=0,
     is_of_the_program=False,
 )

@@ -6,7 +6,7 @@ import shlex
 from dataclasses import dataclass, field
 
 from psyntool import explaining, faults, program, words
-from psyntool.command import AS, ASSUME, GUARANTEE, OUTS, STRICT
+from psyntool.command import AS, ASSUME, GUARANTEE, OF_PARTS, OUTS, STRICT
 from psyntool.ends import Refused
 from psyntool.files import Reader
 from psyntool.kinds import Kind
@@ -14,7 +14,7 @@ from psyntool.parts import part
 from psyntool.texts import Unreadable, automaton
 
 MOST_PROPOSITIONS = 64
-FLAGS = {flag.name: flag for flag in (ASSUME, GUARANTEE, AS, OUTS, STRICT)}
+FLAGS = {flag.name: flag for flag in OF_PARTS}
 # A circuit that has no name of any automaton: the program judges the automaton first.
 NO_CIRCUIT = b"aag 0 0 0 0 0\n%%\n-\n"
 # What stands in a part that does not say whose its propositions are.
