@@ -136,5 +136,15 @@ class Request:
         return None if said is None else int(said)
 
     def texts(self):
-        """The files that the command reads."""
-        return Reader(self).texts(self.command.kinds(self.given), self.words)
+        """The files that the command reads. What is no kind that a command of the tool wants is refused; the program says so itself."""
+        texts = Reader(self).texts(self.command.kinds(self.given), self.words)
+        wrong = wrong_kinds(self.command, texts)
+        if wrong and not self.command.is_of_the_program:
+            raise Refused(wrong)
+        return texts
+
+
+def wrong_kinds(command, texts):
+    """Which files look like texts of other kinds than the command wants; empty where none does."""
+    said = ", ".join(f"{text.name} is {text.looks_like.with_article}" for text in texts if text.looks_like not in (None, text.kind))
+    return f"{said}; {command.name} wants {' '.join(text.kind.word for text in texts)}" if said else ""

@@ -53,7 +53,7 @@ class Installed(unittest.TestCase):
             self.assertNotIn(b"tools/psyn", done.stdout + done.stderr)
         os.rename(os.path.join(behind, "psyn"), os.path.join(behind, "away"))
         self.addCleanup(os.rename, os.path.join(behind, "away"), os.path.join(behind, "psyn"))
-        self.assertEqual(self.psyn("solve", "loop.pg").stderr, b"psyn: the program is not there: install psyn once more, or name it by PSYN=FILE\n")
+        self.assertEqual(self.psyn("solve", "loop.pg").stderr, b"psyn: the program is not there: unpack or install psyn once more, or name it by PSYN=FILE\n")
 
     def completed(self, *words, folder=os.path.join(TOP, "examples", "files")):
         path = os.path.join(self.prefix, "share", "bash-completion", "completions", "psyn")

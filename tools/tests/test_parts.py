@@ -236,9 +236,9 @@ class Sets(unittest.TestCase):
             for (value,), text in diagrams.labels(whole).items():
                 label = automaton.label_of(automaton.Reader(automaton.tokens_of(text)))
                 for place in range(16):
-                    letter = {number for number in range(4) if place >> number & 1}
-                    self.assertEqual(labels.is_met(label, letter, {}), values[place] == value, text)
-                    self.assertEqual(diagrams.at(whole, letter), (values[place],))
+                    letter = {number: bool(place >> number & 1) for number in range(4)}
+                    self.assertEqual(labels.value(label, letter, {}), values[place] == value, text)
+                    self.assertEqual(diagrams.at(whole, {number for number in range(4) if letter[number]}), (values[place],))
 
     def test_too_many_sets_are_refused(self):
         with unittest.mock.patch("psyntool.parts.diagrams.MOST_NODES", 10), self.assertRaisesRegex(Refused, "more than 10 sets of letters"):

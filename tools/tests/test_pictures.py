@@ -35,19 +35,20 @@ class Games(unittest.TestCase):
         text = b'0 0 1 1,2 "0/0";1 0 0 3 "0:0";2 0 0 4,3 "0:1";3 2 1 1,2 "0/2";4 1 1 5,6 "1/1";5 0 0 4,7 "1:0";6 0 0 3,4 "1:1";7 1 1 8 "sink/1";8 0 0 7 "sink:0";'
         dot = self.drawn(text, None, spec)
         self.assertIn('v0 [shape=box, label="0 off\\n0"];', dot)
-        self.assertIn('v1 [shape=diamond, label="0\\n0"];', dot)
-        self.assertIn('v0 -> v2 [label="r"];', dot)
-        self.assertIn('v2 -> v4 [label="!g"];', dot)
-        self.assertIn('v2 -> v3 [label="g"];', dot)
-        self.assertIn('v5 -> v7 [label="g"];', dot)
+        self.assertIn('v1 [shape=diamond, label="0"];', dot)
+        self.assertIn('v0 -> v2 [label=" r "];', dot)
+        self.assertIn('v2 -> v4 [label=" !g "];', dot)
+        self.assertIn('v2 -> v3 [label=" g "];', dot)
+        self.assertIn('v5 -> v7 [label=" g "];', dot)
+        self.assertIn("v7 -> v8;", dot)
         self.assertIn('v7 [shape=box, label="no edge\\n1"];', dot)
         self.assertIn("one letter of those that lead alike", dot)
 
     def test_names_where_the_controller_moves_first(self):
         text = b'0 0 0 1,2 "0/0";1 0 1 3,4 "0:0";2 0 1 3 "0:1";3 2 0 1,2 "0/2";4 1 0 5,6 "1/1";5 0 1 4 "1:0";6 0 1 3 "1:1";'
         dot = self.drawn(text, None, automaton.read(AUTOMATON.decode()))
-        self.assertIn('v0 -> v1 [label="!g"];', dot)
-        self.assertIn('v1 -> v4 [label="r"];', dot)
+        self.assertIn('v0 -> v1 [label=" !g "];', dot)
+        self.assertIn('v1 -> v4 [label=" r "];', dot)
 
     def test_a_game_of_another_automaton(self):
         for text in (GAME, b'0 0 1 0 "7/0";', b'0 0 1 1 "0/0";1 0 0 0 "0:00";'):
@@ -88,11 +89,13 @@ class Automata(unittest.TestCase):
         dot = self.drawn(b'HOA: v1 States: 1 Start: 0 AP: 1 "a" Acceptance: 0 t --BODY-- State: 0 0 0 --END--')
         self.assertIn('s0 -> s0 [label="!a\\na"];', dot)
 
-    def test_labels_of_many_edges_are_vertices_of_their_own(self):
-        edges = "".join(f"State: {n} [0] {n} [!0] {(n + 1) % 5} " for n in range(5))
+    def test_labels_of_many_edges_stand_in_tables(self):
+        edges = "".join(f'State: {n} "<{n}>" [0] {n} [!0] {(n + 1) % 5} ' for n in range(5))
         dot = self.drawn(f'HOA: v1 Start: 0 AP: 1 "a" Acceptance: 0 t --BODY-- {edges} --END--'.encode())
-        self.assertIn('e4_0 [shape=plaintext, margin=0.03, height=0.1, width=0.1, label="!a"];', dot)
-        self.assertNotIn("-> s0 [label", dot)
+        self.assertIn('<tr><td bgcolor="lightgrey">4 &lt;4&gt;</td></tr>', dot)
+        self.assertIn('<td port="t0" align="left" balign="left">!a<br align="left"/>   to 0</td>', dot)
+        self.assertIn("s4:t0 -> s0;", dot)
+        self.assertNotIn("s4 -> ", dot)
 
     def test_a_part_of_an_automaton(self):
         edges = "".join(f"State: {n} [t] {n + 1} " for n in range(500)) + "State: 500 [t] 500"

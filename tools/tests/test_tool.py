@@ -32,7 +32,7 @@ class Commands(OnFiles):
         self.assertEqual(self.tool("lasso", automaton, circuit, stimulus).stdout, b"accepted stem 1 lap 2\n")
         turned = self.tool("lasso", "--env", automaton, circuit, stimulus)
         self.assertEqual((turned.stdout, turned.returncode), (b"fault 72 Symbols\n", 1))
-        self.assertIn(b"among the circuit's inputs: missing g; too many r\n", turned.stderr)
+        self.assertIn(b"the symbols are those of a controller: ask without --env\n", turned.stderr)
         self.assertIn(b"cause: for `lasso` the symbols", turned.stderr)
 
     def test_synth_reads_an_automaton_and_with_its_flag_a_certificate(self):
@@ -111,6 +111,61 @@ class Commands(OnFiles):
         again = subprocess.run(["fst2vcd", packed], capture_output=True, check=True).stdout
         for line in (b"$var wire 1 ! lamp $end", b"$scope module outputs $end", b"#2\n"):
             self.assertIn(line, again)
+
+    def test_sim_with_names(self):
+        circuit = self.file("circuit", CIRCUIT)
+        done = self.tool("sim", circuit, "-", "--names", given=b"1\n0\n")
+        self.assertEqual((done.stdout, done.returncode), (b"lamp|push|dark o1 o2\n1|1|101\n0|0|001\n", 0))
+        wrong = self.tool("sim", circuit, "-", "--names", given=b"11\n")
+        self.assertEqual((wrong.stdout, wrong.returncode), (b"fault 70 Width at 0\n", 1))
+
+    def test_a_trace_has_states_letters_and_sets(self):
+        automaton = self.file("automaton", AUTOMATON)
+        late = self.file("late", b"aag 2 1 1 1 0\n2\n4 2\n4\ni0 r\no0 g\n")
+        done = self.tool("lasso", "--trace", automaton, late, "-", given=b"1\n-\n0\n1\n")
+        rows = [
+            "accepted stem 1 lap 2",
+            "step  state  letter  sets",
+            "0     0 off  r !g",
+            "the lap begins; it comes again behind step 2",
+            "1     1      !r g    0",
+            "2     0 off  r !g",
+        ]
+        self.assertEqual((done.stdout.decode().splitlines(), done.returncode), (rows, 0))
+
+    def test_a_trace_of_a_run_that_ends(self):
+        automaton = self.file("automaton", AUTOMATON.replace(b"[!1] 1", b"[!1&0] 1"))
+        never = self.file("never", b"aag 1 1 0 1 0\n2\n0\ni0 r\no0 g\n")
+        done = self.tool("lasso", "--trace", automaton, never, "-", given=b"1\n-\n0\n")
+        self.assertEqual(done.stdout.decode().splitlines()[2:], ["0     0 off  r !g", "1     1      !r !g   no edge", "there is no edge: the run ends"])
+        self.assertEqual((done.stdout[:8], done.returncode), (b"rejected", 0))
+
+    def test_a_trace_of_a_circuit_that_is_the_environment(self):
+        automaton = self.file("automaton", AUTOMATON)
+        asks = self.file("asks", b"aag 1 1 0 1 0\n2\n1\ni0 g\no0 r\n")
+        done = self.tool("lasso", "--env", "--trace", automaton, asks, "-", given=b"-\n0\n1\n")
+        self.assertEqual(done.stdout.decode().splitlines()[-2:], ["0     0 off  r !g", "1     1      r g     0"])
+
+    def test_a_trace_of_a_fault_is_the_fault(self):
+        done = self.tool("lasso", "--trace", self.file("automaton", AUTOMATON), self.file("circuit", CIRCUIT), "-", given=b"-\n1\n")
+        self.assertEqual((done.stdout, done.returncode), (b"fault 72 Symbols\n", 1))
+
+    def test_a_wave_of_a_lasso_goes_on_until_the_latches_come_again(self):
+        counter = self.file("counter", b"aag 2 0 2 1 0\n2 3\n4 2\n4\nl0 low\nl1 high\no0 out\n")
+        done = self.tool("wave", counter, "-", given=b"\n-\n\n")
+        self.assertIn(b"$scope module lasso $end\n$var wire 1 $ lap $end\n", done.stdout)
+        self.assertIn(b"#0\n0!\n0\"\n0#\n0$\n#1\n1!\n1$\n", done.stdout)
+        self.assertTrue(done.stdout.endswith(b"#3\n"), done.stdout)
+
+    def test_pictures_of_a_binary_circuit_and_of_an_answer(self):
+        self.assertIn(b"digraph circuit", self.tool("show", self.file("circuit", b"aig 2 1 1 1 0\n2\n4\n")).stdout)
+        automaton = self.file("automaton", AUTOMATON)
+        short, whole = (self.file(name, self.tool("synth", *flags, automaton).stdout) for name, flags in (("short", []), ("whole", ["--full"])))
+        self.assertIn(b"digraph circuit", self.tool("show", short).stdout)
+        self.assertIn(b"fillcolor", self.tool("show", whole).stdout)
+        named = self.tool("show", whole, automaton).stdout
+        self.assertIn(b'label=" !r "', named)
+        self.assertEqual(named, self.tool("show", automaton, whole).stdout)
 
     def test_another_solvers_answer_is_judged_by_closed(self):
         game = self.file("game", GAME)

@@ -28,45 +28,46 @@ class Names:
         # the environment moves first, or with --moore the controller
         first = owners[0 if game.vertices[0].owner else 1]
         self.first = [number for number, _ in first]
+        self.states = set(automaton.states)
         self.keys = {vertex.identity: self.key_of(vertex) for vertex in game.vertices}
 
     def key_of(self, vertex):
         state, sign, behind = (vertex.name or "").partition("/") if "/" in (vertex.name or "") else (vertex.name or "").partition(":")
         number = None if state == "sink" else int(state) if state.isdecimal() else -1
-        if sign == "/" and behind.isdecimal() and (number is None or number in self.automaton.states):
+        if sign == "/" and behind.isdecimal() and (number is None or number in self.states):
             return Key(number, int(behind), None)
         is_letter = sign == ":" and len(behind) == len(self.first) and not set(behind) - {"0", "1"}
-        if not is_letter or not (number is None or number in self.automaton.states):
+        if not is_letter or not (number is None or number in self.states):
             raise Unreadable(OTHER_AUTOMATON)
         return Key(number, None, {place: digit == "1" for place, digit in zip(self.first, behind)})
 
     def of_vertex(self, vertex):
-        """The state's name, and where the other player moves the state's number alone."""
+        """The state's name and the priority; of a vertex in which the letter is half known, the state's number alone."""
         key = self.keys[vertex.identity]
-        if key.state is None:
-            return "no edge"
-        return self.automaton.title_of(key.state) if key.letter is None else str(key.state)
+        if key.letter is not None:
+            return "no edge" if key.state is None else str(key.state)
+        name = "no edge" if key.state is None else self.automaton.title_of(key.state)
+        return f"{wrapped(name, ',;')}\n{vertex.priority}"
 
     def of_edge(self, source, target):
         """The letter of a move: of the class that is chosen, or one that leads to the target."""
         before, after = self.keys[source.identity], self.keys[target.identity]
-        if after.letter is not None:
-            return labels.letter_text(after.letter, self.automaton.names)
         if before.state is None:
             return ""
-        letter = labels.meeting([self.leading(before.state, after)], self.automaton.aliases, before.letter)
+        if after.letter is not None:
+            return labels.letter_text(after.letter, self.automaton.names)
+        letter = self.leading(before, after)
         mine = {number: truth for number, truth in (letter or {}).items() if number not in self.first}
         return labels.letter_text(mine, self.automaton.names)
 
-    def leading(self, state, after):
-        """The label of all edges from a state that lead to a state with a priority; for the sink that of no edge."""
-        edges = self.automaton.edges.get(state, ())
+    def leading(self, before, after):
+        """A letter that completes the one of a vertex, and leads to a state by an edge of the priority; for the sink by no edge."""
+        edges, aliases, chain = self.automaton.edges.get(before.state, ()), self.automaton.aliases, self.automaton.chain
         if after.state is None:
-            return (*labels.any_of([edge.label for edge in edges]), labels.NOT)
-        chain = self.automaton.chain
-        return labels.any_of(
-            [edge.label for edge in edges if edge.target == after.state and (chain is None or chain.priority(edge.marks) == after.priority)]
-        )
+            return labels.meeting([(*edge.label, labels.NOT) for edge in edges], aliases, before.letter)
+        fitting = [edge for edge in edges if edge.target == after.state and (chain is None or chain.priority(edge.marks) == after.priority)]
+        found = (labels.meeting([edge.label], aliases, before.letter) for edge in fitting)
+        return next((letter for letter in found if letter is not None), None)
 
 
 def picture(game, certificate=None, automaton=None, reach=None):
@@ -94,14 +95,15 @@ def picture(game, certificate=None, automaton=None, reach=None):
 def vertex_line(vertex, entry, names):
     said = f"{vertex.title}: {vertex.priority}"
     if names:
-        said = f"{wrapped(names.of_vertex(vertex), ',;')}\n{vertex.priority}"
+        said = names.of_vertex(vertex)
     colour = f", style=filled, fillcolor={REGION[entry.winner]}" if entry else ""
     return f"  v{vertex.identity} [shape={'box' if vertex.owner else 'diamond'}, label={quoted(said)}{colour}];"
 
 
 def edge_line(vertex, target, entry, names):
     said = names.of_edge(vertex, target) if names else ""
-    parts = [f"label={quoted(wrapped(said, ' '))}"] if said else []
+    # a blank at either side keeps the letter off the line
+    parts = [f"label={quoted(f' {said} ')}"] if said else []
     if entry and target.identity == entry.move:
         parts.append(f"style=bold, penwidth=3, color={MOVE[entry.winner]}")
     return f"  v{vertex.identity} -> v{target.identity}{' [' + ', '.join(parts) + ']' if parts else ''};"
@@ -114,12 +116,13 @@ def game_legend(is_solved, is_named, is_cut):
     ]
     if is_named:
         rows += [
-            ("state, priority", "the play is in this state; it was entered by the priority", ""),
+            ("name, priority", "the state, and the priority of the edge by which it was entered", ""),
+            ("number", "the same state, when one of the players has chosen", ""),
             ("a letter at an edge", "what the player chooses there: one letter of those that lead alike", ""),
             ("no edge", "the automaton has no edge for what was chosen: the controller has lost", ""),
         ]
     else:
-        rows.append(("name: priority", "", ""))
+        rows.append(("name: priority", "of each vertex", ""))
     rows.append(("priority", "player 0 wins a play whose greatest priority seen for ever is even", ""))
     if is_solved:
         rows += [

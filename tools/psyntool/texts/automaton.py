@@ -65,12 +65,19 @@ class Automaton:
         """A state's number, and its name if it has one."""
         return f"{state} {self.state_names.get(state, '')}".strip()
 
-    def written(self, label):
-        return labels.written(label, self.names, self.aliases)
+    @cached_property
+    def alias_texts(self):
+        return labels.texts_of_aliases(self.aliases, self.names)
 
-    def edge_at(self, state, letter):
-        """The first edge of a state that a letter meets, a set of the propositions that are true; None where there is none."""
-        return next((edge for edge in self.edges.get(state, ()) if labels.is_met(edge.label, letter, self.aliases)), None)
+    def written(self, label):
+        """A label with the names of propositions; aliases are written out."""
+        return labels.written(label, self.names, self.alias_texts)[0]
+
+    def edge_at(self, state, true):
+        """The first edge of a state that a letter meets, given by the propositions that are true; None where there is none."""
+        edges = self.edges.get(state, ())
+        place = labels.first_met([edge.label for edge in edges], {number: number in true for number in range(len(self.names))}, self.aliases)
+        return None if place is None else edges[place]
 
 
 def tokens_of(text):
