@@ -15,6 +15,7 @@ CONFLICT = """\
 --outs g0 g1
 # No two grants at once.
 --guarantee parts/never-together.hoa --as one=g0 other=g1
+
 --guarantee parts/answered-within-3.hoa --as request=r0 answer=g0
 --guarantee parts/answered-within-3.hoa --as request=r1 answer=g1
 --guarantee parts/takes-turns.hoa --as one=g0 other=g1
@@ -22,14 +23,14 @@ CONFLICT = """\
 """
 CORE = """\
 UNREALIZABLE
-these guarantees conflict, and with any one left out they do not:
+these guarantees conflict, and none of them can be left out:
   answered-within-3(r1,g1)       behind each r1 comes g1, at most 3 steps later
   takes-turns(g0,g1)             g0 and g1 are true in turn, g0 first
   at-most-one-step-after(r0,g0)  g0 is true only with r0 or one step after r0
 """
 NEEDED = """\
 REALIZABLE
-this assumption suffices, and without it there is no controller:
+this assumption suffices, and can't be left out:
   again-and-again(ready)  ready is true again and again
 """
 
@@ -54,13 +55,13 @@ class Commands(OnFiles):
         done = self.tool("core", *assumed, *guaranteed[:4], "--outs", "g")
         self.assertEqual((done.stdout, done.returncode), (b"REALIZABLE\nthere is a controller without any assumption\n", 10))
         done = self.tool("core", "--moore", *guaranteed[:4], "--guarantee", "parts/never-together.hoa", "--as", "one=g", "other=r", "--outs", "g")
-        said = b"UNREALIZABLE\nthese guarantees conflict, and with any one left out they do not:\n"
+        said = b"UNREALIZABLE\nthese guarantees conflict, and none of them can be left out:\n"
         self.assertEqual((done.stdout[: len(said)], done.returncode), (said, 20))
 
     def test_one_guarantee_alone(self):
         guaranteed = ["--guarantee", "parts/always.hoa", "--guarantee", "parts/always.hoa", "--as", "it=r"]
         done = self.tool("core", "--assume", "parts/always.hoa", "--as", "it=e", *guaranteed, "--outs", "it")
-        said = "UNREALIZABLE\nthis guarantee can't be kept, under all assumptions:\n  always(r)  r is true at each step\n"
+        said = "UNREALIZABLE\nunder all assumptions this guarantee can't be kept:\n  always(r)  r is true at each step\n"
         self.assertEqual((done.stdout.decode(), done.returncode), (said, 20))
 
 

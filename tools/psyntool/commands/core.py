@@ -22,13 +22,13 @@ def run(request):
 
 def head(found):
     """What the parts that follow are."""
+    many = len(found.parts) > 1
     if not found.has_controller:
-        one = "this guarantee can't be kept" if len(found.parts) == 1 else "these guarantees conflict, and with any one left out they do not"
-        return f"{one}{', under all assumptions' if found.specification.assumptions else ''}:"
-    if found.parts:
-        one = "this assumption suffices, and without it" if len(found.parts) == 1 else "these assumptions suffice, and with any one left out"
-        return f"{one} there is no controller:"
-    return "there is a controller without any assumption"
+        said = "these guarantees conflict, and none of them can be left out" if many else "this guarantee can't be kept"
+        return f"{'under all assumptions ' if found.specification.assumptions else ''}{said}:"
+    if not found.parts:
+        return "there is a controller without any assumption"
+    return "these assumptions suffice, and none of them can be left out:" if many else "this assumption suffices, and can't be left out:"
 
 
 def rows(parts):

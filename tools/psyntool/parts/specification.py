@@ -85,12 +85,16 @@ class Wishes:
 
 
 def listed(text, wishes):
-    """Takes what a list says: the words of a command line, in lines; a comment right above a part is its sentence."""
-    said, sentences, comment = [], {}, []
+    """Takes what a list says: the words of a command line, in lines. A comment is the sentence of the parts below it, up to an
+    empty line or to the next comment."""
+    said, sentences, comment, was_comment = [], {}, [], False
     for row, line in enumerate(text.string.split("\n"), 1):
         bare = line.strip()
         if bare.startswith("#"):
-            comment.append(bare.lstrip("# "))
+            comment = [*(comment if was_comment else []), bare.lstrip("# ")]
+        was_comment = bare.startswith("#")
+        if was_comment or not bare:
+            comment = comment if was_comment else []
             continue
         try:
             found = shlex.split(line, comments=True)
@@ -99,7 +103,6 @@ def listed(text, wishes):
         for word in found:
             sentences[len(said)] = " ".join(comment)
             said.append(word)
-        comment = []
     given, others = refused_behind(text.name, words.split, said, FLAGS)
     if others:
         raise Refused(f"{text.name}: {others[0]!r} stands behind no flag; a list has --assume, --guarantee, --as, --outs and --strict")

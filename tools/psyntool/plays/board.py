@@ -107,16 +107,24 @@ class Board:
         state = self.names.keys[vertex].state
         if self.names.keys[between].letter != theirs:
             raise Unreadable(OTHER_CIRCUIT)
-        breaking = self.diagrams.fixed(self.breaking(steps), theirs, {})
+        ends, breaking = (self.diagrams.fixed(one, theirs, {}) for one in (self.ends(state), self.breaking(steps)))
         for one in self.game.by_identity[between].successors:
             after = self.names.keys[one]
-            these = self.diagrams.fixed(self.diagrams.of_label(self.names.leading(state, after), self.aliases), theirs, {})
-            parted = self.diagrams.joined(these, breaking, broken_there if after.state is None else one_there, {})
+            there = self.diagrams.mapped(ends, lambda it, after=after: it == (after.state, after.priority), {})
+            parted = self.diagrams.joined(there, breaking, broken_there if after.state is None else one_there, {})
             for broken, said in self.diagrams.labels(parted).items():
                 if broken is not None:
                     found = self.diagrams.letter(parted, lambda value, broken=broken: value == broken)
                     letter = {number: found.get(number, False) for number, _ in self.mine}
                     yield Choice(one, letter, self.set_text(said, letter), after.state, after.priority, self.counts(one), broken)
+
+    def ends(self, state):
+        """For each letter the state and the priority to which it leads; where it has no edge those of the game's sink."""
+        whole = self.diagrams.leaf((None, 1))
+        for edge in self.automaton.edges.get(state, ()):
+            taken, ends = self.diagrams.of_label(edge.label, self.aliases), (edge.target, self.automaton.chain.priority(edge.marks))
+            whole = self.diagrams.joined(taken, whole, lambda is_taken, before, ends=ends: ends if is_taken else before, {})
+        return whole
 
     def set_text(self, said, letter):
         """Some letters in words: exactly, or one of them."""
