@@ -95,6 +95,16 @@ class Command:
         return " ".join([self.name, *(f"[{flag.shown}]" for flag in self.all_flags), *self.wanted(), *optional])
 
 
+def flags_told(commands):
+    """Each flag as it is written, with what it says and whose it is; first those of single commands."""
+    having = {}
+    for command in commands.values():
+        for flag in command.all_flags:
+            having.setdefault(flag, []).append(command.name)
+    told = [(flag.shown, f"of {', '.join(names)}: {flag.says}") for flag, names in having.items()]
+    return told + [(flag.shown, flag.says) for flag in EVERYWHERE]
+
+
 @dataclass
 class Request:
     """A command line, taken apart: the command, the flags with their values (True where they take none), and the other words."""

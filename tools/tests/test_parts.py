@@ -10,7 +10,7 @@ from psyntool.parts.composing import Composer
 from psyntool.parts.diagrams import Diagrams
 from psyntool.parts.specification import Specification
 from psyntool.program import path as program
-from psyntool.texts import automaton, labels
+from psyntool.texts import automaton, hoa, labels
 from tests.tool import OnFiles
 from upkeep import rows, sweeps
 
@@ -234,7 +234,7 @@ class Sets(unittest.TestCase):
 
             whole = made(0, 0)
             for (value,), text in diagrams.labels(whole).items():
-                label = automaton.label_of(automaton.Reader(automaton.tokens_of(text)))
+                label = hoa.label_of(hoa.Reader(hoa.tokens_of(text)))
                 for place in range(16):
                     letter = {number: bool(place >> number & 1) for number in range(4)}
                     self.assertEqual(labels.value(label, letter, {}), values[place] == value, text)

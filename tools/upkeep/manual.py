@@ -2,7 +2,7 @@
 import re
 
 from psyntool import faults
-from psyntool.command import EVERYWHERE
+from psyntool.command import flags_told
 from psyntool.table import COMMANDS
 
 ABOUT = """\
@@ -48,16 +48,6 @@ def entry(head, body):
     return f".TP\n\\fB{plain(head)}\\fR\n{plain(body)}\n"
 
 
-def flags():
-    """Each flag, with what it says and whose it is."""
-    having = {}
-    for command in COMMANDS.values():
-        for flag in command.all_flags:
-            having.setdefault(flag, []).append(command.name)
-    told = [(flag.shown, f"of {', '.join(names)}: {flag.says}.") for flag, names in having.items()]
-    return told + [(flag.shown, f"{flag.says}.") for flag in EVERYWHERE]
-
-
 def page():
     parts = ['.TH PSYN 1 "" psyn "User Commands"\n']
 
@@ -69,7 +59,7 @@ def page():
     section("DESCRIPTION", re.sub(r"(?m)^PP$", ".PP", plain(ABOUT)))
     section("COMMANDS", *(entry(it.usage, it.says + ".") for it in COMMANDS.values() if it.is_of_the_program))
     section("COMMANDS OF THE TOOL ALONE", *(entry(it.usage, it.says + ".") for it in COMMANDS.values() if not it.is_of_the_program))
-    section("FLAGS", "Flags stand anywhere; behind \\fB\\-\\-\\fR no word is one.\n", *(entry(*it) for it in flags()))
+    section("FLAGS", "Flags stand anywhere; behind \\fB\\-\\-\\fR no word is one.\n", *(entry(name, f"{says}.") for name, says in flags_told(COMMANDS)))
     section("FORMATS", *(entry(name, says) for name, says in FORMATS.items()))
     section("EXIT STATUS", *(entry(status, says + ".") for status, says in STATUSES.items()))
     told = [(f"{fault.number or ''} {fault.name}".strip(), fault.entries["Cause"]) for fault in faults.read_document()]
