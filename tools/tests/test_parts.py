@@ -185,7 +185,7 @@ class Composed(OnFiles):
     def test_the_same_by_a_list_and_by_a_command_line(self):
         words = ["--outs", "g0", "g1", "--guarantee", self.stored("never-together"), "--as", "one=g0", "other=g1", "--guarantee", self.stored("answered"), "--as", "answer=g0"]
         wanted = self.composed(*words)
-        lines = [f"# Two grants at once are none.\n--guarantee '{words[4]}' --as one=g0 other=g1\n", f"--guarantee '{words[9]}'\n--as answer=g0\n--outs g0 g1\n"]
+        lines = [f"# Two grants at once are none.\n--guarantee '{words[4]}' --as one=g0 other=g1\n\n", f"--guarantee '{words[9]}'\n--as answer=g0\n--outs g0 g1\n"]
         made = self.composed(self.file("it.parts", "".join(lines).encode()))
         self.assertEqual(made.replace("Two grants at once are none.", "g0 and g1 are never true together"), wanted)
         self.assertEqual(self.composed("-", given="".join(lines).encode()), made)

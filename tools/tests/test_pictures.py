@@ -92,6 +92,11 @@ class Automata(unittest.TestCase):
     def drawn(self, text, **more):
         return made_of(automata.picture(automaton.read(text.decode()), **more))
 
+    def test_a_part_that_does_not_say_whose_its_propositions_are(self):
+        dot = self.drawn(AUTOMATON.replace(b"controllable-AP: 1\n", b""))
+        self.assertIn('<td align="left">propositions</td><td align="left">r, g</td>', dot)
+        self.assertNotIn("environment", dot)
+
     def test_an_automaton(self):
         dot = self.drawn(AUTOMATON)
         self.assertIn('s0 -> s0 [label="!r | g {0}"];', dot)

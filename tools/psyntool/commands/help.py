@@ -12,11 +12,18 @@ Runs psyn on files.
 Is there a controller for this automaton? (With --moore it moves before its inputs.)
   {name} synth arbiter.hoa > answer
 
-One automaton of small ones, some of which are assumed, and some guaranteed:
-  {name} compose --assume again.hoa --guarantee never.hoa answered.hoa --outs g0 g1 > arbiter.hoa
+The same for a specification in parts, small automata of which some are assumed and some guaranteed; their one automaton:
+  {name} synth --outs g0 g1 --assume again.hoa --guarantee never.hoa answered.hoa
+  {name} synth --parts arbiter.parts
+  {name} compose arbiter.parts > arbiter.hoa
 
 Why is there no controller for these parts? Which of their guarantees conflict?
-  {name} core --guarantee never.hoa answered.hoa --outs g0 g1
+  {name} core arbiter.parts
+
+Why does the environment win? Play against it, by names, or see the play that holds out longest:
+  {name} -o out synth spec.hoa
+  {name} play out spec.hoa
+  {name} play --auto out spec.hoa
 
 Who wins this game, by which moves?
   {name} solve game.pg > solution.cert
