@@ -108,7 +108,7 @@ impl Plan {
         self.rows[vertex] = None;
     }
 
-    /// Lowers the value of a vertex to what follows from where its player goes, if that is less, and answers whether it is.
+    /// Lowers the value of a vertex to what follows from where its player goes, if that is less. Answers whether it is.
     ///
     /// # Errors
     ///

@@ -89,8 +89,8 @@ fn certificate_in<W: Width>(alloc: Global, game: &Game) -> Result<Certificate, S
     certificate_of(alloc, &flat)
 }
 
-/// The certificate of a game. The proved recursion is given a budget of vertices to be placed, which no game that people
-/// meet spends. Where it is spent, an attempt that promises nothing is judged. Then both have four times as much, and so
+/// The certificate of a game. The recursion has a budget of vertices that it may place, which games that people meet do
+/// not spend. Where it is spent, an attempt that promises nothing is judged. Then both have four times as much, and so
 /// on; at last the recursion has no bound.
 fn certificate_of<A: Arena>(alloc: Global, arena: &A) -> Result<Certificate, SolveFault>
     ensures fits { IfOk result (Fits (A.game arena.now)) }
