@@ -6,7 +6,7 @@ ghost use Rattle.ps_game.specs.Games.{vertex_count};
 ghost use Rattle.ps_game.specs.Regions.{move_at};
 
 use crate::fuel::Fuel;
-use crate::row::{Row, Value, with_one_more};
+use crate::row::{Raised, Row, Value};
 use ps_game::{Arena, Region, Strategy};
 use std::alloc::{AllocError, Global};
 use std::cmp::Ordering;
@@ -108,7 +108,7 @@ impl Plan {
         self.rows[vertex] = None;
     }
 
-    /// Lowers the value of a vertex to what follows from where its player goes, and answers whether that is less.
+    /// Lowers the value of a vertex to what follows from where its player goes, if that is less. Answers whether it is.
     ///
     /// # Errors
     ///
@@ -123,19 +123,17 @@ impl Plan {
         requires vertex { vertex < length self.old.rows.items }
         ensures { length self.new.rows.items ≡ length self.old.rows.items }
     {
-        let Some(row) = self.next_row(arena, vertex, fuel)? else {
+        let Some(row) = self.lower_row(arena, vertex, fuel)? else {
             return Ok(false);
         };
-        if Value::Stops(&row).order(self.value(vertex), fuel) != Ordering::Less {
-            return Ok(false);
-        }
+        fuel.burn(row.len());
         fuel.hold(row.len(), self.cells(vertex));
         self.rows[vertex] = Some(row);
         Ok(true)
     }
 
-    /// The row of a vertex that follows from where its player goes, or none where that is endless.
-    fn next_row<A: Arena>(
+    /// The row of a vertex that follows from where its player goes, if it is worth less than its value.
+    fn lower_row<A: Arena>(
         &self,
         arena: &A,
         vertex: usize,
@@ -149,9 +147,22 @@ impl Plan {
             fuel.burn(0);
             return Ok(None);
         };
-        fuel.burn(row.len());
-        let more = with_one_more(self.alloc, row, arena.priority(vertex))?;
-        Ok(Some(more))
+        let raised = Raised::of(row, arena.priority(vertex));
+        if !self.is_lower(&raised, vertex, fuel) {
+            return Ok(None);
+        }
+        let row = raised.row(self.alloc)?;
+        Ok(Some(row))
+    }
+
+    /// Whether a row is worth less than the value of a vertex.
+    fn is_lower(&self, raised: &Raised<'_>, vertex: usize, fuel: &mut Fuel) -> bool
+        requires { vertex < length self.now.rows.items }
+    {
+        match self.value(vertex) {
+            Value::Endless => true,
+            Value::Stops(row) => raised.order(row, fuel) == Ordering::Less,
+        }
     }
 
     /// Where the player of a vertex goes: player 0 by its move, player 1 where it is worth least.

@@ -1,7 +1,5 @@
 //! What plays are worth.
 
-ghost use Rattle.std.specs.Prelude.{◌≤◌, length};
-
 use crate::fuel::Fuel;
 use std::alloc::{AllocError, Global};
 use std::cmp::Ordering;
@@ -74,32 +72,59 @@ fn worth_of(priority: u64) -> Ordering {
     }
 }
 
-/// A row with a priority once more.
-///
-/// # Errors
-///
-/// Fails where a growth was refused.
-pub fn with_one_more(alloc: Global, row: &[Cell], priority: u64) -> Result<Row, AllocError> {
-    let (front, back) = row.split_at(greater_than(row, priority));
-    let (count, rest) = match back.split_first() {
-        Some((cell, rest)) if cell.priority == priority => (cell.count, rest),
-        _ => (0, back),
-    };
-    let mut more = Vec::with_capacity(alloc, row.len().saturating_add(1))?;
-    more.extend_from_slice(front)?;
-    more.push(Cell {
-        priority,
-        count: count.saturating_add(1),
-    })?;
-    more.extend_from_slice(rest)?;
-    Ok(more)
+/// A row with a priority once more, in parts: the cells of greater priorities, the cell of that one, and the others.
+#[derive(Drop)]
+pub struct Raised<'a> {
+    front: &'a [Cell],
+    cell: Cell,
+    rest: &'a [Cell],
 }
 
-/// How many cells at the front of a row have greater priorities.
-fn greater_than(row: &[Cell], priority: u64) -> usize
-    ensures { result ≤ length row.now }
-{
-    row.iter()
-        .position(|cell| cell.priority <= priority)
-        .unwrap_or(row.len())
+impl<'a> Raised<'a> {
+    /// That of a row.
+    pub fn of(row: &'a [Cell], priority: u64) -> Raised<'a> {
+        let (front, back) = row.split_at(row.partition_point(|cell| cell.priority > priority));
+        let (count, rest) = match back.split_first() {
+            Some((cell, rest)) if cell.priority == priority => (cell.count, rest),
+            _ => (0, back),
+        };
+        Raised {
+            front,
+            cell: Cell {
+                priority,
+                count: count.saturating_add(1),
+            },
+            rest,
+        }
+    }
+
+    /// Whether it is worth more or less than another row.
+    pub fn order(&self, other: &[Cell], fuel: &mut Fuel) -> Ordering {
+        let (begin, back) = other.split_at(self.front.len().min(other.len()));
+        let fronts = order_of_rows(self.front, begin, fuel);
+        if fronts != Ordering::Equal {
+            return fronts;
+        }
+        match back.split_first() {
+            None => worth_of(self.cell.priority),
+            Some((beside, others)) if *beside == self.cell => {
+                order_of_rows(self.rest, others, fuel)
+            }
+            Some((beside, _)) => order_of_cells(self.cell, *beside),
+        }
+    }
+
+    /// The row as a whole.
+    ///
+    /// # Errors
+    ///
+    /// Fails where a growth was refused.
+    pub fn row(&self, alloc: Global) -> Result<Row, AllocError> {
+        let cells = self.front.len().saturating_add(1);
+        let mut row = Vec::with_capacity(alloc, cells.saturating_add(self.rest.len()))?;
+        row.extend_from_slice(self.front)?;
+        row.push(self.cell)?;
+        row.extend_from_slice(self.rest)?;
+        Ok(row)
+    }
 }

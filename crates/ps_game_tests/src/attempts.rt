@@ -1,0 +1,73 @@
+//! Solvers that may give nothing: how far a budget or fuel goes, and that an answer is that of the sure solver.
+
+use ps_game::{Counts, Game, Region, Strategy};
+use ps_improvement::attempt;
+use ps_pgsolver::read;
+use ps_zielonka::{regions, regions_within};
+use std::alloc::{AllocError, Global};
+use std::test::Fail;
+
+/// Player 0 wins 0 and 1 by 0 to 1, player 1 wins 2 and 3 by 3 to 2; 4 is player 1's and leads to 1 and 2.
+const BOTH: &[u8] = b"0 1 0 0,1; 1 2 1 0; 2 3 0 3; 3 0 1 2,0; 4 5 1 1,2;";
+
+/// Two rungs of a ladder and a loop that player 1 wins, which is a component of its own.
+const RUNGS: &[u8] = b"0 1 1 1; 1 1 0 0,7; 2 4 1 1,3; 3 3 0 4; 4 5 0 6,3; 5 0 0 6; 6 0 1 5; 7 7 0 6,8; 8 6 1 9,3;
+    9 8 1 8; 10 1 1 10;";
+
+/// Whether two regions have the same vertices.
+fn are_same(one: &Region, other: &Region) -> bool {
+    if one.places() != other.places() {
+        return false;
+    }
+    for vertex in 0..one.places() {
+        if one.contains(vertex) != other.contains(vertex) {
+            return false;
+        }
+    }
+    true
+}
+
+/// Whether an answer has the region of the sure solver.
+fn is_right(
+    alloc: Global,
+    game: &Game,
+    found: &Option<(Region, Strategy, Strategy)>,
+) -> Result<bool, AllocError> {
+    let (won, _, _) = regions(alloc, game, &mut Counts::default())?;
+    match found {
+        Some((region, _, _)) => Ok(are_same(region, &won)),
+        None => Ok(false),
+    }
+}
+
+#[test]
+fn attempts_win_what_is_won(rt: HostRuntime) -> Result<(), Fail> {
+    for text in [BOTH, RUNGS] {
+        let named = read(rt.alloc(), text)?;
+        let found = attempt(rt.alloc(), named.game(), 10_000)?;
+        assert!(rt; is_right(rt.alloc(), named.game(), &found)?);
+    }
+    Ok(())
+}
+
+#[test]
+fn attempts_end_with_their_fuel(rt: HostRuntime) -> Result<(), Fail> {
+    let named = read(rt.alloc(), BOTH)?;
+    for fuel in [0, 1, 5] {
+        assert!(rt; attempt(rt.alloc(), named.game(), fuel)?.is_none());
+    }
+    Ok(())
+}
+
+#[test]
+fn a_budget_is_spent_or_not(rt: HostRuntime) -> Result<(), Fail> {
+    for text in [BOTH, RUNGS] {
+        let named = read(rt.alloc(), text)?;
+        let mut counts = Counts::default();
+        let none = regions_within(rt.alloc(), named.game(), &mut counts, 1)?;
+        assert!(rt; none.is_none() && counts.depth == 0);
+        let found = regions_within(rt.alloc(), named.game(), &mut counts, 1000)?;
+        assert!(rt; is_right(rt.alloc(), named.game(), &found)? && counts.depth > 0);
+    }
+    Ok(())
+}
