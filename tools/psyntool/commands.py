@@ -39,6 +39,7 @@ COMMANDS = {
     "cert": Command(["moore", "compact"], ["automaton"], "a certificate of that game"),
     "solve": Command(["compact"], ["game"], "a certificate of a game"),
     "check": Command([], ["game", "certificate"], "valid, or the first flaw"),
+    "judge": Command(["compact"], ["game", "solution"], "the certificate by another solver's solution, or what is wrong with it"),
     "closed": Command([], ["game", "certificate"], "whether the moves keep each player's region"),
     "sim": Command([], ["circuit", "stimulus"], "what a circuit does, letter by letter"),
     "lasso": Command(["env"], ["automaton", "circuit", "stimulus"], "whether the automaton accepts what the circuit does"),
@@ -51,7 +52,7 @@ TOOLS = {
     "help": ("help", "what the tool can do"),
 }
 # What a kind of text mostly ends in, as a name of a file.
-ENDINGS = {"automaton": "hoa", "game": "pg", "certificate": "cert", "circuit": "aag", "stimulus": "stim"}
+ENDINGS = {"automaton": "hoa", "game": "pg", "certificate": "cert", "solution": "sol", "circuit": "aag", "stimulus": "stim"}
 
 
 def use_of(name):
