@@ -102,7 +102,7 @@ module _ (games : OneGame) (certificates : OneCertificate) (flaws : OneFlaw) (ci
 
   judge_one_or : (compact : Bool) (texts : List ℕ) (x y : Result Reply (List ℕ)) → AnswersJudge compact texts x →
       AnswersJudge compact texts y
-      → (x ≡ y) ⊎ (IsOpen (line.Judge compact) texts × Alike (Agree (line.Judge compact)) x y)
+      → (x ≡ y) ⊎ (IsOpen (line.Judge compact) texts × Alike (Agree (line.Judge compact) texts) x y)
   judge_one_or compact texts x y h k =
       by (then_one_or (ReadsSolved texts) (λ both. Judges compact both.0 both.1)
       (λ both. LosesCycle both.0 both.1 × ((line : List ℕ) × (x ≡ Err line))) (solved_one texts) x y
@@ -110,7 +110,7 @@ module _ (games : OneGame) (certificates : OneCertificate) (flaws : OneFlaw) (ci
     where
       by : (x ≡ y) ⊎ ((both : NamedGameData × SolutionData) × ReadsSolved texts (Ok both) ×
           (LosesCycle both.0 both.1 × ((line : List ℕ) × (x ≡ Err line)))) →
-          (x ≡ y) ⊎ (IsOpen (line.Judge compact) texts × Alike (Agree (line.Judge compact)) x y)
+          (x ≡ y) ⊎ (IsOpen (line.Judge compact) texts × Alike (Agree (line.Judge compact) texts) x y)
       by (inl same) = inl same
       by (inr (both, reads, (lost, (l, e)))) = inr ((both.0, both.1, reads, lost), inl (fault_is x l e))
 
