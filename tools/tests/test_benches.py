@@ -5,7 +5,7 @@ import re
 import tempfile
 import unittest
 
-from psyntool.sweeps import TOP
+from upkeep.sweeps import TOP
 
 RATTLE = re.compile(r"(?m)^\s*(?:pub )?(?:ghost )?use Rattle\.([\w.+]+?)(?:\.\{([^}]*)\})?(?: as \w+)?;?$")
 RUST = re.compile(r"(?ms)^\s*(?:pub )?use (\w+)::(\{.*?\}|[\w:]+);")

@@ -6,8 +6,8 @@ import sys
 import tempfile
 import unittest
 
-from psyntool import counts, rows, sweeps
-from psyntool.command import program
+from upkeep import counts, rows, sweeps
+from psyntool.program import path as program
 
 CHECKER = os.path.join(sweeps.TOP, "tools", "check_certificate.py")
 FOLDER = os.path.join(sweeps.TOP, "examples")

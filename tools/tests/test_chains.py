@@ -1,8 +1,8 @@
 """Inputs above 100,000 bytes that no part repeated gives: a game, an automaton and a circuit that are chains, to each command."""
 import unittest
 
-from psyntool import counts, rows
-from psyntool.command import program
+from upkeep import counts, rows
+from psyntool.program import path as program
 
 VERTICES = 8_000
 STATES = 6_000

@@ -6,13 +6,13 @@ import subprocess
 import tempfile
 import unittest
 
-from psyntool import counts, documents
-from psyntool.command import program
-from psyntool.sweeps import TOP
+from upkeep import counts, documents
+from psyntool.program import path as program
+from upkeep.sweeps import TOP
 
 ALL = ["README.md", "CONTRIBUTING.md", *sorted(os.path.relpath(path, TOP) for path in glob.glob(os.path.join(TOP, "docs", "*.md")))]
 WITH_COMMANDS = ["README.md", "CONTRIBUTING.md", "docs/CERTIFICATES.md", "docs/INTEROP.md", "docs/TUTORIAL.md"]
-LINES = {"README.md": 72, "CONTRIBUTING.md": 150, "docs/TESTED.md": 120}
+LINES = {"README.md": 72, "CONTRIBUTING.md": 154, "docs/TESTED.md": 120}
 
 
 class Forms(unittest.TestCase):

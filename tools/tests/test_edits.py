@@ -8,7 +8,7 @@ import os
 import tempfile
 import unittest
 
-from psyntool.sweeps import TOP
+from upkeep.sweeps import TOP
 
 # What psyn's promises must not let through. A crate with one of them is proved once more in the gate.
 NAMED = (

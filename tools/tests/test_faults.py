@@ -4,9 +4,10 @@ import re
 import subprocess
 import unittest
 
-from psyntool import counts, faults
-from psyntool.command import program
-from psyntool.sweeps import TOP
+from psyntool import faults
+from upkeep import counts
+from psyntool.program import path as program
+from upkeep.sweeps import TOP
 
 
 class Examples(unittest.TestCase):

@@ -10,10 +10,11 @@ import tempfile
 import time
 import unittest
 
-from psyntool import completions, manual
-from psyntool.command import program
-from psyntool.commands import COMMANDS
-from psyntool.sweeps import TOP
+from psyntool.command import EVERYWHERE
+from psyntool.program import path as program
+from psyntool.table import COMMANDS
+from upkeep import completions, manual
+from upkeep.sweeps import TOP
 
 SLOW = "#!/bin/sh\ncat > /dev/null\nsleep 3.5\necho valid\n"
 
@@ -44,18 +45,49 @@ class Installed(unittest.TestCase):
         with open(os.path.join(self.prefix, "share", "man", "man1", "psyn.1"), encoding="utf-8") as file:
             self.assertEqual(file.read(), manual.page())
 
-    def completed(self, *words):
+    def test_maintainers_modules_are_left_out_and_the_tool_names_itself(self):
+        behind = os.path.join(self.prefix, "libexec", "psyn")
+        self.assertEqual(sorted(os.listdir(os.path.join(behind, "tools"))), ["psyn", "psyntool"])
+        for words in (("help",), ("chek",), ("synth",)):
+            done = self.psyn(*words)
+            self.assertNotIn(b"tools/psyn", done.stdout + done.stderr)
+        os.rename(os.path.join(behind, "psyn"), os.path.join(behind, "away"))
+        self.addCleanup(os.rename, os.path.join(behind, "away"), os.path.join(behind, "psyn"))
+        self.assertEqual(self.psyn("solve", "loop.pg").stderr, b"psyn: the program is not there: install psyn once more, or name it by PSYN=FILE\n")
+
+    def completed(self, *words, folder=os.path.join(TOP, "examples", "files")):
         path = os.path.join(self.prefix, "share", "bash-completion", "completions", "psyn")
         script = 'source "$0"; COMP_WORDS=("$@"); COMP_CWORD=$(($# - 1)); _psyn; printf "%s\\n" "${COMPREPLY[@]}"'
-        done = subprocess.run(["bash", "-c", script, path, *words], capture_output=True, check=True, cwd=os.path.join(TOP, "examples", "files"))
-        return done.stdout.decode().split()
+        done = subprocess.run(["bash", "-c", script, path, *words], capture_output=True, check=True, cwd=folder)
+        return sorted(done.stdout.decode().split("\n")[:-1])
 
-    def test_bash_completes_commands_flags_and_files(self):
+    def test_bash_completes_commands_and_flags(self):
         self.assertEqual(self.completed("psyn", "sy"), ["synth"])
         self.assertEqual(self.completed("psyn", "cl"), ["closed"])
         self.assertEqual(self.completed("psyn", "-o", "out", "synth", "--co"), ["--compact"])
-        self.assertEqual(self.completed("psyn", "check", "--"), [])
-        self.assertEqual(self.completed("psyn", "check", "loop"), ["loop.cert", "loop.pg"])
+        self.assertEqual(self.completed("psyn", "synth", "x.hoa", "--mo"), ["--moore"])
+        self.assertEqual(self.completed("psyn", "check", "--"), sorted(flag.name for flag in EVERYWHERE))
+        self.assertEqual(self.completed("psyn", "help", "wa"), ["wave"])
+        self.assertEqual(self.completed("psyn", "games", "la"), ["ladder", "ladder2"])
+        self.assertEqual(self.completed("psyn", "show", "--reach", ""), [""])
+
+    def test_bash_completes_files_by_their_kinds(self):
+        self.assertEqual(self.completed("psyn", "check", "lo"), ["loop.pg"])
+        self.assertEqual(self.completed("psyn", "check", "loop.pg", ""), ["loop.cert", "stays.cert"])
+        self.assertEqual(self.completed("psyn", "synth", "--moore", "a"), ["arbiter.hoa"])
+        self.assertEqual(self.completed("psyn", "sim", "toggle"), ["toggle.aag"])
+        self.assertEqual(self.completed("psyn", "synth", "toggle"), ["toggle.aag", "toggle.v"])
+
+    def test_bash_completes_names_with_blanks(self):
+        with tempfile.TemporaryDirectory() as room:
+            for name in ("my spec.hoa", "my spec.cert", "my other.hoa"):
+                with open(os.path.join(room, name), "wb"):
+                    pass
+            os.mkdir(os.path.join(room, "my folder"))
+            self.assertEqual(self.completed("psyn", "synth", "my", folder=room), ["my folder", "my other.hoa", "my spec.hoa"])
+            self.assertEqual(self.completed("psyn", "synth", "my\\ s", folder=room), ["my spec.hoa"])
+            self.assertEqual(self.completed("psyn", "synth", '"my s', folder=room), ["my spec.hoa"])
+            self.assertEqual(self.completed("psyn", "-o", "my f", folder=room), ["my folder"])
 
     @unittest.skipUnless(shutil.which("zsh"), "zsh is not installed")
     def test_zsh_reads_its_completion(self):
@@ -68,17 +100,26 @@ class Tables(unittest.TestCase):
         with open(path, encoding="utf-8") as file:
             table = re.search(r"const COMMANDS: .*?= &\[(.*?)\n\];", file.read(), re.S)[1]
         rows = {name: re.findall(r'"(\w+)"', flags) for name, flags in re.findall(r'\("(\w+)", &\[(.*?)\]\)', table)}
-        self.assertEqual({**{name: command.flags for name, command in COMMANDS.items()}, "help": []}, rows)
+        ours = {name: [flag.name.removeprefix("--") for flag in it.flags] for name, it in COMMANDS.items() if it.is_of_the_program}
+        self.assertEqual({**ours, "help": []}, rows)
+
+    def test_a_flag_is_the_same_in_each_command(self):
+        flags = [flag for command in COMMANDS.values() for flag in command.all_flags] + list(EVERYWHERE)
+        self.assertEqual(len(set(flags)), len({flag.name for flag in flags}))
+
+    def test_each_command_is_a_file_of_its_own(self):
+        folder = os.path.join(TOP, "tools", "psyntool", "commands")
+        self.assertEqual(sorted(name.removesuffix(".py") for name in os.listdir(folder) if name[0] != "_"), sorted(COMMANDS))
 
     def test_the_stored_manual_is_written_from_the_tables(self):
         with open(os.path.join(TOP, "docs", "psyn.1"), encoding="utf-8") as file:
             self.assertEqual(file.read(), manual.page(), "tools/install --manual > docs/psyn.1")
 
-    def test_each_command_is_completed(self):
+    def test_each_command_and_flag_is_in_the_manual_and_completed(self):
         for name, command in COMMANDS.items():
-            for text in (completions.bash(), completions.zsh()):
+            for text in (completions.bash(), completions.zsh(), manual.page().replace("\\-", "-")):
                 self.assertIn(name, text)
-                self.assertTrue(all(f"--{flag}" in text for flag in command.flags))
+                self.assertEqual([flag.name for flag in (*command.all_flags, *EVERYWHERE) if flag.name not in text], [])
 
 
 class OnATerminal(unittest.TestCase):

@@ -8,8 +8,8 @@ import sys
 import tempfile
 import unittest
 
-from psyntool import antt, layout
-from psyntool.sweeps import TOOLS, TOP
+from upkeep import antt, layout
+from upkeep.sweeps import TOOLS, TOP
 
 PROOF = """
 both : (a b : ℕ) → a ≡ b → (b ≡ a) × (a ≤ b)

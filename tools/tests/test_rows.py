@@ -3,8 +3,8 @@ import os
 import tempfile
 import unittest
 
-from psyntool import counts, rows, sweeps
-from psyntool.command import program
+from upkeep import counts, rows, sweeps
+from psyntool.program import path as program
 
 FOLDER = os.path.join(sweeps.TOP, "examples", "rows")
 MANY = 20

@@ -4,8 +4,8 @@ import subprocess
 import tempfile
 import unittest
 
-from psyntool import counts, streams, sweeps
-from psyntool.command import program
+from upkeep import counts, streams, sweeps
+from psyntool.program import path as program
 
 ANSWER = (b"closed\n", 0)
 CARELESS = """\

@@ -3,34 +3,12 @@ import os
 import shutil
 import subprocess
 import sys
-import tempfile
 import unittest
 
-from psyntool import binary, formats, inputs, pictures, solutions, waves
-from psyntool.command import program
-from psyntool.sweeps import TOP
-
-TOOL = os.path.join(TOP, "tools", "psyn")
-GAME = b"0 0 1 0,1; 1 1 1 1;\n"
-CERTIFICATE = b"psyncert 1\nvertices 2\nodd 1\neven 0\n0 1 1 0\n1 1 1 0\n"
-CIRCUIT = b"aag 5 1 1 3 3\n2\n4 10 1\n4\n10\n1\n10 9 7\n8 5 3\n6 4 2\ni0 push\nl0 lamp\no0 dark\n"
-AUTOMATON = b'HOA: v1 /* two /* */ states */\nStates: 2\nStart: 0\nAP: 2 "r" "g"\ncontrollable-AP: 1\nAcceptance: 1 Inf(0)\n--BODY--\nState: 0 "off"\n[!0|1] 0 {0}\n[0&!1] 1\nState: 1\n[1] 0 {0}\n[!1] 1\n--END--\n'
-
-
-class OnFiles(unittest.TestCase):
-    def setUp(self):
-        self.room = tempfile.mkdtemp()
-        self.addCleanup(shutil.rmtree, self.room)
-
-    def file(self, name, content):
-        path = os.path.join(self.room, name)
-        with open(path, "wb") as file:
-            file.write(content)
-        return path
-
-    def tool(self, *words, given=b"", environment=None):
-        command = [sys.executable, TOOL, *words]
-        return subprocess.run(command, input=given, capture_output=True, check=False, env={**os.environ, **(environment or {})})
+from psyntool.command import EVERYWHERE
+from psyntool.program import path as program
+from psyntool.table import COMMANDS
+from tests.tool import AUTOMATON, CERTIFICATE, CIRCUIT, GAME, OnFiles
 
 
 class Commands(OnFiles):
@@ -54,6 +32,7 @@ class Commands(OnFiles):
         self.assertEqual(self.tool("lasso", automaton, circuit, stimulus).stdout, b"accepted stem 1 lap 2\n")
         turned = self.tool("lasso", "--env", automaton, circuit, stimulus)
         self.assertEqual((turned.stdout, turned.returncode), (b"fault 72 Symbols\n", 1))
+        self.assertIn(b"among the circuit's inputs: missing g; too many r\n", turned.stderr)
         self.assertIn(b"cause: for `lasso` the symbols", turned.stderr)
 
     def test_synth_reads_an_automaton_and_with_its_flag_a_certificate(self):
@@ -133,6 +112,61 @@ class Commands(OnFiles):
         for line in (b"$var wire 1 ! lamp $end", b"$scope module outputs $end", b"#2\n"):
             self.assertIn(line, again)
 
+    def test_sim_with_names(self):
+        circuit = self.file("circuit", CIRCUIT)
+        done = self.tool("sim", circuit, "-", "--names", given=b"1\n0\n")
+        self.assertEqual((done.stdout, done.returncode), (b"lamp|push|dark o1 o2\n1|1|101\n0|0|001\n", 0))
+        wrong = self.tool("sim", circuit, "-", "--names", given=b"11\n")
+        self.assertEqual((wrong.stdout, wrong.returncode), (b"fault 70 Width at 0\n", 1))
+
+    def test_a_trace_has_states_letters_and_sets(self):
+        automaton = self.file("automaton", AUTOMATON)
+        late = self.file("late", b"aag 2 1 1 1 0\n2\n4 2\n4\ni0 r\no0 g\n")
+        done = self.tool("lasso", "--trace", automaton, late, "-", given=b"1\n-\n0\n1\n")
+        rows = [
+            "accepted stem 1 lap 2",
+            "step  state  letter  sets",
+            "0     0 off  r !g",
+            "the lap begins; it comes again behind step 2",
+            "1     1      !r g    0",
+            "2     0 off  r !g",
+        ]
+        self.assertEqual((done.stdout.decode().splitlines(), done.returncode), (rows, 0))
+
+    def test_a_trace_of_a_run_that_ends(self):
+        automaton = self.file("automaton", AUTOMATON.replace(b"[!1] 1", b"[!1&0] 1"))
+        never = self.file("never", b"aag 1 1 0 1 0\n2\n0\ni0 r\no0 g\n")
+        done = self.tool("lasso", "--trace", automaton, never, "-", given=b"1\n-\n0\n")
+        self.assertEqual(done.stdout.decode().splitlines()[2:], ["0     0 off  r !g", "1     1      !r !g   no edge", "there is no edge: the run ends"])
+        self.assertEqual((done.stdout[:8], done.returncode), (b"rejected", 0))
+
+    def test_a_trace_of_a_circuit_that_is_the_environment(self):
+        automaton = self.file("automaton", AUTOMATON)
+        asks = self.file("asks", b"aag 1 1 0 1 0\n2\n1\ni0 g\no0 r\n")
+        done = self.tool("lasso", "--env", "--trace", automaton, asks, "-", given=b"-\n0\n1\n")
+        self.assertEqual(done.stdout.decode().splitlines()[-2:], ["0     0 off  r !g", "1     1      r g     0"])
+
+    def test_a_trace_of_a_fault_is_the_fault(self):
+        done = self.tool("lasso", "--trace", self.file("automaton", AUTOMATON), self.file("circuit", CIRCUIT), "-", given=b"-\n1\n")
+        self.assertEqual((done.stdout, done.returncode), (b"fault 72 Symbols\n", 1))
+
+    def test_a_wave_of_a_lasso_goes_on_until_the_latches_come_again(self):
+        counter = self.file("counter", b"aag 2 0 2 1 0\n2 3\n4 2\n4\nl0 low\nl1 high\no0 out\n")
+        done = self.tool("wave", counter, "-", given=b"\n-\n\n")
+        self.assertIn(b"$scope module lasso $end\n$var wire 1 $ lap $end\n", done.stdout)
+        self.assertIn(b"#0\n0!\n0\"\n0#\n0$\n#1\n1!\n1$\n", done.stdout)
+        self.assertTrue(done.stdout.endswith(b"#3\n"), done.stdout)
+
+    def test_pictures_of_a_binary_circuit_and_of_an_answer(self):
+        self.assertIn(b"digraph circuit", self.tool("show", self.file("circuit", b"aig 2 1 1 1 0\n2\n4\n")).stdout)
+        automaton = self.file("automaton", AUTOMATON)
+        short, whole = (self.file(name, self.tool("synth", *flags, automaton).stdout) for name, flags in (("short", []), ("whole", ["--full"])))
+        self.assertIn(b"digraph circuit", self.tool("show", short).stdout)
+        self.assertIn(b"fillcolor", self.tool("show", whole).stdout)
+        named = self.tool("show", whole, automaton).stdout
+        self.assertIn(b'label=" !r "', named)
+        self.assertEqual(named, self.tool("show", automaton, whole).stdout)
+
     def test_another_solvers_answer_is_judged_by_closed(self):
         game = self.file("game", GAME)
         made = self.tool("certificate", game, "-", given=b"paritysol 1;\n0 1 1;\n1 1 1;\n")
@@ -155,8 +189,8 @@ class Refusals(OnFiles):
         self.assertIn(b"can't be converted: it ends inside the gates", done.stderr)
 
     def test_a_wrong_number_of_files_and_an_unknown_command(self):
-        self.assertIn(b"one game, one certificate", self.tool("check", "-").stderr)
-        self.assertIn(b"there is no command", self.tool("chek", "-").stderr)
+        self.assertIn(b"check reads GAME CERTIFICATE, and got 1 file", self.tool("check", "-").stderr)
+        self.assertIn(b"there is no command chek (did you mean check?)", self.tool("chek", "-").stderr)
 
     def test_a_mark_inside_a_text(self):
         game = self.file("game", b"0 0 0 0;\n%%\n")
@@ -164,87 +198,29 @@ class Refusals(OnFiles):
 
     def test_a_program_that_is_not_there(self):
         done = self.tool("sim", self.file("circuit", CIRCUIT), "-", environment={"PSYN": os.path.join(self.room, "none")})
-        self.assertIn(b"psyn is not built", done.stderr)
+        self.assertIn(b"there is no such file, and no program", done.stderr)
 
 
 class Help(OnFiles):
-    def test_help_and_version_need_no_program(self):
-        nowhere = {"PSYN": os.path.join(self.room, "nowhere")}
-        for words in (["help"], ["--help"], ["--version"], *([word, "--help"] for word in ("synth", "show", "wave", *inputs.KINDS))):
-            with self.subTest(words):
-                done = self.tool(*words, environment=nowhere)
-                self.assertEqual((done.returncode, done.stderr), (0, b""))
-                self.assertIn(words[0].encode() if len(words) > 1 else b"psyn", done.stdout)
+    def asked(self, *words):
+        done = self.tool(*words, environment={"PSYN": os.path.join(self.room, "nowhere")})
+        self.assertEqual((done.returncode, done.stderr), (0, b""), words)
+        return done.stdout.decode()
 
+    def test_each_command_and_each_flag_is_told_without_the_program(self):
+        pages = {words: self.asked(*words) for words in ((), ("help",), ("--help",), ("-h",))}
+        self.assertEqual(len(set(pages.values())), 1)
+        for name, command in COMMANDS.items():
+            self.assertIn(f"\n  {name} ", pages[()])
+            told = {self.asked(name, "--help"), self.asked("help", name), self.asked("--help", name)}
+            self.assertEqual(len(told), 1)
+            (page,) = told
+            self.assertTrue(page.startswith(command.usage))
+            self.assertEqual([flag.name for flag in command.all_flags if f"  {flag.shown} " not in page], [])
+        self.assertEqual([flag.name for flag in EVERYWHERE if f"  {flag.shown} " not in pages[()]], [])
 
-class Texts(unittest.TestCase):
-    def test_a_binary_circuit_has_its_ascii_form(self):
-        made = binary.ascii_form(b"aig 3 1 1 1 1\n6\n7\n\x02\x02i0 a\nc\nnote\n")
-        self.assertEqual(made, b"aag 3 1 1 1 1\n2\n4 6\n7\n6 4 2\ni0 a\nc\nnote\n")
-
-    def test_no_return_inside_a_name_is_dropped(self):
-        quoted = b'0 0 0 0 "a\r\nb";\r\n'
-        self.assertEqual(inputs.returns_at_line_ends("game", quoted), [quoted.rindex(b"\r")])
-        mixed = b"aag 1 1 0 0 0\n2\r\ni0 name\r\n"
-        self.assertEqual(inputs.returns_at_line_ends("circuit", mixed), [15])
-
-    def test_offsets_lead_back_to_the_file(self):
-        text = inputs.Text("game", "game", b"0\r\n1\r\n2\r\n")
-        text.drop_returns()
-        self.assertEqual(text.bytes, b"0\n1\n2\n")
-        self.assertEqual([text.place_in_file(place) for place in range(7)], [0, 2, 3, 5, 6, 8, 9])
-
-
-class Pictures(unittest.TestCase):
-    def drawn(self, *texts):
-        dot = pictures.picture([text.decode() for text in texts])
-        if shutil.which("dot"):
-            subprocess.run(["dot", "-Tsvg", "-o", os.devnull], input=dot.encode(), check=True)
-        return dot
-
-    def test_a_game_with_its_certificate(self):
-        dot = self.drawn(GAME, CERTIFICATE)
-        self.assertIn('v0 [shape=box, label="0: 0", style=filled, fillcolor=lightsalmon];', dot)
-        self.assertIn("v0 -> v1 [style=bold, penwidth=3, color=firebrick];", dot)
-        self.assertIn("v0 -> v0;", dot)
-        self.assertIn("player 1 wins from there, by the bold red edges", dot)
-        self.assertNotIn("bold", self.drawn(GAME))
-
-    def test_an_automaton(self):
-        dot = self.drawn(AUTOMATON)
-        self.assertIn('s0 -> s0 [label="!r|g {0}"];', dot)
-        self.assertIn('label="Inf(0)\\nenvironment: r\\ncontroller: g"', dot)
-        self.assertIn('s0 [label="0 off"];', dot)
-
-    def test_long_names_and_labels_are_wrapped(self):
-        named = AUTOMATON.replace(b'"off"', b'"waits until the client is granted"').replace(b"[!0|1]", b"[@a0 & (0 | !1) & (0 | !1) & 0]")
-        dot = self.drawn(named)
-        self.assertIn('s0 [shape=box, style=rounded, label="0\\nwaits until the client is\\ngranted"];', dot)
-        self.assertIn('label="@a0 & (r | !g) & (r | !g) &\\nr {0}"', dot)
-
-    def test_an_edge_without_a_label_bears_its_letter(self):
-        dot = self.drawn(b'HOA: v1 States: 1 Start: 0 AP: 1 "a" Acceptance: 0 t --BODY-- State: 0 0 0 --END--')
-        self.assertIn('s0 -> s0 [label="!a\\na"];', dot)
-
-    def test_a_circuit(self):
-        dot = self.drawn(CIRCUIT)
-        self.assertIn('n1 [shape=invtriangle, label="push"];', dot)
-        self.assertIn("n4 -> n5 [style=dashed];", dot)
-        self.assertIn("n0 -> o2 [style=dashed];", dot)
-        self.assertIn("negated", dot)
-
-    def test_what_can_not_be_drawn(self):
-        for texts in ([b"no game"], [CERTIFICATE], [b"0 0 0 0;", CERTIFICATE], [b"aag x"], [b"HOA: v1 --BODY-- State: x"]):
-            with self.assertRaises(formats.Unreadable):
-                pictures.picture([text.decode() for text in texts])
-
-    def test_a_wave_of_another_circuit(self):
-        with self.assertRaises(formats.Unreadable):
-            waves.wave(CIRCUIT.decode(), "1|1|1\n")
-
-    def test_a_solution_that_lacks_a_vertex(self):
-        with self.assertRaises(formats.Unreadable):
-            solutions.certificate_of(GAME.decode(), "paritysol 1;\n0 1 1;\n")
+    def test_the_version(self):
+        self.assertEqual({self.asked("--version"), self.asked("-V"), self.asked("version")}, {self.asked("version")})
 
 
 if __name__ == "__main__":

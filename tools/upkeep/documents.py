@@ -9,7 +9,7 @@ import os
 import re
 import subprocess
 
-from psyntool.sweeps import TOP
+from upkeep.sweeps import TOP
 
 PLAIN = {"text", "python", "rust", "verilog"}
 MARKS = {"foreign", "gate"}

@@ -1,7 +1,7 @@
 """Lines of definitions, proofs and clauses: what may stand on one line does, and a longer one is broken at the best places."""
 import re
 
-from psyntool.antt import indent_of
+from upkeep.antt import indent_of
 
 WIDTH = 120
 # How well a line breaks behind a word, or before one: the less, the better; 3 where nothing is said.

@@ -2,7 +2,7 @@
 import os
 import tomllib
 
-from psyntool.sweeps import TOP
+from upkeep.sweeps import TOP
 
 STORED = os.path.join(TOP, "examples", "rows", "COUNTS.toml")
 RAN = {}

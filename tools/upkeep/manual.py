@@ -2,7 +2,8 @@
 import re
 
 from psyntool import faults
-from psyntool.commands import BEFORE, COMMANDS, FLAGS, TOOLS
+from psyntool.command import EVERYWHERE
+from psyntool.table import COMMANDS
 
 ABOUT = """\
 psyn turns a deterministic parity automaton into a sequential circuit: a controller, or an environment that defeats every
@@ -28,6 +29,7 @@ STATUSES = {
     "20": "UNREALIZABLE: an environment's circuit follows",
     "1": "a fault, or an answer that could not be written whole",
     "2": "a command line or a file that is refused",
+    "130": "ended by Ctrl-C; 143 by TERM and 129 by HUP",
 }
 
 
@@ -42,6 +44,16 @@ def entry(head, body):
     return f".TP\n\\fB{plain(head)}\\fR\n{plain(body)}\n"
 
 
+def flags():
+    """Each flag, with what it says and whose it is."""
+    having = {}
+    for command in COMMANDS.values():
+        for flag in command.all_flags:
+            having.setdefault(flag, []).append(command.name)
+    told = [(flag.shown, f"of {', '.join(names)}: {flag.says}.") for flag, names in having.items()]
+    return told + [(flag.shown, f"{flag.says}.") for flag in EVERYWHERE]
+
+
 def page():
     parts = ['.TH PSYN 1 "" psyn "User Commands"\n']
 
@@ -49,12 +61,11 @@ def page():
         parts.extend([f".SH {name}\n", *bodies])
 
     section("NAME", "psyn \\- proved synthesis of circuits from parity automata\n")
-    section("SYNOPSIS", ".B psyn\n[\\fIflags before\\fR] \\fIcommand\\fR [\\fIflags\\fR] \\fIfile\\fR ..\n")
+    section("SYNOPSIS", ".B psyn\n\\fIcommand\\fR [\\fIflags\\fR] \\fIfile\\fR ..\n")
     section("DESCRIPTION", re.sub(r"(?m)^PP$", ".PP", plain(ABOUT)))
-    section("COMMANDS", *(entry(command.usage(name), command.says + ".") for name, command in COMMANDS.items()))
-    parts.extend(entry(usage, says + ".") for usage, says in TOOLS.values())
-    section("FLAGS", *(entry(f"--{name}", says + ".") for name, says in FLAGS.items()))
-    section("FLAGS BEFORE THE COMMAND", *(entry(name + (" PREFIX" if name == "-o" else ""), says + ".") for name, says in BEFORE.items()))
+    section("COMMANDS", *(entry(it.usage, it.says + ".") for it in COMMANDS.values() if it.is_of_the_program))
+    section("COMMANDS OF THE TOOL ALONE", *(entry(it.usage, it.says + ".") for it in COMMANDS.values() if not it.is_of_the_program))
+    section("FLAGS", "Flags stand anywhere; behind \\fB\\-\\-\\fR no word is one.\n", *(entry(*it) for it in flags()))
     section("FORMATS", *(entry(name, says) for name, says in FORMATS.items()))
     section("EXIT STATUS", *(entry(status, says + ".") for status, says in STATUSES.items()))
     told = [(f"{fault.number or ''} {fault.name}".strip(), fault.entries["Cause"]) for fault in faults.read_document()]

@@ -1,4 +1,5 @@
 """The ASCII form of a circuit in the binary form of AIGER 1.9."""
+from psyntool.texts import is_number
 
 
 class Broken(Exception):
@@ -28,7 +29,7 @@ def ascii_form(data):
     """The same circuit as an ASCII text: variables are numbered as the binary form has them, symbols and comments stay."""
     head, at = line_at(data, 0)
     words = head.split(b" ")
-    if words[0] != b"aig" or len(words) < 6 or not all(word.isdigit() for word in words[1:]):
+    if words[0] != b"aig" or len(words) < 6 or not all(map(is_number, words[1:])):
         raise Broken("its first line is not `aig M I L O A`")
     most, inputs, latches, outputs, gates = (int(word) for word in words[1:6])
     if most != inputs + latches + gates or gates > len(data) or latches + outputs > len(data):

@@ -1,0 +1,90 @@
+"""`help`: what the tool can do, or how one command is used."""
+from psyntool import console, places
+from psyntool.command import EVERYWHERE, Command
+from psyntool.ends import Refused
+from psyntool.words import nearest
+
+WORDS = """\
+Runs psyn on files.
+
+  {name} COMMAND [FLAGS] FILE..        `-` is standard input; flags may stand anywhere
+
+Is there a controller for this automaton? (With --moore it moves before its inputs.)
+  {name} synth arbiter.hoa > answer
+
+Who wins this game, by which moves?
+  {name} solve game.pg > solution.cert
+
+Is this certificate right?
+  {name} check game.pg solution.cert
+
+What does this circuit do on these inputs?
+  printf '1\\n0\\n1\\n' | {name} sim --names circuit.aag -
+
+Does this automaton accept what that circuit does on this stem and this lap, and by which states?
+  {name} lasso --trace automaton.hoa circuit.aag lasso.stim
+
+Which game does this automaton define, and who wins it?
+  {name} game automaton.hoa > game.pg
+  {name} cert automaton.hoa > game.cert
+
+A game with its regions in two colours, the winning moves bold, and the automaton's names:
+  {name} show game.pg game.cert automaton.hoa | dot -Tsvg > game.svg
+
+Does another solver's answer keep each player's region?
+  {name} certificate game.pg game.sol | {name} closed game.pg -
+
+The commands of the program:
+{programs}
+
+Of the tool alone:
+{tools}
+
+Flags of all commands (`{name} help COMMAND` tells those of one):
+{flags}
+
+The answer of the program is printed unchanged, and its exit status is this tool's: 0 for an answer (10 and 20 for REALIZABLE and
+UNREALIZABLE), 1 for a fault or an answer that could not be written whole, 2 for a refused command line or file, 130 for Ctrl-C.
+What is wrong is explained on standard error: file, line and column, the cause, how to mend it (docs/FAULTS.md). A text whose last
+line is not ended is ended by a newline; carriage returns at line ends and a byte order mark are left out; standard error says so,
+and places are those of your file. With --quiet the tool becomes the program.
+
+The program is $PSYN, or {program}.
+"""
+
+
+def rows(pairs):
+    width = max(len(first) for first, _ in pairs)
+    return "\n".join(f"  {first:<{width}}  {second}" for first, second in pairs)
+
+
+def page(commands):
+    """What the tool can do."""
+    shown = [[(it.name, it.says) for it in commands.values() if it.is_of_the_program == is_programs] for is_programs in (True, False)]
+    return WORDS.format(
+        name=places.NAME,
+        programs=rows(shown[0]),
+        tools=rows(shown[1]),
+        flags=rows([(flag.shown, flag.says) for flag in EVERYWHERE]),
+        program=places.PROGRAM,
+    )
+
+
+def use_of(command):
+    """How a command is used, with its flags."""
+    flags = rows([(flag.shown, flag.says) for flag in command.all_flags]) + "\n" if command.all_flags else ""
+    return f"{command.usage}: {command.says}\n{flags}"
+
+
+def run(request):
+    commands = request.table
+    if not request.words:
+        console.write_text(page(commands))
+        return 0
+    if request.words[0] not in commands:
+        raise Refused(f"there is no command {request.words[0]}{nearest(request.words[0], commands)}")
+    console.write_text(use_of(commands[request.words[0]]))
+    return 0
+
+
+COMMAND = Command("help", "what the tool can do, or how a command is used", ("COMMAND",), run, least=0, is_of_the_program=False)

@@ -1,0 +1,57 @@
+"""`show`: a picture of a game, of an automaton or of a circuit, as Graphviz DOT."""
+from psyntool import console
+from psyntool.command import Command, Flag
+from psyntool.ends import Refused
+from psyntool.kinds import Kind
+from psyntool.pictures import automata, circuits, games
+from psyntool.texts import automaton, certificate, circuit, game, report
+
+REACH = Flag("--reach", "only what so many steps from the start reach (of a circuit: from the outputs back)", "N")
+READERS = {Kind.GAME: game.read, Kind.CERTIFICATE: certificate.read, Kind.AUTOMATON: automaton.read, Kind.CIRCUIT: circuit.read}
+WANTED = "show draws a game, a game and its certificate, with both the automaton behind them, an automaton, or a circuit"
+
+
+def parts_of(text):
+    """The texts of a file, each with its kind; the answer of `synth` has several, of which the last two are the game's."""
+    if text.kind is not Kind.ANSWER:
+        return [(text.kind, text.string)]
+    parts = report.read(text.string).parts
+    kinds = (Kind.CIRCUIT, Kind.GAME, Kind.CERTIFICATE)
+    return list(zip(kinds, parts))[-2:]
+
+
+def run(request):
+    texts = request.texts()
+    parts = [part for text in texts for part in parts_of(text)]
+    strange = next((text for text in texts if text.kind is Kind.FILE or text.kind not in READERS and text.kind is not Kind.ANSWER), None)
+    if strange:
+        what = "no text of a kind that psyn knows" if strange.kind is Kind.FILE else strange.kind.with_article
+        raise Refused(f"{strange.name} is {what}; {WANTED}")
+    kinds = [kind for kind, _ in parts]
+    if len(set(kinds)) < len(kinds):
+        raise Refused(f"two of the files are {kinds[0].with_article}; {WANTED}")
+    found = {kind: READERS[kind](text) for kind, text in parts}
+    console.write_text(drawn(found, request.number(REACH)))
+    return 0
+
+
+def drawn(found, reach):
+    """The picture of what was found, by kind."""
+    if Kind.GAME in found and Kind.CIRCUIT not in found:
+        return games.picture(found[Kind.GAME], found.get(Kind.CERTIFICATE), found.get(Kind.AUTOMATON), reach)
+    if set(found) == {Kind.AUTOMATON}:
+        return automata.picture(found[Kind.AUTOMATON], reach)
+    if set(found) == {Kind.CIRCUIT}:
+        return circuits.picture(found[Kind.CIRCUIT], reach)
+    raise Refused(f"there is no picture of {' and '.join(kind.with_article for kind in found)}; {WANTED}")
+
+
+COMMAND = Command(
+    "show",
+    "a picture of a game, with its certificate and its automaton, of an automaton or of a circuit, as Graphviz DOT",
+    (Kind.FILE, Kind.FILE, Kind.FILE),
+    run,
+    own=(REACH,),
+    least=1,
+    is_of_the_program=False,
+)

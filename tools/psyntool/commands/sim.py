@@ -1,0 +1,21 @@
+"""`sim`: what a circuit does, letter by letter; with --names below the names of its latches, inputs and outputs."""
+from psyntool import asking, console, files, program
+from psyntool.command import Command, Flag
+from psyntool.kinds import Kind
+from psyntool.texts import circuit
+
+NAMES = Flag("--names", "a line above: the names of the latches, inputs and outputs")
+
+
+def run(request):
+    if not request.has(NAMES):
+        return asking.run(request)
+    texts = request.texts()
+    answer = program.ask(files.joined("sim", request.passed, texts))
+    if asking.is_had(answer):
+        read = circuit.read(texts[0].string)
+        console.write_text("|".join(" ".join(read.names(kind)) for kind in "lio") + "\n")
+    return asking.hand_on(request, texts, answer)
+
+
+COMMAND = Command("sim", "what a circuit does, letter by letter", (Kind.CIRCUIT, Kind.STIMULUS), run, own=(NAMES,))

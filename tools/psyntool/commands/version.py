@@ -1,0 +1,11 @@
+"""`version`: which psyn this is."""
+from psyntool import console, releases
+from psyntool.command import Command
+
+
+def run(_request):
+    console.write_text(releases.line() + "\n")
+    return 0
+
+
+COMMAND = Command("version", "which psyn this is", (), run, is_of_the_program=False)

@@ -1,0 +1,128 @@
+"""Explains a fault: the file, the line and the column, what only the texts can tell, and the words of docs/FAULTS.md."""
+import re
+from collections import Counter
+
+from psyntool import faults
+from psyntool.command import ENV
+from psyntool.kinds import Kind
+from psyntool.texts import Unreadable, automaton, circuit, labels
+
+WIDTH = 100
+PLAYERS_OF_A_GAME = b"spot-state-player:"
+
+
+def lines(request, texts, answer):
+    """The lines that explain an answer: few, or none, where it is no fault."""
+    found = re.fullmatch(r"fault (usage|(\d+) (\w+)(?: at (\d+))?(.*))\n", answer.text)
+    if not found:
+        return games_of_spot(texts)
+    number = int(found[2]) if found[2] else None
+    fault = next((it for it in faults.read_document() if it.number == number and (number or it.name == found[1])), None)
+    told = [*wrong_kinds(request.command, texts), *games_of_spot(texts)]
+    if fault and fault.kind and found[4]:
+        told += place_of(fault, next((it for it in texts if it.kind is fault.kind), None), int(found[4]))
+    told += seen_in_texts(number, found[5] or "", request, texts)
+    if number is None:
+        return [*told, "cause: this program knows no such command line: it is not of the same version as this tool"]
+    return told + [f"{word.lower()}: {fault.entries[word]}" for word in ("Cause", "Place", "Mend") if fault and word in fault.entries]
+
+
+def wrong_kinds(command, texts):
+    """Which files look like texts of other kinds than the command wants."""
+    other = [text for text in texts if text.looks_like not in (None, text.kind)]
+    said = ", ".join(f"{text.name} is {text.looks_like.with_article}" for text in other)
+    return [f"{said}; {command.name} wants {' '.join(text.kind.word for text in texts)}"] if other else []
+
+
+def games_of_spot(texts):
+    return [
+        f"{text.name}: `spot-state-player:` says that this is a game with players; psyn reads over it, and reads an automaton"
+        for text in texts
+        if text.kind is Kind.AUTOMATON and PLAYERS_OF_A_GAME in text.bytes
+    ]
+
+
+# ---- places
+
+
+def line_and_column(data, offset):
+    """The line and the column of a byte, both from 1."""
+    return data.count(b"\n", 0, offset) + 1, offset - data.rfind(b"\n", 0, offset)
+
+
+def shown(data, offset, width=WIDTH):
+    """The line in which a byte stands, with a mark under the byte."""
+    start = data.rfind(b"\n", 0, offset) + 1
+    stop = data.find(b"\n", offset)
+    line = data[start : len(data) if stop < 0 else stop].decode("utf-8", "replace").replace("\t", " ")
+    column = len(data[start:offset].decode("utf-8", "replace"))
+    cut = max(0, column - width // 2)
+    printable = "".join(sign if sign.isprintable() else "?" for sign in line[cut : cut + width])
+    return [f"  {printable}", "  " + " " * (column - cut) + "^"]
+
+
+def place_of(fault, text, offset):
+    return placed(text, offset, fault.name) if text else []
+
+
+def placed(text, offset, what):
+    """A place of a text in its file, and its line."""
+    at = text.place_in_file(offset)
+    row, column = line_and_column(text.original, at)
+    return [f"{text.name}:{row}:{column}: {what}", *shown(text.original, at)]
+
+
+# ---- what only the texts can tell
+
+
+def seen_in_texts(number, behind, request, texts):
+    """Further lines for faults without a place, where the texts can be read."""
+    seen = {17: acceptance_line, 21: clashing_edges, 72: wrong_symbols}.get(number)
+    if not seen or texts[0].kind is not Kind.AUTOMATON:
+        return []
+    try:
+        return seen(behind, request, texts)
+    except Unreadable:
+        return []
+
+
+def acceptance_line(_behind, _request, texts):
+    found = re.search(rb"(?m)\bAcceptance:", texts[0].bytes)
+    return placed(texts[0], found.start(), "NonParity") if found else []
+
+
+def byte_place(text, place):
+    """The byte at which a character of the string stands."""
+    return len(text.string[:place].encode("utf-8", "surrogateescape"))
+
+
+def clashing_edges(behind, _request, texts):
+    """The two edges, and a letter that both of them take."""
+    state, first, second = map(int, re.findall(r"\d+", behind))
+    read = automaton.read(texts[0].string)
+    edges = [read.edges[state][number] for number in (first, second)]
+    told = []
+    for number, edge in zip((first, second), edges):
+        told += placed(texts[0], byte_place(texts[0], edge.offset), f"edge {number} of state {read.title_of(state)}")
+    letter = labels.meeting([edge.label for edge in edges], read.aliases)
+    if letter is not None:
+        said = labels.letter_text(letter, read.names)
+        told.append(f"both take the letter {said}" if said else "both take each letter")
+    return told
+
+
+def wrong_symbols(_behind, request, texts):
+    """Which names are missing among the circuit's symbols, and which are too many."""
+    read, judged = automaton.read(texts[0].string), circuit.read(texts[1].string)
+    environment, controller = ([name for _, name in owned] for owned in read.owners())
+    inputs, outputs = (controller, environment) if request.has(ENV) else (environment, controller)
+    return [*differing("inputs", "i", inputs, judged), *differing("outputs", "o", outputs, judged)]
+
+
+def differing(title, kind, wanted, judged):
+    """How the symbols of the inputs, or of the outputs, differ from the names that are wanted."""
+    there = [judged.symbols.get((kind, number)) for number in range(len(judged.names(kind)))]
+    spare = Counter(filter(None, there)) - Counter(wanted)
+    parts = [("missing", [name for name in wanted if name not in set(there)]), ("too many", list(spare)), ("without a name", [str(there.count(None))])]
+    said = [f"{word} {', '.join(names)}" for word, names in parts if names and names != ["0"]]
+    return [f"among the circuit's {title}: {'; '.join(said)}"] if said else []

@@ -1,0 +1,106 @@
+"""Families of parity games by name, each made by a rule from a number, so that the same name gives the same text everywhere."""
+from psyntool.texts.game import Game, Vertex
+
+MOST_VERTICES = 1_000_000
+# Of the generator behind `random`: Knuth's MMIX.
+FACTOR, SUMMAND, WORD = 6364136223846793005, 1442695040888963407, 2**64
+
+
+def game_of(rows):
+    """The game of rows: priority, owner, successors; a vertex's id is its place."""
+    return Game(tuple(Vertex(place, priority, owner, tuple(dict.fromkeys(to)), None) for place, (priority, owner, to) in enumerate(rows)))
+
+
+class Draw:
+    """Numbers that look drawn, and are the same each time."""
+
+    def __init__(self, seed):
+        self.state = seed
+
+    def below(self, limit):
+        self.state = (self.state * FACTOR + SUMMAND) % WORD
+        return (self.state >> 33) % limit
+
+
+def path(n):
+    """A path of n vertices, each of another priority, to a loop that player 0 wins."""
+    last = n - 1 - (n - 1) % 2
+    return [(v, v % 2, [min(v + 1, last)]) for v in range(n)]
+
+
+def loops(n):
+    """n vertices with a loop each, and a priority each."""
+    return [(v, v % 2, [v]) for v in range(n)]
+
+
+def ring(n):
+    """A ring of n vertices with priorities 0 to 3 in turn, each with a way back to the first."""
+    return [(v % 4, v // 2 % 2, [(v + 1) % n, 0]) for v in range(n)]
+
+
+def clique(n):
+    """n vertices with an edge to each, a priority each, owners in turn."""
+    return [(v, v % 2, [w for w in range(n) if w != v] or [v]) for v in range(n)]
+
+
+def buchi(n):
+    """A Büchi game of n vertices: each tenth one has priority 2, two edges each."""
+    draw = Draw(n)
+    return [(2 if v % 10 == 0 else 1, draw.below(2), [draw.below(n), draw.below(n)]) for v in range(n)]
+
+
+def random(n):
+    """n vertices with a priority below n, drawn, as owners and two or three edges are."""
+    draw = Draw(n)
+    return [(draw.below(n), draw.below(2), [draw.below(n) for _ in range(2 + draw.below(2))]) for _ in range(n)]
+
+
+def jurdzinski(n):
+    """After Jurdzinski's games, on which lifting counts one by one is slow: n rows of n boxes with priorities of their own."""
+    width = 2 * n + 1
+    rows = []
+    for row in range(n):
+        for place in range(width):
+            here = row * width + place
+            if place % 2:
+                rows.append((2 * row + 1, 1, [here - 1, here + 1]))
+            else:
+                below = (row + 1) % n * width + place
+                rows.append((2 * row + 2 if place == width - 1 else 0, 0, [below, *([here + 1] if place < width - 1 else [here - 1])]))
+    return rows
+
+
+def ladder(n):
+    """n rungs of five vertices, after Friedmann's recursive ladder: recursion takes exponential time (docs/HARD_GAMES.md)."""
+    return rungs(n, (1, 0, 1, 0, 0), (None, None, 4, 3, 5))
+
+
+def ladder2(n):
+    """The same shape with two priorities of a rung exchanged and other owners: half as hard."""
+    return rungs(n, (0, 1, 0, 1, 1), (None, None, 3, 4, 5))
+
+
+def rungs(n, owners, priorities):
+    """Rungs of five vertices: the edges of each by place in the rung and how many rungs further on."""
+    edges = ([(1, 0)], [(0, 0), (2, 1)], [(1, 0), (3, 0)], [(4, 0), (3, -1)], [(1, 1), (3, 0)])
+    rows = []
+    for rung in range(n):
+        for place in range(5):
+            priority = 1 - rung % 2 if priorities[place] is None else 3 * rung + priorities[place]
+            to = [5 * (rung + on) + other for other, on in edges[place] if 0 <= rung + on < n]
+            rows.append((priority, (rung + owners[place]) % 2, to))
+    return rows
+
+
+# Each with how many vertices it has for a number.
+FAMILIES = {
+    "buchi": (buchi, lambda n: n),
+    "clique": (clique, lambda n: n * n),
+    "jurdzinski": (jurdzinski, lambda n: n * (2 * n + 1)),
+    "ladder": (ladder, lambda n: 5 * n),
+    "ladder2": (ladder2, lambda n: 5 * n),
+    "loops": (loops, lambda n: n),
+    "path": (path, lambda n: n),
+    "random": (random, lambda n: n),
+    "ring": (ring, lambda n: n),
+}

@@ -1,0 +1,159 @@
+"""Reads files, and maps places of what the program reads back to them."""
+import bisect
+import re
+
+from psyntool import console, program
+from psyntool.ends import Refused
+from psyntool.kinds import Kind, kind_of
+from psyntool.texts import binary, is_number
+
+BYTE_ORDER_MARK = b"\xef\xbb\xbf"
+OTHER_MARKS = (b"\xff\xfe", b"\xfe\xff")
+
+
+class Text:
+    """One text of the input: its bytes as the program reads them, and where they stand in the file."""
+
+    def __init__(self, kind, name, original):
+        self.kind, self.name, self.original = kind, name, original
+        self.bytes = original
+        self.told = []
+        # places of the text from which on it lies further behind in the file, with the distance
+        self.shifts = [(0, 0)]
+
+    @property
+    def string(self):
+        """The text with the bytes that are no UTF-8 kept as they are."""
+        return self.bytes.decode("utf-8", "surrogateescape")
+
+    @property
+    def looks_like(self):
+        return kind_of(self.bytes)
+
+    def place_in_file(self, offset):
+        """The offset in the file of a byte of the text."""
+        at = bisect.bisect_right([start for start, _ in self.shifts], offset) - 1
+        return min(offset + self.shifts[at][1], len(self.original))
+
+    def drop_mark(self):
+        """Drops a byte order mark, which is no part of any format; editors count no column for it."""
+        if self.original.startswith(BYTE_ORDER_MARK):
+            self.original = self.bytes = self.original[len(BYTE_ORDER_MARK) :]
+            self.told.append(f"{self.name}: a byte order mark is left out")
+
+    def drop_returns(self):
+        """Drops the carriage return of each line's end, but none inside a name."""
+        drop = returns_at_line_ends(self.kind, self.bytes)
+        if not drop:
+            return
+        kept, start = [], 0
+        for number, place in enumerate(drop):
+            kept.append(self.bytes[start:place])
+            start = place + 1
+            self.shifts.append((place - number, number + 1))
+        self.bytes = b"".join([*kept, self.bytes[start:]])
+        self.told.append(f"{self.name}: {len(drop)} carriage return(s) at line ends are left out")
+
+    def end_with_newline(self):
+        if self.bytes and not self.bytes.endswith(b"\n"):
+            self.bytes += b"\n"
+            self.told.append(f"{self.name}: the last line is ended by a newline")
+
+    def zero_resets(self):
+        """Writes reset 0 for each unset latch of a circuit (its own literal as reset)."""
+        lines = self.bytes.split(b"\n")
+        header = lines[0].split()
+        if len(header) < 6 or header[0] != b"aag" or not all(map(is_number, header[1:])):
+            return
+        first, count, changed = 1 + int(header[2]), int(header[3]), 0
+        for place in range(first, min(first + count, len(lines))):
+            fields = lines[place].split()
+            if len(fields) == 3 and fields[0] == fields[2]:
+                # as long as before, so that no offset moves
+                lines[place] = fields[0] + b" " + fields[1] + b" " + b"0" * len(fields[2])
+                changed += 1
+        if changed:
+            self.bytes = b"\n".join(lines)
+            self.told.append(f"{self.name}: {changed} unset latch(es) begin with 0")
+
+
+def returns_at_line_ends(kind, text):
+    """The places of the carriage returns that end a line together with a newline and are in no name."""
+    ends = [found.start() for found in re.finditer(rb"\r\n", text)]
+    if text.endswith(b"\r"):
+        ends.append(len(text) - 1)
+    if kind in (Kind.GAME, Kind.AUTOMATON):
+        name = rb'"(?:\\.|[^"\\])*"' if kind is Kind.AUTOMATON else rb'"[^"]*"'
+        inside = {found.start() + at.start() for found in re.finditer(name, text, re.S) for at in re.finditer(rb"\r", found[0])}
+        return [place for place in ends if place not in inside]
+    if kind is Kind.CIRCUIT and len(ends) < text.count(b"\n"):
+        # lines are ended in two ways: a return at the end of a symbol may be part of its name
+        return [place for place in ends if text[text.rfind(b"\n", 0, place) + 1 : place][:1] not in (b"i", b"l", b"o")]
+    return ends
+
+
+class Reader:
+    """Reads the files of one command line: all together no more than the program takes, and one byte."""
+
+    def __init__(self, settings):
+        self.settings, self.left, self.has_input = settings, program.MOST_BYTES + 1, False
+
+    def bytes_of(self, path):
+        if path == "-":
+            data = console.read(self.left)
+        else:
+            try:
+                with open(path, "rb") as file:
+                    data = file.read(self.left)
+            except OSError as error:
+                raise Refused(f"{path}: {error.strerror}") from None
+        self.left -= len(data)
+        return data
+
+    def text(self, kind, path):
+        """The text of a file (`-` is standard input), mended as the settings say; a kind FILE is found by how it begins."""
+        name, original = "standard input" if path == "-" else path, self.bytes_of(path)
+        kind = (kind_of(original) or kind) if kind is Kind.FILE else kind
+        if kind is Kind.CIRCUIT and original.startswith(b"aig "):
+            original = self.converted(name, original)
+        elif original.startswith(OTHER_MARKS):
+            raise Refused(f"{name}: this is text in UTF-16: write it in UTF-8")
+        elif b"\0" in original[:4096]:
+            raise Refused(f"{name}: this is no text (it holds a byte 0)")
+        text = Text(kind, name, original)
+        text.drop_mark()
+        if not self.settings.keep_returns:
+            text.drop_returns()
+        if kind is Kind.CIRCUIT and self.settings.zero_resets:
+            text.zero_resets()
+        if self.left:
+            text.end_with_newline()
+        if not self.settings.quiet:
+            console.tell(*text.told)
+        return text
+
+    def converted(self, name, original):
+        """A circuit in the binary form of AIGER as an ASCII text."""
+        try:
+            text = binary.ascii_form(original)
+        except binary.Broken as error:
+            raise Refused(f"{name}: this is the binary form of AIGER, and can't be converted: {error}") from None
+        if not self.settings.quiet:
+            console.tell(f"{name}: converted from the binary form of AIGER; places are those of the ASCII form")
+        return text
+
+    def texts(self, kinds, paths):
+        if paths.count("-") > 1:
+            raise Refused("standard input can be one of the files only")
+        return [self.text(kind, path) for kind, path in zip(kinds, paths)]
+
+
+def joined(command, flags, texts):
+    """The whole input: the command line, and the texts with a line %% between."""
+    for text in texts[:-1]:
+        found = re.search(rb"(?m)^%%$", text.bytes)
+        if found:
+            line = text.bytes[: found.start()].count(b"\n") + 1
+            raise Refused(f"{text.name}:{line}: a line %% ends the text there, since another text stands behind it: take it out")
+    head = " ".join([command, *flags]).encode() + b"\n"
+    return head + b"%%\n".join(text.bytes for text in texts)

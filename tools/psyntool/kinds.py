@@ -1,0 +1,48 @@
+"""Kinds of texts: what each is called, what its files end in, and by what its beginning is known."""
+import enum
+import re
+
+# So much of a text is looked at.
+BEGINNING = 4096
+
+
+class Kind(enum.Enum):
+    """A kind of text: its name, and the endings that names of its files mostly have, the one that psyn writes first."""
+
+    AUTOMATON = ("automaton", ("hoa",))
+    GAME = ("game", ("pg", "gm"))
+    CERTIFICATE = ("certificate", ("cert",))
+    CIRCUIT = ("circuit", ("aag", "aig"))
+    STIMULUS = ("stimulus", ("stim",))
+    SOLUTION = ("solution", ("sol", "paritysol"))
+    ANSWER = ("answer of synth", ())
+    FILE = ("file", ("hoa", "pg", "gm", "cert", "aag", "aig", "txt"))
+
+    def __init__(self, title, endings):
+        self.title, self.endings = title, endings
+
+    @property
+    def word(self):
+        """As a command line has it."""
+        return self.title.upper()
+
+    @property
+    def with_article(self):
+        return f"{'an' if self.title[0] in 'aeiou' else 'a'} {self.title}"
+
+
+SIGNS = [
+    (Kind.AUTOMATON, rb"\s*HOA\s*:"),
+    (Kind.CERTIFICATE, rb"\s*psyncert\b"),
+    (Kind.CIRCUIT, rb"\s*a[ai]g\s+\d"),
+    (Kind.SOLUTION, rb"\s*paritysol\b"),
+    (Kind.ANSWER, rb"(UN)?REALIZABLE\r?\n"),
+    (Kind.STIMULUS, rb"\n*([01]+|-)\r?(\n|$)"),
+    (Kind.GAME, rb"\s*(parity|start)\s+\d+\s*;|\s*\d+\s+\d+\s+[01]\s+\d+"),
+]
+
+
+def kind_of(data):
+    """What a text looks like by how it begins, comments of an automaton left out; None where that says nothing."""
+    beginning = re.sub(rb"(?s)\A\s*/\*.*?\*/", b"", data[:BEGINNING])
+    return next((kind for kind, sign in SIGNS if re.match(sign, beginning)), None)

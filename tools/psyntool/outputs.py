@@ -1,0 +1,48 @@
+"""Files that are written whole or not at all: under names of their own first, and renamed when all are there."""
+import os
+
+from psyntool.ends import Refused, Unwritten
+
+
+def checked(paths, flag, prefix):
+    """The paths, where files can be there: so that a long run is not in vain."""
+    folder, begin = os.path.split(prefix)
+    if not begin or begin in (os.curdir, os.pardir):
+        raise Refused(f"{flag}: {prefix!r} names a folder; the beginning of the names of files is wanted")
+    if not os.path.isdir(folder or os.curdir):
+        raise Refused(f"{flag}: there is no folder {folder}")
+    if not os.access(folder or os.curdir, os.W_OK | os.X_OK):
+        raise Refused(f"{flag}: nothing can be written to the folder {folder or os.curdir}")
+    for path in paths:
+        if os.path.isdir(path):
+            raise Refused(f"{flag}: {path} is a folder")
+    return paths
+
+
+def write_all(texts):
+    """Writes texts to the files that they are given for: all of them, or none is touched."""
+    drafts = {}
+    try:
+        for path, text in texts.items():
+            drafts[path] = f"{path}.{os.getpid()}.part"
+            written(drafts[path], text)
+        for path in texts:
+            os.replace(drafts[path], path)
+            del drafts[path]
+    except OSError as error:
+        raise Unwritten(f"{path}: {error.strerror}") from None
+    finally:
+        for draft in drafts.values():
+            gone(draft)
+
+
+def written(path, text):
+    with open(path, "xb") as file:
+        file.write(text.encode("utf-8", "surrogateescape"))
+
+
+def gone(path):
+    try:
+        os.remove(path)
+    except OSError:
+        pass

@@ -1,0 +1,1 @@
+"""Pictures of games, automata and circuits, as Graphviz DOT."""

@@ -1,0 +1,67 @@
+"""Pictures of automata."""
+import html
+
+from psyntool.pictures.dot import FONT, WIDTH, legend, quoted, within, wrapped
+
+LONGEST_NAME_IN_A_CIRCLE = 8
+# Above so many pairs of states with edges, labels stand in tables at the states, so that none lies on another.
+FEW_EDGES = 8
+TABLE_WIDTH = 48
+
+
+def picture(automaton, reach=None):
+    """States, and edges with their labels and sets; the title says the acceptance and who owns each proposition."""
+    targets = {state: [edge.target for edge in automaton.edges.get(state, ())] for state in automaton.states}
+    drawn = within("automaton", len(automaton.states), [automaton.start], targets.get, reach, "its start")
+    states = [state for state in automaton.states if drawn is None or state in drawn]
+    between = {}
+    for state in states:
+        for edge in automaton.edges.get(state, ()):
+            if drawn is None or edge.target in drawn:
+                between.setdefault(state, {}).setdefault(edge.target, []).append(edge)
+    lines = ["digraph automaton {", FONT, "  rankdir=LR; nodesep=0.3; ranksep=0.4;", automaton_legend(automaton, drawn is not None), "  node [shape=circle];"]
+    lines += ["  begin [shape=point];", f"  begin -> s{automaton.start};"]
+    if sum(map(len, between.values())) <= FEW_EDGES:
+        lines += [state_line(state, automaton.state_names.get(state, "")) for state in states]
+        lines += [edge_line(automaton, source, *one) for source, targets in between.items() for one in targets.items()]
+    else:
+        lines += [state_table(automaton, state, between.get(state, {})) for state in states]
+        lines += [f"  s{source}:t{target} -> s{target};" for source, targets in between.items() for target in targets if source != target]
+    return "\n".join([*lines, "}", ""])
+
+
+def label_of(automaton, edge, width=WIDTH):
+    """An edge's label with the names of propositions, and its sets."""
+    marks = " ".join(map(str, sorted(edge.marks)))
+    return wrapped(automaton.written(edge.label), "&|", width) + (f" {{{marks}}}" if marks else "")
+
+
+def state_line(state, name):
+    """A state is a circle with its number, or a box where its name is long."""
+    if len(name) <= LONGEST_NAME_IN_A_CIRCLE:
+        return f"  s{state} [label={quoted(f'{state} {name}'.strip())}];"
+    said = f"{state}\n{wrapped(name, ',;')}"
+    return f"  s{state} [shape=box, style=rounded, label={quoted(said)}];"
+
+
+def edge_line(automaton, source, target, edges):
+    label = "\n".join(label_of(automaton, edge) for edge in edges)
+    return f"  s{source} -> s{target} [label={quoted(label)}];"
+
+
+def state_table(automaton, state, targets):
+    """A state as a table: its number and name, and a row for each target, with the labels of the edges that lead there."""
+    head = html.escape(wrapped(automaton.title_of(state), ",;")).replace("\n", "<br/>")
+    rows = [f'<tr><td bgcolor="lightgrey">{head}</td></tr>']
+    for target, edges in targets.items():
+        label = html.escape("\n".join(label_of(automaton, edge, TABLE_WIDTH) for edge in edges)).replace("\n", '<br align="left"/>')
+        rows.append(f'<tr><td port="t{target}" align="left" balign="left">{label}<br align="left"/>   to {target}</td></tr>')
+    return f'  s{state} [shape=plain, label=<<table border="1" cellborder="0" cellspacing="0" cellpadding="3">{"".join(rows)}</table>>];'
+
+
+def automaton_legend(automaton, is_cut):
+    owned = [", ".join(name for _, name in these) or "nothing" for these in automaton.owners()]
+    rows = [("acceptance", automaton.acceptance, ""), ("environment", owned[0], ""), ("controller", owned[1], "")]
+    if any(edge.marks for edges in automaton.edges.values() for edge in edges):
+        rows.append(("{0}", "the edge is in set 0", ""))
+    return legend([*rows, *([("", "what lies further on is not drawn", "")] if is_cut else [])])

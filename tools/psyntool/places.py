@@ -1,0 +1,18 @@
+"""Where the tool stands: in the repository, or where it was installed; and how it is called there."""
+import os
+
+TOP = os.path.dirname(os.path.dirname(os.path.dirname(os.path.realpath(__file__))))
+IS_REPOSITORY = os.path.isdir(os.path.join(TOP, "crates"))
+NAME = "tools/psyn" if IS_REPOSITORY else "psyn"
+# The program: as `rt run` leaves it, or as it was installed.
+PROGRAM = os.path.join(TOP, "crates", "psyn", "out", "psyn") if IS_REPOSITORY else os.path.join(TOP, "psyn")
+HOW_TO_HAVE_IT = "run `rt run < stdin` in crates/psyn once" if IS_REPOSITORY else "install psyn once more"
+
+
+def stored(*path):
+    """What stands in a file of the repository, or of the installed tool; empty where it is not there."""
+    try:
+        with open(os.path.join(TOP, *path), encoding="utf-8") as file:
+            return file.read()
+    except OSError:
+        return ""

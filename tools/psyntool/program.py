@@ -1,0 +1,140 @@
+"""The program: where it is, what it answers to an input, and how the tool becomes it."""
+import os
+import signal
+import subprocess
+import tempfile
+import time
+from dataclasses import dataclass
+
+from psyntool import console, places, signals
+from psyntool.ends import Refused
+
+try:
+    import ctypes
+except ImportError:
+    ctypes = None
+
+PR_SET_PDEATHSIG = 1
+# The program reads no more, and answers fault 25 to one byte more.
+MOST_BYTES = 67_108_864
+STATUSES = {0: b"", 10: b"REALIZABLE\n", 20: b"UNREALIZABLE\n", 1: b"fault ", 2: b"fault "}
+CLOCK_FROM = 2
+
+
+@dataclass(frozen=True)
+class Answer:
+    """What the program wrote, its status, and what ended it too early, or an empty word."""
+
+    bytes: bytes
+    status: int
+    died: str
+
+    @property
+    def text(self):
+        return self.bytes.decode("utf-8", "replace")
+
+    @property
+    def is_fault(self):
+        return self.bytes.startswith(b"fault ")
+
+
+def path():
+    """The path of the program: $PSYN, or the one that was installed or built."""
+    named = os.environ.get("PSYN")
+    if named and not os.path.isfile(named):
+        raise Refused(f"PSYN={named}: {'this is a folder' if os.path.isdir(named) else 'there is no such file'}, and no program")
+    if not named and not os.path.isfile(places.PROGRAM):
+        raise Refused(f"the program is not there: {places.HOW_TO_HAVE_IT}, or name it by PSYN=FILE")
+    return os.path.abspath(named or places.PROGRAM)
+
+
+def title():
+    """How the program is called in messages."""
+    named = os.environ.get("PSYN")
+    return f"PSYN={named}" if named else places.PROGRAM
+
+
+def before_it_runs():
+    """What a child does before it becomes the program: it asks to be killed when the tool is gone, where the system can do that."""
+    control, tool = getattr(ctypes.CDLL(None), "prctl", None) if ctypes else None, os.getpid()
+
+    def prepare():
+        signals.give_back()
+        signals.let_go()
+        if control:
+            control(PR_SET_PDEATHSIG, signal.SIGKILL)
+        if os.getppid() != tool:
+            os.kill(os.getpid(), signal.SIGKILL)
+
+    return prepare
+
+
+def started():
+    program = path()
+    try:
+        return subprocess.Popen([program], stdin=subprocess.PIPE, stdout=subprocess.PIPE, preexec_fn=before_it_runs())
+    except OSError as error:
+        raise Refused(f"{title()} can't be run: {error.strerror}") from None
+
+
+def waited_for(child, given):
+    """What the child writes; a terminal is shown how long it has been at work."""
+    if not console.is_terminal():
+        return child.communicate(given)[0]
+    began, shown = time.monotonic(), False
+    try:
+        while True:
+            try:
+                return child.communicate(given, timeout=1)[0]
+            except subprocess.TimeoutExpired:
+                given, seconds = None, time.monotonic() - began
+                shown = seconds >= CLOCK_FROM
+                console.put(f"\r{seconds:.0f} s" if shown else "")
+    finally:
+        console.put("\r      \r" if shown else "")
+
+
+def ask(given):
+    """The program's answer to an input."""
+    child = None
+    try:
+        signals.hold()
+        child = started()
+        signals.let_go()
+        written = waited_for(child, given)
+    finally:
+        signals.let_go()
+        if child:
+            end(child)
+    return Answer(written, child.returncode, why_died(written, child.returncode))
+
+
+def end(child):
+    if child.poll() is None:
+        child.kill()
+    child.wait()
+    child.stdin.close()
+    child.stdout.close()
+
+
+def why_died(written, status):
+    """What ended the program before its answer was whole; empty where it ended as it does."""
+    if status < 0:
+        return f"the program was ended by {signals.name_of(-status)} before its answer was whole"
+    if not written.startswith(STATUSES.get(status, b"\0")):
+        return f"the program ended with status {status} and no answer of psyn"
+    return ""
+
+
+def become(given):
+    """Becomes the program, which reads the input and writes its answer by itself."""
+    with tempfile.TemporaryFile() as file:
+        file.write(given)
+        file.seek(0)
+        os.dup2(file.fileno(), console.INPUT)
+    program = path()
+    signals.give_back()
+    try:
+        os.execv(program, [program])
+    except OSError as error:
+        raise Refused(f"{title()} can't be run: {error.strerror}") from None

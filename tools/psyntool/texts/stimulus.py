@@ -1,0 +1,27 @@
+"""Stimuli: a line for each letter, and of a lasso a line `-` between the stem and the lap."""
+from dataclasses import dataclass
+
+from psyntool.texts import Unreadable
+
+
+@dataclass(frozen=True)
+class Stimulus:
+    """The letters of the stem, and those of the lap, which come again and again; a lap of None is that of a plain stimulus."""
+
+    stem: tuple
+    lap: tuple | None
+
+    def letters(self, count):
+        """The first so many letters of a lasso."""
+        behind = max(0, count - len(self.stem))
+        return [*self.stem[:count], *(self.lap[place % len(self.lap)] for place in range(behind))]
+
+
+def read(text):
+    lines = text.split("\n")[:-1]
+    marks = [place for place, line in enumerate(lines) if line == "-"]
+    if len(marks) > 1 or any(set(line) - set("01") for line in lines if line != "-"):
+        raise Unreadable("this is no stimulus: run `lasso` or `sim` to see where it goes wrong")
+    if not marks:
+        return Stimulus(tuple(lines), None)
+    return Stimulus(tuple(lines[: marks[0]]), tuple(lines[marks[0] + 1 :]))

@@ -1,0 +1,77 @@
+"""Takes a command line apart: flags stand anywhere, and what is unknown is named with the nearest that is known."""
+import difflib
+import os
+
+from psyntool import places
+from psyntool.command import EVERYWHERE, HELP, SHORT, VERSION, Request
+from psyntool.ends import Refused
+from psyntool.kinds import Kind
+
+
+def nearest(word, known):
+    """A hint at the known word that is nearest, if one is near; dashes make no word near."""
+    bare = {one.strip("-"): one for one in known}
+    found = difflib.get_close_matches(word.strip("-"), bare, 1)
+    return f" (did you mean {bare[found[0]]}?)" if found else ""
+
+
+def split(words, flags):
+    """The flags with their values, and the other words. Behind `--` no word is a flag; one that names a file is none either."""
+    given, others, waiting = {}, [], list(words)
+    while waiting:
+        word = waiting.pop(0)
+        name, equals, value = word.partition("=")
+        name = SHORT.get(name, name)
+        if word == "--":
+            others += waiting
+            break
+        if name not in flags:
+            if word.startswith("-") and word != "-" and (not others or not os.path.exists(word)):
+                raise Refused(f"there is no flag {name}{nearest(name, flags)}; `{places.NAME} help` lists them")
+            others.append(word)
+            continue
+        flag = flags[name]
+        if name in given:
+            raise Refused(f"{name} stands twice")
+        if not flag.value and equals:
+            raise Refused(f"{name} takes no value")
+        if flag.value and not equals and not waiting:
+            raise Refused(f"{name} wants {flag.value} behind it")
+        given[name] = (value if equals else waiting.pop(0)) if flag.value else True
+    return given, others
+
+
+def request_of(words, commands):
+    """What a command line asks for. Without a command that is `help`, and with --version `version`."""
+    flags = {flag.name: flag for command in commands.values() for flag in command.all_flags}
+    flags.update({flag.name: flag for flag in EVERYWHERE})
+    given, others = split(words, flags)
+    if VERSION.name in given:
+        return Request(commands["version"], given, [], commands)
+    if not others or HELP.name in given:
+        return Request(commands["help"], given, others[:1], commands)
+    name = others.pop(0)
+    if name not in commands:
+        raise Refused(f"there is no command {name}{nearest(name, commands)}; `{places.NAME} help` lists them")
+    command = commands[name]
+    check_flags(command, given, commands)
+    check_count(command, given, others)
+    return Request(command, given, others, commands)
+
+
+def check_flags(command, given, commands):
+    known = {flag.name for flag in (*command.all_flags, *EVERYWHERE)}
+    for flag in given:
+        if flag not in known:
+            having = [name for name, other in commands.items() if flag in {it.name for it in other.all_flags}]
+            raise Refused(f"{command.name} has no flag {flag}: it is for {', '.join(having)}")
+
+
+def check_count(command, given, words):
+    wanted = command.wanted(given)
+    most, least = len(wanted), len([word for word in wanted if not word.startswith("[")])
+    if not least <= len(words) <= most:
+        what = " ".join([command.name, *(name for name in given if name in command.behind)])
+        unit = "file" if all(isinstance(kind, Kind) for kind in command.reads) else "word"
+        count = f"{len(words)} {unit}{'' if len(words) == 1 else 's'}"
+        raise Refused(f"{what} reads {' '.join(wanted) or 'no file'}, and got {count}")

@@ -1,0 +1,37 @@
+"""The families of games by name: each game is one, as large as it is said to be, and the same each time."""
+import subprocess
+import unittest
+
+from psyntool import families
+from psyntool.program import path as program
+from psyntool.texts import game
+
+
+class Families(unittest.TestCase):
+    def test_each_is_a_game_that_psyn_solves(self):
+        for name, (make, size_of) in families.FAMILIES.items():
+            for number in (1, 2, 3, 7):
+                made = families.game_of(make(number))
+                text = made.text()
+                with self.subTest(name=name, number=number):
+                    self.assertEqual(game.read(text), made)
+                    self.assertEqual(text, families.game_of(make(number)).text())
+                    self.assertLessEqual(len(made.vertices), size_of(number))
+                    certificate = self.answer(f"solve\n{text}")
+                    self.assertEqual(self.answer(f"check\n{text}%%\n{certificate}"), "valid\n")
+
+    def answer(self, given):
+        return subprocess.run([program()], input=given.encode(), stdout=subprocess.PIPE, check=False).stdout.decode()
+
+    def test_a_ladder_has_five_vertices_a_rung_and_all_priorities(self):
+        made = families.game_of(families.ladder(24))
+        self.assertEqual((len(made.vertices), max(made.priorities)), (120, 3 * 23 + 5))
+        self.assertEqual(made.vertices[:3], game.read("0 1 1 1; 1 1 0 0,7; 2 4 1 1,3; 3 3 0 4; 4 5 0 3,9; 7 0 0 7; 9 0 0 9;").vertices[:3])
+
+    def test_a_path_counts_all_its_odd_priorities(self):
+        made = families.game_of(families.path(6))
+        self.assertEqual(made.text(), "parity 5;\n0 0 0 1;\n1 1 1 2;\n2 2 0 3;\n3 3 1 4;\n4 4 0 4;\n5 5 1 4;\n")
+
+
+if __name__ == "__main__":
+    unittest.main()

@@ -1,0 +1,133 @@
+"""Completions of psyn for bash and zsh, written from the table of commands: flags, commands, and files by their kinds."""
+from psyntool.command import EVERYWHERE
+from psyntool.families import FAMILIES
+from psyntool.kinds import Kind
+from psyntool.table import COMMANDS
+
+HEAD = "# completion of psyn for {}; written by tools/release and tools/install from the table of commands"
+BASH = """\
+_psyn() {
+  # a word may be quoted so far
+  local word=${COMP_WORDS[COMP_CWORD]//\\\\/} before=${COMP_WORDS[COMP_CWORD - 1]}
+  word=${word#[\\"\\']}
+  local command= flags= words= endings= name place=0 at kinds=() all=() those=()
+  for ((at = 1; at < COMP_CWORD; at++)); do
+    case ${COMP_WORDS[at]} in
+      @VALUED@) ((at++)) ;;
+      -?*) ;;
+      *) if [[ -z $command ]]; then command=${COMP_WORDS[at]}; else ((place++)); fi ;;
+    esac
+  done
+  case $command in
+    '') words='@COMMANDS@' ;;
+@CASES@
+  esac
+  case $before in
+    -o) mapfile -t COMPREPLY < <(compgen -f -- "$word"); return ;;
+    @NUMBERED@) COMPREPLY=(); return ;;
+  esac
+  if [[ $word == -* ]]; then
+    mapfile -t COMPREPLY < <(compgen -W "$flags @EVERYWHERE@" -- "$word")
+    return
+  fi
+  [[ -n $words ]] && mapfile -t COMPREPLY < <(compgen -W "$words" -- "$word") && return
+  endings=${kinds[place]:-}
+  mapfile -t all < <(compgen -f -- "$word")
+  for name in "${all[@]}"; do
+    if [[ -d $name || -n $endings && $name =~ \\.($endings)$ ]]; then those+=("$name"); fi
+  done
+  # where no name has an ending of the kind, any file may be meant
+  COMPREPLY=("${those[@]}")
+  [[ ${#those[@]} -gt 0 ]] || COMPREPLY=("${all[@]}")
+}
+complete -o filenames -F _psyn psyn
+"""
+ZSH = """\
+_psyn() {
+  local -a commands flags words_here kinds
+  local command= at place=1
+  commands=(@COMMANDS@)
+  for ((at = 2; at < CURRENT; at++)); do
+    case ${words[at]} in
+      @VALUED@) ((at++)) ;;
+      -?*) ;;
+      *) if [[ -z $command ]]; then command=${words[at]}; else ((place++)); fi ;;
+    esac
+  done
+  case $command in
+@CASES@
+  esac
+  flags+=(@EVERYWHERE@)
+  if [[ -z $command ]]; then
+    _describe 'command' commands
+  elif [[ ${#words_here} -gt 0 ]]; then
+    _describe 'word' words_here
+  elif [[ -n ${kinds[place]} ]]; then
+    _files -g "*.(${kinds[place]})(-.)"
+  else
+    _files
+  fi
+  _describe -o 'flag' flags
+}
+_psyn "$@"
+"""
+
+
+def filled(template, **parts):
+    for name, text in parts.items():
+        template = template.replace(f"@{name.upper()}@", text)
+    return template
+
+
+def valued():
+    """The flags behind which a value stands."""
+    return {flag.name: flag.value for command in COMMANDS.values() for flag in command.all_flags if flag.value}
+
+
+def endings(command):
+    """For each file that the command reads the endings of its kind."""
+    return ["|".join(kind.endings) for kind in (*command.reads, *command.behind.values()) if isinstance(kind, Kind)]
+
+
+def words_of(command):
+    """The words that may stand behind a command in the place of files."""
+    return {"help": list(COMMANDS), "games": list(FAMILIES)}.get(command.name, [])
+
+
+def bash():
+    cases = []
+    for command in COMMANDS.values():
+        parts = [f"flags='{' '.join(flag.name for flag in command.all_flags)}'"]
+        parts += [f"kinds=({' '.join(repr(one) for one in endings(command))})"] if endings(command) else []
+        parts += [f"words='{' '.join(words_of(command))}'"] if words_of(command) else []
+        cases.append(f"    {command.name}) {'; '.join(parts)} ;;")
+    numbered = [name for name, value in valued().items() if value == "N"]
+    return HEAD.format("bash") + "\n" + filled(
+        BASH,
+        valued=" | ".join(valued()),
+        commands=" ".join(COMMANDS),
+        cases="\n".join(cases),
+        numbered=" | ".join(numbered),
+        everywhere=" ".join(flag.name for flag in EVERYWHERE),
+    )
+
+
+def zsh_words(told):
+    """Words with what they mean, as _describe reads them."""
+    return " ".join("'{}:{}'".format(name, says.replace("'", "'\\''").replace(":", "\\:")) for name, says in told.items())
+
+
+def zsh():
+    cases = []
+    for command in COMMANDS.values():
+        parts = [f"flags=({zsh_words({flag.name: flag.says for flag in command.all_flags})})"]
+        parts += [f"kinds=({' '.join(repr(one) for one in endings(command))})"] if endings(command) else []
+        parts += [f"words_here=({' '.join(words_of(command))})"] if words_of(command) else []
+        cases.append(f"    {command.name}) {'; '.join(parts)} ;;")
+    return "#compdef psyn\n" + HEAD.format("zsh") + "\n" + filled(
+        ZSH,
+        valued="|".join(valued()),
+        commands=zsh_words({name: command.says for name, command in COMMANDS.items()}),
+        cases="\n".join(cases),
+        everywhere=zsh_words({flag.name: flag.says for flag in EVERYWHERE}),
+    )
