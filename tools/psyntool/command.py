@@ -13,11 +13,13 @@ from psyntool.kinds import Kind
 
 @dataclass(frozen=True)
 class Flag:
-    """A flag, its dashes with it, what it says, and what its value is called, if it takes one."""
+    """A flag, its dashes with it, what it says, and what its value is called, if it takes one; one with many values takes the words
+    up to the next flag, and may stand again."""
 
     name: str
     says: str
     value: str = ""
+    many: bool = False
 
     @property
     def shown(self):
@@ -29,6 +31,18 @@ CERT = Flag("--cert", "by a certificate that is given")
 MOORE = Flag("--moore", "outputs before inputs")
 COMPACT = Flag("--compact", "the compact text of a certificate")
 ENV = Flag("--env", "the circuit is an environment")
+TO_FILES = Flag(
+    "-o",
+    "circuit, game and certificate go to PREFIX.aag, PREFIX.pg and PREFIX.cert (then the first line alone is printed), the automaton of "
+    "a core to PREFIX.hoa",
+    "PREFIX",
+)
+# Of specifications in parts.
+ASSUME = Flag("--assume", "parts that are assumed", "PART..", many=True)
+GUARANTEE = Flag("--guarantee", "parts that are guaranteed", "PART..", many=True)
+AS = Flag("--as", "the part before it has other names for its propositions", "OLD=NEW..", many=True)
+OUTS = Flag("--outs", "the controller's propositions, where the parts do not say whose theirs are", "NAME..", many=True)
+STRICT = Flag("--strict", "a guarantee that breaks while no assumption has broken loses at once")
 # Of every command.
 QUIET = Flag("--quiet", "explain nothing")
 KEEP_RETURNS = Flag("--keep-returns", "leave carriage returns where they are")
@@ -118,5 +132,15 @@ class Request:
         return None if said is None else int(said)
 
     def texts(self):
-        """The files that the command reads."""
-        return Reader(self).texts(self.command.kinds(self.given), self.words)
+        """The files that the command reads. What is no kind that a command of the tool wants is refused; the program says so itself."""
+        texts = Reader(self).texts(self.command.kinds(self.given), self.words)
+        wrong = wrong_kinds(self.command, texts)
+        if wrong and not self.command.is_of_the_program:
+            raise Refused(wrong)
+        return texts
+
+
+def wrong_kinds(command, texts):
+    """Which files look like texts of other kinds than the command wants; empty where none does."""
+    said = ", ".join(f"{text.name} is {text.looks_like.with_article}" for text in texts if text.looks_like not in (None, text.kind))
+    return f"{said}; {command.name} wants {' '.join(text.kind.word for text in texts)}" if said else ""

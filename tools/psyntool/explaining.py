@@ -3,11 +3,16 @@ import re
 from collections import Counter
 
 from psyntool import faults
-from psyntool.command import ENV
+from psyntool.command import ENV, wrong_kinds
 from psyntool.kinds import Kind
+from psyntool.program import MOST_BYTES
 from psyntool.texts import Unreadable, automaton, circuit, labels
 
 WIDTH = 100
+# What the tool hands on can always be read, if it is not too long.
+READ_FAULT = 25
+# Longer texts are not read here, since that takes longer than the program does.
+LONGEST = 1 << 21
 PLAYERS_OF_A_GAME = b"spot-state-player:"
 
 
@@ -18,20 +23,15 @@ def lines(request, texts, answer):
         return games_of_spot(texts)
     number = int(found[2]) if found[2] else None
     fault = next((it for it in faults.read_document() if it.number == number and (number or it.name == found[1])), None)
-    told = [*wrong_kinds(request.command, texts), *games_of_spot(texts)]
+    told = [*filter(None, [wrong_kinds(request.command, texts)]), *games_of_spot(texts)]
+    if number == READ_FAULT:
+        return [*told, f"cause: the files have more than {MOST_BYTES:,} bytes together, the most that psyn reads"]
     if fault and fault.kind and found[4]:
         told += place_of(fault, next((it for it in texts if it.kind is fault.kind), None), int(found[4]))
     told += seen_in_texts(number, found[5] or "", request, texts)
     if number is None:
         return [*told, "cause: this program knows no such command line: it is not of the same version as this tool"]
     return told + [f"{word.lower()}: {fault.entries[word]}" for word in ("Cause", "Place", "Mend") if fault and word in fault.entries]
-
-
-def wrong_kinds(command, texts):
-    """Which files look like texts of other kinds than the command wants."""
-    other = [text for text in texts if text.looks_like not in (None, text.kind)]
-    said = ", ".join(f"{text.name} is {text.looks_like.with_article}" for text in other)
-    return [f"{said}; {command.name} wants {' '.join(text.kind.word for text in texts)}"] if other else []
 
 
 def games_of_spot(texts):
@@ -78,7 +78,7 @@ def placed(text, offset, what):
 def seen_in_texts(number, behind, request, texts):
     """Further lines for faults without a place, where the texts can be read."""
     seen = {17: acceptance_line, 21: clashing_edges, 72: wrong_symbols}.get(number)
-    if not seen or texts[0].kind is not Kind.AUTOMATON:
+    if not seen or texts[0].kind is not Kind.AUTOMATON or any(len(text.bytes) > LONGEST for text in texts):
         return []
     try:
         return seen(behind, request, texts)
@@ -114,8 +114,10 @@ def clashing_edges(behind, _request, texts):
 def wrong_symbols(_behind, request, texts):
     """Which names are missing among the circuit's symbols, and which are too many."""
     read, judged = automaton.read(texts[0].string), circuit.read(texts[1].string)
-    environment, controller = ([name for _, name in owned] for owned in read.owners())
-    inputs, outputs = (controller, environment) if request.has(ENV) else (environment, controller)
+    names = [[name for _, name in owned] for owned in read.owners()]
+    inputs, outputs = reversed(names) if request.has(ENV) else names
+    if not [*differing("inputs", "i", outputs, judged), *differing("outputs", "o", inputs, judged)]:
+        return [f"the symbols are those of {'a controller: ask without' if request.has(ENV) else 'an environment: ask with'} {ENV.name}"]
     return [*differing("inputs", "i", inputs, judged), *differing("outputs", "o", outputs, judged)]
 
 

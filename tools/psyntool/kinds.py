@@ -15,6 +15,7 @@ class Kind(enum.Enum):
     CIRCUIT = ("circuit", ("aag", "aig"))
     STIMULUS = ("stimulus", ("stim",))
     SOLUTION = ("solution", ("sol", "paritysol"))
+    LIST = ("list", ("parts",))
     ANSWER = ("answer of synth", ())
     FILE = ("file", ("hoa", "pg", "gm", "cert", "aag", "aig", "txt"))
 
@@ -38,6 +39,7 @@ SIGNS = [
     (Kind.SOLUTION, rb"\s*paritysol\b"),
     (Kind.ANSWER, rb"(UN)?REALIZABLE\r?\n"),
     (Kind.STIMULUS, rb"\n*([01]+|-)\r?(\n|$)"),
+    (Kind.LIST, rb"(\s|#[^\n]*\n)*--(assume|guarantee|as|outs|strict)\b"),
     (Kind.GAME, rb"\s*(parity|start)\s+\d+\s*;|\s*\d+\s+\d+\s+[01]\s+\d+"),
 ]
 

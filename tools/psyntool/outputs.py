@@ -20,7 +20,7 @@ def checked(paths, flag, prefix):
 
 
 def write_all(texts):
-    """Writes texts to the files that they are given for: all of them, or none is touched."""
+    """Writes texts, or bytes, to the files that they are given for: all of them, or none is touched."""
     drafts = {}
     try:
         for path, text in texts.items():
@@ -38,7 +38,7 @@ def write_all(texts):
 
 def written(path, text):
     with open(path, "xb") as file:
-        file.write(text.encode("utf-8", "surrogateescape"))
+        file.write(text if isinstance(text, bytes) else text.encode("utf-8", "surrogateescape"))
 
 
 def gone(path):

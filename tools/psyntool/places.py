@@ -1,12 +1,13 @@
-"""Where the tool stands: in the repository, or where it was installed; and how it is called there."""
+"""Where the tool stands: in the repository, in an archive that was unpacked, or where it was installed; and its name there."""
 import os
 
 TOP = os.path.dirname(os.path.dirname(os.path.dirname(os.path.realpath(__file__))))
 IS_REPOSITORY = os.path.isdir(os.path.join(TOP, "crates"))
-NAME = "tools/psyn" if IS_REPOSITORY else "psyn"
-# The program: as `rt run` leaves it, or as it was installed.
+IS_INSTALLED = not os.path.isfile(os.path.join(TOP, "tools", "install"))
+NAME = "psyn" if IS_INSTALLED else "tools/psyn"
+# The program: as `rt run` leaves it, or as it was packed and installed.
 PROGRAM = os.path.join(TOP, "crates", "psyn", "out", "psyn") if IS_REPOSITORY else os.path.join(TOP, "psyn")
-HOW_TO_HAVE_IT = "run `rt run < stdin` in crates/psyn once" if IS_REPOSITORY else "install psyn once more"
+HOW_TO_HAVE_IT = "run `rt run < stdin` in crates/psyn once" if IS_REPOSITORY else "unpack or install psyn once more"
 
 
 def stored(*path):

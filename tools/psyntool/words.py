@@ -16,14 +16,17 @@ def nearest(word, known):
 
 
 def split(words, flags):
-    """The flags with their values, and the other words. Behind `--` no word is a flag; one that names a file is none either."""
-    given, others, waiting = {}, [], list(words)
-    while waiting:
-        word = waiting.pop(0)
+    """The flags with their values, and the other words. Behind `--` no word is a flag; one that names a file is none either.
+
+    A flag with many values has them with their places among the words.
+    """
+    given, others, at = {}, [], 0
+    while at < len(words):
+        word, at = words[at], at + 1
         name, equals, value = word.partition("=")
         name = SHORT.get(name, name)
         if word == "--":
-            others += waiting
+            others += words[at:]
             break
         if name not in flags:
             if word.startswith("-") and word != "-" and (not others or not os.path.exists(word)):
@@ -31,14 +34,29 @@ def split(words, flags):
             others.append(word)
             continue
         flag = flags[name]
-        if name in given:
+        if name in given and not flag.many:
             raise Refused(f"{name} stands twice")
         if not flag.value and equals:
             raise Refused(f"{name} takes no value")
-        if flag.value and not equals and not waiting:
+        values = [(at - 1, value)] if equals else behind(flag, words, at, flags)
+        if flag.value and not values:
             raise Refused(f"{name} wants {flag.value} behind it")
-        given[name] = (value if equals else waiting.pop(0)) if flag.value else True
+        at += 0 if equals else len(values)
+        given[name] = [*given.get(name, []), *values] if flag.many else values[0][1] if values else True
     return given, others
+
+
+def behind(flag, words, at, flags):
+    """The values of a flag that stand behind it, with their places: those up to the next flag, or one."""
+    if not flag.many:
+        return [(at, words[at])][: bool(flag.value)] if at < len(words) else []
+    found = []
+    for place in range(at, len(words)):
+        word = words[place]
+        if word.startswith("-") and word != "-" and (word == "--" or SHORT.get(word, word).partition("=")[0] in flags or not os.path.exists(word)):
+            break
+        found.append((place, word))
+    return found
 
 
 def request_of(words, commands):

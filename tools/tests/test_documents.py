@@ -12,7 +12,7 @@ from upkeep.sweeps import TOP
 
 ALL = ["README.md", "CONTRIBUTING.md", *sorted(os.path.relpath(path, TOP) for path in glob.glob(os.path.join(TOP, "docs", "*.md")))]
 WITH_COMMANDS = ["README.md", "CONTRIBUTING.md", "docs/CERTIFICATES.md", "docs/INTEROP.md", "docs/TUTORIAL.md"]
-LINES = {"README.md": 72, "CONTRIBUTING.md": 154, "docs/TESTED.md": 120}
+LINES = {"README.md": 72, "CONTRIBUTING.md": 155, "docs/TESTED.md": 120}
 
 
 class Forms(unittest.TestCase):
@@ -108,7 +108,8 @@ class Commands(unittest.TestCase):
             shown = [fence for fence in fences if fence.kind == "console" and fence.mark is None]
             ran += sum(len(fence.commands()) for fence in shown)
             with tempfile.TemporaryDirectory() as room:
-                wrong += documents.wrong_answers(name, shown, room, os.path.abspath(path))
+                documents.furnish(room)
+                wrong += documents.wrong_answers(name, shown, room, {**os.environ, "PSYN": path})
         counts.ran("examples", "commands of documents", ran)
         self.assertFalse(wrong, "\n".join(["", *wrong]))
 
@@ -117,7 +118,7 @@ class Commands(unittest.TestCase):
         shown, unmarked = documents.fences_of(lines)
         self.assertFalse(unmarked.is_known())
         with tempfile.TemporaryDirectory() as room:
-            wrong = documents.wrong_answers("it", [shown], room, "psyn")
+            wrong = documents.wrong_answers("it", [shown], room, os.environ)
         self.assertEqual(wrong, ["it:1: echo c\nc\n"])
 
 

@@ -53,7 +53,7 @@ class Installed(unittest.TestCase):
             self.assertNotIn(b"tools/psyn", done.stdout + done.stderr)
         os.rename(os.path.join(behind, "psyn"), os.path.join(behind, "away"))
         self.addCleanup(os.rename, os.path.join(behind, "away"), os.path.join(behind, "psyn"))
-        self.assertEqual(self.psyn("solve", "loop.pg").stderr, b"psyn: the program is not there: install psyn once more, or name it by PSYN=FILE\n")
+        self.assertEqual(self.psyn("solve", "loop.pg").stderr, b"psyn: the program is not there: unpack or install psyn once more, or name it by PSYN=FILE\n")
 
     def completed(self, *words, folder=os.path.join(TOP, "examples", "files")):
         path = os.path.join(self.prefix, "share", "bash-completion", "completions", "psyn")
@@ -77,6 +77,12 @@ class Installed(unittest.TestCase):
         self.assertEqual(self.completed("psyn", "synth", "--moore", "a"), ["arbiter.hoa"])
         self.assertEqual(self.completed("psyn", "sim", "toggle"), ["toggle.aag"])
         self.assertEqual(self.completed("psyn", "synth", "toggle"), ["toggle.aag", "toggle.v"])
+
+    def test_bash_completes_parts_behind_their_flags(self):
+        self.assertEqual(self.completed("psyn", "compose", "--assume", "a"), ["arbiter.hoa"])
+        self.assertEqual(self.completed("psyn", "compose", "--assume", "arbiter.hoa", "--guarantee", "grant.hoa", "d"), ["delay.hoa"])
+        self.assertEqual(self.completed("psyn", "compose", "--outs", "g"), [""])
+        self.assertEqual(self.completed("psyn", "compose", "--assume", "arbiter.hoa", "--stri"), ["--strict"])
 
     def test_bash_completes_names_with_blanks(self):
         with tempfile.TemporaryDirectory() as room:

@@ -17,6 +17,10 @@ def read(body, names=3, extra=""):
     return automaton.read(f"HOA: v1 Start: 0 AP: {names} {said} controllable-AP: 1 {extra} Acceptance: 1 Inf(0) --BODY-- {body} --END--")
 
 
+def is_met(label, true, made):
+    return labels.first_met([label], {number: number in true for number in range(len(made.names))}, made.aliases) == 0
+
+
 class Files(unittest.TestCase):
     def test_no_return_inside_a_name_is_dropped(self):
         quoted = b'0 0 0 0 "a\r\nb";\r\n'
@@ -59,8 +63,8 @@ class Labels(unittest.TestCase):
         for letter in range(8):
             true = {number for number in range(3) if letter >> number & 1}
             a, b = {0, 1} <= true, {0, 1} <= true or 2 in true
-            self.assertEqual(labels.is_met(first, true, made.aliases), 0 not in true and bool({1, 2} & true))
-            self.assertEqual(labels.is_met(second, true, made.aliases), a or not b)
+            self.assertEqual(is_met(first, true, made), 0 not in true and bool({1, 2} & true))
+            self.assertEqual(is_met(second, true, made), a or not b)
 
     def test_aliases_are_written_out_while_that_is_short(self):
         made = read("State: 0 [@b & !(1 | @a)] 0", extra="Alias: @a 0&1 Alias: @b @a|2")
@@ -80,8 +84,8 @@ class Labels(unittest.TestCase):
     def test_deep_nesting_is_read(self):
         depth = 20_000
         made = read(f"State: 0 [{'(' * depth}0{')' * depth}] 0 [{'!' * depth}0] 0")
-        self.assertTrue(labels.is_met(made.edges[0][0].label, {0}, {}))
-        self.assertTrue(labels.is_met(made.edges[0][1].label, {0}, {}))
+        self.assertTrue(is_met(made.edges[0][0].label, {0}, made))
+        self.assertTrue(is_met(made.edges[0][1].label, {0}, made))
         self.assertEqual(made.written(made.edges[0][0].label), "p0")
 
 

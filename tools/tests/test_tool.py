@@ -32,7 +32,7 @@ class Commands(OnFiles):
         self.assertEqual(self.tool("lasso", automaton, circuit, stimulus).stdout, b"accepted stem 1 lap 2\n")
         turned = self.tool("lasso", "--env", automaton, circuit, stimulus)
         self.assertEqual((turned.stdout, turned.returncode), (b"fault 72 Symbols\n", 1))
-        self.assertIn(b"among the circuit's inputs: missing g; too many r\n", turned.stderr)
+        self.assertIn(b"the symbols are those of a controller: ask without --env\n", turned.stderr)
         self.assertIn(b"cause: for `lasso` the symbols", turned.stderr)
 
     def test_synth_reads_an_automaton_and_with_its_flag_a_certificate(self):

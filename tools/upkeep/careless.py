@@ -4,7 +4,7 @@ A `[[line]]` has
 
   name      what it shows; no other one has it
   defect    which report of a defect it keeps away, if one does
-  command   what bash runs in a folder with the files of `FILES` and `PROGRAMS`; `psyn` is the tool
+  command   what bash runs in a folder with the files of `FILES` and `PROGRAMS`; `psyn` is the tool, `install-psyn` tools/install
   cut       what comes in between: Ctrl-C, TERM, HUP or KILL once the program is at work, or `closed pipe`, an output that
             nobody reads; none where the command says all
   output    what it writes on standard output; where it is not given, that is not looked at
@@ -16,6 +16,7 @@ Ctrl-C is typed at a terminal, where both outputs are one. No program may be at 
 """
 import os
 import pty
+import shutil
 import signal
 import subprocess
 import sys
@@ -52,14 +53,20 @@ def read(path):
     return lines
 
 
+def started(tool):
+    """A script that runs one of the tools; what is left open, or goes out of use, would be told on standard error."""
+    return f"#!/bin/sh\nexec {sys.executable} -W error -X dev {os.path.join(TOP, 'tools', tool)} \"$@\"\n"
+
+
 def furnish(room):
     """Puts the files and the programs into a folder, and the tool beside it."""
     for name in FILES:
         with open(os.path.join(TOP, "examples", "files", name), "rb") as source, open(os.path.join(room, name), "wb") as file:
             file.write(source.read())
-    tool = f"#!/bin/sh\nexec {sys.executable} -W error -X dev {os.path.join(TOP, 'tools', 'psyn')} \"$@\"\n"
+    shutil.copytree(os.path.join(TOP, "examples", "parts"), os.path.join(room, "parts"))
+    tools = {os.path.join("bin", name): started(tool) for name, tool in (("psyn", "psyn"), ("install-psyn", "install"))}
     os.mkdir(os.path.join(room, "bin"))
-    for name, text in {**PROGRAMS, os.path.join("bin", "psyn"): tool}.items():
+    for name, text in {**PROGRAMS, **tools}.items():
         with open(os.path.join(room, name), "w", encoding="utf-8") as file:
             file.write(text)
         os.chmod(os.path.join(room, name), 0o644 if name == "text" else 0o755)

@@ -10,12 +10,13 @@ _psyn() {
   # a word may be quoted so far
   local word=${COMP_WORDS[COMP_CWORD]//\\\\/} before=${COMP_WORDS[COMP_CWORD - 1]}
   word=${word#[\\"\\']}
-  local command= flags= words= endings= name place=0 at kinds=() all=() those=()
+  local command= many= flags= words= endings= name place=0 at kinds=() all=() those=()
   for ((at = 1; at < COMP_CWORD; at++)); do
     case ${COMP_WORDS[at]} in
-      @VALUED@) ((at++)) ;;
-      -?*) ;;
-      *) if [[ -z $command ]]; then command=${COMP_WORDS[at]}; else ((place++)); fi ;;
+      @VALUED@) ((at++)); many= ;;
+      @MANY@) many=${COMP_WORDS[at]} ;;
+      -?*) many= ;;
+      *) if [[ -z $command ]]; then command=${COMP_WORDS[at]}; elif [[ -z $many ]]; then ((place++)); fi ;;
     esac
   done
   case $command in
@@ -30,8 +31,12 @@ _psyn() {
     mapfile -t COMPREPLY < <(compgen -W "$flags @EVERYWHERE@" -- "$word")
     return
   fi
+  case $many in
+    @PARTED@) words= kinds=() endings=hoa ;;
+    ?*) COMPREPLY=(); return ;;
+  esac
   [[ -n $words ]] && mapfile -t COMPREPLY < <(compgen -W "$words" -- "$word") && return
-  endings=${kinds[place]:-}
+  endings=${kinds[place]:-$endings}
   mapfile -t all < <(compgen -f -- "$word")
   for name in "${all[@]}"; do
     if [[ -d $name || -n $endings && $name =~ \\.($endings)$ ]]; then those+=("$name"); fi
@@ -45,19 +50,23 @@ complete -o filenames -F _psyn psyn
 ZSH = """\
 _psyn() {
   local -a commands flags words_here kinds
-  local command= at place=1
+  local command= many= at place=1
   commands=(@COMMANDS@)
   for ((at = 2; at < CURRENT; at++)); do
     case ${words[at]} in
-      @VALUED@) ((at++)) ;;
-      -?*) ;;
-      *) if [[ -z $command ]]; then command=${words[at]}; else ((place++)); fi ;;
+      @VALUED@) ((at++)); many= ;;
+      @MANY@) many=${words[at]} ;;
+      -?*) many= ;;
+      *) if [[ -z $command ]]; then command=${words[at]}; elif [[ -z $many ]]; then ((place++)); fi ;;
     esac
   done
   case $command in
 @CASES@
   esac
   flags+=(@EVERYWHERE@)
+  case $many in
+    @PARTED@) words_here=() kinds=() place=1; kinds[1]=hoa ;;
+  esac
   if [[ -z $command ]]; then
     _describe 'command' commands
   elif [[ ${#words_here} -gt 0 ]]; then
@@ -80,8 +89,14 @@ def filled(template, **parts):
 
 
 def valued():
-    """The flags behind which a value stands."""
-    return {flag.name: flag.value for command in COMMANDS.values() for flag in command.all_flags if flag.value}
+    """The flags behind which one value stands."""
+    return {flag.name: flag.value for command in COMMANDS.values() for flag in command.all_flags if flag.value and not flag.many}
+
+
+def many(value=""):
+    """The flags behind which words stand up to the next flag; with a value those that it is called for."""
+    flags = {flag.name: flag for command in COMMANDS.values() for flag in command.all_flags if flag.many}
+    return [name for name, flag in flags.items() if value in ("", flag.value)]
 
 
 def endings(command):
@@ -105,6 +120,8 @@ def bash():
     return HEAD.format("bash") + "\n" + filled(
         BASH,
         valued=" | ".join(valued()),
+        many=" | ".join(many()),
+        parted=" | ".join(many("PART..")),
         commands=" ".join(COMMANDS),
         cases="\n".join(cases),
         numbered=" | ".join(numbered),
@@ -127,6 +144,8 @@ def zsh():
     return "#compdef psyn\n" + HEAD.format("zsh") + "\n" + filled(
         ZSH,
         valued="|".join(valued()),
+        many="|".join(many()),
+        parted="|".join(many("PART..")),
         commands=zsh_words({name: command.says for name, command in COMMANDS.items()}),
         cases="\n".join(cases),
         everywhere=zsh_words({flag.name: flag.says for flag in EVERYWHERE}),

@@ -93,7 +93,11 @@ def links_of(lines):
 def sources(*folders):
     """All that stands in these folders of the crates."""
     paths = [path for folder in folders for path in glob.glob(os.path.join(TOP, "crates", "*", folder, "**", "*.*t*"), recursive=True)]
-    return "\n".join(open(path, encoding="utf-8").read() for path in sorted(paths))
+    texts = []
+    for path in sorted(paths):
+        with open(path, encoding="utf-8") as file:
+            texts.append(file.read())
+    return "\n".join(texts)
 
 
 def calls_of(lines):
@@ -109,17 +113,21 @@ def definitions_of(lines):
     return [(number, code) for number, codes in behind for code in codes]
 
 
-def wrong_answers(name, fences, room, program):
-    """The commands of the fences that print something else than the document shows, run one behind another in a folder."""
-    wrong = []
+def furnish(room):
+    """Puts what commands of documents name into a folder."""
     for folder in ("tools", "examples", "docs", "crates"):
         os.symlink(os.path.join(TOP, folder), os.path.join(room, folder))
+
+
+def wrong_answers(name, fences, room, environment):
+    """The commands of the fences that print something else than the document shows, run one behind another in a folder."""
+    wrong = []
     for fence in fences:
         for command, wanted in fence.commands():
             done = subprocess.run(
                 ["bash", "-c", command],
                 cwd=room,
-                env={**os.environ, "PSYN": program},
+                env=environment,
                 stdin=subprocess.DEVNULL,
                 stdout=subprocess.PIPE,
                 stderr=subprocess.STDOUT,

@@ -16,6 +16,10 @@ the command, a newline and the texts, with a line %% between two of them, from s
 FORMATS = {
     "automaton": "Hanoi Omega-Automata format, version v1, with `controllable-AP:`, the numbers of the controller's propositions. It is "
     "deterministic, and its acceptance is a parity chain: parity min or max, Buchi, co-Buchi, one Rabin or Streett pair.",
+    "part": "an automaton of one rule: its acceptance is `0 t` or `1 Inf(0)`, a letter without an edge breaks it, and it need not say "
+    "whose its propositions are.",
+    "list": "the words of a command line of compose, in lines; files stand beside the list, `#` begins a comment, and the comment "
+    "right above a part is its sentence.",
     "game": "PGSolver's format: for each vertex its id, priority, owner (0 or 1), successors and a name in quotes or none, and a "
     "semicolon. Player 0 wins where the greatest priority seen infinitely often is even.",
     "certificate": "psyn's own: the lines `psyncert 1` (or 2, compact), `vertices N`, `odd ..`, `even ..`, and for each vertex its id, "

@@ -12,6 +12,12 @@ Runs psyn on files.
 Is there a controller for this automaton? (With --moore it moves before its inputs.)
   {name} synth arbiter.hoa > answer
 
+One automaton of small ones, some of which are assumed, and some guaranteed:
+  {name} compose --assume again.hoa --guarantee never.hoa answered.hoa --outs g0 g1 > arbiter.hoa
+
+Why is there no controller for these parts? Which of their guarantees conflict?
+  {name} core --guarantee never.hoa answered.hoa --outs g0 g1
+
 Who wins this game, by which moves?
   {name} solve game.pg > solution.cert
 

@@ -28,8 +28,9 @@ def run(request):
         what = "no text of a kind that psyn knows" if strange.kind is Kind.FILE else strange.kind.with_article
         raise Refused(f"{strange.name} is {what}; {WANTED}")
     kinds = [kind for kind, _ in parts]
-    if len(set(kinds)) < len(kinds):
-        raise Refused(f"two of the files are {kinds[0].with_article}; {WANTED}")
+    twice = next((kind for place, kind in enumerate(kinds) if kind in kinds[:place]), None)
+    if twice:
+        raise Refused(f"there is {twice.with_article} twice; {WANTED}")
     found = {kind: READERS[kind](text) for kind, text in parts}
     console.write_text(drawn(found, request.number(REACH)))
     return 0

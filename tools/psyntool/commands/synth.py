@@ -1,11 +1,10 @@
 """`synth`: a circuit for an automaton; with -o the circuit, the game and the certificate in files of their own."""
 from psyntool import asking, console, files, outputs, program
-from psyntool.command import CERT, COMPACT, FULL, MOORE, Command, Flag
+from psyntool.command import CERT, COMPACT, FULL, MOORE, TO_FILES, Command
 from psyntool.ends import FAULT
 from psyntool.kinds import Kind
 from psyntool.texts import Unreadable, report
 
-TO_FILES = Flag("-o", "circuit, game and certificate go to PREFIX.aag, PREFIX.pg and PREFIX.cert, and the first line alone is printed", "PREFIX")
 ENDINGS = (".aag", ".pg", ".cert")
 
 

@@ -4,7 +4,7 @@ from psyntool.command import Command
 
 
 def run(_request):
-    console.write_text(releases.line() + "\n")
+    console.write_text(releases.lines())
     return 0
 
 

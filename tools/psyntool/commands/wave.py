@@ -20,7 +20,7 @@ def run(request):
     if not asking.is_had(answer):
         console.write(b"" if answer.is_fault else answer.bytes)
         console.tell(*([answer.text.rstrip("\n")] if answer.is_fault else []))
-        return asking.told(request.asks("sim"), texts, answer)
+        return asking.told(request, texts, answer)
     console.write_text(vcd.wave(read, answer.text, lap_from))
     return 0
 

@@ -1,6 +1,7 @@
 """Graphviz DOT: what all pictures share."""
 import html
 import re
+from collections import Counter
 
 from psyntool.ends import Refused
 
@@ -45,6 +46,16 @@ def levels(begins, successors):
     return found
 
 
+def most_steps(found):
+    """In how many steps not too much is reached."""
+    counts, total = Counter(found.values()), 0
+    for steps in sorted(counts):
+        total += counts[steps]
+        if total > MOST:
+            return max(0, steps - 1)
+    return max(counts, default=0)
+
+
 def within(what, count, begins, successors, reach, begin):
     """What is drawn: all, or what so many steps reach; refused where a picture would have too much of it."""
     found = levels(begins, successors)
@@ -53,6 +64,6 @@ def within(what, count, begins, successors, reach, begin):
     drawn = {one for one, steps in found.items() if reach is None or steps <= reach}
     if reach is not None and len(drawn) <= MOST:
         return drawn
-    fitting = max((steps for steps in set(found.values()) if sum(it <= steps for it in found.values()) <= MOST), default=0)
+    fitting = most_steps(found)
     has = f"this {what} has {count} vertices" if reach is None else f"--reach {reach} draws {len(drawn)} vertices"
     raise Refused(f"{has}, and a picture of more than {MOST} can't be read: --reach {fitting} draws what so many steps from {begin} reach")

@@ -28,15 +28,16 @@ class Names:
         # the environment moves first, or with --moore the controller
         first = owners[0 if game.vertices[0].owner else 1]
         self.first = [number for number, _ in first]
+        self.states = set(automaton.states)
         self.keys = {vertex.identity: self.key_of(vertex) for vertex in game.vertices}
 
     def key_of(self, vertex):
         state, sign, behind = (vertex.name or "").partition("/") if "/" in (vertex.name or "") else (vertex.name or "").partition(":")
         number = None if state == "sink" else int(state) if state.isdecimal() else -1
-        if sign == "/" and behind.isdecimal() and (number is None or number in self.automaton.states):
+        if sign == "/" and behind.isdecimal() and (number is None or number in self.states):
             return Key(number, int(behind), None)
         is_letter = sign == ":" and len(behind) == len(self.first) and not set(behind) - {"0", "1"}
-        if not is_letter or not (number is None or number in self.automaton.states):
+        if not is_letter or not (number is None or number in self.states):
             raise Unreadable(OTHER_AUTOMATON)
         return Key(number, None, {place: digit == "1" for place, digit in zip(self.first, behind)})
 
@@ -55,19 +56,18 @@ class Names:
             return ""
         if after.letter is not None:
             return labels.letter_text(after.letter, self.automaton.names)
-        letter = labels.meeting([self.leading(before.state, after)], self.automaton.aliases, before.letter)
+        letter = self.leading(before, after)
         mine = {number: truth for number, truth in (letter or {}).items() if number not in self.first}
         return labels.letter_text(mine, self.automaton.names)
 
-    def leading(self, state, after):
-        """The label of all edges from a state that lead to a state with a priority; for the sink that of no edge."""
-        edges = self.automaton.edges.get(state, ())
+    def leading(self, before, after):
+        """A letter that completes the one of a vertex, and leads to a state by an edge of the priority; for the sink by no edge."""
+        edges, aliases, chain = self.automaton.edges.get(before.state, ()), self.automaton.aliases, self.automaton.chain
         if after.state is None:
-            return (*labels.any_of([edge.label for edge in edges]), labels.NOT)
-        chain = self.automaton.chain
-        return labels.any_of(
-            [edge.label for edge in edges if edge.target == after.state and (chain is None or chain.priority(edge.marks) == after.priority)]
-        )
+            return labels.meeting([(*edge.label, labels.NOT) for edge in edges], aliases, before.letter)
+        fitting = [edge for edge in edges if edge.target == after.state and (chain is None or chain.priority(edge.marks) == after.priority)]
+        found = (labels.meeting([edge.label], aliases, before.letter) for edge in fitting)
+        return next((letter for letter in found if letter is not None), None)
 
 
 def picture(game, certificate=None, automaton=None, reach=None):

@@ -1,6 +1,6 @@
 """Automata, as texts of the Hanoi Omega-Automata format have them."""
 import re
-from dataclasses import dataclass, field
+from dataclasses import dataclass, field, replace
 from functools import cached_property
 
 from psyntool.texts import NUMBER, Unreadable, labels
@@ -65,12 +65,19 @@ class Automaton:
         """A state's number, and its name if it has one."""
         return f"{state} {self.state_names.get(state, '')}".strip()
 
-    def written(self, label):
-        return labels.written(label, self.names, self.aliases)
+    @cached_property
+    def alias_texts(self):
+        return labels.texts_of_aliases(self.aliases, self.names)
 
-    def edge_at(self, state, letter):
-        """The first edge of a state that a letter meets, a set of the propositions that are true; None where there is none."""
-        return next((edge for edge in self.edges.get(state, ()) if labels.is_met(edge.label, letter, self.aliases)), None)
+    def written(self, label):
+        """A label with the names of propositions; aliases are written out."""
+        return labels.written(label, self.names, self.alias_texts)[0]
+
+    def edge_at(self, state, true):
+        """The first edge of a state that a letter meets, given by the propositions that are true; None where there is none."""
+        edges = self.edges.get(state, ())
+        place = labels.first_met([edge.label for edge in edges], {number: number in true for number in range(len(self.names))}, self.aliases)
+        return None if place is None else edges[place]
 
 
 def tokens_of(text):
@@ -201,7 +208,7 @@ def condition_of(reader):
 
 
 def header_of(reader, text):
-    """The items before `--BODY--`: those that are needed read, the others as they stand."""
+    """The items before `--BODY--`: those that are needed read; of each name the tokens that are not."""
     found = {"start": 0, "names": (), "controllable": None, "acceptance": "", "condition": None, "aliases": {}, "others": {}}
     while reader.now != "--BODY--":
         name = reader.take(r".*:")
@@ -221,8 +228,9 @@ def header_of(reader, text):
             found["condition"] = condition_of(reader)
             found["acceptance"] = " ".join(text[begin : reader.offset].split()[1:])
             found["place"] = begin
+        rest = found["others"].setdefault(name, [])
         while reader.now != "--BODY--" and not reader.now.endswith(":"):
-            found["others"].setdefault(name, []).append(reader.take())
+            rest.append(reader.take())
     return found
 
 
@@ -297,6 +305,21 @@ def read(text):
         edges,
         head["others"],
     )
+
+
+def place_without_owners(text):
+    """Where the body begins, if nothing before it says whose the propositions are; else None."""
+    for token in tokens_of(text):
+        if token.text == "controllable-AP:":
+            return None
+        if token.text == "--BODY--":
+            return token.offset
+    return None
+
+
+def renamed(read, names):
+    """The same automaton with other names for its propositions."""
+    return replace(read, names=names)
 
 
 def labels_in(aliases, edges):

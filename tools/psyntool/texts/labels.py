@@ -25,15 +25,7 @@ class Operator:
     count: int
 
 
-NOT, AND, OR = Operator("!", 1), Operator("&", 2), Operator("|", 2)
-
-
-def any_of(those):
-    """The label that is met where one of these is."""
-    parts = []
-    for number, label in enumerate(those):
-        parts += [*label, *([OR] if number else [])]
-    return tuple(parts) or (False,)
+NOT, AND = Operator("!", 1), Operator("&", 2)
 
 
 def combined(sign, values):
@@ -63,6 +55,16 @@ def value(label, letter, aliases):
     return stack[0]
 
 
+def used_by(those, aliases):
+    """The aliases that labels use, or that these use in turn, in the order of their definitions."""
+    seen, waiting = set(), list(those)
+    while waiting:
+        found = {part.name for part in waiting.pop() if isinstance(part, Alias)} - seen
+        seen |= found
+        waiting += [aliases[name] for name in found]
+    return {name: label for name, label in aliases.items() if name in seen}
+
+
 def values_of_aliases(aliases, letter):
     """The truth of each alias; each was defined by those before it."""
     values = {}
@@ -71,46 +73,23 @@ def values_of_aliases(aliases, letter):
     return values
 
 
-def is_met(label, letter, aliases):
-    """Whether a letter, a set of the propositions that are true, meets a label."""
-    given = _All(letter)
-    return value(label, given, values_of_aliases(aliases, given))
+def first_met(those, letter, aliases):
+    """The place of the first of these labels that a letter meets, truth by proposition; None where it meets none."""
+    known = values_of_aliases(used_by(those, aliases), letter)
+    return next((place for place, label in enumerate(those) if value(label, letter, known)), None)
 
 
-class _All(dict):
-    """Each proposition is true or false: true where it is one of these."""
-
-    def __init__(self, true):
-        super().__init__()
-        self.true = true
-
-    def get(self, number, default=None):
-        return number in self.true
-
-
-def propositions_of(label, aliases):
-    """The propositions on which a label may depend, rising."""
-    found, seen, waiting = set(), set(), [label]
-    while waiting:
-        for part in waiting.pop():
-            if isinstance(part, Proposition):
-                found.add(part.number)
-            elif isinstance(part, Alias) and part.name not in seen:
-                seen.add(part.name)
-                waiting.append(aliases[part.name])
-    return sorted(found)
-
-
-def meeting(labels, aliases, fixed=None):
+def meeting(those, aliases, fixed=None):
     """A letter, as truth by proposition, that meets all of these labels; None where there is none, or where none was found soon."""
-    numbers = sorted({number for label in labels for number in propositions_of(label, aliases)})
-    numbers = [number for number in numbers if number not in (fixed or {})]
+    used = used_by(those, aliases)
+    numbers = {part.number for label in (*those, *used.values()) for part in label if isinstance(part, Proposition)}
+    numbers = sorted(numbers - set(fixed or {}))
     waiting, trials = [(0, dict(fixed or {}))], 0
     while waiting and trials < TRIALS:
         place, letter = waiting.pop()
         trials += 1
-        known = values_of_aliases(aliases, letter)
-        values = [value(label, letter, known) for label in labels]
+        known = values_of_aliases(used, letter)
+        values = [value(label, letter, known) for label in those]
         if all(values):
             return letter
         if False in values or place == len(numbers):
@@ -119,17 +98,17 @@ def meeting(labels, aliases, fixed=None):
     return None
 
 
-def written(label, names, aliases):
-    """A label with the names of its propositions; aliases are written out, where that is not too long."""
+def texts_of_aliases(aliases, names):
+    """Of each alias the text and the sign of its outermost operator; one that is too long stays an alias."""
     texts = {}
-    for name, one in aliases.items():
-        text, binds = put_together(one, names, texts)
+    for name, label in aliases.items():
+        text, binds = written(label, names, texts)
         texts[name] = (f"@{name}", "") if len(text) > LONGEST else (text, binds)
-    return put_together(label, names, texts)[0]
+    return texts
 
 
-def put_together(label, names, aliases):
-    """The text of a label and the sign of its outermost operator; `aliases` gives both of each alias."""
+def written(label, names, aliases):
+    """The text of a label, with the names of its propositions, and the sign of its outermost operator; `aliases` has both of each."""
     stack = []
     for part in label:
         if isinstance(part, Proposition):

@@ -1,0 +1,22 @@
+"""`compose`: the one automaton that parts make, in which all assumptions together imply all guarantees."""
+from psyntool import console
+from psyntool.command import AS, ASSUME, GUARANTEE, OUTS, STRICT, Command
+from psyntool.kinds import Kind
+from psyntool.parts import specification
+from psyntool.parts.composing import Composer
+
+
+def run(request):
+    console.write_text(Composer(specification.asked(request)).composed().text())
+    return 0
+
+
+COMMAND = Command(
+    "compose",
+    "the automaton of parts: its words are those in which all assumptions imply all guarantees",
+    (Kind.LIST,),
+    run,
+    own=(ASSUME, GUARANTEE, AS, OUTS, STRICT),
+    least=0,
+    is_of_the_program=False,
+)

@@ -1,0 +1,70 @@
+"""Which parts decide whether there is a controller: as few as matter, found by asking the program again and again."""
+from dataclasses import dataclass
+
+from psyntool import program
+from psyntool.ends import Unwritten
+from psyntool.parts.composing import Composer
+from psyntool.texts import report
+
+
+class Asking:
+    """Whether a specification has a controller with some of its parts alone; what was asked once is kept."""
+
+    def __init__(self, specification, flags=()):
+        self.specification, self.composer, self.said = specification, Composer(specification), {}
+        self.head = " ".join(["synth", *flags]) + "\n"
+
+    def has_controller(self, assumptions, guarantees):
+        """The program's answer for these assumptions and these guarantees."""
+        asked = frozenset(assumptions), frozenset(guarantees)
+        if asked not in self.said:
+            text = self.composer.composed(assumptions, guarantees).text()
+            answer = program.ask((self.head + text).encode("utf-8", "surrogateescape"))
+            word = answer.text.partition("\n")[0]
+            if answer.died or word not in report.WORDS:
+                raise Unwritten(f"of {len(assumptions) + len(guarantees)} of the parts together: {answer.died or word}")
+            self.said[asked] = word == report.WORDS[0]
+        return self.said[asked]
+
+
+@dataclass(frozen=True)
+class Core:
+    """Whether there is a controller, and the parts that decide it: assumptions where there is one, else guarantees."""
+
+    has_controller: bool
+    parts: tuple
+    specification: object
+
+
+def core_of(asking):
+    """The core of a specification, confirmed: with all of its parts the answer stays, and without any one of them it does not."""
+    of = asking.specification
+    has_controller = asking.has_controller(of.assumptions, of.guarantees)
+
+    def stays(parts):
+        sides = (parts, of.guarantees) if has_controller else (of.assumptions, parts)
+        return asking.has_controller(*sides) == has_controller
+
+    parts = shrunk(of.assumptions if has_controller else of.guarantees, stays)
+    if not stays(parts) or any(stays(without(parts, place, 1)) for place in range(len(parts))):
+        raise Unwritten("the answers of the program do not fit: with fewer parts of a side an answer came back that was gone")
+    return Core(has_controller, parts, of.having(parts, None) if has_controller else of.having(None, parts))
+
+
+def shrunk(parts, stays):
+    """Parts with which the answer stays, and stays with none of them left out: halves are tried first, then smaller and smaller runs."""
+    parts, size = tuple(parts), max(1, len(parts) // 2)
+    while size:
+        place = 0
+        while place < len(parts):
+            fewer = without(parts, place, size)
+            if stays(fewer):
+                parts = fewer
+            else:
+                place += size
+        size //= 2
+    return parts
+
+
+def without(parts, place, count):
+    return parts[:place] + parts[place + count :]

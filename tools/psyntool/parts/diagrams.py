@@ -1,0 +1,187 @@
+"""Decision diagrams: functions of letters, each a number; equal functions have equal numbers.
+
+A letter says of each proposition, a number, whether it is true. A diagram is a leaf, which holds a value, or a node: the least
+proposition on which the function depends, and the diagrams where it is false and where it is true.
+"""
+from psyntool.ends import Refused
+from psyntool.texts.labels import Alias, Operator, Proposition
+
+MOST_NODES = 2_000_000
+LAST = 1 << 30
+
+
+class Diagrams:
+    """A store of diagrams: none is made twice."""
+
+    def __init__(self):
+        # of each diagram its proposition (a leaf's is behind all), and its two sides or its value
+        self.propositions, self.lows, self.highs = [], [], []
+        self.known = {}
+        self.texts = {}
+
+    def made(self, key, proposition, low, high):
+        found = self.known.get(key)
+        if found is None:
+            found = self.known[key] = len(self.lows)
+            if found > MOST_NODES:
+                raise Refused(f"more than {MOST_NODES:,} sets of letters have to be told apart; leave parts out, or write two as one")
+            self.propositions.append(proposition)
+            self.lows.append(low)
+            self.highs.append(high)
+        return found
+
+    def leaf(self, value):
+        return self.made((LAST, value), LAST, value, None)
+
+    def node(self, proposition, low, high):
+        return low if low == high else self.made((proposition, low, high), proposition, low, high)
+
+    def is_leaf(self, one):
+        return self.propositions[one] == LAST
+
+    def value(self, leaf):
+        return self.lows[leaf]
+
+    def sides(self, one, proposition):
+        """Both sides of a diagram at a proposition that is not behind its own."""
+        return (self.lows[one], self.highs[one]) if self.propositions[one] == proposition else (one, one)
+
+    def joined(self, first, second, function, known):
+        """The diagram whose leaves are the function's values at those of both; `known` keeps what the function gave before."""
+        key = first, second
+        found = known.get(key)
+        if found is None:
+            proposition = min(self.propositions[first], self.propositions[second])
+            if proposition == LAST:
+                found = self.leaf(function(self.lows[first], self.lows[second]))
+            else:
+                (low, high), (other_low, other_high) = self.sides(first, proposition), self.sides(second, proposition)
+                found = self.node(
+                    proposition, self.joined(low, other_low, function, known), self.joined(high, other_high, function, known)
+                )
+            known[key] = found
+        return found
+
+    def mapped(self, one, function, known):
+        """The diagram whose leaves are the function's values."""
+        found = known.get(one)
+        if found is None:
+            if self.is_leaf(one):
+                found = self.leaf(function(self.value(one)))
+            else:
+                low, high = self.mapped(self.lows[one], function, known), self.mapped(self.highs[one], function, known)
+                found = self.node(self.propositions[one], low, high)
+            known[one] = found
+        return found
+
+    def at(self, one, letter):
+        """The value at a letter, a set of the propositions that are true."""
+        while not self.is_leaf(one):
+            one = self.highs[one] if self.propositions[one] in letter else self.lows[one]
+        return self.value(one)
+
+    def fixed(self, one, letter, known):
+        """The diagram where a letter, truth by proposition, says some of the propositions."""
+        found = known.get(one)
+        if found is None:
+            if self.is_leaf(one):
+                found = one
+            elif self.propositions[one] in letter:
+                found = self.fixed((self.lows, self.highs)[letter[self.propositions[one]]][one], letter, known)
+            else:
+                low, high = self.fixed(self.lows[one], letter, known), self.fixed(self.highs[one], letter, known)
+                found = self.node(self.propositions[one], low, high)
+            known[one] = found
+        return found
+
+    def values(self, one):
+        """The values of the leaves, in the order of the letters."""
+        found, seen, waiting = {}, set(), [one]
+        while waiting:
+            now = waiting.pop()
+            if now in seen:
+                continue
+            seen.add(now)
+            if self.is_leaf(now):
+                found[self.value(now)] = None
+            else:
+                waiting += [self.highs[now], self.lows[now]]
+        return list(found)
+
+    def letter(self, one, is_wanted):
+        """A letter, truth by proposition, whose value is wanted, false before true; None where there is none."""
+        waiting, seen = [(one, ())], set()
+        while waiting:
+            now, path = waiting.pop()
+            if now in seen:
+                continue
+            seen.add(now)
+            if self.is_leaf(now):
+                if is_wanted(self.value(now)):
+                    return dict(path)
+                continue
+            proposition = self.propositions[now]
+            waiting += [(self.highs[now], (*path, (proposition, True))), (self.lows[now], (*path, (proposition, False)))]
+        return None
+
+    def labels(self, one):
+        """For each value the label, as HOA texts have it, of exactly the letters that have it, in the order of the letters."""
+        return {value: text for value, (text, _) in self.parted(one).items()}
+
+    def parted(self, one):
+        """For each value its label and the sign of that label's outermost operator."""
+        found = self.texts.get(one)
+        if found is None:
+            if self.is_leaf(one):
+                found = {self.value(one): ("t", "")}
+            else:
+                low, high = self.parted(self.lows[one]), self.parted(self.highs[one])
+                name = str(self.propositions[one])
+                found = {value: either(name, low.get(value), high.get(value)) for value in {**low, **high}}
+            self.texts[one] = found
+        return found
+
+    # ---- labels
+
+
+    def of_label(self, label, aliases):
+        """The diagram of a label's truth; `aliases` has the diagram of each alias."""
+        stack = []
+        for part in label:
+            if isinstance(part, Proposition):
+                stack.append(self.node(part.number, self.leaf(False), self.leaf(True)))
+            elif isinstance(part, Alias):
+                stack.append(aliases[part.name])
+            elif isinstance(part, Operator) and part.sign == "!":
+                stack.append(self.mapped(stack.pop(), lambda value: not value, {}))
+            elif isinstance(part, Operator):
+                second, first = stack.pop(), stack.pop()
+                stack.append(self.joined(first, second, both if part.sign == "&" else one_of, {}))
+            else:
+                stack.append(self.leaf(part))
+        return stack[0]
+
+
+def both(first, second):
+    return first and second
+
+
+def one_of(first, second):
+    return first or second
+
+
+def either(name, low, high):
+    """The label that is met where `low` is, the proposition being false, or `high` is, and it is true; None is met nowhere."""
+    if low is None or high is None:
+        sign, (text, binds) = (name, high) if low is None else (f"!{name}", low)
+        return (sign, "") if text == "t" else (f"{sign} & {nested(text, binds, '&')}", "&")
+    if low[0] == "t" or high[0] == "t":
+        sign, (text, binds) = (f"!{name}", high) if low[0] == "t" else (name, low)
+        return ("t", "") if text == "t" else (f"{sign} | {nested(text, binds, '|')}", "|")
+    if low == high:
+        return low
+    return f"{name} & {nested(*high, '&')} | !{name} & {nested(*low, '&')}", "|"
+
+
+def nested(text, binds, sign):
+    return f"({text})" if binds and binds != sign else text

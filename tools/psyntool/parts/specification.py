@@ -1,0 +1,218 @@
+"""Specifications in parts, as a command line names them, or as a composed automaton keeps them."""
+import dataclasses
+import os
+import re
+import shlex
+from dataclasses import dataclass, field
+
+from psyntool import explaining, faults, program, words
+from psyntool.command import AS, ASSUME, GUARANTEE, OUTS, STRICT
+from psyntool.ends import Refused
+from psyntool.files import Reader
+from psyntool.kinds import Kind
+from psyntool.parts import part
+from psyntool.texts import Unreadable, automaton
+
+MOST_PROPOSITIONS = 64
+FLAGS = {flag.name: flag for flag in (ASSUME, GUARANTEE, AS, OUTS, STRICT)}
+# A circuit that has no name of any automaton: the program judges the automaton first.
+NO_CIRCUIT = b"aag 0 0 0 0 0\n%%\n-\n"
+# What stands in a part that does not say whose its propositions are.
+OWNERS = b"controllable-AP: "
+# What a part must be besides is told by the tool, with the letter or the acceptance.
+TOLD_BETTER = {"Nondeterministic", "NonParity"}
+
+
+@dataclass(frozen=True)
+class Specification:
+    """Parts that are assumed and parts that are guaranteed, the propositions of all in order, and those of the controller."""
+
+    assumptions: tuple
+    guarantees: tuple
+    names: tuple
+    mine: frozenset
+    is_strict: bool
+
+    def having(self, assumptions=None, guarantees=None):
+        """The same with these parts alone; the propositions stay."""
+        return dataclasses.replace(
+            self,
+            assumptions=self.assumptions if assumptions is None else tuple(assumptions),
+            guarantees=self.guarantees if guarantees is None else tuple(guarantees),
+        )
+
+
+@dataclass
+class Wish:
+    """A part as it is asked for: its file, on which side, what is renamed, and what is said of it."""
+
+    is_assumed: bool
+    path: str
+    sentence: str = ""
+    renamed: dict = field(default_factory=dict)
+
+
+class Wishes:
+    """What a command line, and a list that it names, asks for."""
+
+    def __init__(self):
+        self.parts, self.outs, self.is_strict = [], None, False
+
+    def take(self, given, folder="", sentences=None):
+        """Takes the flags of a command line or of a list, in their order; files stand in the folder."""
+        self.is_strict = self.is_strict or STRICT.name in given
+        said = sorted((place, name, word) for name in FLAGS if FLAGS[name].many for place, word in given.get(name, ()))
+        count = len(self.parts)
+        for place, name, word in said:
+            if name == OUTS.name:
+                self.outs = [*(self.outs or []), word]
+            elif name == AS.name:
+                self.rename(word, count)
+            else:
+                path = word if word == "-" else os.path.join(folder, word)
+                self.parts.append(Wish(name == ASSUME.name, path, (sentences or {}).get(place, "")))
+
+    def rename(self, word, count):
+        """Renames a proposition of the part before, one of this command line or of this list."""
+        old, equals, new = word.partition("=")
+        if not (old and equals and new):
+            raise Refused(f"{AS.shown}: {word!r} is no OLD=NEW")
+        if len(self.parts) == count:
+            raise Refused(f"{AS.shown}: {word} stands behind no part")
+        if old in self.parts[-1].renamed:
+            raise Refused(f"{AS.shown}: {old} of {self.parts[-1].path} is renamed twice")
+        self.parts[-1].renamed[old] = new
+
+
+def listed(text, wishes):
+    """Takes what a list says: the words of a command line, in lines; a comment right above a part is its sentence."""
+    said, sentences, comment = [], {}, []
+    for row, line in enumerate(text.string.split("\n"), 1):
+        bare = line.strip()
+        if bare.startswith("#"):
+            comment.append(bare.lstrip("# "))
+            continue
+        try:
+            found = shlex.split(line, comments=True)
+        except ValueError:
+            raise Refused(f"{text.name}:{row}: a quote is not closed") from None
+        for word in found:
+            sentences[len(said)] = " ".join(comment)
+            said.append(word)
+        comment = []
+    given, others = refused_behind(text.name, words.split, said, FLAGS)
+    if others:
+        raise Refused(f"{text.name}: {others[0]!r} stands behind no flag; a list has --assume, --guarantee, --as, --outs and --strict")
+    refused_behind(text.name, wishes.take, given, "" if text.name == "standard input" else os.path.dirname(text.name), sentences)
+
+
+def refused_behind(name, function, *values):
+    """What a function gives; where it refuses something the message begins with the file's name."""
+    try:
+        return function(*values)
+    except Refused as error:
+        raise Refused(f"{name}: {error}") from None
+
+
+def asked(request):
+    """The specification that a command line asks for."""
+    reader, wishes = Reader(request), Wishes()
+    paths = list(request.words)
+    for text in reader.texts([Kind.LIST] * len(paths), paths):
+        if text.looks_like not in (None, Kind.LIST):
+            raise Refused(f"{text.name} is {text.looks_like.with_article}; {request.command.name} reads a list of parts")
+        listed(text, wishes)
+    wishes.take(request.given)
+    if not wishes.parts:
+        raise Refused(f"{request.command.name} wants parts: {GUARANTEE.shown}, {ASSUME.shown}, or a list of them")
+    if [*paths, *(wish.path for wish in wishes.parts)].count("-") > 1:
+        raise Refused("standard input can be one of the files only")
+    read = {}
+    parts = [part_of(wish, reader, read) for wish in wishes.parts]
+    sides = [tuple(it for it, wish in zip(parts, wishes.parts) if wish.is_assumed == is_assumed) for is_assumed in (True, False)]
+    for side in sides:
+        refuse_same_titles(side)
+    names = tuple(dict.fromkeys(name for it in parts for name in it.names))
+    if len(names) > MOST_PROPOSITIONS:
+        raise Refused(f"the parts have {len(names)} propositions, and psyn reads at most {MOST_PROPOSITIONS}")
+    return Specification(*sides, names, owned(parts, names, wishes.outs), wishes.is_strict)
+
+
+def refuse_same_titles(parts):
+    titles = [it.title for it in parts]
+    twice = next((title for title in titles if titles.count(title) > 1), None)
+    if twice is not None:
+        raise Refused(f"two parts have the name {twice}: leave one out, or give the files other names")
+
+
+def part_of(wish, reader, read):
+    """The part that is asked for; what is no part is refused with its file's name."""
+    if wish.path not in read:
+        read[wish.path] = reader.text(Kind.AUTOMATON, wish.path)
+        refuse_faults(read[wish.path])
+    text = read[wish.path]
+    stem = re.sub(r"\.hoa$", "", os.path.basename(text.name))
+    return refused_behind(text.name, part.part_of, stem, wish.sentence, wish.renamed, text.string)
+
+
+def refuse_faults(text):
+    """Refuses a file that the program does not read as an automaton, with the program's fault and its place."""
+    if text.looks_like not in (None, Kind.AUTOMATON):
+        raise Refused(f"{text.name} is {text.looks_like.with_article}; a part is an automaton")
+    # a part need not say whose its propositions are
+    data, at = text.bytes, None
+    try:
+        at = automaton.place_without_owners(text.string)
+    except Unreadable:
+        pass
+    if at is not None:
+        at = len(text.string[:at].encode("utf-8", "surrogateescape"))
+        data = data[:at] + OWNERS + data[at:]
+    answer = program.ask(b"lasso\n" + data + b"%%\n" + NO_CIRCUIT)
+    found = re.fullmatch(r"fault (\d+) (\w+)(?: at (\d+))?.*\n", answer.text)
+    fault = next((it for it in faults.read_document() if found and it.number == int(found[1])), None)
+    if answer.died:
+        raise Refused(f"{text.name}: {answer.died}")
+    if fault and fault.kind is Kind.AUTOMATON and fault.name not in TOLD_BETTER:
+        place = ""
+        if found[3]:
+            offset = int(found[3])
+            offset -= len(OWNERS) if at is not None and offset > at else 0
+            place = ":{}:{}".format(*explaining.line_and_column(text.original, text.place_in_file(offset)))
+        raise Refused(f"{text.name}{place}: fault {fault.number} {fault.name}: {fault.entries['Cause']}")
+
+
+def owned(parts, names, outs):
+    """The propositions of the controller: those that a part or --outs says are."""
+    mine, others = set(outs or ()), {}
+    strange = next((name for name in outs or () if name not in names), None)
+    if strange is not None:
+        raise Refused(f"{OUTS.shown}: no part has a proposition {strange}{words.nearest(strange, names)}")
+    by = dict.fromkeys(mine, OUTS.name)
+    for it in parts:
+        if it.says_whose:
+            for number, name in enumerate(it.names):
+                (by if number in it.automaton.controllable else others).setdefault(name, it.title)
+    torn = next((name for name in names if name in by and name in others), None)
+    if torn is not None:
+        raise Refused(f"{torn} is the controller's by {by[torn]}, and the environment's by {others[torn]}")
+    unsaid = [name for name in names if name not in by and name not in others]
+    if unsaid and outs is None:
+        raise Refused(f"no part says whose {unsaid[0]} is: {OUTS.shown} names the propositions of the controller")
+    return frozenset(by)
+
+
+def kept(read):
+    """The specification that a composed automaton keeps; None where it keeps none."""
+    tokens = read.headers.get("part:")
+    if not tokens:
+        return None
+    said = [automaton.unquoted(token) for token in tokens]
+    if len(said) % 5 or any(side not in ("assume", "guarantee") for side in said[::5]):
+        raise Unreadable("an item `part:` of this automaton was not written by compose")
+    sides = {"assume": [], "guarantee": []}
+    for at in range(0, len(said), 5):
+        sides[said[at]].append(part.from_item(said[at + 1 : at + 5]))
+    mine = frozenset(read.names[number] for number in read.controllable)
+    is_strict = read.headers.get("reading:") == ["strict"]
+    return Specification(tuple(sides["assume"]), tuple(sides["guarantee"]), read.names, mine, is_strict)

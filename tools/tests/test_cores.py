@@ -1,0 +1,102 @@
+"""Cores of specifications in parts: each is what it says, and nothing can be left out of it."""
+import os
+import random
+import unittest
+
+from psyntool.parts import cores, part
+from psyntool.parts.composing import Composer
+from psyntool.parts.specification import Specification
+from psyntool.program import path as program
+from tests.test_parts import PARTS, Table
+from tests.tool import OnFiles
+from upkeep import rows, sweeps
+
+CONFLICT = """\
+--outs g0 g1
+# No two grants at once.
+--guarantee parts/never-together.hoa --as one=g0 other=g1
+--guarantee parts/answered-within-3.hoa --as request=r0 answer=g0
+--guarantee parts/answered-within-3.hoa --as request=r1 answer=g1
+--guarantee parts/takes-turns.hoa --as one=g0 other=g1
+--guarantee parts/at-most-one-step-after.hoa --as leader=r0 follower=g0
+"""
+CORE = """\
+UNREALIZABLE
+these guarantees conflict, and with any one left out they do not:
+  answered-within-3(r1,g1)       behind each r1 comes g1, at most 3 steps later
+  takes-turns(g0,g1)             g0 and g1 are true in turn, g0 first
+  at-most-one-step-after(r0,g0)  g0 is true only with r0 or one step after r0
+"""
+NEEDED = """\
+REALIZABLE
+this assumption suffices, and without it there is no controller:
+  again-and-again(ready)  ready is true again and again
+"""
+
+
+class Commands(OnFiles):
+    def setUp(self):
+        super().setUp()
+        os.symlink(PARTS, os.path.join(self.room, "parts"))
+
+    def test_guarantees_that_conflict(self):
+        done = self.tool("core", "-o", "few", self.file("it.parts", CONFLICT.encode()))
+        self.assertEqual((done.stdout.decode(), done.returncode, done.stderr), (CORE, 20, b""))
+        self.assertEqual(self.tool("synth", "few.hoa").returncode, 20)
+        with open(os.path.join(self.room, "few.hoa"), encoding="utf-8") as file:
+            self.assertEqual(file.read().count("\npart: "), 3)
+
+    def test_assumptions_that_are_needed(self):
+        assumed = ["--assume", "parts/again-and-again.hoa", "--as", "it=ready", "--assume", "parts/again-and-again.hoa", "--as", "it=other"]
+        guaranteed = ["--guarantee", "parts/again-and-again.hoa", "--as", "it=g", "--guarantee", "parts/at-most-one-step-after.hoa", "--as", "leader=ready", "follower=g"]
+        done = self.tool("core", *assumed, *guaranteed, "--outs", "g")
+        self.assertEqual((done.stdout.decode(), done.returncode, done.stderr), (NEEDED, 10, b""))
+        done = self.tool("core", *assumed, *guaranteed[:4], "--outs", "g")
+        self.assertEqual((done.stdout, done.returncode), (b"REALIZABLE\nthere is a controller without any assumption\n", 10))
+        done = self.tool("core", "--moore", *guaranteed[:4], "--guarantee", "parts/never-together.hoa", "--as", "one=g", "other=r", "--outs", "g")
+        said = b"UNREALIZABLE\nthese guarantees conflict, and with any one left out they do not:\n"
+        self.assertEqual((done.stdout[: len(said)], done.returncode), (said, 20))
+
+    def test_one_guarantee_alone(self):
+        guaranteed = ["--guarantee", "parts/always.hoa", "--guarantee", "parts/always.hoa", "--as", "it=r"]
+        done = self.tool("core", "--assume", "parts/always.hoa", "--as", "it=e", *guaranteed, "--outs", "it")
+        said = "UNREALIZABLE\nthis guarantee can't be kept, under all assumptions:\n  always(r)  r is true at each step\n"
+        self.assertEqual((done.stdout.decode(), done.returncode), (said, 20))
+
+
+class Sets(unittest.TestCase):
+    """Each core of drawn specifications is asked for anew, and so is each set with one part left out."""
+
+    def test_drawn_specifications(self):
+        draw, names, asked, wanted = random.Random(6), ["a", "b", "c"], [], []
+        while len(wanted) < 60:
+            sides = [[part.part_of(f"part{place}", "", {}, Table(draw, names).text()) for place in range(draw.randint(1, 4))] for _ in range(2)]
+            whole = Specification(*map(tuple, sides), tuple(names), frozenset(["a"]), draw.random() < 0.3)
+            found = cores.core_of(cores.Asking(whole))
+            texts = [found.specification, *self.with_one_left_out(found)]
+            asked += [rows.Row("a core", ("synth\n" + Composer(it).composed().text()).encode(), 0) for it in texts]
+            wanted += [found.has_controller] + [not found.has_controller] * (len(texts) - 1)
+        where = program()
+        said = sweeps.at_once(lambda row: rows.answered(where, row)[1], asked)
+        self.assertEqual(said, [10 if it else 20 for it in wanted])
+
+    def with_one_left_out(self, found):
+        for place in range(len(found.parts)):
+            fewer = cores.without(found.parts, place, 1)
+            yield found.specification.having(fewer, None) if found.has_controller else found.specification.having(None, fewer)
+
+    def test_what_is_asked_falls_with_the_size_of_the_core(self):
+        for needed in ({3}, {0, 31}, {5, 6, 7}, set(), set(range(32))):
+            asked = []
+
+            def stays(parts, needed=needed, asked=asked):
+                asked.append(parts)
+                return needed <= set(parts)
+
+            self.assertEqual(set(cores.shrunk(range(32), stays)), needed)
+            self.assertLessEqual(len(asked), 64)
+        self.assertEqual(cores.shrunk((), lambda parts: True), ())
+
+
+if __name__ == "__main__":
+    unittest.main()

@@ -1,0 +1,68 @@
+"""One archive of what users have: the program, the tool, its documents and examples, what was proved, and sums of all files."""
+import glob
+import gzip
+import hashlib
+import io
+import os
+import re
+import tarfile
+
+from psyntool import places, releases
+from upkeep import completions
+
+DOCUMENTS = "docs/*.md docs/psyn.1 docs/pictures/* README.md VERSION"
+TOOLS = "tools/psyn tools/install tools/check_certificate.py tools/psyntool/**/*.py examples/files/*"
+COMPLETIONS = {"share/bash-completion/completions/psyn": completions.bash, "share/zsh/site-functions/_psyn": completions.zsh}
+SUMS = "SHA256SUMS"
+# The last lines of the gate and of the tools' tests.
+PASSED = (r"(?m)^(\d+) passed, (\d+) failed", r"(?m)^tools: (\d+) passed, (\d+) failed, \d+ skipped$")
+
+
+class NotPassed(Exception):
+    """The gate's log does not say that all passed; the message says what it lacks."""
+
+
+def gate_lines(log):
+    """The lines of a log of `tools/test-all` that say how many passed, the last ones of their kind."""
+    lines = []
+    for pattern in PASSED:
+        found = list(re.finditer(pattern, log))
+        if not found:
+            raise NotPassed(f"the log has no line {pattern.removeprefix('(?m)')}")
+        if int(found[-1][2]) or not int(found[-1][1]):
+            raise NotPassed(f"the log says: {found[-1][0]}")
+        end = log.find("\n", found[-1].start())
+        lines.append(log[found[-1].start() : end if end >= 0 else len(log)])
+    return lines
+
+
+def contents(program, release, lines):
+    """What the archive holds: for each name the bytes, and whether it is a program."""
+    files = {}
+    for pattern in f"{DOCUMENTS} {TOOLS}".split():
+        for path in sorted(glob.glob(os.path.join(places.TOP, pattern), recursive=True)):
+            with open(path, "rb") as file:
+                files[os.path.relpath(path, places.TOP)] = (file.read(), os.access(path, os.X_OK))
+    with open(program, "rb") as file:
+        files["psyn"] = (file.read(), True)
+    files |= {name: (make().encode(), False) for name, make in COMPLETIONS.items()}
+    files["RELEASE"] = (release.text().encode(), False)
+    files["GATE"] = ("".join(f"{line}\n" for line in [f"commit {release.commit}", *lines]).encode(), False)
+    sums = "".join(f"{hashlib.sha256(data).hexdigest()}  {name}\n" for name, (data, _) in sorted(files.items()))
+    files[SUMS] = (sums.encode(), False)
+    return files
+
+
+def packed(files, folder, when):
+    """The bytes of a tar file that has these files in a folder, the same for the same files."""
+    whole = io.BytesIO()
+    with gzip.GzipFile(fileobj=whole, mode="wb", mtime=when, filename="") as stream, tarfile.open(fileobj=stream, mode="w") as archive:
+        for name, (data, is_program) in sorted(files.items()):
+            entry = tarfile.TarInfo(f"{folder}/{name}")
+            entry.size, entry.mtime, entry.mode = len(data), when, 0o755 if is_program else 0o644
+            archive.addfile(entry, io.BytesIO(data))
+    return whole.getvalue()
+
+
+def commit_time():
+    return int(releases.git("show", "-s", "--format=%ct", "HEAD") or 0)
