@@ -34,7 +34,7 @@ ENV = Flag("--env", "the circuit is an environment")
 TO_FILES = Flag(
     "-o",
     "circuit, game and certificate go to PREFIX.aag, PREFIX.pg and PREFIX.cert (then the first line alone is printed), the automaton of "
-    "a core to PREFIX.hoa",
+    "parts to PREFIX.hoa",
     "PREFIX",
 )
 # Of specifications in parts.
@@ -43,6 +43,8 @@ GUARANTEE = Flag("--guarantee", "parts that are guaranteed", "PART..", many=True
 AS = Flag("--as", "the part before it has other names for its propositions", "OLD=NEW..", many=True)
 OUTS = Flag("--outs", "the controller's propositions, where the parts do not say whose theirs are", "NAME..", many=True)
 STRICT = Flag("--strict", "a guarantee that breaks while no assumption has broken loses at once")
+PARTS = Flag("--parts", "a list of parts in the place of the automaton")
+OF_PARTS = (ASSUME, GUARANTEE, AS, OUTS, STRICT)
 # Of every command.
 QUIET = Flag("--quiet", "explain nothing")
 KEEP_RETURNS = Flag("--keep-returns", "leave carriage returns where they are")
@@ -57,8 +59,8 @@ SHORT = {"-h": "--help", "-V": "--version"}
 class Command:
     """A command: its name, what it answers, what it reads in order (kinds of files, or other words), and what runs it.
 
-    `flags` are handed to the program; `own` are the tool's. `behind` has files that a flag adds. `most` is how many words there
-    may be, where the last kind may be repeated or left out.
+    `flags` are handed to the program; `own` are the tool's. `behind` has files that a flag adds, and `instead` what is read in the
+    place of all others with a flag, or not given. `least` is how many words there are at least, where the last ones may be left out.
     """
 
     name: str
@@ -68,6 +70,7 @@ class Command:
     flags: tuple = ()
     own: tuple = ()
     behind: dict = field(default_factory=dict)
+    instead: dict = field(default_factory=dict)
     least: int | None = None
     is_of_the_program: bool = True
 
@@ -77,18 +80,29 @@ class Command:
 
     def kinds(self, given):
         """What is read with these flags."""
-        return (*self.reads, *(kind for name, kind in self.behind.items() if name in given))
+        other = next((kinds for name, kinds in self.instead.items() if name in given), None)
+        return other or (*self.reads, *(kind for name, kind in self.behind.items() if name in given))
 
     def wanted(self, given=()):
         """The words for what is read, as a usage line has them."""
         words = [kind.word if isinstance(kind, Kind) else kind for kind in self.kinds(given)]
-        least = len(words) if self.least is None else self.least
+        least = 0 if set(self.instead) & set(given) else len(words) if self.least is None else self.least
         return [word if place < least else f"[{word}]" for place, word in enumerate(words)]
 
     @property
     def usage(self):
         optional = [f"[{kind.word}]" for kind in self.behind.values()]
         return " ".join([self.name, *(f"[{flag.shown}]" for flag in self.all_flags), *self.wanted(), *optional])
+
+
+def flags_told(commands):
+    """Each flag as it is written, with what it says and whose it is; first those of single commands."""
+    having = {}
+    for command in commands.values():
+        for flag in command.all_flags:
+            having.setdefault(flag, []).append(command.name)
+    told = [(flag.shown, f"of {', '.join(names)}: {flag.says}") for flag, names in having.items()]
+    return told + [(flag.shown, flag.says) for flag in EVERYWHERE]
 
 
 @dataclass

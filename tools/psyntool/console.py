@@ -49,14 +49,31 @@ def write_text(text):
     write(text.encode("utf-8", "surrogateescape"))
 
 
+def lines():
+    """The lines of standard input as they are typed, without their ends."""
+    rest, is_open = b"", True
+    while is_open:
+        part = read_some(STEP)
+        is_open = bool(part)
+        *whole, rest = (rest + part).split(b"\n")
+        yield from (line.decode("utf-8", "replace").strip() for line in whole)
+    if rest:
+        yield rest.decode("utf-8", "replace").strip()
+
+
+def read_some(most):
+    """What standard input has now, at most so many bytes; nothing where it is at its end."""
+    try:
+        return os.read(INPUT, most)
+    except OSError as error:
+        raise Refused("standard input is closed" if error.errno == errno.EBADF else f"standard input: {error.strerror}") from None
+
+
 def read(most):
     """At most so many bytes of standard input, whole where it has no more."""
     parts, left = [], most
     while left:
-        try:
-            part = os.read(INPUT, min(STEP, left))
-        except OSError as error:
-            raise Refused("standard input is closed" if error.errno == errno.EBADF else f"standard input: {error.strerror}") from None
+        part = read_some(min(STEP, left))
         if not part:
             break
         parts.append(part)

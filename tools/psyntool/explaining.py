@@ -10,7 +10,7 @@ from psyntool.texts import Unreadable, automaton, circuit, labels
 
 WIDTH = 100
 # What the tool hands on can always be read, if it is not too long.
-READ_FAULT = 25
+READ_FAULT, SYMBOLS = 25, 72
 # Longer texts are not read here, since that takes longer than the program does.
 LONGEST = 1 << 21
 PLAYERS_OF_A_GAME = b"spot-state-player:"
@@ -77,8 +77,8 @@ def placed(text, offset, what):
 
 def seen_in_texts(number, behind, request, texts):
     """Further lines for faults without a place, where the texts can be read."""
-    seen = {17: acceptance_line, 21: clashing_edges, 72: wrong_symbols}.get(number)
-    if not seen or texts[0].kind is not Kind.AUTOMATON or any(len(text.bytes) > LONGEST for text in texts):
+    seen = {17: acceptance_line, 21: clashing_edges, SYMBOLS: wrong_symbols}.get(number)
+    if not seen or texts[0].kind is not Kind.AUTOMATON or number == SYMBOLS and len(texts) < 2 or any(len(text.bytes) > LONGEST for text in texts):
         return []
     try:
         return seen(behind, request, texts)
@@ -100,12 +100,12 @@ def clashing_edges(behind, _request, texts):
     """The two edges, and a letter that both of them take."""
     state, first, second = map(int, re.findall(r"\d+", behind))
     read = automaton.read(texts[0].string)
-    edges = [read.edges[state][number] for number in (first, second)]
-    told = []
-    for number, edge in zip((first, second), edges):
+    edges = dict(enumerate(read.edges.get(state, ())))
+    edges, told = {number: edges[number] for number in (first, second) if number in edges}, []
+    for number, edge in edges.items():
         told += placed(texts[0], byte_place(texts[0], edge.offset), f"edge {number} of state {read.title_of(state)}")
-    letter = labels.meeting([edge.label for edge in edges], read.aliases)
-    if letter is not None:
+    letter = labels.meeting([edge.label for edge in edges.values()], read.aliases)
+    if letter is not None and len(edges) == 2:
         said = labels.letter_text(letter, read.names)
         told.append(f"both take the letter {said}" if said else "both take each letter")
     return told

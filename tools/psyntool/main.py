@@ -16,7 +16,8 @@ def main(line):
         console.tell(f"psyn: {error}")
         return REFUSED
     except Unwritten as error:
-        console.tell(*(f"psyn: {error}" for _ in range(bool(str(error)))))
+        if str(error):
+            console.tell(f"psyn: {error}")
         return FAULT
     except Stopped as stop:
         console.tell(f"psyn: {signals.WORDS[stop.number]}")

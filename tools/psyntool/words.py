@@ -89,7 +89,7 @@ def check_count(command, given, words):
     wanted = command.wanted(given)
     most, least = len(wanted), len([word for word in wanted if not word.startswith("[")])
     if not least <= len(words) <= most:
-        what = " ".join([command.name, *(name for name in given if name in command.behind)])
+        what = " ".join([command.name, *(name for name in given if name in command.behind or name in command.instead)])
         unit = "file" if all(isinstance(kind, Kind) for kind in command.reads) else "word"
         count = f"{len(words)} {unit}{'' if len(words) == 1 else 's'}"
         raise Refused(f"{what} reads {' '.join(wanted) or 'no file'}, and got {count}")

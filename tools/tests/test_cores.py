@@ -4,7 +4,7 @@ import random
 import unittest
 
 from psyntool.parts import cores, part
-from psyntool.parts.composing import Composer
+from psyntool.parts.composing import ASSUMPTIONS_FAIL, Composer
 from psyntool.parts.specification import Specification
 from psyntool.program import path as program
 from tests.test_parts import PARTS, Table
@@ -15,6 +15,7 @@ CONFLICT = """\
 --outs g0 g1
 # No two grants at once.
 --guarantee parts/never-together.hoa --as one=g0 other=g1
+
 --guarantee parts/answered-within-3.hoa --as request=r0 answer=g0
 --guarantee parts/answered-within-3.hoa --as request=r1 answer=g1
 --guarantee parts/takes-turns.hoa --as one=g0 other=g1
@@ -22,14 +23,14 @@ CONFLICT = """\
 """
 CORE = """\
 UNREALIZABLE
-these guarantees conflict, and with any one left out they do not:
+these guarantees conflict, and none of them can be left out:
   answered-within-3(r1,g1)       behind each r1 comes g1, at most 3 steps later
   takes-turns(g0,g1)             g0 and g1 are true in turn, g0 first
   at-most-one-step-after(r0,g0)  g0 is true only with r0 or one step after r0
 """
 NEEDED = """\
 REALIZABLE
-this assumption suffices, and without it there is no controller:
+this assumption suffices, and can't be left out:
   again-and-again(ready)  ready is true again and again
 """
 
@@ -54,14 +55,62 @@ class Commands(OnFiles):
         done = self.tool("core", *assumed, *guaranteed[:4], "--outs", "g")
         self.assertEqual((done.stdout, done.returncode), (b"REALIZABLE\nthere is a controller without any assumption\n", 10))
         done = self.tool("core", "--moore", *guaranteed[:4], "--guarantee", "parts/never-together.hoa", "--as", "one=g", "other=r", "--outs", "g")
-        said = b"UNREALIZABLE\nthese guarantees conflict, and with any one left out they do not:\n"
+        said = b"UNREALIZABLE\nthese guarantees conflict, and none of them can be left out:\n"
         self.assertEqual((done.stdout[: len(said)], done.returncode), (said, 20))
 
     def test_one_guarantee_alone(self):
         guaranteed = ["--guarantee", "parts/always.hoa", "--guarantee", "parts/always.hoa", "--as", "it=r"]
         done = self.tool("core", "--assume", "parts/always.hoa", "--as", "it=e", *guaranteed, "--outs", "it")
-        said = "UNREALIZABLE\nthis guarantee can't be kept, under all assumptions:\n  always(r)  r is true at each step\n"
+        said = "UNREALIZABLE\nunder all assumptions this guarantee can't be kept:\n  always(r)  r is true at each step\n"
         self.assertEqual((done.stdout.decode(), done.returncode), (said, 20))
+
+
+class Circuits(OnFiles):
+    """synth of parts: the answer is that of the composed automaton; where the assumptions can be made to fail a line says so."""
+
+    def setUp(self):
+        super().setUp()
+        os.symlink(PARTS, os.path.join(self.room, "parts"))
+
+    def test_the_answer_is_that_of_the_automaton(self):
+        parts = self.file("it.parts", CONFLICT.encode())
+        self.file("it.hoa", self.tool("compose", parts).stdout)
+        for flags in ((), ("--moore",), ("--full",), ("--quiet",)):
+            done, wanted = self.tool("synth", "--parts", *flags, parts), self.tool("synth", *flags, "it.hoa")
+            self.assertEqual((done.stdout, done.returncode, done.stderr), (wanted.stdout, wanted.returncode, b""))
+        done = self.tool("synth", "--parts", "-o", "out", parts)
+        self.assertEqual((done.stdout, done.returncode, done.stderr), (b"UNREALIZABLE\n", 20, b""))
+        for name, wanted in (("out.hoa", self.tool("compose", parts).stdout), ("out.pg", self.tool("game", "it.hoa").stdout)):
+            with open(os.path.join(self.room, name), "rb") as file:
+                self.assertEqual(file.read(), wanted)
+
+    def test_a_controller_that_breaks_the_assumptions(self):
+        words = ["--outs", "it", "--assume", "parts/always.hoa", "--guarantee", "parts/always.hoa", "--as", "it=r"]
+        said = b"a controller can make the assumptions fail, so this one may win without keeping the guarantees\n"
+        for flags in ((), ("--strict",), ("--moore",), ("-o", "out")):
+            done = self.tool("synth", *flags, *words)
+            self.assertEqual((done.returncode, done.stderr), (10, said), flags)
+        self.assertEqual(self.tool("synth", "--quiet", *words).stderr, b"")
+        for assumed in ([], ["--assume", "parts/always.hoa", "--as", "it=other"]):
+            done = self.tool("synth", "--outs", "it", *assumed, "--guarantee", "parts/always.hoa")
+            self.assertEqual((done.returncode, done.stderr), (10, b""))
+
+    def test_a_certificate_is_for_an_automaton(self):
+        done = self.tool("synth", "--cert", "--guarantee", "parts/always.hoa", "--outs", "it")
+        self.assertEqual((done.returncode, done.stderr), (2, b"psyn: --cert is for an automaton: compose makes one of parts\n"))
+
+    def test_failing_assumptions_are_the_guarantee_false(self):
+        draw, names, asked = random.Random(5), ["a", "b", "c"], []
+        false = part.part_of("false", "", {}, "HOA: v1 Start: 0 AP: 0 controllable-AP: Acceptance: 0 t --BODY-- State: 0 --END--")
+        for _ in range(40):
+            sides = [tuple(part.part_of(f"part{place}", "", {}, Table(draw, names).text()) for place in range(draw.randint(1, 3))) for _ in range(2)]
+            composer = Composer(Specification(sides[0], (*sides[1], false), tuple(names), frozenset(draw.sample(names, 2)), False))
+            texts = composer.composed(sides[0], sides[1]).text(ASSUMPTIONS_FAIL), composer.composed(sides[0], [false]).text()
+            asked += [rows.Row("false", f"synth\n{text}".encode(), 0) for text in texts]
+        where = program()
+        said = sweeps.at_once(lambda row: rows.answered(where, row)[1], asked)
+        self.assertEqual(said[::2], said[1::2])
+        self.assertEqual(set(said), {10, 20})
 
 
 class Sets(unittest.TestCase):

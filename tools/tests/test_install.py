@@ -82,6 +82,12 @@ class Installed(unittest.TestCase):
         self.assertEqual(self.completed("psyn", "compose", "--assume", "a"), ["arbiter.hoa"])
         self.assertEqual(self.completed("psyn", "compose", "--assume", "arbiter.hoa", "--guarantee", "grant.hoa", "d"), ["delay.hoa"])
         self.assertEqual(self.completed("psyn", "compose", "--outs", "g"), [""])
+        with tempfile.TemporaryDirectory() as room:
+            for name in ("it.hoa", "it.parts", "it.pg"):
+                with open(os.path.join(room, name), "wb"):
+                    pass
+            self.assertEqual(self.completed("psyn", "synth", "--parts", "i", folder=room), ["it.hoa", "it.parts"])
+            self.assertEqual(self.completed("psyn", "core", "i", folder=room), ["it.parts"])
         self.assertEqual(self.completed("psyn", "compose", "--assume", "arbiter.hoa", "--stri"), ["--strict"])
 
     def test_bash_completes_names_with_blanks(self):

@@ -10,7 +10,7 @@ from psyntool.parts.composing import Composer
 from psyntool.parts.diagrams import Diagrams
 from psyntool.parts.specification import Specification
 from psyntool.program import path as program
-from psyntool.texts import automaton, labels
+from psyntool.texts import automaton, hoa, labels
 from tests.tool import OnFiles
 from upkeep import rows, sweeps
 
@@ -185,7 +185,7 @@ class Composed(OnFiles):
     def test_the_same_by_a_list_and_by_a_command_line(self):
         words = ["--outs", "g0", "g1", "--guarantee", self.stored("never-together"), "--as", "one=g0", "other=g1", "--guarantee", self.stored("answered"), "--as", "answer=g0"]
         wanted = self.composed(*words)
-        lines = [f"# Two grants at once are none.\n--guarantee '{words[4]}' --as one=g0 other=g1\n", f"--guarantee '{words[9]}'\n--as answer=g0\n--outs g0 g1\n"]
+        lines = [f"# Two grants at once are none.\n--guarantee '{words[4]}' --as one=g0 other=g1\n\n", f"--guarantee '{words[9]}'\n--as answer=g0\n--outs g0 g1\n"]
         made = self.composed(self.file("it.parts", "".join(lines).encode()))
         self.assertEqual(made.replace("Two grants at once are none.", "g0 and g1 are never true together"), wanted)
         self.assertEqual(self.composed("-", given="".join(lines).encode()), made)
@@ -234,11 +234,11 @@ class Sets(unittest.TestCase):
 
             whole = made(0, 0)
             for (value,), text in diagrams.labels(whole).items():
-                label = automaton.label_of(automaton.Reader(automaton.tokens_of(text)))
+                label = hoa.label_of(hoa.Reader(hoa.tokens_of(text)))
                 for place in range(16):
-                    letter = {number for number in range(4) if place >> number & 1}
-                    self.assertEqual(labels.is_met(label, letter, {}), values[place] == value, text)
-                    self.assertEqual(diagrams.at(whole, letter), (values[place],))
+                    letter = {number: bool(place >> number & 1) for number in range(4)}
+                    self.assertEqual(labels.value(label, letter, {}), values[place] == value, text)
+                    self.assertEqual(diagrams.at(whole, {number for number in range(4) if letter[number]}), (values[place],))
 
     def test_too_many_sets_are_refused(self):
         with unittest.mock.patch("psyntool.parts.diagrams.MOST_NODES", 10), self.assertRaisesRegex(Refused, "more than 10 sets of letters"):

@@ -120,7 +120,7 @@ class Automata(unittest.TestCase):
                 self.assertLessEqual(found - {(made.start, 0)}, reached)
 
     def test_what_is_none(self):
-        for text in ("", "no", "HOA: v1", "HOA: v1 --BODY-- State: x", "HOA: v1 --BODY-- State: 0 [(0] 0 --END--", "HOA: v1 --BODY-- State: 0 [@a] 0 --END--"):
+        for text in ("", "no", "HOA: v1", "HOA: v1 --BODY-- State: x", "HOA: v1 --BODY-- State: 0 [(0] 0 --END--", "HOA: v1 --BODY-- State: 0 [@a] 0 --END--", "HOA: v1 Alias: @a @b Alias: @b 0 --BODY-- --END--", "HOA: v1 Alias: @a 0 Alias: @a 0 --BODY-- --END--"):
             with self.subTest(text), self.assertRaises(Unreadable):
                 automaton.read(text)
 

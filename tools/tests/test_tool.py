@@ -2,7 +2,6 @@
 import os
 import shutil
 import subprocess
-import sys
 import unittest
 
 from psyntool.command import EVERYWHERE
@@ -211,13 +210,14 @@ class Help(OnFiles):
         pages = {words: self.asked(*words) for words in ((), ("help",), ("--help",), ("-h",))}
         self.assertEqual(len(set(pages.values())), 1)
         for name, command in COMMANDS.items():
-            self.assertIn(f"\n  {name} ", pages[()])
+            self.assertIn(f"\n  {command.usage}\n", pages[()])
             told = {self.asked(name, "--help"), self.asked("help", name), self.asked("--help", name)}
             self.assertEqual(len(told), 1)
             (page,) = told
             self.assertTrue(page.startswith(command.usage))
             self.assertEqual([flag.name for flag in command.all_flags if f"  {flag.shown} " not in page], [])
-        self.assertEqual([flag.name for flag in EVERYWHERE if f"  {flag.shown} " not in pages[()]], [])
+        flags = {flag for command in COMMANDS.values() for flag in (*command.all_flags, *EVERYWHERE)}
+        self.assertEqual([flag.name for flag in flags if f"\n  {flag.shown} " not in pages[()]], [])
 
     def test_the_version(self):
         self.assertEqual({self.asked("--version"), self.asked("-V"), self.asked("version")}, {self.asked("version")})

@@ -4,7 +4,7 @@ A `[[line]]` has
 
   name      what it shows; no other one has it
   defect    which report of a defect it keeps away, if one does
-  command   what bash runs in a folder with the files of `FILES` and `PROGRAMS`; `psyn` is the tool, `install-psyn` tools/install
+  command   what bash runs in a folder with `ladder.pg` and the files of `FILES` and `PROGRAMS`; `psyn` is the tool, `install-psyn` tools/install
   cut       what comes in between: Ctrl-C, TERM, HUP or KILL once the program is at work, or `closed pipe`, an output that
             nobody reads; none where the command says all
   output    what it writes on standard output; where it is not given, that is not looked at
@@ -24,16 +24,20 @@ import termios
 import time
 import tomllib
 
+from psyntool import families
 from upkeep.sweeps import TOP
 
 KEYS = {"name", "defect", "command", "cut", "output", "error", "status", "files"}
 SIGNALS = {"TERM": signal.SIGTERM, "HUP": signal.SIGHUP, "KILL": signal.SIGKILL}
-SECONDS = 60
+SECONDS = 300
+# A game on which psyn is at work for days.
+RUNGS = 60
 FILES = ("arbiter.hoa", "grant.hoa", "delay.hoa", "loop.pg", "loop.cert", "stays.cert", "toggle.aag", "lamp.aag", "presses.stim")
-# Programs in the place of psyn: one that is long at work, one that a signal ends in its answer, one that says nothing, one that
-# says something else, and a file that is no program.
+# Programs in the place of psyn: one that is long at work, psyn itself with its number told, one that a signal ends in its answer,
+# one that says nothing, one that says something else, one that says half an answer, and a file that is no program.
 PROGRAMS = {
     "slow": "#!/bin/sh\necho $$ > pid\nexec sleep 60\n",
+    "real": '#!/bin/sh\necho $$ > pid\nexec "$REAL"\n',
     "killed": "#!/bin/sh\ncat > in\nrm in\necho REALIZABLE\nkill -9 $$\n",
     "silent": "#!/bin/sh\nexit 0\n",
     "strange": "#!/bin/sh\necho hello\nexit 3\n",
@@ -60,6 +64,8 @@ def started(tool):
 
 def furnish(room):
     """Puts the files and the programs into a folder, and the tool beside it."""
+    with open(os.path.join(room, "ladder.pg"), "w", encoding="utf-8") as file:
+        file.write(families.game_of(families.ladder(RUNGS)).text())
     for name in FILES:
         with open(os.path.join(TOP, "examples", "files", name), "rb") as source, open(os.path.join(room, name), "wb") as file:
             file.write(source.read())
@@ -77,10 +83,10 @@ class Run:
 
     def __init__(self, room, line, program):
         self.room, self.line = room, line
-        environment = {**os.environ, "PATH": f"{os.path.join(room, 'bin')}:{os.environ['PATH']}", "PSYN": program}
-        words = ["bash", "-c", f"{'exec env ' if line.get('cut') else ''}{line['command']}"]
+        environment = {**os.environ, "PATH": f"{os.path.join(room, 'bin')}:{os.environ['PATH']}", "PSYN": program, "REAL": program}
         self.more = {"cwd": room, "env": environment, "stdin": subprocess.DEVNULL}
-        self.words = words
+        # whoever runs the tests may ignore signals, as a shell does for what it starts behind `&`
+        self.words = ["env", "--default-signal=INT,HUP,TERM", "bash", "-c", f"{'exec env ' if line.get('cut') else ''}{line['command']}"]
 
     def wait_until_at_work(self, child):
         """Until the program in the place of psyn has said its number, or the tool has ended."""
@@ -113,11 +119,11 @@ class Run:
         if cut == "closed pipe":
             nobody, output = os.pipe()
             os.close(nobody)
-        child = subprocess.Popen(self.words, stdout=output, stderr=subprocess.PIPE, **self.more)
-        if cut in SIGNALS:
-            self.wait_until_at_work(child)
-            child.send_signal(SIGNALS[cut])
-        written, error = child.communicate(timeout=SECONDS)
+        with subprocess.Popen(self.words, stdout=output, stderr=subprocess.PIPE, start_new_session=True, **self.more) as child:
+            if cut in SIGNALS:
+                self.wait_until_at_work(child)
+                child.send_signal(SIGNALS[cut])
+            written, error = ended(child)
         if cut == "closed pipe":
             os.close(output)
         return (written or b"").decode(), error.decode(), shell_status(child.returncode)
@@ -128,11 +134,11 @@ class Run:
         ways[3] &= ~termios.ECHO
         termios.tcsetattr(theirs, termios.TCSANOW, ways)
         more = {**self.more, "stdin": theirs}
-        child = subprocess.Popen(["setsid", "-c", "-w", *self.words], stdout=theirs, stderr=theirs, **more)
-        os.close(theirs)
-        self.wait_until_at_work(child)
-        os.write(ours, b"\x03")
-        child.wait(SECONDS)
+        with subprocess.Popen(["setsid", "-c", "-w", *self.words], stdout=theirs, stderr=theirs, **more) as child:
+            os.close(theirs)
+            self.wait_until_at_work(child)
+            os.write(ours, b"\x03")
+            ended(child)
         written = b""
         while True:
             try:
@@ -144,6 +150,15 @@ class Run:
             written += part
         os.close(ours)
         return "", written.decode().replace("\r\n", "\n"), shell_status(child.returncode)
+
+
+def ended(child):
+    """What a command writes; one that does not end is killed, with all that it began."""
+    try:
+        return child.communicate(timeout=SECONDS)
+    except subprocess.TimeoutExpired:
+        os.killpg(child.pid, signal.SIGKILL)
+        return child.communicate()
 
 
 def is_at_work(number):

@@ -100,8 +100,10 @@ def many(value=""):
 
 
 def endings(command):
-    """For each file that the command reads the endings of its kind."""
-    return ["|".join(kind.endings) for kind in (*command.reads, *command.behind.values()) if isinstance(kind, Kind)]
+    """For each file that the command reads the endings of its kind, and of what a flag puts in its place."""
+    kinds = [kind for kind in (*command.reads, *command.behind.values()) if isinstance(kind, Kind)]
+    others = [[these[place] for these in command.instead.values() if place < len(these)] for place in range(len(kinds))]
+    return ["|".join(dict.fromkeys(ending for kind in (one, *more) for ending in kind.endings)) for one, more in zip(kinds, others)]
 
 
 def words_of(command):

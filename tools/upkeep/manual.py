@@ -2,7 +2,7 @@
 import re
 
 from psyntool import faults
-from psyntool.command import EVERYWHERE
+from psyntool.command import flags_told
 from psyntool.table import COMMANDS
 
 ABOUT = """\
@@ -18,8 +18,8 @@ FORMATS = {
     "deterministic, and its acceptance is a parity chain: parity min or max, Buchi, co-Buchi, one Rabin or Streett pair.",
     "part": "an automaton of one rule: its acceptance is `0 t` or `1 Inf(0)`, a letter without an edge breaks it, and it need not say "
     "whose its propositions are.",
-    "list": "the words of a command line of compose, in lines; files stand beside the list, `#` begins a comment, and the comment "
-    "right above a part is its sentence.",
+    "list": "the words of a command line of compose, in lines; files stand beside the list, `#` begins a comment, and a comment is the "
+    "sentence of the parts below it, up to an empty line.",
     "game": "PGSolver's format: for each vertex its id, priority, owner (0 or 1), successors and a name in quotes or none, and a "
     "semicolon. Player 0 wins where the greatest priority seen infinitely often is even.",
     "certificate": "psyn's own: the lines `psyncert 1` (or 2, compact), `vertices N`, `odd ..`, `even ..`, and for each vertex its id, "
@@ -48,16 +48,6 @@ def entry(head, body):
     return f".TP\n\\fB{plain(head)}\\fR\n{plain(body)}\n"
 
 
-def flags():
-    """Each flag, with what it says and whose it is."""
-    having = {}
-    for command in COMMANDS.values():
-        for flag in command.all_flags:
-            having.setdefault(flag, []).append(command.name)
-    told = [(flag.shown, f"of {', '.join(names)}: {flag.says}.") for flag, names in having.items()]
-    return told + [(flag.shown, f"{flag.says}.") for flag in EVERYWHERE]
-
-
 def page():
     parts = ['.TH PSYN 1 "" psyn "User Commands"\n']
 
@@ -69,7 +59,7 @@ def page():
     section("DESCRIPTION", re.sub(r"(?m)^PP$", ".PP", plain(ABOUT)))
     section("COMMANDS", *(entry(it.usage, it.says + ".") for it in COMMANDS.values() if it.is_of_the_program))
     section("COMMANDS OF THE TOOL ALONE", *(entry(it.usage, it.says + ".") for it in COMMANDS.values() if not it.is_of_the_program))
-    section("FLAGS", "Flags stand anywhere; behind \\fB\\-\\-\\fR no word is one.\n", *(entry(*it) for it in flags()))
+    section("FLAGS", "Flags stand anywhere; behind \\fB\\-\\-\\fR no word is one.\n", *(entry(name, f"{says}.") for name, says in flags_told(COMMANDS)))
     section("FORMATS", *(entry(name, says) for name, says in FORMATS.items()))
     section("EXIT STATUS", *(entry(status, says + ".") for status, says in STATUSES.items()))
     told = [(f"{fault.number or ''} {fault.name}".strip(), fault.entries["Cause"]) for fault in faults.read_document()]

@@ -11,7 +11,8 @@ from psyntool import places, releases
 from upkeep import completions
 
 DOCUMENTS = "docs/*.md docs/psyn.1 docs/pictures/* README.md VERSION"
-TOOLS = "tools/psyn tools/install tools/check_certificate.py tools/psyntool/**/*.py examples/files/*"
+TOOLS = "tools/psyn tools/install tools/check_certificate.py tools/psyntool/**/*.py"
+EXAMPLES = "examples/files/* examples/parts/* examples/gallery/**/*"
 COMPLETIONS = {"share/bash-completion/completions/psyn": completions.bash, "share/zsh/site-functions/_psyn": completions.zsh}
 SUMS = "SHA256SUMS"
 # The last lines of the gate and of the tools' tests.
@@ -39,8 +40,8 @@ def gate_lines(log):
 def contents(program, release, lines):
     """What the archive holds: for each name the bytes, and whether it is a program."""
     files = {}
-    for pattern in f"{DOCUMENTS} {TOOLS}".split():
-        for path in sorted(glob.glob(os.path.join(places.TOP, pattern), recursive=True)):
+    for pattern in f"{DOCUMENTS} {TOOLS} {EXAMPLES}".split():
+        for path in sorted(filter(os.path.isfile, glob.glob(os.path.join(places.TOP, pattern), recursive=True))):
             with open(path, "rb") as file:
                 files[os.path.relpath(path, places.TOP)] = (file.read(), os.access(path, os.X_OK))
     with open(program, "rb") as file:

@@ -1,6 +1,6 @@
 """`compose`: the one automaton that parts make, in which all assumptions together imply all guarantees."""
 from psyntool import console
-from psyntool.command import AS, ASSUME, GUARANTEE, OUTS, STRICT, Command
+from psyntool.command import OF_PARTS, Command
 from psyntool.kinds import Kind
 from psyntool.parts import specification
 from psyntool.parts.composing import Composer
@@ -16,7 +16,7 @@ COMMAND = Command(
     "the automaton of parts: its words are those in which all assumptions imply all guarantees",
     (Kind.LIST,),
     run,
-    own=(ASSUME, GUARANTEE, AS, OUTS, STRICT),
+    own=OF_PARTS,
     least=0,
     is_of_the_program=False,
 )

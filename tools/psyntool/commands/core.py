@@ -1,6 +1,6 @@
 """`core`: the guarantees that conflict, where parts have no controller; where they have one, the assumptions that it needs."""
 from psyntool import console, outputs
-from psyntool.command import AS, ASSUME, GUARANTEE, MOORE, OUTS, STRICT, TO_FILES, Command
+from psyntool.command import MOORE, OF_PARTS, TO_FILES, Command
 from psyntool.kinds import Kind
 from psyntool.parts import cores, specification
 from psyntool.parts.composing import Composer
@@ -22,13 +22,13 @@ def run(request):
 
 def head(found):
     """What the parts that follow are."""
+    many = len(found.parts) > 1
     if not found.has_controller:
-        one = "this guarantee can't be kept" if len(found.parts) == 1 else "these guarantees conflict, and with any one left out they do not"
-        return f"{one}{', under all assumptions' if found.specification.assumptions else ''}:"
-    if found.parts:
-        one = "this assumption suffices, and without it" if len(found.parts) == 1 else "these assumptions suffice, and with any one left out"
-        return f"{one} there is no controller:"
-    return "there is a controller without any assumption"
+        said = "these guarantees conflict, and none of them can be left out" if many else "this guarantee can't be kept"
+        return f"{'under all assumptions ' if found.specification.assumptions else ''}{said}:"
+    if not found.parts:
+        return "there is a controller without any assumption"
+    return "these assumptions suffice, and none of them can be left out:" if many else "this assumption suffices, and can't be left out:"
 
 
 def rows(parts):
@@ -43,7 +43,7 @@ COMMAND = Command(
     (Kind.LIST,),
     run,
     flags=(MOORE,),
-    own=(ASSUME, GUARANTEE, AS, OUTS, STRICT, TO_FILES),
+    own=(*OF_PARTS, TO_FILES),
     least=0,
     is_of_the_program=False,
 )

@@ -1,6 +1,6 @@
 """`help`: what the tool can do, or how one command is used."""
 from psyntool import console, places
-from psyntool.command import EVERYWHERE, Command
+from psyntool.command import Command, flags_told
 from psyntool.ends import Refused
 from psyntool.words import nearest
 
@@ -12,11 +12,18 @@ Runs psyn on files.
 Is there a controller for this automaton? (With --moore it moves before its inputs.)
   {name} synth arbiter.hoa > answer
 
-One automaton of small ones, some of which are assumed, and some guaranteed:
-  {name} compose --assume again.hoa --guarantee never.hoa answered.hoa --outs g0 g1 > arbiter.hoa
+The same for a specification in parts, small automata of which some are assumed and some guaranteed; their one automaton:
+  {name} synth --outs g0 g1 --assume again.hoa --guarantee never.hoa answered.hoa
+  {name} synth --parts arbiter.parts
+  {name} compose arbiter.parts > arbiter.hoa
 
 Why is there no controller for these parts? Which of their guarantees conflict?
-  {name} core --guarantee never.hoa answered.hoa --outs g0 g1
+  {name} core arbiter.parts
+
+Why does the environment win? Play against it, by names, or see the play that holds out longest:
+  {name} -o out synth spec.hoa
+  {name} play out spec.hoa
+  {name} play --auto out spec.hoa
 
 Who wins this game, by which moves?
   {name} solve game.pg > solution.cert
@@ -46,7 +53,7 @@ The commands of the program:
 Of the tool alone:
 {tools}
 
-Flags of all commands (`{name} help COMMAND` tells those of one):
+Flags, which stand anywhere (behind `--` no word is one):
 {flags}
 
 The answer of the program is printed unchanged, and its exit status is this tool's: 0 for an answer (10 and 20 for REALIZABLE and
@@ -64,14 +71,18 @@ def rows(pairs):
     return "\n".join(f"  {first:<{width}}  {second}" for first, second in pairs)
 
 
-def page(commands):
+def uses(commands, are_programs):
+    """How each command is used, and below what it says."""
+    return "\n".join(f"  {it.usage}\n      {it.says}" for it in commands.values() if it.is_of_the_program == are_programs)
+
+
+def page(request):
     """What the tool can do."""
-    shown = [[(it.name, it.says) for it in commands.values() if it.is_of_the_program == is_programs] for is_programs in (True, False)]
     return WORDS.format(
         name=places.NAME,
-        programs=rows(shown[0]),
-        tools=rows(shown[1]),
-        flags=rows([(flag.shown, flag.says) for flag in EVERYWHERE]),
+        programs=uses(request.table, True),
+        tools=uses(request.table, False),
+        flags=rows(flags_told(request.table)),
         program=places.PROGRAM,
     )
 
@@ -85,7 +96,7 @@ def use_of(command):
 def run(request):
     commands = request.table
     if not request.words:
-        console.write_text(page(commands))
+        console.write_text(page(request))
         return 0
     if request.words[0] not in commands:
         raise Refused(f"there is no command {request.words[0]}{nearest(request.words[0], commands)}")

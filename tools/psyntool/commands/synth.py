@@ -1,30 +1,68 @@
-"""`synth`: a circuit for an automaton; with -o the circuit, the game and the certificate in files of their own."""
+"""`synth`: a circuit for an automaton, or for parts; with -o the circuit, the game and the certificate in files of their own."""
 from psyntool import asking, console, files, outputs, program
-from psyntool.command import CERT, COMPACT, FULL, MOORE, TO_FILES, Command
-from psyntool.ends import FAULT
+from psyntool.command import CERT, COMPACT, FULL, MOORE, OF_PARTS, PARTS, TO_FILES, Command
+from psyntool.ends import FAULT, Refused
 from psyntool.kinds import Kind
+from psyntool.parts import specification
+from psyntool.parts.composing import ASSUMPTIONS_FAIL, Composer
 from psyntool.texts import Unreadable, report
 
 ENDINGS = (".aag", ".pg", ".cert")
+BY_BREAKING = "a controller can make the assumptions fail, so this one may win without keeping the guarantees"
 
 
 def run(request):
+    if any(request.has(flag) for flag in (PARTS, *OF_PARTS)):
+        return run_on_parts(request)
     if not request.has(TO_FILES):
         return asking.run(request)
-    prefix = request.value(TO_FILES)
-    paths = outputs.checked([prefix + ending for ending in ENDINGS], TO_FILES.shown, prefix)
+    paths = paths_of(request, ENDINGS)
     texts = request.texts()
+    return to_files(request, texts, paths, {})
+
+
+def run_on_parts(request):
+    """The same for parts; where their assumptions can be made to fail, a line on standard error says so."""
+    if request.has(CERT):
+        raise Refused(f"{CERT.name} is for an automaton: compose makes one of parts")
+    paths = paths_of(request, (*ENDINGS, ".hoa")) if request.has(TO_FILES) else []
+    whole = Composer(specification.asked(request)).composed()
+    texts = [files.Text(Kind.AUTOMATON, "the automaton of these parts", whole.text().encode("utf-8", "surrogateescape"))]
+    if paths:
+        status = to_files(request, texts, paths[:-1], {paths[-1]: whole.text()})
+    elif request.quiet:
+        program.become(files.joined("synth", request.passed, texts))
+    else:
+        status = asking.hand_on(request, texts, program.ask(files.joined("synth", request.passed, texts)))
+    if status == 10 and not request.quiet and whole.specification.assumptions and can_break(request, whole):
+        console.tell(BY_BREAKING)
+    return status
+
+
+def can_break(request, whole):
+    """Whether the program finds a controller where no word meets the guarantees."""
+    flags = [name for name in request.passed if name == MOORE.name]
+    head = " ".join(["synth", *flags]) + "\n"
+    return program.ask((head + whole.text(ASSUMPTIONS_FAIL)).encode("utf-8", "surrogateescape")).status == 10
+
+
+def paths_of(request, endings):
+    prefix = request.value(TO_FILES)
+    return outputs.checked([prefix + ending for ending in endings], TO_FILES.shown, prefix)
+
+
+def to_files(request, texts, paths, others):
+    """Writes the three parts of the answer and other texts, and then the first line."""
     flags = list(dict.fromkeys([*request.passed, FULL.name]))
     answer = program.ask(files.joined("synth", flags, texts))
     if answer.is_fault:
         return asking.hand_on(request, texts, answer)
     if answer.died:
         return asking.told(request, texts, answer)
-    return stored(answer, paths)
+    return stored(answer, paths, others)
 
 
-def stored(answer, paths):
-    """Writes the three parts, and then the first line."""
+def stored(answer, paths, others):
     try:
         said = report.read(answer.bytes.decode("utf-8", "surrogateescape"))
     except Unreadable:
@@ -32,7 +70,7 @@ def stored(answer, paths):
     if not said or len(said.parts) != len(paths):
         console.tell("psyn: the answer is none of `synth --full`, so no file is written")
         return FAULT
-    outputs.write_all(dict(zip(paths, said.parts)))
+    outputs.write_all({**dict(zip(paths, said.parts)), **others})
     console.write_text(said.word + "\n")
     return answer.status
 
@@ -43,6 +81,7 @@ COMMAND = Command(
     (Kind.AUTOMATON,),
     run,
     flags=(FULL, CERT, MOORE, COMPACT),
-    own=(TO_FILES,),
+    own=(TO_FILES, PARTS, *OF_PARTS),
     behind={CERT.name: Kind.CERTIFICATE},
+    instead={flag.name: (Kind.LIST,) for flag in (PARTS, *OF_PARTS)},
 )

@@ -38,7 +38,8 @@ def until_it_comes_again(texts, given):
             return answer
         rows = answer.bytes.split(b"\n")[:-1]
         begins = [row.split(b"|")[0] for row in rows[len(given.stem) :: len(given.lap)]]
-        again = next((place for place, latches in enumerate(begins) if latches in begins[:place]), None)
+        seen = set()
+        again = next((place for place, latches in enumerate(begins) if latches in seen or seen.add(latches)), None)
         if again is not None or len(rows) > LONGEST:
             end = len(given.stem) + (again or laps) * len(given.lap)
             return program.Answer(b"".join(row + b"\n" for row in rows[:end]), 0, "")

@@ -11,9 +11,10 @@ LAST = 1 << 30
 
 
 class Diagrams:
-    """A store of diagrams: none is made twice."""
+    """A store of diagrams: none is made twice. Labels have the numbers of propositions, or the names that are given."""
 
-    def __init__(self):
+    def __init__(self, names=None):
+        self.names = names
         # of each diagram its proposition (a leaf's is behind all), and its two sides or its value
         self.propositions, self.lows, self.highs = [], [], []
         self.known = {}
@@ -136,7 +137,7 @@ class Diagrams:
                 found = {self.value(one): ("t", "")}
             else:
                 low, high = self.parted(self.lows[one]), self.parted(self.highs[one])
-                name = str(self.propositions[one])
+                name = str(self.propositions[one]) if self.names is None else self.names[self.propositions[one]]
                 found = {value: either(name, low.get(value), high.get(value)) for value in {**low, **high}}
             self.texts[one] = found
         return found

@@ -9,7 +9,7 @@ from typing import NamedTuple
 
 from psyntool.ends import Refused
 from psyntool.parts.diagrams import Diagrams
-from psyntool.texts import Unreadable, automaton, labels
+from psyntool.texts import Unreadable, automaton, hoa, labels
 from psyntool.texts.labels import Proposition
 
 SAFETY, BUCHI = True, ("Inf", 0)
@@ -70,8 +70,8 @@ def part_of(stem, sentence, renamed, text):
     if twice is not None:
         raise Refused(f"two of its propositions would be {twice}")
     title = f"{stem}({','.join(names)})" if renamed else stem
-    whole = " ".join(token.text for token in automaton.tokens_of(text))
-    said = automaton.unquoted(" ".join(read.headers.get("name:", ['""'])))
+    whole = " ".join(token.text for token in hoa.tokens_of(text))
+    said = hoa.unquoted(" ".join(read.headers.get("name:", ['""'])))
     part = Part(title, sentence or spoken(said, renamed), automaton.renamed(read, names), renamed, whole)
     Moves(part, {name: number for number, name in enumerate(names)}, Diagrams())
     return part

@@ -6,15 +6,15 @@ import shlex
 from dataclasses import dataclass, field
 
 from psyntool import explaining, faults, program, words
-from psyntool.command import AS, ASSUME, GUARANTEE, OUTS, STRICT
+from psyntool.command import AS, ASSUME, GUARANTEE, OF_PARTS, OUTS, STRICT
 from psyntool.ends import Refused
 from psyntool.files import Reader
 from psyntool.kinds import Kind
 from psyntool.parts import part
-from psyntool.texts import Unreadable, automaton
+from psyntool.texts import Unreadable, automaton, hoa
 
 MOST_PROPOSITIONS = 64
-FLAGS = {flag.name: flag for flag in (ASSUME, GUARANTEE, AS, OUTS, STRICT)}
+FLAGS = {flag.name: flag for flag in OF_PARTS}
 # A circuit that has no name of any automaton: the program judges the automaton first.
 NO_CIRCUIT = b"aag 0 0 0 0 0\n%%\n-\n"
 # What stands in a part that does not say whose its propositions are.
@@ -85,12 +85,16 @@ class Wishes:
 
 
 def listed(text, wishes):
-    """Takes what a list says: the words of a command line, in lines; a comment right above a part is its sentence."""
-    said, sentences, comment = [], {}, []
+    """Takes what a list says: the words of a command line, in lines. A comment is the sentence of the parts below it, up to an
+    empty line or to the next comment."""
+    said, sentences, comment, was_comment = [], {}, [], False
     for row, line in enumerate(text.string.split("\n"), 1):
         bare = line.strip()
         if bare.startswith("#"):
-            comment.append(bare.lstrip("# "))
+            comment = [*(comment if was_comment else []), bare.lstrip("# ")]
+        was_comment = bare.startswith("#")
+        if was_comment or not bare:
+            comment = comment if was_comment else []
             continue
         try:
             found = shlex.split(line, comments=True)
@@ -99,7 +103,6 @@ def listed(text, wishes):
         for word in found:
             sentences[len(said)] = " ".join(comment)
             said.append(word)
-        comment = []
     given, others = refused_behind(text.name, words.split, said, FLAGS)
     if others:
         raise Refused(f"{text.name}: {others[0]!r} stands behind no flag; a list has --assume, --guarantee, --as, --outs and --strict")
@@ -127,6 +130,18 @@ def asked(request):
         raise Refused(f"{request.command.name} wants parts: {GUARANTEE.shown}, {ASSUME.shown}, or a list of them")
     if [*paths, *(wish.path for wish in wishes.parts)].count("-") > 1:
         raise Refused("standard input can be one of the files only")
+    return made(wishes, reader)
+
+
+def of_list(text, reader):
+    """The specification of a list."""
+    wishes = Wishes()
+    listed(text, wishes)
+    return made(wishes, reader)
+
+
+def made(wishes, reader):
+    """The specification that is wished for."""
     read = {}
     parts = [part_of(wish, reader, read) for wish in wishes.parts]
     sides = [tuple(it for it, wish in zip(parts, wishes.parts) if wish.is_assumed == is_assumed) for is_assumed in (True, False)]
@@ -207,7 +222,7 @@ def kept(read):
     tokens = read.headers.get("part:")
     if not tokens:
         return None
-    said = [automaton.unquoted(token) for token in tokens]
+    said = [hoa.unquoted(token) for token in tokens]
     if len(said) % 5 or any(side not in ("assume", "guarantee") for side in said[::5]):
         raise Unreadable("an item `part:` of this automaton was not written by compose")
     sides = {"assume": [], "guarantee": []}

@@ -62,6 +62,8 @@ def state_table(automaton, state, targets):
 def automaton_legend(automaton, is_cut):
     owned = [", ".join(name for _, name in these) or "nothing" for these in automaton.owners()]
     rows = [("acceptance", automaton.acceptance, ""), ("environment", owned[0], ""), ("controller", owned[1], "")]
+    if "controllable-AP:" not in automaton.headers:
+        rows[1:] = [("propositions", owned[0], "")]
     if any(edge.marks for edges in automaton.edges.values() for edge in edges):
         rows.append(("{0}", "the edge is in set 0", ""))
     return legend([*rows, *([("", "what lies further on is not drawn", "")] if is_cut else [])])

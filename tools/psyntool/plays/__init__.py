@@ -1,0 +1,1 @@
+"""Plays against the circuit that psyn printed: who has lost makes the other moves."""

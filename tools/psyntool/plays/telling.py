@@ -1,0 +1,67 @@
+"""What is said of a play: where it stands, what can be chosen, and how it ended."""
+from psyntool.plays.board import run
+
+
+def standing(play):
+    """Where the play stands, in lines."""
+    board, behind = play.board, f" (priority {play.steps[-1].priority})" if play.steps else ""
+    told = [f"step {len(play.steps)}: {board.title(play.state)}{behind}"]
+    return told + ([] if play.theirs is None else [f"the {board.other} says {board.letter_text(play.theirs)}"])
+
+
+def offered(play):
+    """The choices, and for each a line with its number; `*` stands at the one that holds out longest."""
+    choices = play.choices()
+    best, width = play.board.longest(choices), max(len(choice.said) for choice in choices)
+    lines = [f"{'*' if choice is best else ' '}{number:>3}  {choice.said:<{width}}  -> {where(play.board, choice)}" for number, choice in enumerate(choices, 1)]
+    return choices, lines
+
+
+def where(board, choice):
+    """Where a choice leads: the state's name and the priority, or what it breaks."""
+    if choice.target is not None:
+        return f"{board.title(choice.target)} (priority {choice.priority})"
+    return f"no edge{', since it breaks ' if choice.broken else ''}{' and '.join(choice.broken)}"
+
+
+def ended(play):
+    """How the play ended, in lines: the loop with its greatest priority, or the step without an edge; and what became of parts."""
+    last = len(play.steps) - 1
+    if play.loop is None:
+        told = [f"at step {last} there is no edge: the automaton rejects, whatever follows"]
+    else:
+        greatest = max(step.priority for step in play.steps[play.loop :])
+        what = f"step {last} comes" if play.loop == last else f"steps {play.loop} to {last} come"
+        parity = "even: the automaton accepts" if greatest % 2 == 0 else "odd: the automaton rejects"
+        told = [f"{what} again and again; the greatest priority there is {greatest}, {parity}"]
+    for side, parts in (("assumption", play.board.assumed), ("guarantee", play.board.guaranteed)):
+        told += [line for moves in parts for line in of_part(play, side, moves)]
+    return told
+
+
+def of_part(play, side, moves):
+    """What there is to say of a part that broke, or that the loop never meets, and its sentence."""
+    found, part = run(moves, play.steps), moves.part
+    if found.broke is not None:
+        said = f"step {found.broke} breaks the {side} {part.title}"
+    elif play.loop is not None and not any(place >= play.loop for place in found.met):
+        said = f"the loop never meets the {side} {part.title}"
+    else:
+        return []
+    return [said, f"  {part.sentence}"] if part.sentence else [said]
+
+
+def table(play):
+    """The steps, in columns: state, what both said, the priority."""
+    board = play.board
+    owned = [[number for number, _ in these] for these in board.automaton.owners()]
+    head = ("step", "state", "environment", "controller", "priority")
+    rows = [head]
+    for place, step in enumerate(play.steps):
+        said = [board.letter_text({number: step.letter[number] for number in these}) for these in owned]
+        rows.append((str(place), board.title(step.state), *said, "no edge" if step.target is None else str(step.priority)))
+    widths = [max(len(row[column]) for row in rows) for column in range(len(head))]
+    lines = ["  ".join(word.ljust(width) for word, width in zip(row, widths)).rstrip() for row in rows]
+    if play.loop is not None:
+        lines.insert(play.loop + 1, "the loop begins")
+    return lines

@@ -1,0 +1,247 @@
+"""Reads the Hanoi Omega-Automata format: tokens, the items of the header, and the states with their edges."""
+import re
+from dataclasses import dataclass, field
+
+from psyntool.texts import NUMBER, Unreadable
+from psyntool.texts.labels import AND, NOT, Alias, Operator, Proposition
+
+TOKEN = re.compile(r'/\*|\*/|"(?:\\.|[^"\\])*"|--[A-Z]+--|@[\w-]+|[A-Za-z_][\w-]*:?|\d+|[^\s]', re.S)
+STOP = "--END--"
+CAUSE = "this HOA text can't be read: run `lasso` or `game` to see where it goes wrong"
+BINDS = {"|": 1, "&": 2}
+NESTED = Operator("()", 1)
+
+
+@dataclass(frozen=True)
+class Token:
+    text: str
+    offset: int
+
+
+@dataclass(frozen=True)
+class Edge:
+    """An edge: its label in postfix form, its target, its sets (those of its state too), and where it stands in the text."""
+
+    source: int
+    label: tuple
+    target: int
+    marks: frozenset
+    offset: int
+
+
+def tokens_of(text):
+    """The tokens, comments left out; comments nest, and strings may hold their signs."""
+    tokens, depth, at = [], 0, 0
+    for found in TOKEN.finditer(text):
+        if found.start() < at:
+            continue
+        sign = found[0]
+        if depth and sign not in ("/*", "*/"):
+            at = found.start() + 1 if sign[0] == '"' else at
+        elif sign == "/*":
+            depth += 1
+        elif sign == "*/" and depth:
+            depth -= 1
+        else:
+            tokens.append(Token(sign, found.start()))
+    return tokens
+
+
+class Reader:
+    """Reads tokens one behind another."""
+
+    def __init__(self, tokens):
+        self.tokens, self.at = tokens, 0
+
+    @property
+    def now(self):
+        return self.tokens[self.at].text if self.at < len(self.tokens) else ""
+
+    @property
+    def offset(self):
+        return self.tokens[self.at].offset if self.at < len(self.tokens) else 0
+
+    def take(self, pattern="", must=True):
+        """The next token, if it is of this form; empty where it is not and need not be."""
+        text = self.now
+        if not text or not re.fullmatch(pattern or ".*", text, re.S):
+            if must:
+                raise Unreadable(CAUSE)
+            return ""
+        self.at += 1
+        return text
+
+    def number(self):
+        return int(self.take(NUMBER))
+
+    def numbers(self):
+        found = []
+        while re.fullmatch(NUMBER, self.now):
+            found.append(self.number())
+        return found
+
+    def formula(self, atom):
+        """A formula of !, & and |, in postfix form; `atom` reads what is none of these signs. Parentheses are an operator too."""
+        output, waiting, wants_atom = [], [], True
+        while True:
+            sign = self.now
+            if wants_atom and sign in ("!", "("):
+                waiting.append(self.take())
+            elif wants_atom:
+                output.append(atom())
+                wants_atom = False
+            elif sign in BINDS:
+                release(waiting, output, BINDS[sign])
+                waiting.append(self.take())
+                wants_atom = True
+            elif sign == ")" and "(" in waiting:
+                self.take()
+                release(waiting, output, 0)
+                waiting.pop()
+                output.append(NESTED)
+            else:
+                release(waiting, output, 0)
+                self.refuse_if(bool(waiting))
+                return output
+
+    def refuse_if(self, is_wrong):
+        if is_wrong:
+            raise Unreadable(CAUSE)
+
+
+def release(waiting, output, binds):
+    """Puts out the operators that bind as strongly, down to an open parenthesis."""
+    while waiting and waiting[-1] != "(" and BINDS.get(waiting[-1], 3) >= binds:
+        sign = waiting.pop()
+        output.append(Operator(sign, 1 if sign == "!" else 2))
+
+
+def label_of(reader):
+    """A label, in postfix form."""
+
+    def atom():
+        if reader.now in ("t", "f"):
+            return reader.take() == "t"
+        if reader.now.startswith("@"):
+            return Alias(reader.take()[1:])
+        return Proposition(reader.number())
+
+    return tuple(part for part in reader.formula(atom) if part != NESTED)
+
+
+def known_label(reader, aliases):
+    """A label that uses aliases that were defined before it, and no others."""
+    label = label_of(reader)
+    reader.refuse_if(any(isinstance(part, Alias) and part.name not in aliases for part in label))
+    return label
+
+
+def condition_of(reader):
+    """The condition behind `Acceptance: N`, as `acceptance` has it."""
+
+    def atom():
+        if reader.now in ("t", "f"):
+            return reader.take() == "t"
+        sign = reader.take("Inf|Fin")
+        reader.take(r"\(")
+        is_complemented = bool(reader.take("!", must=False))
+        mark = reader.number()
+        reader.take(r"\)")
+        return (sign, ~mark if is_complemented else mark)
+
+    stack = []
+    for part in reader.formula(atom):
+        if not isinstance(part, Operator):
+            stack.append((part, False))
+        elif part.sign == "()":
+            stack.append((stack.pop()[0], True))
+        else:
+            reader.refuse_if(part.sign == "!")
+            right, (left, is_closed) = stack.pop()[0], stack.pop()
+            is_same = not is_closed and not isinstance(left, bool) and left[0] == part.sign
+            stack.append(((part.sign, [*(left[1] if is_same else [left]), right]), False))
+    return stack[0][0]
+
+
+@dataclass
+class Header:
+    """The items before `--BODY--`, the condition also as it is written; and by name the tokens that none of these takes."""
+
+    start: int = 0
+    names: tuple = ()
+    controllable: frozenset = frozenset()
+    condition: object = None
+    acceptance: str = ""
+    aliases: dict = field(default_factory=dict)
+    others: dict = field(default_factory=dict)
+
+
+def header_of(reader, text):
+    """The header of a text."""
+    head = Header()
+    while reader.now != "--BODY--":
+        name = reader.take(".*:")
+        begin = reader.offset
+        if name == "Start:":
+            head.start = reader.number()
+        elif name == "AP:":
+            head.names = tuple(unquoted(reader.take('".*"')) for _ in range(reader.number()))
+        elif name == "controllable-AP:":
+            head.controllable = frozenset(reader.numbers())
+        elif name == "Alias:":
+            alias = reader.take("@.*")[1:]
+            reader.refuse_if(alias in head.aliases)
+            head.aliases[alias] = known_label(reader, head.aliases)
+        elif name == "Acceptance:":
+            reader.number()
+            head.condition = condition_of(reader)
+            head.acceptance = " ".join(text[begin : reader.offset].split()[1:])
+        rest = head.others.setdefault(name, [])
+        while reader.now != "--BODY--" and not reader.now.endswith(":"):
+            rest.append(reader.take())
+    return head
+
+
+def unquoted(text):
+    return re.sub(r"(?s)\\(.)", r"\1", text[1:-1])
+
+
+def marks_of(reader):
+    if not reader.take(r"\{", must=False):
+        return frozenset()
+    marks = frozenset(reader.numbers())
+    reader.take(r"\}")
+    return marks
+
+
+def bracketed(reader, aliases):
+    """A label between brackets; None where there is none."""
+    if not reader.take(r"\[", must=False):
+        return None
+    label = known_label(reader, aliases)
+    reader.take(r"\]")
+    return label
+
+
+def nth_letter(place, count):
+    """The label that this letter alone meets: its bit p is proposition p."""
+    parts = []
+    for number in range(count):
+        parts += [Proposition(number), *([] if place >> number & 1 else [NOT]), *([AND] if number else [])]
+    return tuple(parts) or (True,)
+
+
+def state_of(reader, head):
+    """A state with its edges: its number, its name, and the edges; those without labels have the letters in turn."""
+    reader.take("State:")
+    label = bracketed(reader, head.aliases)
+    state = reader.number()
+    name = unquoted(reader.take('".*"', must=False) or '""')
+    marks, edges = marks_of(reader), []
+    while reader.now not in ("State:", STOP):
+        begin = reader.offset
+        own = bracketed(reader, head.aliases)
+        target = reader.number()
+        said = own or label or nth_letter(len(edges), len(head.names))
+        edges.append(Edge(state, said, target, marks | marks_of(reader), begin))
+    return state, name, tuple(edges)

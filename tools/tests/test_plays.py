@@ -1,0 +1,179 @@
+"""Plays against circuits that psyn printed: what is shown for what is typed, and that each play ends as the program says."""
+import os
+import pty
+import random
+import subprocess
+import sys
+import unittest
+
+from psyntool import program
+from psyntool.commands import play as command
+from psyntool.parts import part
+from psyntool.parts.composing import Composer
+from psyntool.parts.specification import Specification
+from psyntool.plays import telling
+from psyntool.plays.board import Board, Play
+from psyntool.texts import automaton, certificate, circuit, game, report
+from tests.test_cores import CONFLICT
+from tests.test_parts import PARTS, Table
+from tests.tool import AUTOMATON, TOOL, OnFiles
+
+AUTO = """\
+step  state                                           environment  controller  priority
+0     no r1 waits; g0 is next; no r0 before           r1           -           2
+1     r1 waits for 1 step; g0 is next; no r0 before   -            -           2
+2     r1 waits for 2 steps; g0 is next; no r0 before  -            -           2
+3     r1 waits for 3 steps; g0 is next; no r0 before  -            -           no edge
+at step 3 there is no edge: the automaton rejects, whatever follows
+step 3 breaks the guarantee answered-within-3(r1,g1)
+  behind each r1 comes g1, at most 3 steps later
+few.stim has these letters of the controller; lasso: rejected stem 4 lap 1
+"""
+BEGIN = """\
+You are the controller, and the environment has a circuit that wins.
+Type the number of a choice, or the names of your propositions that are to be true, `-` for none;
+a for the choice with `*`, which holds out longest; b for one step back; q to leave.
+
+step 0: no r1 waits; g0 is next; no r0 before
+the environment says r1
+*  1  !g0 & !g1  -> r1 waits for 1 step; g0 is next; no r0 before (priority 2)
+   2  !g0 & g1   -> no edge, since it breaks takes-turns(g0,g1)
+   3  g0 & !g1   -> no edge, since it breaks at-most-one-step-after(r0,g0)
+   4  g0 & g1    -> no edge, since it breaks takes-turns(g0,g1) and at-most-one-step-after(r0,g0)
+> """
+BROKEN = """\
+
+step  state                                  environment  controller  priority
+0     no r1 waits; g0 is next; no r0 before  r1           g0          no edge
+at step 0 there is no edge: the automaton rejects, whatever follows
+step 0 breaks the guarantee at-most-one-step-after(r0,g0)
+  g0 is true only with r0 or one step after r0
+few.stim has these letters of the controller; lasso: rejected stem 1 lap 1
+"""
+ENVIRONMENT = """\
+You are the environment, and the controller has a circuit that wins.
+Type the number of a choice, or the names of your propositions that are to be true, `-` for none;
+a for the choice with `*`, which holds out longest; b for one step back; q to leave.
+
+step 0: off
+*  1  -  -> off (priority 2)
+   2  r  -> off (priority 2)
+> 
+step  state  environment  controller  priority
+the loop begins
+0     off    r            g           2
+step 0 comes again and again; the greatest priority there is 2, even: the automaton accepts
+out.stim has these letters of the environment; lasso: accepted stem 0 lap 1
+"""
+LEFT = "the play is left; no stimulus is written\n"
+
+
+class Commands(OnFiles):
+    def setUp(self):
+        super().setUp()
+        os.symlink(PARTS, os.path.join(self.room, "parts"))
+
+    def conflict(self):
+        self.tool("core", "-o", "few", self.file("it.parts", CONFLICT.encode()))
+        self.assertEqual(self.tool("synth", "-o", "few", "few.hoa").returncode, 20)
+
+    def played(self, *words, given=""):
+        done = self.tool("play", *words, given=given.encode())
+        self.assertEqual((done.returncode, done.stderr), (0, b""))
+        return done.stdout.decode()
+
+    def test_the_longest_play(self):
+        self.conflict()
+        self.assertEqual(self.played("--auto", "few", "few.hoa"), AUTO)
+        with open(os.path.join(self.room, "few.stim"), encoding="utf-8") as file:
+            self.assertEqual(file.read(), "00\n00\n00\n-\n00\n")
+        self.assertEqual(self.tool("lasso", "--env", "few.hoa", "few.aag", "few.stim").stdout, b"rejected stem 4 lap 1\n")
+
+    def test_what_is_typed(self):
+        self.conflict()
+        for given in ("3\n", "g0\n", "g0 !g1", "1\nb\n3\n", "a\n-\nb\nb\nb\ng0\n"):
+            said = self.played("few", "few.hoa", given=given)
+            self.assertTrue(said.startswith(BEGIN), said)
+            self.assertTrue(said.endswith(BROKEN), said)
+            os.remove(os.path.join(self.room, "few.stim"))
+        for given in ("", "q\n", "1\n"):
+            self.assertTrue(self.played("few", "few.hoa", given=given).endswith(LEFT))
+            self.assertFalse(os.path.exists(os.path.join(self.room, "few.stim")))
+        for wrong in ("", "0", "5", "g2", "r0", "g0 x", "1 2", "²"):
+            self.assertIn(f"> {wrong!r} is no choice. Type the number", self.played("few", "few.hoa", given=f"{wrong}\nq\n"))
+
+    def test_the_environment_against_a_controller(self):
+        self.tool("synth", "-o", "out", self.file("it.hoa", AUTOMATON))
+        self.assertEqual(self.played("out", "it.hoa", given="2\n"), ENVIRONMENT)
+
+    def test_a_list_in_the_place_of_the_automaton(self):
+        parts = self.file("it.parts", CONFLICT.encode())
+        self.tool("synth", "-o", "all", self.file("all.hoa", self.tool("compose", parts).stdout))
+        self.assertEqual(self.played("--auto", "all", parts), self.played("--auto", "all", "all.hoa"))
+
+    def test_files_that_do_not_fit(self):
+        self.conflict()
+        other = self.file("it.hoa", AUTOMATON)
+        for words, said in (
+            (("few", other), b"the game is not that of this automaton: its vertices have other names"),
+            (("none", other), b"none.aag: No such file or directory"),
+            (("few", "few.pg"), b"few.pg is a game; play wants PREFIX and a specification"),
+        ):
+            done = self.tool("play", *words)
+            self.assertEqual((done.returncode, done.stdout, done.stderr), (2, b"", b"psyn: " + said + b"\n"))
+        self.tool("synth", "-o", "out", other)
+        os.replace(os.path.join(self.room, "out.aag"), os.path.join(self.room, "few.aag"))
+        self.assertIn(b"psyn: the circuit is not the one", self.tool("play", "few", "few.hoa").stderr)
+
+    def test_on_a_terminal(self):
+        self.conflict()
+        ours, theirs = pty.openpty()
+        running = subprocess.Popen([sys.executable, TOOL, "play", "few", "few.hoa"], stdin=theirs, stdout=theirs, stderr=theirs, cwd=self.room)
+        os.close(theirs)
+        os.write(ours, b"3\n")
+        said = b""
+        try:
+            while part := os.read(ours, 10_000):
+                said += part
+        except OSError:
+            pass
+        os.close(ours)
+        self.assertEqual(running.wait(), 0)
+        self.assertTrue(said.replace(b"\r\n", b"\n").endswith(BROKEN.encode()), said)
+
+
+class Drawn(unittest.TestCase):
+    """The longest play and a drawn one, of both players, in both orders: the program's verdict is that of the loop, or it raises."""
+
+    def test_drawn_specifications(self):
+        draw, names, ends = random.Random(7), ["a", "b", "c"], {}
+        for number in range(40):
+            sides = [tuple(part.part_of(f"part{place}", "", {}, Table(draw, names).text()) for place in range(draw.randint(1, 3))) for _ in range(2)]
+            whole = Specification(*sides, tuple(names), frozenset(draw.sample(names, 1)), number % 4 == 0)
+            text = Composer(whole).composed().text()
+            flags = " --moore" if number % 3 == 0 else ""
+            said = report.read(program.ask(f"synth --full{flags}\n{text}".encode()).text)
+            texts = circuit.read(said.parts[0]), game.read(said.parts[1]), certificate.read(said.parts[2])
+            board = Board(automaton.read(text), texts[1], texts[2], texts[0], whole)
+            for choose in (board.longest, draw.choice):
+                play = Play(board, said.parts[0].encode())
+                while not play.is_over:
+                    play.take(choose(play.choices()).letter)
+                command.judged(play, text)
+                told = telling.ended(play)
+                self.look_at(play, told)
+                ends[board.winner, play.loop is None] = ends.get((board.winner, play.loop is None), 0) + 1
+        self.assertEqual(set(ends), {(0, False), (1, False), (1, True)})
+
+    def look_at(self, play, told):
+        """What is said of parts goes with the verdict."""
+        broken = [line for line in told[1:] if " the guarantee " in line]
+        failed = [line for line in told[1:] if " the assumption " in line]
+        if play.board.winner == 1:
+            self.assertTrue(broken, told)
+        elif broken:
+            self.assertTrue(failed, told)
+
+
+if __name__ == "__main__":
+    unittest.main()
