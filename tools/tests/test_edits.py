@@ -1,14 +1,17 @@
 """Edits that the prover must refuse: each still applies, and stands in the folder that it belongs to.
 
 The gate tries those of crates/*/must-fail: the named wrong bodies, one edit each. All others stand in crates/*/more-edits,
-each with its verdict in docs/EDITS.tsv, where `tools/try-edits` keeps it.
+each with a row in docs/EDITS.tsv, where `tools/try-edits` keeps its verdict.
 """
 import glob
+import importlib.machinery
+import importlib.util
 import os
 import tempfile
 import unittest
+from unittest import mock
 
-from upkeep.sweeps import TOP
+from upkeep.sweeps import TOOLS, TOP
 
 # What psyn's promises must not let through. A crate with one of them is proved once more in the gate.
 NAMED = (
@@ -37,6 +40,7 @@ NAMED = (
     "wrong_polarity_or_reset",
 )
 MOST_CRATES = 10
+VERDICTS = {"refused", "refused by a name", "to be tried"}
 
 
 def edits_in(folder):
@@ -87,6 +91,14 @@ class Edits(unittest.TestCase):
         self.assertEqual(sorted(name for _, name in tried), sorted(NAMED))
         self.assertLessEqual(len({crate for crate, _ in tried}), MOST_CRATES)
 
+    def test_each_other_one_has_one_row(self):
+        with open(os.path.join(TOP, "docs", "EDITS.tsv"), encoding="utf-8") as file:
+            head, *rows = (line.split("\t") for line in file.read().splitlines())
+        self.assertEqual(head, ["crate", "edit", "commit", "verdict"])
+        self.assertEqual([tuple(row[:2]) for row in rows], sorted(edits_in("more-edits")))
+        self.assertLessEqual({row[3] for row in rows}, VERDICTS)
+        self.assertEqual([row[:2] for row in rows if (row[2] == "-") != (row[3] == "to be tried")], [])
+
     def test_one_that_does_not_apply_is_seen(self):
         with tempfile.TemporaryDirectory() as crate:
             with open(os.path.join(crate, "body"), "w", encoding="utf-8") as file:
@@ -96,6 +108,30 @@ class Edits(unittest.TestCase):
             self.assertIn("0 times", why_not(crate, "file: body\nold: c\nnew: d\n"))
             self.assertIn("there is no", why_not(crate, "file: other\nold: c\nnew: d\n"))
             self.assertIn("half", why_not(crate, "file: body\nold: a = 1\n"))
+
+
+class Table(unittest.TestCase):
+    """What `tools/try-edits` makes of what the gate says, and keeps."""
+
+    def setUp(self):
+        loader = importlib.machinery.SourceFileLoader("try_edits", os.path.join(TOOLS, "try-edits"))
+        self.tool = importlib.util.module_from_spec(importlib.util.spec_from_loader(loader.name, loader))
+        loader.exec_module(self.tool)
+
+    def test_verdicts(self):
+        names = "refused, as it must be (only because a proof file names what the edit took away): ./proofs/A.antt"
+        told = ["refused, as it must be: note", names, "NOT REFUSED: still proved", "BAD EDIT: no such text"]
+        self.assertEqual([self.tool.verdict_of(it) for it in told], ["refused", "refused by a name", "not refused", "bad"])
+
+    def test_rows(self):
+        with tempfile.TemporaryDirectory() as folder:
+            path = os.path.join(folder, "EDITS.tsv")
+            with mock.patch.object(self.tool, "TABLE", path), mock.patch.object(self.tool, "edits_in", return_value={"b": ["y", "x"], "a": ["z"]}):
+                self.tool.store({("b", "y"): "refused", ("b", "gone"): "refused"}, "c0")
+                self.tool.store({("a", "z"): "bad"}, "c1")
+            with open(path, encoding="utf-8") as file:
+                rows = file.read().splitlines()[1:]
+        self.assertEqual(rows, ["a\tz\tc1\tbad", "b\tx\t-\tto be tried", "b\ty\tc0\trefused"])
 
 
 if __name__ == "__main__":
