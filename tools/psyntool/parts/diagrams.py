@@ -6,7 +6,7 @@ proposition on which the function depends, and the diagrams where it is false an
 from psyntool.ends import Refused
 from psyntool.texts.labels import Alias, Operator, Proposition
 
-MOST_NODES = 2_000_000
+MOST_NODES = 1_000_000
 LAST = 1 << 30
 
 
