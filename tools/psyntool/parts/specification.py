@@ -11,7 +11,7 @@ from psyntool.ends import Refused
 from psyntool.files import Reader
 from psyntool.kinds import Kind
 from psyntool.parts import part
-from psyntool.texts import Unreadable, automaton
+from psyntool.texts import Unreadable, automaton, hoa
 
 MOST_PROPOSITIONS = 64
 FLAGS = {flag.name: flag for flag in OF_PARTS}
@@ -222,7 +222,7 @@ def kept(read):
     tokens = read.headers.get("part:")
     if not tokens:
         return None
-    said = [automaton.unquoted(token) for token in tokens]
+    said = [hoa.unquoted(token) for token in tokens]
     if len(said) % 5 or any(side not in ("assume", "guarantee") for side in said[::5]):
         raise Unreadable("an item `part:` of this automaton was not written by compose")
     sides = {"assume": [], "guarantee": []}
