@@ -11,7 +11,7 @@ from psyntool.program import path as program
 from upkeep.sweeps import TOP
 
 ALL = ["README.md", "CONTRIBUTING.md", *sorted(os.path.relpath(path, TOP) for path in glob.glob(os.path.join(TOP, "docs", "*.md")))]
-WITH_COMMANDS = ["README.md", "CONTRIBUTING.md", "docs/CERTIFICATES.md", "docs/INTEROP.md", "docs/TUTORIAL.md"]
+WITH_COMMANDS = ["README.md", "CONTRIBUTING.md", "docs/CERTIFICATES.md", "docs/GALLERY.md", "docs/INTEROP.md", "docs/TUTORIAL.md"]
 LINES = {"README.md": 72, "CONTRIBUTING.md": 155, "docs/TESTED.md": 120}
 
 

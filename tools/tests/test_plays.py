@@ -20,12 +20,13 @@ from tests.tool import AUTOMATON, TOOL, OnFiles
 
 AUTO = """\
 step  state                                           environment  controller  priority
-0     no r1 waits; g0 is next; no r0 before           !r0 r1       !g0 !g1     2
-1     r1 waits for 1 step; g0 is next; no r0 before   !r0 !r1      !g0 !g1     2
-2     r1 waits for 2 steps; g0 is next; no r0 before  !r0 !r1      !g0 !g1     2
-3     r1 waits for 3 steps; g0 is next; no r0 before  !r0 !r1      !g0 !g1     no edge
+0     no r1 waits; g0 is next; no r0 before           r1           -           2
+1     r1 waits for 1 step; g0 is next; no r0 before   -            -           2
+2     r1 waits for 2 steps; g0 is next; no r0 before  -            -           2
+3     r1 waits for 3 steps; g0 is next; no r0 before  -            -           no edge
 at step 3 there is no edge: the automaton rejects, whatever follows
-step 3 breaks the guarantee answered-within-3(r1,g1): behind each r1 comes g1, at most 3 steps later
+step 3 breaks the guarantee answered-within-3(r1,g1)
+  behind each r1 comes g1, at most 3 steps later
 few.stim has these letters of the controller; lasso: rejected stem 4 lap 1
 """
 BEGIN = """\
@@ -34,7 +35,7 @@ Type the number of a choice, or the names of your propositions that are to be tr
 a for the choice with `*`, which holds out longest; b for one step back; q to leave.
 
 step 0: no r1 waits; g0 is next; no r0 before
-the environment says !r0 r1
+the environment says r1
 *  1  !g0 & !g1  -> r1 waits for 1 step; g0 is next; no r0 before (priority 2)
    2  !g0 & g1   -> no edge, since it breaks takes-turns(g0,g1)
    3  g0 & !g1   -> no edge, since it breaks at-most-one-step-after(r0,g0)
@@ -43,9 +44,10 @@ the environment says !r0 r1
 BROKEN = """\
 
 step  state                                  environment  controller  priority
-0     no r1 waits; g0 is next; no r0 before  !r0 r1       g0 !g1      no edge
+0     no r1 waits; g0 is next; no r0 before  r1           g0          no edge
 at step 0 there is no edge: the automaton rejects, whatever follows
-step 0 breaks the guarantee at-most-one-step-after(r0,g0): g0 is true only with r0 or one step after r0
+step 0 breaks the guarantee at-most-one-step-after(r0,g0)
+  g0 is true only with r0 or one step after r0
 few.stim has these letters of the controller; lasso: rejected stem 1 lap 1
 """
 ENVIRONMENT = """\
@@ -54,8 +56,8 @@ Type the number of a choice, or the names of your propositions that are to be tr
 a for the choice with `*`, which holds out longest; b for one step back; q to leave.
 
 step 0: off
-*  1  !r  -> off (priority 2)
-   2  r   -> off (priority 2)
+*  1  -  -> off (priority 2)
+   2  r  -> off (priority 2)
 > 
 step  state  environment  controller  priority
 the loop begins

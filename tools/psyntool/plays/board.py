@@ -10,7 +10,7 @@ from psyntool.ends import Unwritten
 from psyntool.parts.diagrams import Diagrams
 from psyntool.parts.part import Moves
 from psyntool.pictures.games import OTHER_GAME, Names
-from psyntool.texts import Unreadable, labels
+from psyntool.texts import Unreadable
 
 PLAYERS = ("environment", "controller")
 OTHER_CIRCUIT = "the circuit is not the one that was printed with this game and this certificate"
@@ -81,7 +81,8 @@ class Board:
         return found
 
     def letter_text(self, letter):
-        return labels.letter_text(letter, self.automaton.names) or "nothing"
+        """The names of the propositions that are true, as they can be typed; `-` where none is."""
+        return " ".join(name for number, name in enumerate(self.automaton.names) if letter.get(number)) or "-"
 
     def title(self, state):
         """A state's name, or its number where it has none."""

@@ -1,6 +1,5 @@
 """What is said of a play: where it stands, what can be chosen, and how it ended."""
 from psyntool.plays.board import run
-from psyntool.texts import labels
 
 
 def standing(play):
@@ -41,14 +40,15 @@ def ended(play):
 
 
 def of_part(play, side, moves):
-    """A line where a part broke, or where the loop never meets it."""
+    """What there is to say of a part that broke, or that the loop never meets, and its sentence."""
     found, part = run(moves, play.steps), moves.part
-    said = f"{part.title}: {part.sentence}" if part.sentence else part.title
     if found.broke is not None:
-        return [f"step {found.broke} breaks the {side} {said}"]
-    if play.loop is not None and not any(place >= play.loop for place in found.met):
-        return [f"the loop never meets the {side} {said}"]
-    return []
+        said = f"step {found.broke} breaks the {side} {part.title}"
+    elif play.loop is not None and not any(place >= play.loop for place in found.met):
+        said = f"the loop never meets the {side} {part.title}"
+    else:
+        return []
+    return [said, f"  {part.sentence}"] if part.sentence else [said]
 
 
 def table(play):
@@ -58,7 +58,7 @@ def table(play):
     head = ("step", "state", "environment", "controller", "priority")
     rows = [head]
     for place, step in enumerate(play.steps):
-        said = [labels.letter_text({number: step.letter[number] for number in these}, board.automaton.names) for these in owned]
+        said = [board.letter_text({number: step.letter[number] for number in these}) for these in owned]
         rows.append((str(place), board.title(step.state), *said, "no edge" if step.target is None else str(step.priority)))
     widths = [max(len(row[column]) for row in rows) for column in range(len(head))]
     lines = ["  ".join(word.ljust(width) for word, width in zip(row, widths)).rstrip() for row in rows]
