@@ -7,7 +7,8 @@ use Rattle.ps_game.specs.Games.{ParityGame, vertex_count}
 use Rattle.ps_attractor.specs.Tables.{TablesData, level_of}
 use Rattle.ps_zielonka.specs.declared.level.TheConstants.{UNPLACED}
 use Rattle.ps_zielonka.specs.declared.frame.Frame.{Frame}
-use Rattle.ps_zielonka.specs.Depths.{is_vertex, HasPriorities, IsDepth, IsFresh, IsSecondCall, IsDepthSoFar}
+use Rattle.ps_zielonka.specs.Depths.{is_vertex, HasPriorities, IsDepth}
+use Rattle.ps_zielonka.specs.Inner.Depths.{IsFresh, IsSecondCall, IsDepthSoFar}
 use Rattle.ps_zielonka.specs.Inner.Nests.{from, frame_at, Waits, IsNest}
 use Rattle.ps_zielonka.proofs.Depths.{one_priority, HasPriorities-larger, HasPriorities-turned}
 use Rattle.ps_zielonka.proofs.Sets.{from_at}

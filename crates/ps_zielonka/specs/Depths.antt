@@ -1,9 +1,8 @@
 -- How many priorities a set has, and what the player of the greatest one attracts.
-use Rattle.std.specs.Prelude.{◌≡◌, ◌↔◌, ℕ, ◌%◌, ◌<◌, ◌≤◌, ◌⊎◌, List, length, Bool, false, IsTrue, slice_index, nat_lt}
+use Rattle.std.specs.Prelude.{◌≡◌, ◌↔◌, ℕ, ◌%◌, ◌<◌, ◌≤◌, List, length, Bool, IsTrue, nat_lt}
 use Rattle.std.specs.List.{Contains}
 use Rattle.ps_game.specs.Games.{ParityGame, vertex_count, priority_of}
 use Rattle.ps_game.specs.Attractors.{IsClosed}
-use Rattle.ps_zielonka.specs.declared.level.TheConstants.{UNPLACED}
 
 -- all vertices
 abbrev pub is_vertex : ParityGame → ℕ → Bool
@@ -33,23 +32,3 @@ pub record IsDepth (game : ParityGame) (depth : ℕ) : Type 0 where
   pub most : HasPriorities game (is_vertex game) depth
   pub some : (v : ℕ) → v < vertex_count game → 1 ≤ depth
   pub two : (set : ℕ → Bool) → IsClosedToTops game set → (v : ℕ) → v < vertex_count game → ¬ IsTrue (set v) → 2 ≤ depth
-
--- ## On the way there
-
--- nothing has begun yet
-pub record IsFresh (game : ParityGame) (levels : List ℕ) (calls : ℕ) (solved : Bool) : Type 0 where
-  pub none : calls ≡ 0
-  pub unsolved : solved ≡ false
-  pub unplaced : (v : ℕ) → v < vertex_count game → slice_index levels v ≡ UNPLACED
-
--- the first call waits alone, and a vertex is left to the next one
-pub record IsSecondCall (levels : List ℕ) (calls : ℕ) (solved : Bool) (v : ℕ) : Type 0 where
-  pub one : calls ≡ 1
-  pub unsolved : solved ≡ false
-  pub unplaced : slice_index levels v ≡ UNPLACED
-
-pub record IsDepthSoFar (game : ParityGame) (levels : List ℕ) (calls : ℕ) (solved : Bool) (depth : ℕ) : Type 0 where
-  pub most : HasPriorities game (is_vertex game) depth
-  pub some : (v : ℕ) → v < vertex_count game → (1 ≤ depth) ⊎ IsFresh game levels calls solved
-  pub two : (set : ℕ → Bool) → IsClosedToTops game set → (v : ℕ) → v < vertex_count game → ¬ IsTrue (set v) →
-      (2 ≤ depth) ⊎ (IsFresh game levels calls solved ⊎ IsSecondCall levels calls solved v)

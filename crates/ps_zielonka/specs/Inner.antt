@@ -1,5 +1,6 @@
 -- What private functions say of each other; no public clause cites these.
 
+pub mod Depths
 pub mod Levels
 pub mod Nests
 pub mod Stacks

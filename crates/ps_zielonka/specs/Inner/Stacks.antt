@@ -3,7 +3,7 @@ use Rattle.std.specs.Prelude.{◌≡◌, ℕ, ◌≤◌, ◌<◌, List, length}
 use Rattle.ps_game.specs.Games.{ParityGame, vertex_count}
 use Rattle.ps_attractor.specs.Tables.{TablesData, level_of, moves_of}
 use Rattle.ps_zielonka.specs.declared.nest.Nest.{Nest}
-use Rattle.ps_zielonka.specs.Depths.{IsDepthSoFar}
+use Rattle.ps_zielonka.specs.Inner.Depths.{IsDepthSoFar}
 use Rattle.ps_zielonka.specs.Inner.Turns.{Solved}
 use Rattle.ps_zielonka.specs.Inner.Nests.{IsNest, from, winner_of, steps_left}
 
