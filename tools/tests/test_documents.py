@@ -81,6 +81,18 @@ class Names(unittest.TestCase):
         cited.pop("ps_text")
         self.assertEqual(listed, cited)
 
+    def test_libraries_that_a_crate_lists_are_named_in_it(self):
+        unnamed, found = [], 0
+        for line in documents.read("crates.txt"):
+            crate, _, listed = line.partition("#")[0].partition(":")
+            inside = os.path.join(TOP, "crates", crate.strip())
+            files = [path for it in ("src", "specs", "proofs") for path in glob.glob(os.path.join(inside, it, "**", "*.*t"), recursive=True)]
+            words = {word for path in files for line in documents.read(os.path.relpath(path, TOP)) for word in re.findall(r"\w+", line)}
+            found += len(listed.split())
+            unnamed += [f"{crate}: {library}" for library in listed.split() if library not in words]
+        self.assertEqual(unnamed, [])
+        self.assertGreater(found, 0)
+
     def test_figures_of_the_gate_are_the_same(self):
         told = {name: " ".join(documents.read(name)) for name in ("README.md", "CONTRIBUTING.md", "docs/TESTED.md")}
         gate = re.search(r"At \w+ the whole gate passed: .*? (\d+) minutes on four processors, and (\d+) processor minutes", told["docs/TESTED.md"])
