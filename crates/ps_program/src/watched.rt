@@ -8,7 +8,7 @@ ghost use Rattle.ps_program.specs.Watched.{watched_inner, watched_failed, watche
 
 use crate::stream::{Sink, Source};
 use std::io;
-use std::io::{Read, Stdin, Stdout, Write};
+use std::io::{Read, Write};
 
 /// A reader of std, with what a call of it may do: since that may be anything, only who makes the call knows what it
 /// did.
@@ -43,7 +43,8 @@ pub trait Writer: Write {
         ensures call { flush_gives self.old (answered result) self.new };
 }
 
-impl Reader for Stdin {
+/// Each reader of std is one. That a call counts no more bytes than it was lent is all that `read_gives` says of it.
+impl<R: Read> Reader for R {
     ghost read_gives = { λ _ _ count _ after. CountsWithin after count };
 
     fn read_once(&mut self, buf: &mut [u8]) -> io::Result<usize> {
@@ -51,7 +52,8 @@ impl Reader for Stdin {
     }
 }
 
-impl Writer for Stdout {
+/// Each writer of std is one. That a write counts no more bytes than it was lent is all that `write_gives` says of it.
+impl<W: Write> Writer for W {
     ghost write_gives = { λ _ buf count _. CountsWithin buf count };
 
     ghost flush_gives = { λ _ _ _. ⊤ };
