@@ -2,6 +2,5 @@
 
 pub mod check;
 pub mod game;
-pub mod judge;
 pub mod lasso;
 pub mod sim;
