@@ -27,7 +27,7 @@ class Games(unittest.TestCase):
         self.assertIn('v0 [shape=box, label="0: 0", style=filled, fillcolor=lightsalmon];', dot)
         self.assertIn("v0 -> v1 [style=bold, penwidth=3, color=firebrick];", dot)
         self.assertIn("v0 -> v0;", dot)
-        self.assertIn("player 1 wins from there, by the bold red edges", dot)
+        self.assertIn("player 1 wins from there, by the bold edges", dot)
         self.assertNotIn("bold", self.drawn(GAME))
 
     def test_names_of_the_automaton(self):
@@ -43,6 +43,25 @@ class Games(unittest.TestCase):
         self.assertIn("v7 -> v8;", dot)
         self.assertIn('v7 [shape=box, label="no edge\\n1"];', dot)
         self.assertIn("one letter of those that lead alike", dot)
+
+    def test_letters_of_a_large_game_stand_in_tables(self):
+        states = "".join(f'State: {n} "s{n}" [0&1] {(n + 1) % 20} {{0}} [!0] {n} ' for n in range(20))
+        spec = automaton.read(f'HOA: v1 Start: 0 AP: 2 "r" "g" controllable-AP: 1 Acceptance: 1 Inf(0) --BODY-- {states} --END--')
+        rows = []
+        for n in range(20):
+            at, after = 4 * n, 4 * ((n + 1) % 20)
+            rows += [(at, 2, 1, [at + 2, at + 3], f"{n}/2"), (at + 1, 1, 1, [at + 2, at + 3], f"{n}/1")]
+            rows += [(at + 2, 0, 0, [at + 1], f"{n}:0"), (at + 3, 0, 0, [80, after], f"{n}:1")]
+        rows += [(80, 1, 1, [81], "sink/1"), (81, 0, 0, [80], "sink:0")]
+        text = "".join(f'{v} {p} {o} {",".join(map(str, to))} "{name}";' for v, p, o, to, name in rows)
+        moves = {v: to[-1] if o == 0 else None for v, _, o, to, _ in rows}
+        made = certificate.Certificate((1,), (0, 2), {v: certificate.Entry(0, move, {}) for v, move in moves.items()})
+        dot = self.drawn(text.encode(), made, spec)
+        self.assertIn('<tr><td bgcolor="palegreen">0: r</td></tr><tr><td port="t80" align="left">!g   to no edge</td></tr>', dot)
+        self.assertIn('<tr><td port="t4" align="left"><b>g   to 1</b></td></tr>', dot)
+        self.assertIn("v3:t4 -> v4 [style=bold", dot)
+        self.assertNotIn("-> v80 [", dot.replace("v81 -> v80", ""))
+        self.assertIn("the controller moves there, a row for each choice", dot)
 
     def test_names_where_the_controller_moves_first(self):
         text = b'0 0 0 1,2 "0/0";1 0 1 3,4 "0:0";2 0 1 3 "0:1";3 2 0 1,2 "0/2";4 1 0 5,6 "1/1";5 0 1 4 "1:0";6 0 1 3 "1:1";'

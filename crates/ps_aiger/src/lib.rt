@@ -23,6 +23,6 @@ mod laws;
 pub use encoding::encode;
 pub use laws::{circuit_has_literals, circuit_is_there, one_circuit};
 pub use ps_circuit::{
-    AigCause, AigFault, Builder, Circuit, EncodeFault, Gate, Latch, Literal, Sides, one_answer,
-    read, write,
+    AigCause, AigFault, Builder, Circuit, EncodeFault, Gate, Latch, Literal, Parts, Sides,
+    one_answer, read, some_answer, write,
 };

@@ -6,12 +6,10 @@ use Rattle.std.specs.Int.{bit_at}
 use Rattle.std.proofs.lemmas.Bool.{cases_lt}
 use Rattle.std.proofs.lemmas.Option.{slice_get-map, slice_get_read, slice_get_within}
 use Rattle.std.proofs.lemmas.Nat.Bits.{same_from_bits_below}
-use Rattle.ps_label.specs.Expression.{Expression, constant, proposition, alias, not_of, all_of, any_of, Operands, last}
-use Rattle.ps_label.specs.Expression.{more}
-use Rattle.ps_diagram.specs.Labels.{IsOver, AreOver, AreOverFrom}
+use Rattle.ps_label.specs.Expression.{Expression}
 use Rattle.ps_hoa.specs.Edges.{is_marked}
 use Rattle.ps_hoa.specs.Files.{EdgeData, RowData, FileData, at_letter, is_among}
-use Rattle.ps_hoa.specs.Sound.{AreAliases, AreAtLetters, AreBelow, AreLabelled, AreLabels, IsLabel, IsOfState}
+use Rattle.ps_hoa.specs.Sound.{AreAtLetters, AreBelow, AreLabelled, IsOfState}
 use Rattle.ps_hoa.specs.Sound.{IsSoundFile, IsSoundRow, IsStated}
 use Rattle.ps_hoa.specs.Views.{edge_data}
 use Rattle.ps_hoa.specs.declared.file.Edge.{Edge}
@@ -20,25 +18,6 @@ use Rattle.ps_automaton.specs.Answers.{AreAlike}
 use Rattle.ps_automaton.specs.Inner.Drafts.{IsByLetters, IsFit}
 use Rattle.ps_automaton.specs.Inner.Targets.{IsTargetOf}
 use Rattle.ps_automaton.specs.declared.targets.Target.{Target}
-
--- ## Labels are over the propositions
-
-mutual
-  pub label_over : (names count : ℕ) (e : Expression) → IsLabel names count e → IsOver names count e
-  label_over names count (constant b) i = tt
-  label_over names count (proposition p) i = i
-  label_over names count (alias k) i = i
-  label_over names count (not_of e) i = label_over names count e i
-  label_over names count (all_of es) i = labels_over names count es i
-  label_over names count (any_of es) i = labels_over names count es i
-
-  labels_over : (names count : ℕ) (es : Operands) → AreLabels names count es → AreOver names count es
-  labels_over names count last i = tt
-  labels_over names count (more e es) i = (label_over names count e i.0, labels_over names count es i.1)
-
-pub aliases_over : (k count : ℕ) (es : List Expression) → AreAliases k count es → AreOverFrom k count es
-aliases_over k count [] a = tt
-aliases_over k count (e ∷ es) a = (label_over k count e a.0, aliases_over (k + 1) count es a.1)
 
 -- ## Guards
 

@@ -13,7 +13,8 @@ use Rattle.ps_components.proofs.Places.{slice_get-append_left, slice_get-push_ca
 use Rattle.ps_circuit.specs.declared.builder.Sides.{Sides}
 use Rattle.ps_circuit.specs.contracts.builder.SidesPartialEq.TheImpl as sides_eq
 use Rattle.ps_circuit.specs.Literals.{variable, negated}
-use Rattle.ps_circuit.specs.Building.{Drafted, AreSides, Extends, IsFull, IsHeld, IsNew, IsSoundDraft, Meets, NeedsGate}
+use Rattle.ps_circuit.specs.Building.{Drafted, AreSides, Extends, IsChoice, IsFull, IsHeld, IsNew, IsSoundDraft, Meets}
+use Rattle.ps_circuit.specs.Building.{NeedsGate}
 use Rattle.ps_circuit.specs.Building.{bit, variables_of}
 
 pub bool_cases : (b : Bool) → (b ≡ true) ⊎ (b ≡ false)
@@ -150,10 +151,26 @@ or_bits v x y neither {ny} ex ey er h = search (rules, bit-negated, de_morgan)
 choice : (a h l : Bool) → ((a && h) || (not a && l)) ≡ cond a h l
 choice a h l = search rules
 
+pub chosen_either : (v : ℕ → Bool) (s h l : ℕ) {ns : ℕ} (high low : ℕ) → ns ≡ negated s →
+    bit v high ≡ (bit v s && bit v h) → bit v low ≡ (bit v ns && bit v l) →
+    (bit v high || bit v low) ≡ cond (bit v s) (bit v h) (bit v l)
+chosen_either v s h l high low e eh el = search (rules, bit-negated, choice)
+
 pub chosen_bits : (v : ℕ → Bool) (s h l : ℕ) {ns : ℕ} (high low result : ℕ) → ns ≡ negated s →
     bit v high ≡ (bit v s && bit v h) → bit v low ≡ (bit v ns && bit v l) → bit v result ≡ (bit v high || bit v low) →
     bit v result ≡ cond (bit v s) (bit v h) (bit v l)
-chosen_bits v s h l high low result e eh el er = search (rules, bit-negated, choice)
+chosen_bits v s h l high low result e eh el er = er ∙ chosen_either v s h l high low e eh el
+
+-- a choice with a side that is true
+bit_one : {d : Drafted} (v : ℕ → Bool) → Meets d v → bit v 1 ≡ true
+bit_one v m = ap not m.constant
+
+pub either_high : (d : Drafted) (s high low : ℕ) → high ≡ 1 → IsChoice d s high low s low
+either_high d s high low e v m = grind (arith, bit_one {d = d} v m)
+
+pub either_low : (d : Drafted) (s high low not_s : ℕ) → not_s ≡ negated s → low ≡ 1 →
+    IsChoice d s high low not_s high
+either_low d s high low not_s n e v m = grind (arith, bit-negated, bit_one {d = d} v m)
 
 -- a fault that is passed on
 pub passed : {X : Type 0} (result : Result X EncodeFault) (fault other : EncodeFault) →

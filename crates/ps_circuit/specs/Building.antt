@@ -5,10 +5,11 @@
 --     Meets d v      variable 0 is false, and each gate is the conjunction of its two literals
 --     Extends old new      the gates that were there are there, at their variables
 --     IsSoundDraft d      what is true of the gates of a builder
-use Rattle.std.specs.Prelude.{◌≡◌, ◌≢◌, ℕ, ◌+◌, ◌^◌, ◌<◌, ◌≤◌, ◌&&◌, Bool, false, not, if◌then◌else◌, List, length}
+use Rattle.std.specs.Prelude.{◌≡◌, ◌≢◌, ℕ, ◌+◌, ◌^◌, ◌<◌, ◌≤◌, ◌&&◌, ◌||◌, Bool, false, not, if◌then◌else◌, List}
+use Rattle.std.specs.Prelude.{length}
 use Rattle.std.specs.Prelude.{slice_get, Some}
 use Rattle.ps_circuit.specs.declared.builder.Sides.{Sides}
-use Rattle.ps_circuit.specs.Literals.{is_negated, variable}
+use Rattle.ps_circuit.specs.Literals.{is_negated, negated, variable}
 
 pub record Drafted : Type 0 where
   pub given : ℕ
@@ -63,3 +64,15 @@ pub record NeedsGate (d : Drafted) (x y : ℕ) : Type 0 where
   pub different : variable x ≢ variable y
   pub is_new : IsNew d x y
   pub is_new_too : IsNew d y x
+
+-- the disjunction of the two literals is the choice, of the first where s is true and of the second where it is false
+abbrev pub IsChoice : Drafted → (s high low x y : ℕ) → Type 0
+IsChoice d s high low x y =
+    (v : ℕ → Bool) → Meets d v → (bit v x || bit v y) ≡ (if bit v s then bit v high else bit v low)
+
+-- there is no gate for one of the conjunctions that a choice is made of: that of `s` and `high`, that of `low` and
+-- `s` negated, or the one whose negation is the choice
+pub data NeedsChoice (d : Drafted) (s high low : ℕ) : Type 0 where
+  for_high : NeedsGate d s high → NeedsChoice d s high low
+  for_low : NeedsGate d (negated s) low → NeedsChoice d s high low
+  for_either : (x y : ℕ) → IsChoice d s high low x y → NeedsGate d (negated x) (negated y) → NeedsChoice d s high low

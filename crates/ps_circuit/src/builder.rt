@@ -3,7 +3,7 @@
 ghost use Rattle.std.specs.Prelude.{◌≡◌, ℕ, ◌+◌, ◌*◌, ◌^◌, ◌<◌, ◌≤◌, ◌&&◌, ◌||◌, Bool, not, cond, [], length};
 ghost use Rattle.std.specs.Prelude.{slice_get, Some, IfOk};
 ghost use Rattle.ps_circuit.specs.Building.{Drafted, AreSides, Extends, IsFull, IsHeld, IsNew, IsSoundDraft, Meets};
-ghost use Rattle.ps_circuit.specs.Building.{NeedsGate, bit, variables_of};
+ghost use Rattle.ps_circuit.specs.Building.{NeedsChoice, NeedsGate, bit, variables_of};
 ghost use Rattle.ps_circuit.specs.Literals.{negated};
 ghost use Rattle.ps_circuit.specs.Gates.{and_of, chosen_of, gate_of, mux_of, or_of};
 
@@ -159,6 +159,7 @@ impl Builder {
         ensures bit { IfOk result (λ literal. (v : ℕ → Bool) → Meets self.new v →
             bit v literal ≡ cond (bit v s) (bit v high) (bit v low)) }
         ensures too_large { result ≡ Err EncodeFault.CircuitTooLarge → IsFull self.new }
+        ensures needed { result ≡ Err EncodeFault.CircuitTooLarge → NeedsChoice self.new s high low }
         ensures made { IfOk result (λ literal. mux_of self.old s high low ≡ record
             { draft = self.new; literal = literal }) }
         ensures above { result ≡ Err EncodeFault.CircuitTooLarge →
@@ -199,6 +200,7 @@ impl Builder {
         ensures bit { IfOk result (λ literal. (v : ℕ → Bool) → Meets self.new v →
             bit v literal ≡ cond (bit v s) (bit v high) (bit v low)) }
         ensures too_large { result ≡ Err EncodeFault.CircuitTooLarge → IsFull self.new }
+        ensures needed { result ≡ Err EncodeFault.CircuitTooLarge → NeedsChoice self.new s high low }
         ensures made { IfOk result (λ literal. chosen_of self.old s high low ≡ record
             { draft = self.new; literal = literal }) }
         ensures above { result ≡ Err EncodeFault.CircuitTooLarge →

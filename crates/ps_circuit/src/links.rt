@@ -37,8 +37,8 @@ fn variables_of(alloc: Global, gates: &[Gate]) -> Result<Ids, AllocError>
     requires once { AllPairs (λ g h. variable g.literal ≢ variable h.literal) gates.now }
     ensures { IfOk result (λ variables. variables ≡ map (λ g. variable g.literal) gates.now) }
 {
-    let first = gates.first().map_or(0, |gate| gate.literal.variable());
-    let mut variables = Ids::starting_at(alloc, u64::from(first));
+    let least = gates.iter().map(|gate| gate.literal.variable()).min();
+    let mut variables = Ids::starting_at(alloc, u64::from(least.unwrap_or(0)));
     for gate in gates {
         variables.push(u64::from(gate.literal.variable()))?;
     }

@@ -3,9 +3,9 @@ use Rattle.std.proofs.Common.{◌≡◌, ℕ, suc, Bool, true, false, cond, leng
 use Rattle.std.proofs.Common.{take, drop, refl, ap, sym, subst, ◌∙◌, arith, rules}
 use Rattle.std.proofs.lemmas.List.{map-append, take-append-drop}
 use Rattle.std.proofs.lemmas.List.Elements.{All-drop, All-push, All-take}
-use Rattle.ps_label.specs.Expression.{Expression, row_of}
+use Rattle.ps_label.specs.Expression.{AreOver, Expression, row_of}
 use Rattle.ps_label.specs.Truth.{truth, all_true, any_true}
-use Rattle.ps_diagram.specs.Labels.{AreOver, HaveTruths, IsOneOrNone, one_where}
+use Rattle.ps_diagram.specs.Labels.{HaveTruths, IsOneOrNone, one_where}
 use Rattle.ps_diagram.specs.Leaves.{joined}
 use Rattle.ps_diagram.specs.Table.{Table, IsNode, Keeps, leaf_of}
 use Rattle.ps_diagram.specs.Inner.Unions.{IsTruth, first_leaf, leaves_of}

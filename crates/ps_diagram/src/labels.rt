@@ -1,10 +1,10 @@
 //! The diagrams of labels.
 
 ghost use Rattle.std.specs.Prelude.{◌≡◌, ℕ, ◌<◌, All, Bool, List, IfOk, length};
-ghost use Rattle.ps_label.specs.Expression.{Expression, expression};
+ghost use Rattle.ps_label.specs.Expression.{AreOverFrom, Expression, IsOver, expression};
 ghost use Rattle.ps_label.specs.Truth.{expressions, is_in, label_truth, truth};
 ghost use Rattle.ps_diagram.specs.Table.{IsNode, Keeps, leaf_of};
-ghost use Rattle.ps_diagram.specs.Labels.{AreNodesOf, AreOverFrom, HaveTruths, IsOneOrNone, IsOver, one_where};
+ghost use Rattle.ps_diagram.specs.Labels.{AreNodesOf, HaveTruths, IsOneOrNone, one_where};
 ghost use Rattle.ps_diagram.specs.Leaves.{joined};
 ghost use Rattle.ps_diagram.specs.Inner.Unions.{IsTruth, first_leaf, leaves_of};
 

@@ -2,12 +2,10 @@
 -- numbers of a list, names and rows differ; the edges of a state are labelled in one of three ways; and nothing is
 -- beyond the limits of texts.
 --     IsSoundFile file
---     IsLabel aliases propositions e      e speaks of that many aliases and propositions alone
 use Rattle.std.specs.Prelude.{◌≡◌, ℕ, ◌+◌, ◌^◌, ◌<◌, ◌≤◌, ◌⊎◌, ◌||◌, false, List, [], ◌∷◌, length, All, sum_by, Option}
 use Rattle.std.specs.Prelude.{None, Some, IfSome}
 use Rattle.std.specs.List.{AllByRecursion}
-use Rattle.ps_label.specs.Expression.{Expression, constant, proposition, alias, not_of, all_of, any_of, Operands, last}
-use Rattle.ps_label.specs.Expression.{more}
+use Rattle.ps_label.specs.Expression.{Expression, IsOver, AreOverFrom}
 use Rattle.ps_hoa.specs.Conditions as conditions
 use Rattle.ps_hoa.specs.Conditions.{Condition, Conditions}
 use Rattle.ps_hoa.specs.Files.{GuardData, EdgeData, RowData, FileData, stated, of_state, at_letter, is_among}
@@ -20,25 +18,7 @@ abbrev pub AreDifferent : List ℕ → Type 0
 AreDifferent [] = Unit {0}
 AreDifferent (n ∷ ns) = (is_among n ns ≡ false) × AreDifferent ns
 
--- ## Labels and conditions
-
-abbrev mutual
-  pub IsLabel : ℕ → ℕ → Expression → Type 0
-  IsLabel aliases propositions (constant b) = Unit {0}
-  IsLabel aliases propositions (proposition p) = p < propositions
-  IsLabel aliases propositions (alias k) = k < aliases
-  IsLabel aliases propositions (not_of e) = IsLabel aliases propositions e
-  IsLabel aliases propositions (all_of es) = AreLabels aliases propositions es
-  IsLabel aliases propositions (any_of es) = AreLabels aliases propositions es
-
-  pub AreLabels : ℕ → ℕ → Operands → Type 0
-  AreLabels aliases propositions last = Unit {0}
-  AreLabels aliases propositions (more e es) = IsLabel aliases propositions e × AreLabels aliases propositions es
-
--- each of these aliases, the first of which has the number given, speaks of earlier ones alone
-abbrev pub AreAliases : ℕ → ℕ → List Expression → Type 0
-AreAliases k propositions [] = Unit {0}
-AreAliases k propositions (e ∷ es) = IsLabel k propositions e × AreAliases (k + 1) propositions es
+-- ## Conditions
 
 abbrev mutual
   pub IsCondition : ℕ → Condition → Type 0
@@ -73,7 +53,7 @@ AreLabelled propositions None es = AllByRecursion IsStated es ⊎ (AreAtLetters 
 -- ## The parts of a file
 
 abbrev pub IsLabelOf : FileData → Expression → Type 0
-IsLabelOf file e = IsLabel (length file.aliases) (length file.names) e
+IsLabelOf file e = IsOver (length file.aliases) (length file.names) e
 
 abbrev pub IsGuard : FileData → GuardData → Type 0
 IsGuard file (stated e) = IsLabelOf file e
@@ -117,7 +97,7 @@ pub record IsSoundFile (file : FileData) : Type 0 where
   pub names : AreNames file.names
   pub controllable : AreBelow (length file.names) file.controllable
   pub few_aliases : length file.aliases ≤ alias_limit
-  pub aliases : AreAliases 0 (length file.names) file.aliases
+  pub aliases : AreOverFrom 0 (length file.names) file.aliases
   pub sets : file.sets ≤ set_limit
   pub condition : IsCondition file.sets file.condition
   pub rows : All (IsSoundRow file) file.rows

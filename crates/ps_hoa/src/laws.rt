@@ -1,7 +1,7 @@
 //! The laws that an HOA text has one answer, and that a file that is read is sound.
 
 ghost use Rattle.std.specs.Prelude.{◌≡◌, ℕ, List, Result, Ok, Some, length, slice_get};
-ghost use Rattle.ps_label.specs.Expression.{Expression, IsWithin, AreOrdered};
+ghost use Rattle.ps_label.specs.Expression.{Expression, IsOver, AreOrdered};
 ghost use Rattle.ps_text.specs.Answers.{Found};
 ghost use Rattle.ps_hoa.specs.Edges.{row_of};
 ghost use Rattle.ps_hoa.specs.Files.{EdgeData, FileData, RowData, stated};
@@ -40,7 +40,7 @@ pub fn sound_parts()
 pub fn sound_labels()
     ensures aliases { (file : FileData) → IsSoundFile file → AreOrdered file.aliases }
     ensures row { (file : FileData) → IsSoundFile file → (row : RowData) → IsSoundRow file row → (e : Expression) →
-        row.label ≡ Some e → IsWithin (length file.aliases) e }
+        row.label ≡ Some e → IsOver (length file.aliases) 64 e }
     ensures edge { (file : FileData) → IsSoundFile file → (edge : EdgeData) → IsSoundEdge file edge → (e : Expression) →
-        edge.guard ≡ stated e → IsWithin (length file.aliases) e }
+        edge.guard ≡ stated e → IsOver (length file.aliases) 64 e }
 {}

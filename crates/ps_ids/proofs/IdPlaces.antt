@@ -1,6 +1,7 @@
 -- The place of an id: its own, or by a table.
-use Rattle.std.proofs.Common.{◌≡◌, ◌≢◌, ℕ, ◌⊎◌, ◌+◌, ◌<◌, ◌≤◌, Bool, false, eqb, List, [], ◌∷◌, ◌++◌, length, get_or}
-use Rattle.std.proofs.Common.{Option, None, Some, refl, sym, ap, subst, ⊎_elim, ◌∙◌, arith, rules, length-append}
+use Rattle.std.proofs.Common.{◌≡◌, ◌≢◌, ℕ, ◌+◌, ◌<◌, ◌≤◌, Bool, false, eqb, List, [], ◌∷◌, ◌++◌, length, get_or}
+use Rattle.std.proofs.Common.{Option, None, Some, refl, sym, ap, subst, inl, inr, ⊎_elim, ◌∙◌, arith, rules}
+use Rattle.std.proofs.Common.{length-append}
 use Rattle.std.proofs.lemmas.Bool.{cases_Bool, cases_lt, ltb-true, ltb-false, eqb-true, eq-eqb}
 use Rattle.std.proofs.lemmas.List.{get_or_append_left}
 use Rattle.std.proofs.lemmas.List.Elements.{Contains-get_or}
@@ -10,8 +11,9 @@ use Rattle.std.proofs.lemmas.List.Sums.{position_or_len_is, fails_before_first}
 use Rattle.std.proofs.lemmas.Grind.{get_or_default_zero}
 use Rattle.std.proofs.Math.Seq.{get_or-append_seam}
 use Rattle.std.specs.List.{Contains, list_any, position, position_or_len}
+use Rattle.std.specs.List.{slice_index}
 use Rattle.std.specs.Option.{is_some}
-use Rattle.ps_ids.specs.Ids.{AreDistinct, IsTable, KeepsPlace, own_place}
+use Rattle.ps_ids.specs.Ids.{AreDistinct, IsKept, IsTable, KeepsPlace, own_place}
 
 abbrev is_id : ℕ → ℕ → Bool
 is_id id other = eqb id other
@@ -41,15 +43,31 @@ position_nowhere ids id none = position_none (is_id id) ids
     (omega arith) (λ k l. unlike id (get_or ids k 0) (λ same. none k l (sym same))) (λ l. absurd (omega (arith, l))) in
     omega (arith, e))
 
--- what the table says of an id that does not stand at its own place
-pub position_by_table : (first : ℕ) (ids : List ℕ) (table : ℕ → Option ℕ) (id : ℕ) → IsTable first ids table →
-    (own_place first id < length ids → get_or ids (own_place first id) 0 ≢ id) → table id ≡ position (is_id id) ids
-position_by_table first ids table id is not_own = go (table id) refl
-  where
-    nowhere : table id ≡ None → (k : ℕ) → k < length ids → get_or ids k 0 ≢ id
-    nowhere e k l same = search (rules, some_none)
+abbrev pub IsAt : List ℕ → ℕ → ℕ → Type 0
+IsAt ids place id = (place < length ids) × (slice_index ids place ≡ id)
 
-    go : (o : Option ℕ) → table id ≡ o → table id ≡ position (is_id id) ids
+-- the place at which an id stands is its place
+pub found_at : (ids : List ℕ) {shown : List ℕ} (id place : ℕ) → AreDistinct ids → ids ≡ shown → IsAt ids place id →
+    Some place ≡ position (is_id id) shown
+found_at ids id place distinct same at =
+    subst (λ xs. Some place ≡ position (is_id id) xs) same (sym (position_here ids id place distinct at.0 at.1))
+
+-- what the tree says of an id that stands neither at its own place nor at the one in the table
+pub position_by_table : (first : ℕ) (ids near : List ℕ) (far : ℕ → Option ℕ) (id : ℕ) → IsTable first ids near far →
+    (IsAt ids (own_place first id) id → ⊥) → (IsAt ids (slice_index near (own_place first id)) id → ⊥) →
+    far id ≡ position (is_id id) ids
+position_by_table first ids near far id is not_own not_near = go (far id) refl
+  where
+    not_kept : (k : ℕ) → k < length ids → get_or ids k 0 ≡ id → far id ≡ None → IsKept first near far id k → ⊥
+    not_kept k l same e (inl own) = not_own (grind arith)
+    not_kept k l same e (inr (inl (above, at))) = not_near (grind arith)
+    not_kept k l same e (inr (inr at)) = some_none k (sym at ∙ e)
+
+    nowhere : far id ≡ None → (k : ℕ) → k < length ids → get_or ids k 0 ≢ id
+    nowhere e k l same =
+        not_kept k l same e (subst (λ q. IsKept first near far q k) same (is.whole k l))
+
+    go : (o : Option ℕ) → far id ≡ o → far id ≡ position (is_id id) ids
     go None e = e ∙ sym (position_nowhere ids id (nowhere e))
     go (Some place) e = let at = is.sound id place e in e ∙ sym (position_here ids id place is.distinct at.0 at.1)
 
@@ -63,32 +81,39 @@ some_position p ids = go (position p ids) refl
     go None e = search (rules, some_none, position_at, cases_lt, list_any_none, fails_before_first)
 
 -- one more id
-pub table_push : (first : ℕ) (ids ids' : List ℕ) (old new : ℕ → Option ℕ) (id place : ℕ) → IsTable first ids old →
-    place ≡ length ids → KeepsPlace first old new id place →
-    (Contains ids id → ⊥) → ids' ≡ ids ++ id ∷ [] → IsTable first ids' new
-table_push first ids ids' old new id place is at keeps absent e = subst (λ xs. IsTable first xs new) (sym e) (record {
-  distinct = all_pairs_push (λ x y. x ≢ y) ids id is.distinct (λ k d l same. search (rules, Contains-get_or));
-  sound = λ q p h. ⊎_elim (λ (here : (q ≡ id) × (p ≡ place)). grind (arith, longer, get_or-append_seam))
-      (λ (before : old q ≡ Some p). let r = is.sound q p before in
-      (omega (arith, r.0, longer), get_or_append_left ids (id ∷ []) 0 p r.0 ∙ r.1)) (keeps.sound q p h);
-  whole = grind (arith, ⊎_elim, before, last, longer, cases_lt);
-})
+pub table_push : (first : ℕ) (ids ids' near near' : List ℕ) (old new : ℕ → Option ℕ) (id place : ℕ) →
+    IsTable first ids near old → place ≡ length ids → KeepsPlace first near near' old new id place →
+    (Contains ids id → ⊥) → ids' ≡ ids ++ id ∷ [] → IsTable first ids' near' new
+table_push first ids ids' near near' old new id place is at keeps absent e =
+    subst (λ xs. IsTable first xs near' new) (sym e) (record {
+      distinct = all_pairs_push (λ x y. x ≢ y) ids id is.distinct (λ k d l same. search (rules, Contains-get_or));
+      sound = λ q p h. ⊎_elim (λ (here : (q ≡ id) × (p ≡ place)). grind (arith, longer, get_or-append_seam))
+          (λ (before : old q ≡ Some p). let r = is.sound q p before in
+          (omega (arith, r.0, longer), get_or_append_left ids (id ∷ []) 0 p r.0 ∙ r.1)) (keeps.sound q p h);
+      whole = grind (arith, ⊎_elim, before, last, longer, cases_lt);
+    })
   where
     longer : length (ids ++ id ∷ []) ≡ length ids + 1
     longer = length-append ids (id ∷ [])
 
-    before : (p : ℕ) → p < length ids → (own_place first (get_or (ids ++ id ∷ []) p 0) ≡ p) ⊎
-        (new (get_or (ids ++ id ∷ []) p 0) ≡ Some p)
-    before p l = search (rules, get_or_append_left, Contains-get_or)
+    before : (p : ℕ) → p < length ids → IsKept first near' new (get_or (ids ++ id ∷ []) p 0) p
+    before p l = subst (λ q. IsKept first near' new q p) (sym (get_or_append_left ids (id ∷ []) 0 p l))
+        (keeps.others (get_or ids p 0) p (λ same. absent (search (rules, Contains-get_or))) (is.whole p l))
 
-    last : (p : ℕ) → p ≡ length ids → (own_place first (get_or (ids ++ id ∷ []) p 0) ≡ p) ⊎
-        (new (get_or (ids ++ id ∷ []) p 0) ≡ Some p)
-    last p e = search (rules, get_or-append_seam)
+    last : (p : ℕ) → p ≡ length ids → IsKept first near' new (get_or (ids ++ id ∷ []) p 0) p
+    last p e = subst (λ q. IsKept first near' new q p) (search (rules, get_or-append_seam))
+        (subst (λ q. IsKept first near' new id q) (at ∙ sym e) keeps.kept)
 
-pub table_same : (first : ℕ) (ids ids' : List ℕ) (old new : ℕ → Option ℕ) → IsTable first ids old → ids' ≡ ids →
-    ((q : ℕ) → new q ≡ old q) → IsTable first ids' new
-table_same first ids ids' old new is e same = subst (λ xs. IsTable first xs new) (sym e) (record {
-  distinct = is.distinct;
-  sound = λ q p h. is.sound q p (sym (same q) ∙ h);
-  whole = search rules;
-})
+pub table_same : (first : ℕ) (ids ids' near near' : List ℕ) (old new : ℕ → Option ℕ) → IsTable first ids near old →
+    ids' ≡ ids → near' ≡ near → ((q : ℕ) → new q ≡ old q) → IsTable first ids' near' new
+table_same first ids ids' near near' old new is e n same =
+    subst (λ xs. IsTable first xs near' new) (sym e) (subst (λ ns. IsTable first ids ns new) (sym n) (record {
+      distinct = is.distinct;
+      sound = λ q p h. is.sound q p (sym (same q) ∙ h);
+      whole = λ p l. kept_same (get_or ids p 0) p (is.whole p l);
+    }))
+  where
+    kept_same : (id p : ℕ) → IsKept first near old id p → IsKept first near new id p
+    kept_same id p (inl own) = inl own
+    kept_same id p (inr (inl at)) = inr (inl at)
+    kept_same id p (inr (inr at)) = inr (inr (same id ∙ at))

@@ -1,5 +1,5 @@
--- Different ids, and a table of the places of some.
-use Rattle.std.specs.Prelude.{◌≡◌, ◌≢◌, ◌==◌, ◌-◌, ◌<◌, ◌⊎◌, ℕ, List, length, position, Option, Some, slice_index}
+-- Different ids, and the tables in which the places of some are kept.
+use Rattle.std.specs.Prelude.{◌≡◌, ◌≢◌, ◌==◌, ◌-◌, ◌<◌, ◌≤◌, ◌⊎◌, ℕ, List, length, position, Option, Some, slice_index}
 use Rattle.std.specs.Option.{unwrap_or}
 use Rattle.std.specs.List.{AllPairs}
 
@@ -10,20 +10,24 @@ AreDistinct ids = AllPairs (λ x y. x ≢ y) ids
 abbrev pub place_of : List ℕ → ℕ → ℕ
 place_of ids id = unwrap_or (position (λ other. id == other) ids) 0
 
--- where an id stands in a list that begins with the first and goes on one by one; an id before the first has the first
--- place
+-- how far an id is from the first one, where it stands in a list that begins with the first and goes on one by one; 0
+-- for an id before the first
 abbrev pub own_place : ℕ → ℕ → ℕ
 own_place first id = id - first
 
--- the table has the place of each id that does not stand at its own place, and only places of ids
-pub record IsTable (first : ℕ) (ids : List ℕ) (table : ℕ → Option ℕ) : Type 0 where
-  pub distinct : AreDistinct ids
-  pub sound : (id place : ℕ) → table id ≡ Some place → (place < length ids) × (slice_index ids place ≡ id)
-  pub whole : (place : ℕ) → place < length ids → (own_place first (slice_index ids place) ≡ place) ⊎
-      (table (slice_index ids place) ≡ Some place)
+-- the place is the id's own; or it is kept by how far the id is from the first one; or by the id itself
+abbrev pub IsKept : (first : ℕ) (near : List ℕ) (far : ℕ → Option ℕ) (id place : ℕ) → Type 0
+IsKept first near far id place = (own_place first id ≡ place) ⊎
+    (((first ≤ id) × (slice_index near (own_place first id) ≡ place)) ⊎ (far id ≡ Some place))
 
--- in the new table the id has that place, unless it is its own place, and all else is as it was
-pub record KeepsPlace (first : ℕ) (old new : ℕ → Option ℕ) (id place : ℕ) : Type 0 where
-  pub kept : (own_place first id ≡ place) ⊎ (new id ≡ Some place)
-  pub others : (q p : ℕ) → q ≢ id → old q ≡ Some p → new q ≡ Some p
+-- the place of each id is kept, and by ids only places of ids are
+pub record IsTable (first : ℕ) (ids near : List ℕ) (far : ℕ → Option ℕ) : Type 0 where
+  pub distinct : AreDistinct ids
+  pub sound : (id place : ℕ) → far id ≡ Some place → (place < length ids) × (slice_index ids place ≡ id)
+  pub whole : (place : ℕ) → place < length ids → IsKept first near far (slice_index ids place) place
+
+-- in the new tables the id has that place, and all else is as it was
+pub record KeepsPlace (first : ℕ) (old_near new_near : List ℕ) (old new : ℕ → Option ℕ) (id place : ℕ) : Type 0 where
+  pub kept : IsKept first new_near new id place
+  pub others : (q p : ℕ) → q ≢ id → IsKept first old_near old q p → IsKept first new_near new q p
   pub sound : (q p : ℕ) → new q ≡ Some p → ((q ≡ id) × (p ≡ place)) ⊎ (old q ≡ Some p)

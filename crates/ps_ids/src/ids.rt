@@ -1,7 +1,8 @@
 //! Ids, and their places.
 
-ghost use Rattle.std.specs.Prelude.{◌≡◌, ◌==◌, ◌<◌, ◌++◌, ◌∷◌, ℕ, List, [], OnOk, OnErr, IfSome, Contains, is_some};
-ghost use Rattle.std.specs.Prelude.{length, position};
+ghost use Rattle.std.specs.Prelude.{◌≡◌, ◌==◌, ◌<◌, ◌^◌, ◌++◌, ◌∷◌, ◌↔◌, ℕ, List, [], OnOk, OnErr, IfSome, IsTrue};
+ghost use Rattle.std.specs.Prelude.{Contains};
+ghost use Rattle.std.specs.Prelude.{is_some, length, position, slice_index, if◌then◌else◌};
 ghost use Rattle.std.specs.Ordering.{nat_cmp};
 ghost use Rattle.std.specs.List.{list_any};
 ghost use Rattle.std.specs.BTreeMap.{get};
@@ -11,13 +12,18 @@ use std::alloc::{AllocError, Global};
 use std::collections::BTreeMap;
 use std::marker::Model;
 
-/// Different ids in order. Where they begin with the first and go on one by one, each is found at its place; the places
-/// of the others stand in a tree, so that no choice of ids makes a search long.
+/// How many entries the table may have for each id.
+const MOST_PER_ID: usize = 4;
+
+/// Different ids in order. Where they begin with the first and go on one by one, each is found at its place. Else the
+/// places of ids that are not far from the first stand in a table, by how far they are, with at most four entries for
+/// each id; and all others in a tree. So no choice of ids makes a search long, or takes much memory.
 #[derive(Drop)]
 pub struct Ids {
     list: Vec<u64>,
     first: u64,
-    others: BTreeMap<u64, usize>,
+    near: Vec<u32>,
+    far: BTreeMap<u64, usize>,
 }
 
 impl Model for Ids {
@@ -25,25 +31,26 @@ impl Model for Ids {
 
     ghost view = { λ ids. ids.list.items };
 
-    ghost invariant = { λ ids. IsTable ids.first ids.list.items (λ id. get nat_cmp ids.others id) };
+    ghost invariant = { λ ids. IsTable ids.first ids.list.items ids.near.items (λ id. get nat_cmp ids.far id) };
 }
 
 impl Ids {
-    /// No ids. Those that begin with 0 and go on one by one need no tree.
+    /// No ids. Those that begin with 0 and go on one by one need no table.
     pub fn new(alloc: Global) -> Self
         ensures { result ≡ [] }
     {
         Ids::starting_at(alloc, 0)
     }
 
-    /// No ids. Those that begin with the first and go on one by one need no tree.
+    /// No ids. Those that begin with the first and go on one by one need no table.
     pub fn starting_at(alloc: Global, first: u64) -> Self
         ensures { result ≡ [] }
     {
         Ids {
             list: Vec::new(alloc),
             first,
-            others: BTreeMap::new(alloc),
+            near: Vec::new(alloc),
+            far: BTreeMap::new(alloc),
         }
     }
 
@@ -70,12 +77,15 @@ impl Ids {
         ensures member { is_some result ≡ list_any (λ other. id == other) self.now }
         ensures within { IfSome result (λ place. place < length self.now) }
     {
-        let place = own_place(self.first, id);
-        if place < self.list.len() && self.list[place] == id {
-            Some(place)
-        } else {
-            self.others.get(&id).copied()
+        let own = own_place(self.first, id);
+        if stands_at(&self.list, id, own) {
+            return Some(own);
         }
+        let near = near_place(&self.near, own);
+        if stands_at(&self.list, id, near) {
+            return Some(near);
+        }
+        self.far.get(&id).copied()
     }
 
     /// Whether an id is one of them.
@@ -97,32 +107,69 @@ impl Ids {
     {
         let place = self.list.len();
         self.list.reserve(1)?;
-        keep_place(&mut self.others, self.first, id, place)?;
+        keep_place(&mut self.near, &mut self.far, self.first, id, place)?;
         self.list.push(id).unwrap();
         Ok(())
     }
 }
 
-/// The place that needs no tree.
+/// Whether an id stands at a place of a list.
+fn stands_at(list: &[u64], id: u64, place: usize) -> bool
+    ensures { IsTrue result ↔ ((place < length list.now) × (slice_index list.now place ≡ id)) }
+{
+    place < list.len() && list[place] == id
+}
+
+/// The place that a table has at a distance from the first id; 0 where it has none.
+fn near_place(near: &[u32], distance: usize) -> usize
+    ensures { result ≡ slice_index near.now distance }
+{
+    near.get(distance).map_or(0, |place| *place as usize)
+}
+
+/// How far an id is from the first: the place that needs no table.
 fn own_place(first: u64, id: u64) -> usize
     ensures { result ≡ own_place first id }
 {
     id.saturating_sub(first) as usize
 }
 
-/// Keeps the place of an id, unless it needs no tree.
+/// Keeps the place of an id that is none of those before: in the table, if the id is not far from the first, and else
+/// in the tree.
 fn keep_place(
-    others: &mut BTreeMap<u64, usize>,
+    near: &mut Vec<u32>,
+    far: &mut BTreeMap<u64, usize>,
     first: u64,
     id: u64,
     place: usize,
 ) -> Result<(), AllocError>
-    ensures ok { OnOk result (KeepsPlace first (λ q. get nat_cmp others.old q) (λ q. get nat_cmp others.new q) id
-        place) }
-    ensures err { OnErr result ((q : ℕ) → get nat_cmp others.new q ≡ get nat_cmp others.old q) }
+    ensures ok { OnOk result (KeepsPlace first near.old.items near.new.items (λ q. get nat_cmp far.old q)
+        (λ q. get nat_cmp far.new q) id place) }
+    ensures err { OnErr result (near.new.items ≡ near.old.items) }
+    ensures err_far { OnErr result ((q : ℕ) → get nat_cmp far.new q ≡ get nat_cmp far.old q) }
 {
-    if own_place(first, id) != place {
-        others.insert(id, place)?;
+    let own = own_place(first, id);
+    if own == place {
+        return Ok(());
     }
+    if id >= first && own / MOST_PER_ID <= place && place <= u32::MAX as usize {
+        put_near(near, own, place as u32)
+    } else {
+        far.insert(id, place)?;
+        Ok(())
+    }
+}
+
+/// Writes an entry of a table, which is made longer by zeros where it is too short.
+fn put_near(near: &mut Vec<u32>, distance: usize, place: u32) -> Result<(), AllocError>
+    requires { distance < 2 ^ 62 }
+    ensures ok { OnOk result ((k : ℕ) → slice_index near.new.items k ≡
+        (if k == distance then place else slice_index near.old.items k)) }
+    ensures err { OnErr result (near.new.items ≡ near.old.items) }
+{
+    if near.len() <= distance {
+        near.resize(distance + 1, 0)?;
+    }
+    near[distance] = place;
     Ok(())
 }

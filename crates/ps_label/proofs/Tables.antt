@@ -5,13 +5,13 @@ use Rattle.std.proofs.Common.{length-append, zero-add}
 use Rattle.std.proofs.lemmas.List.{get_or-append-add, take_more_set, take_all, drop_all}
 use Rattle.std.proofs.lemmas.Grind.{common_steps}
 use Rattle.ps_label.specs.Expression.{Expression, Operands, constant, proposition, alias, not_of, all_of, any_of, last}
-use Rattle.ps_label.specs.Expression.{more, IsWithin, AreWithin, AreOrdered, AreOrderedFrom}
+use Rattle.ps_label.specs.Expression.{more, IsOver, AreOver, AreOverFrom, AreOrdered}
 use Rattle.ps_label.specs.declared.label.Label.{Label}
 use Rattle.ps_label.specs.Truth.{expressions, truth, all_true, any_true, truths_behind, alias_truths, AreTruths}
 
 -- what stands behind the names that an expression uses changes nothing
 mutual
-  pub truth-front : (known more_known : List Bool) (letter : ℕ) (e : Expression) → IsWithin (length known) e →
+  pub truth-front : (known more_known : List Bool) (letter : ℕ) (e : Expression) → IsOver (length known) 64 e →
       truth (known ++ more_known) letter e ≡ truth known letter e
   truth-front known x letter (constant b) h = refl
   truth-front known x letter (proposition p) h = refl
@@ -20,18 +20,18 @@ mutual
   truth-front known x letter (all_of es) h = all-front known x letter es h
   truth-front known x letter (any_of es) h = any-front known x letter es h
 
-  all-front : (known more_known : List Bool) (letter : ℕ) (es : Operands) → AreWithin (length known) es →
+  all-front : (known more_known : List Bool) (letter : ℕ) (es : Operands) → AreOver (length known) 64 es →
       all_true (known ++ more_known) letter es ≡ all_true known letter es
   all-front known x letter last h = refl
   all-front known x letter (more e es) h = rw (truth-front known x letter e h.0, all-front known x letter es h.1) refl
 
-  any-front : (known more_known : List Bool) (letter : ℕ) (es : Operands) → AreWithin (length known) es →
+  any-front : (known more_known : List Bool) (letter : ℕ) (es : Operands) → AreOver (length known) 64 es →
       any_true (known ++ more_known) letter es ≡ any_true known letter es
   any-front known x letter last h = refl
   any-front known x letter (more e es) h = rw (truth-front known x letter e h.0, any-front known x letter es h.1) refl
 
-pub push_ordered : (k n : ℕ) (es : List Expression) (e : Expression) → AreOrderedFrom k es → n ≡ k + length es →
-    IsWithin n e → AreOrderedFrom k (es ++ e ∷ [])
+pub push_ordered : (k n : ℕ) (es : List Expression) (e : Expression) → AreOverFrom k 64 es → n ≡ k + length es →
+    IsOver n 64 e → AreOverFrom k 64 (es ++ e ∷ [])
 push_ordered k n [] e o is h = (let z : n ≡ k = omega arith in rw z at h, tt)
 push_ordered k n (x ∷ xs) e o is h = (o.0, push_ordered (k + 1) n xs e o.1 (omega arith) h)
 
@@ -45,7 +45,7 @@ truths_grow known letter (e ∷ es) =
     (b ∷ r.0, r.1 ∙ append_assoc known (b ∷ []) r.0, ap suc r.2)
 
 -- each truth in the table is that of its alias by the table
-table_from : (known : List Bool) (letter : ℕ) (es : List Expression) → AreOrderedFrom (length known) es →
+table_from : (known : List Bool) (letter : ℕ) (es : List Expression) → AreOverFrom (length known) 64 es →
     (k : ℕ) → k < length es → get_or (truths_behind known letter es) (length known + k) false ≡ truth
     (truths_behind known letter es) letter (get_or es k (constant false))
 table_from known letter [] o k h = absurd (omega arith)
@@ -58,7 +58,7 @@ table_from known letter (e ∷ es) o (suc k) h =
     let b = truth known letter e in
     let len : length (known ++ b ∷ []) ≡ length known + 1 = length-append known (b ∷ []) in
     let here : length known + suc k ≡ length (known ++ b ∷ []) + k = omega arith in
-    let o' : AreOrderedFrom (length (known ++ b ∷ [])) es = rw len o.1 in
+    let o' : AreOverFrom (length (known ++ b ∷ [])) 64 es = rw len o.1 in
     rw here (table_from (known ++ b ∷ []) letter es o' k (omega arith))
 
 pub table : (aliases : List Expression) (letter : ℕ) → AreOrdered aliases →
@@ -72,7 +72,7 @@ table aliases letter o =
     }
 
 -- a table that fits the aliases from some place on is what the definition makes of its front
-only_from : (front back : List Bool) (letter : ℕ) (es : List Expression) → AreOrderedFrom (length front) es →
+only_from : (front back : List Bool) (letter : ℕ) (es : List Expression) → AreOverFrom (length front) 64 es →
     length back ≡ length es →
     ((k : ℕ) → k < length es → get_or (front ++ back) (length front + k) false ≡ truth (front ++ back) letter
     (get_or es k (constant false))) →
@@ -85,7 +85,7 @@ only_from front (b ∷ back) letter (e ∷ es) o len fits =
     ∙ truth-front front (b ∷ back) letter e o.0 in
     let joined : (front ++ b ∷ []) ++ back ≡ front ++ b ∷ back = append_assoc front (b ∷ []) back in
     let longer : length (front ++ b ∷ []) ≡ length front + 1 = length-append front (b ∷ []) in
-    let o' : AreOrderedFrom (length (front ++ b ∷ [])) es = rw longer o.1 in
+    let o' : AreOverFrom (length (front ++ b ∷ [])) 64 es = rw longer o.1 in
     let later : (k : ℕ) → k < length es → get_or ((front ++ b ∷ []) ++ back) (length (front ++ b ∷ []) + k) false ≡
     truth ((front ++ b ∷ []) ++ back) letter (get_or es k (constant false)) =
     λ k h. let there : length (front ++ b ∷ []) + k ≡ length front + suc k = omega arith in

@@ -39,24 +39,27 @@ abbrev pub list_of : Operands → List Expression
 list_of last = []
 list_of (more e es) = e ∷ list_of es
 
--- an expression speaks of propositions below 64 and of aliases below that number
+-- an expression speaks of that many aliases and of that many propositions alone
 abbrev mutual
-  pub IsWithin : ℕ → Expression → Type 0
-  IsWithin names (constant b) = Unit {0}
-  IsWithin names (proposition p) = p < 64
-  IsWithin names (alias k) = k < names
-  IsWithin names (not_of e) = IsWithin names e
-  IsWithin names (all_of es) = AreWithin names es
-  IsWithin names (any_of es) = AreWithin names es
+  pub IsOver : (aliases propositions : ℕ) → Expression → Type 0
+  IsOver aliases propositions (constant b) = Unit {0}
+  IsOver aliases propositions (proposition p) = p < propositions
+  IsOver aliases propositions (alias k) = k < aliases
+  IsOver aliases propositions (not_of e) = IsOver aliases propositions e
+  IsOver aliases propositions (all_of es) = AreOver aliases propositions es
+  IsOver aliases propositions (any_of es) = AreOver aliases propositions es
 
-  pub AreWithin : ℕ → Operands → Type 0
-  AreWithin names last = Unit {0}
-  AreWithin names (more e es) = IsWithin names e × AreWithin names es
+  pub AreOver : (aliases propositions : ℕ) → Operands → Type 0
+  AreOver aliases propositions last = Unit {0}
+  AreOver aliases propositions (more e es) = IsOver aliases propositions e × AreOver aliases propositions es
 
--- each of these aliases, the first of which has the number given, speaks of earlier aliases alone
-abbrev pub AreOrderedFrom : ℕ → List Expression → Type 0
-AreOrderedFrom k [] = Unit {0}
-AreOrderedFrom k (e ∷ es) = IsWithin k e × AreOrderedFrom (k + 1) es
+-- each of these aliases, the first of which has the number given, speaks of earlier aliases and of that many
+-- propositions alone
+abbrev pub AreOverFrom : (number propositions : ℕ) → List Expression → Type 0
+AreOverFrom number propositions [] = Unit {0}
+AreOverFrom number propositions (e ∷ es) =
+    IsOver number propositions e × AreOverFrom (number + 1) propositions es
 
+-- the aliases of a text, over the 64 bits of a letter
 abbrev pub AreOrdered : List Expression → Type 0
-AreOrdered es = AreOrderedFrom 0 es
+AreOrdered es = AreOverFrom 0 64 es

@@ -1,7 +1,7 @@
 //! The aliases of a text, and the truth of a label at a letter.
 
 ghost use Rattle.std.specs.Prelude.{◌≡◌, ℕ, ◌+◌, ◌^◌, ◌<◌, ◌++◌, ◌∷◌, [], List, Bool, IfOk, OnErr, OnOk, length};
-ghost use Rattle.ps_label.specs.Expression.{Expression, expression, IsWithin, AreOrdered};
+ghost use Rattle.ps_label.specs.Expression.{Expression, expression, IsOver, AreOrdered};
 ghost use Rattle.ps_label.specs.Truth.{AreTruths, alias_truths, expressions, label_truth, truth};
 
 use crate::label::Label;
@@ -48,7 +48,7 @@ impl Labels {
     ///
     /// Fails where a growth was refused.
     pub fn push(&mut self, label: Label) -> Result<(), AllocError>
-        requires within { IsWithin (length self.old) (expression label) }
+        requires within { IsOver (length self.old) 64 (expression label) }
         ensures ok { OnOk result (self.new ≡ self.old ++ label ∷ []) }
         ensures err { OnErr result (self.new ≡ self.old) }
     {
@@ -67,7 +67,7 @@ impl Labels {
     /// The truth of a label at a letter. Each alias is worked out once; `scratch` has a place for each.
     pub fn eval(&self, label: &Label, letter: u64, scratch: &mut [bool]) -> bool
         requires room { length scratch.old ≡ length self.now }
-        requires within { IsWithin (length self.now) (expression label.now) }
+        requires within { IsOver (length self.now) 64 (expression label.now) }
         ensures { result ≡ label_truth (expressions self.now) letter (expression label.now) }
     {
         for (k, alias) in self.aliases.iter().enumerate() {
@@ -91,7 +91,7 @@ pub fn one_table_of_truths()
 
 /// The truth of a label at a letter, where that of each alias is in `known`.
 fn truth_by(label: &Label, letter: u64, known: &[bool]) -> bool
-    requires { IsWithin (length known.now) (expression label.now) }
+    requires { IsOver (length known.now) 64 (expression label.now) }
     ensures { result ≡ truth known.now letter (expression label.now) }
 {
     match label {

@@ -9,7 +9,7 @@ use Rattle.ps_diagram.proofs.Alone.{same_letter}
 use Rattle.ps_diagram.proofs.Cells.{bool_cases, true_is_not_false}
 use Rattle.ps_diagram.proofs.Letters.{letter_lt, letter_is, no_bit}
 use Rattle.ps_machine.specs.Boards.{Board, IsFirstLetter, IsSecondLetter}
-use Rattle.ps_machine.specs.Moving.{IsMaskOf}
+use Rattle.ps_machine.specs.Dividing.{IsMaskOf}
 
 -- ## Sums of letters with no proposition in common
 

@@ -4,6 +4,7 @@ pub mod Assembling
 pub mod Building
 pub mod Drawing
 pub mod Knowing
+pub mod Moving
 pub mod Naming
 pub mod Placing
 pub mod Planning

@@ -9,7 +9,6 @@ pub mod FileGames
 pub mod KeyNames
 pub mod Keys
 pub mod Machines
-pub mod Moving
 pub mod Numbering
 pub mod Solving
 pub mod Inner

@@ -7,9 +7,9 @@ use indexmap::IndexMap;
 use ps_diagram::{Classes, Store};
 use std::alloc::Global;
 
-/// The classes of the letters of the player who moves first, for each state that was divided.
+/// The classes of the letters of the player who moves first, for each state that was divided: letters that lead alike.
 #[derive(Drop)]
-pub(crate) struct Divided {
+pub struct Divided {
     /// The diagrams of the classes.
     pub store: Store,
     /// The classes of each of these states.

@@ -45,6 +45,7 @@ mod solver;
 mod used;
 
 pub use built_in::BuiltIn;
+pub use divided::Divided;
 pub use extracting::{extract, machine_of_certificate};
 pub use fault::SolveFault;
 pub use game::{AutomatonGame, game_of};

@@ -79,6 +79,10 @@ facts_of : (May : MayAnswer) (order : Order) (compact : Bool) (text : List ℕ) 
     IsReport May order compact text report → Facts May order compact text report
 facts_of May order compact text report r = grind arith
 
+pub report_game : (May : MayAnswer) (order : Order) (compact : Bool) (text : List ℕ) (report : Report)
+    (is : IsReport May order compact text report) → report.game_text.items ≡ game_text is.promise.game
+report_game May order compact text report is = is.promise.game_text.written
+
 module _ (files : OneFile) (file_games : OneFileGame) (winners : OneWinner) where
   module _ (May : MayAnswer) (order : Order) (compact : Bool) (text : List ℕ) (a b : Report)
       (r : IsReport May order compact text a) (s : IsReport May order compact text b) where
@@ -104,17 +108,19 @@ module _ (files : OneFile) (file_games : OneFileGame) (winners : OneWinner) wher
         f.certified.valid certified.fits certified.valid 0 (first_there order f.file f.game f.is_game) in
         tests_agree a.realizable b.realizable _ _ f.realizable g.realizable same_winner
 
+    -- each prints the game of the automaton
     pub reports-game : a.game_text.items ≡ b.game_text.items
     reports-game = f.printed ∙ ap game_text same_game ∙ sym g.printed
 
   -- any two certificates of one game
   pub certificates_agree : (compact : Bool) (game : NamedGameData) (one other : CertificateData) (a b : Reply) →
       IsCertified game one → IsCertified game other → a ≡ text_reply (text_in compact game one) →
-      b ≡ text_reply (text_in compact game other) → AgreeInWinners compact a b
+      b ≡ text_reply (text_in compact game other) → AgreeInWinners compact game a b
   certificates_agree compact game one other a b c d is_one is_other = record {
-    game = game;
     one = one;
     other = other;
+    one_certified = c;
+    other_certified = d;
     is_one = is_one;
     is_other = is_other;
     winners = λ is_game v within. winners game.game one other is_game.owners c.fits c.valid d.fits d.valid v within;

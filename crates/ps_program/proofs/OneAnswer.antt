@@ -30,7 +30,7 @@ use Rattle.ps_program.specs.Synthesis.{AnswersBy, AnswersReport}
 use Rattle.ps_program.specs.Texts.{CutsInTwo, ReadsCertified, ReadsGameText, ReadsSimulated}
 use Rattle.ps_program.specs.declared.command_line.SynthLine.{SynthLine}
 use Rattle.ps_program.proofs.Agreeing.{OneCertificate, OneFile, OneFileGame, OneWinner, reports-winner, reports-game}
-use Rattle.ps_program.proofs.Agreeing.{certificates_agree}
+use Rattle.ps_program.proofs.Agreeing.{certificates_agree, report_game}
 use Rattle.ps_program.proofs.OneTrace.{traces_agree}
 use Rattle.ps_program.proofs.OneStep.{IsOne, then_one, then_one_or, ended_one, reading_one}
 use Rattle.ps_program.proofs.OneCut.{cut_one, cut_three_one}
@@ -80,81 +80,128 @@ module _ (games : OneGame) (certificates : OneCertificate) (flaws : OneFlaw) (ci
   fault_is : (x : Result Reply (List ℕ)) (l : List ℕ) → x ≡ Err l → IsFault (printed x)
   fault_is x l e = (l, ap printed e)
 
+  alike_as : {P Q : Reply → Reply → Type 0} (x y : Result Reply (List ℕ)) → ((a b : Reply) → P a b → Q a b) →
+      Alike P x y → Alike Q x y
+  alike_as x y more (inl fault) = inl fault
+  alike_as x y more (inr (inl fault)) = inr (inl fault)
+  alike_as x y more (inr (inr agree)) = inr (inr (more (printed x) (printed y) agree))
+
   games_alike : (solver : SolverData) (compact : Bool) (named : NamedGameData) (x y : Result Reply (List ℕ)) →
-      AnswersGame solver compact named x → AnswersGame solver compact named y → Alike (AgreeInWinners compact) x y
-  games_alike solver compact named x y h k = search (rules, fault_is, certificates_agree)
+      AnswersGame solver compact named x → AnswersGame solver compact named y → Alike (AgreeInWinners compact named) x y
+  games_alike solver compact named x y (inl (l, s, e)) k = inl (fault_is x l e)
+  games_alike solver compact named x y (inr (c, s, e)) (inl (m, t, f)) = inr (inl (fault_is y m f))
+  games_alike solver compact named x y (inr (c, s, e)) (inr (d, t, f)) = inr (inr (certificates_agree
+      files file_games winners compact named c d (printed x) (printed y) s.0 t.0 (ap printed e) (ap printed f)))
 
   solve_one_or : (solver : SolverData) (compact : Bool) (text : List ℕ) (x y : Result Reply (List ℕ)) →
       AnswersSolve solver compact text x → AnswersSolve solver compact text y
-      → (x ≡ y) ⊎ (IsOpen (line.Solve compact) text × Alike (AgreeInWinners compact) x y)
+      → (x ≡ y) ⊎ (IsOpen (line.Solve compact) text × Alike (Agree (line.Solve compact) text) x y)
   solve_one_or solver compact text x y h k =
-      by (then_one_or (ReadsGameText text) (AnswersGame solver compact) (λ _. Alike (AgreeInWinners compact) x y)
+      by (then_one_or (ReadsGameText text) (AnswersGame solver compact) (λ v. Alike (AgreeInWinners compact v) x y)
       (search (rules, reading_one)) x y (λ v n m. inr (games_alike solver compact v x y n m)) h k)
     where
-      by : (x ≡ y) ⊎ ((v : NamedGameData) × ReadsGameText text (Ok v) × Alike (AgreeInWinners compact) x y) →
-          (x ≡ y) ⊎ (IsOpen (line.Solve compact) text × Alike (AgreeInWinners compact) x y)
+      by : (x ≡ y) ⊎ ((v : NamedGameData) × ReadsGameText text (Ok v) × Alike (AgreeInWinners compact v) x y) →
+          (x ≡ y) ⊎ (IsOpen (line.Solve compact) text × Alike (Agree (line.Solve compact) text) x y)
       by (inl same) = inl same
-      by (inr (v, reads, alike)) = inr ((v, reads), alike)
+      by (inr (v, reads, alike)) = inr (
+        (v, reads),
+        alike_as {P = AgreeInWinners compact v}
+            {Q = Agree (line.Solve compact) text} x y (λ a b agree. (v, reads, agree)) alike,
+      )
 
   cert_one_or : (solver : SolverData) (order : Order) (compact : Bool) (text : List ℕ) (x y : Result Reply (List ℕ)) →
       AnswersCert solver order compact text x → AnswersCert solver order compact text y
-      → (x ≡ y) ⊎ (IsOpen (line.Cert order compact) text × Alike (AgreeInWinners compact) x y)
+      → (x ≡ y) ⊎ (IsOpen (line.Cert order compact) text × Alike (Agree (line.Cert order compact) text) x y)
   cert_one_or solver order compact text x y h k =
-      by (then_one_or (ReadsGameOf order text) (AnswersGame solver compact) (λ _. Alike (AgreeInWinners compact) x y)
+      by (then_one_or (ReadsGameOf order text) (AnswersGame solver compact) (λ v. Alike (AgreeInWinners compact v) x y)
       (game_of_one order text) x y (λ v n m. inr (games_alike solver compact v x y n m)) h k)
     where
-      by : (x ≡ y) ⊎ ((v : NamedGameData) × ReadsGameOf order text (Ok v) × Alike (AgreeInWinners compact) x y) →
-          (x ≡ y) ⊎ (IsOpen (line.Cert order compact) text × Alike (AgreeInWinners compact) x y)
+      by : (x ≡ y) ⊎ ((v : NamedGameData) × ReadsGameOf order text (Ok v) × Alike (AgreeInWinners compact v) x y) →
+          (x ≡ y) ⊎ (IsOpen (line.Cert order compact) text × Alike (Agree (line.Cert order compact) text) x y)
       by (inl same) = inl same
-      by (inr (v, reads, alike)) = inr (game_accepted order text v reads, alike)
+      by (inr (v, reads, alike)) =
+          inr (
+            game_accepted order text v reads,
+            alike_as {P = AgreeInWinners compact v}
+                {Q = Agree (line.Cert order compact) text} x y (λ a b agree. (v, reads, agree)) alike,
+          )
 
   reports_alike : (solver : SolverData) (asked : SynthLine) (text : List ℕ) (x y : Result Reply (List ℕ)) →
-      AnswersReport solver asked text x → AnswersReport solver asked text y → Alike (AgreeAsReports asked.full) x y
+      AnswersReport solver asked text x → AnswersReport solver asked text y →
+      Alike (AgreeAsReports asked.order asked.full text) x y
   reports_alike solver asked text x y (inl (l, s, e)) k = inl (fault_is x l e)
   reports_alike solver asked text x y (inr (r, s, e)) (inl (m, t, f)) = inr (inl (fault_is y m f))
   reports_alike solver asked text x y (inr (r, s, e)) (inr (r', t, f)) = inr (inr (record {
+    file = s.promise.file;
+    accepted = s.promise.accepted;
+    game = s.promise.game;
+    is_game = s.promise.is_game;
     one = r;
     other = r';
     is_one = ap printed e;
     is_other = ap printed f;
+    one_game = report_game (answers_now solver) asked.order asked.compact text r s;
+    other_game =
+        sym (reports-game files file_games winners (answers_now solver) asked.order asked.compact text r r' s t)
+        ∙ report_game (answers_now solver) asked.order asked.compact text r s;
     winner = reports-winner files file_games winners (answers_now solver) asked.order asked.compact text r r' s t;
-    game = reports-game files file_games winners (answers_now solver) asked.order asked.compact text r r' s t;
   }))
 
   report_one_or : (solver : SolverData) (asked : SynthLine) (text : List ℕ) (x y : Result Reply (List ℕ)) →
       AnswersReport solver asked text x → AnswersReport solver asked text y
-      → (x ≡ y) ⊎ (HasAutomaton text × Alike (AgreeAsReports asked.full) x y)
+      → (x ≡ y) ⊎ (HasAutomaton text × Alike (AgreeAsReports asked.order asked.full text) x y)
   report_one_or solver asked text x y h k = search (rules, by, report_refused)
     where
-      by : RefusedOr text x → RefusedOr text y → (x ≡ y) ⊎ (HasAutomaton text × Alike (AgreeAsReports asked.full) x y)
+      by : RefusedOr text x → RefusedOr text y →
+          (x ≡ y) ⊎ (HasAutomaton text × Alike (AgreeAsReports asked.order asked.full text) x y)
       by (inr choice) other = inr (choice, reports_alike solver asked text x y h k)
       by (inl refused) (inr choice) = inr (choice, reports_alike solver asked text x y h k)
       by (inl (l, reads, e)) (inl (m, reads', e')) =
           grind (arith, automaton_one files refusals outcomes text (Err l) (Err m) reads reads')
 
+  -- two reports on the text that is asked for agree
+  abbrev ReportsAgree : (cert : Bool) → SynthLine → List ℕ → Reply → Reply → Type 0
+  ReportsAgree cert asked texts a b =
+      (text : List ℕ) × AsksFor cert texts text × AgreeAsReports asked.order asked.full text a b
+
+  abbrev AskedAlike : (cert : Bool) → SynthLine → List ℕ → Result Reply (List ℕ) → Result Reply (List ℕ) → Type 0
+  AskedAlike cert asked texts x y = ((text : List ℕ) × AsksFor cert texts text × HasAutomaton text)
+      × Alike (ReportsAgree cert asked texts) x y
+
   synth_one_or : (solvers : Solvers) (asked : SynthLine) (texts : List ℕ) (cert : Bool) (x y : Result Reply (List ℕ)) →
-      AnswersBy cert solvers asked texts x → AnswersBy cert solvers asked texts y → (x ≡ y) ⊎
-      (((text : List ℕ) × AsksFor cert texts text × HasAutomaton text) × Alike (AgreeAsReports asked.full) x y)
+      AnswersBy cert solvers asked texts x → AnswersBy cert solvers asked texts y →
+      (x ≡ y) ⊎ AskedAlike cert asked texts x y
   synth_one_or solvers asked texts false x y h k = by (report_one_or solvers.built_in asked texts x y h k)
     where
-      by : (x ≡ y) ⊎ (HasAutomaton texts × Alike (AgreeAsReports asked.full) x y) →
-          (x ≡ y) ⊎ (((text : List ℕ) × (texts ≡ text) × HasAutomaton text) × Alike (AgreeAsReports asked.full) x y)
+      by : (x ≡ y) ⊎ (HasAutomaton texts × Alike (AgreeAsReports asked.order asked.full texts) x y) →
+          (x ≡ y) ⊎ AskedAlike false asked texts x y
       by (inl same) = inl same
-      by (inr (choice, alike)) = inr ((texts, refl, choice), alike)
+      by (inr (choice, alike)) =
+          inr (
+            (texts, refl, choice),
+            alike_as {P = AgreeAsReports asked.order asked.full texts}
+                {Q = ReportsAgree false asked texts} x y (λ a b agree. (texts, refl, agree)) alike,
+          )
   synth_one_or solvers asked texts true x y h k =
       by (then_one_or (CutsInTwo texts) (λ (parts : List ℕ × List ℕ). AnswersReport (feed parts.1 solvers.replay) asked
-      parts.0) (λ (parts : List ℕ × List ℕ). HasAutomaton parts.0 × Alike (AgreeAsReports asked.full) x y)
-      (cut_one texts) x y (λ parts n m. report_one_or (feed parts.1 solvers.replay) asked parts.0 x y n m) h k)
+      parts.0) (λ (parts : List ℕ × List ℕ). HasAutomaton parts.0 × Alike (AgreeAsReports asked.order asked.full
+      parts.0) x y) (cut_one texts) x y
+      (λ parts n m. report_one_or (feed parts.1 solvers.replay) asked parts.0 x y n m) h k)
     where
       by : (x ≡ y) ⊎ ((parts : List ℕ × List ℕ) × CutsInTwo texts (Ok parts) ×
-          (HasAutomaton parts.0 × Alike (AgreeAsReports asked.full) x y)) → (x ≡ y) ⊎
-          (((text : List ℕ) × AsksFor true texts text × HasAutomaton text) × Alike (AgreeAsReports asked.full) x y)
+          (HasAutomaton parts.0 × Alike (AgreeAsReports asked.order asked.full parts.0) x y)) →
+          (x ≡ y) ⊎ AskedAlike true asked texts x y
       by (inl same) = inl same
-      by (inr (parts, cuts, (choice, alike))) = inr ((parts.0, (parts.1, cuts), choice), alike)
+      by (inr (parts, cuts, (choice, alike))) = inr (
+        (parts.0, (parts.1, cuts), choice),
+        alike_as {P = AgreeAsReports asked.order asked.full parts.0} {Q = ReportsAgree true asked texts} x y
+            (λ a b agree. (parts.0, (parts.1, cuts), agree)) alike,
+      )
 
   -- each line: one outcome, or it is open and they are alike
   line_one : (solvers : Solvers) (l : Line) (texts : List ℕ) (x y : Result Reply (List ℕ)) →
-      AnswersLine solvers l texts x → AnswersLine solvers l texts y → (x ≡ y) ⊎ (IsOpen l texts × Alike (Agree l) x y)
+      AnswersLine solvers l texts x → AnswersLine solvers l texts y →
+      (x ≡ y) ⊎ (IsOpen l texts × Alike (Agree l texts) x y)
   line_one solvers line.Refused texts x y h k = inl (ended_one _ x y h k)
   line_one solvers line.Help texts x y h k = inl (ended_one _ x y h k)
   line_one solvers line.Closed texts x y h k = inl (search (rules, then_one, certified_one, tests_one))
@@ -168,7 +215,8 @@ module _ (games : OneGame) (certificates : OneCertificate) (flaws : OneFlaw) (ci
 
   answers_one : (solvers : Solvers) (input : List ℕ) (a b : Reply) → AnswersInput solvers input a →
       AnswersInput solvers input b → (a ≡ b) ⊎
-      ((l : Line) × IsLine (first_line input) l × IsOpen l (behind_line input) × (IsFault a ⊎ IsFault b ⊎ Agree l a b))
+      ((l : Line) × IsLine (first_line input) l × IsOpen l (behind_line input) ×
+      (IsFault a ⊎ IsFault b ⊎ Agree l (behind_line input) a b))
   answers_one solvers input a b (l, is_line, (outcome, answers, e)) (l', is_line', (outcome', answers', e')) =
       by (grind (arith, line_one, same))
     where
@@ -176,12 +224,14 @@ module _ (games : OneGame) (certificates : OneCertificate) (flaws : OneFlaw) (ci
       same = is_line_one (first_line input) l l' is_line is_line'
 
       printed_so : IsFault (printed outcome) ⊎ IsFault (printed outcome') ⊎
-          Agree l (printed outcome) (printed outcome') → IsFault a ⊎ IsFault b ⊎ Agree l a b
+          Agree l (behind_line input) (printed outcome) (printed outcome') →
+          IsFault a ⊎ IsFault b ⊎ Agree l (behind_line input) a b
       printed_so alike = search rules
 
-      by : (outcome ≡ outcome') ⊎ (IsOpen l (behind_line input) × Alike (Agree l) outcome outcome') →
+      by : (outcome ≡ outcome') ⊎ (IsOpen l (behind_line input) × Alike (Agree l (behind_line input)) outcome outcome')
+          →
           (a ≡ b) ⊎ ((k : Line) × IsLine (first_line input) k × IsOpen k (behind_line input) ×
-          (IsFault a ⊎ IsFault b ⊎ Agree k a b))
+          (IsFault a ⊎ IsFault b ⊎ Agree k (behind_line input) a b))
       by (inl one) = inl (e ∙ ap printed one ∙ sym e')
       by (inr (choice, alike)) = inr (l, is_line, choice, printed_so alike)
 

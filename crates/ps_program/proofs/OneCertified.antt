@@ -22,7 +22,7 @@ use Rattle.ps_machine.specs.declared.key.Order.{Order}
 use Rattle.ps_pgsolver.specs.Written.{game_text}
 use Rattle.ps_synthesis.specs.Promises.{IsAcceptedText}
 use Rattle.ps_synthesis.specs.Reports.{IsReport, IsWinners, IsWinnersCircuit}
-use Rattle.ps_synthesis.specs.SynthFaults.{IsSynthFault}
+use Rattle.ps_synthesis.specs.SynthFaults.{IsSynthFault, cycle_of}
 use Rattle.ps_synthesis.specs.declared.fault.SynthFault.{SynthFault}
 use Rattle.ps_synthesis.specs.declared.fault.SynthFault.TheVariants as stage
 use Rattle.ps_synthesis.specs.declared.report.Report.{Report}
@@ -183,6 +183,11 @@ abbrev IsCycle : SolveFault → Type 0
 IsCycle (solver_fault.BadCycle cycle) = Unit {0}
 IsCycle fault = ⊥
 
+is_cycle : (fault : SolveFault) (cycle : List ℕ) → cycle_of fault ≡ Some cycle → IsCycle fault
+is_cycle (solver_fault.BadCycle vertices) cycle e = tt
+is_cycle (solver_fault.Text cause offset) cycle e = cc
+is_cycle solver_fault.OutOfMemory cycle e = cc
+
 never_lost : (game : NamedGameData) (fed : Option (List ℕ)) (fault : SolveFault) → IsCycle fault →
     Replays game fed (Err fault) → ⊥
 never_lost game fed fault is h = grind arith
@@ -206,8 +211,8 @@ module _ (solver : SolverData) (replaying : IsReplaying solver) (asked : SynthLi
   told_fault (stage.Automaton fault) line x h told e =
       inl (line, text_refused text (stage.Automaton fault) line h told, e)
   told_fault (stage.BadCycle ids) line x h told e =
-      absurd (never_lost h.game solver.fed (solver_fault.BadCycle h.holds.cycle) tt
-      (replaying solver.fed h.game (Err (solver_fault.BadCycle h.holds.cycle)) h.holds.answered))
+      absurd (never_lost h.game solver.fed h.holds.fault (is_cycle h.holds.fault h.holds.cycle h.holds.told)
+      (replaying solver.fed h.game (Err h.holds.fault) h.holds.answered))
   told_fault (stage.Certificate cause offset) line x h told e = search (rules, replayed_fault, told)
   told_fault stage.NotCertified line x h told e = certified h.file h.game h.holds.certificate x h.accepted h.is_game
       h.holds.answered (inl (h.holds.wrong, (line, told, e)))

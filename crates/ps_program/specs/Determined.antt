@@ -1,8 +1,8 @@
 -- The program's answer is determined, but for the choice that a solver has; and of that, how much is decided.
 --     IsOpen line texts      more than one answer to the line may be right
 --     IsReplaying solver      the solver may answer only what reading the text that it was fed answers
---     AgreeAsReports full a b      two reports: the same winner, and the same printed game
---     AgreeInWinners compact a b      two certificates of one game: each vertex has the same winner
+--     AgreeAsReports order full text a b      two reports on a text: the same winner, and the automaton's game
+--     AgreeInWinners compact game a b      two certificates of the game: each vertex has the same winner
 --     HasOneAnswer solvers      any two answers are one, or are such, or one is the line of a fault
 --     HasOneCertified solvers      by a certificate that is given `synth` has one answer, where it replays what it is
 --               fed
@@ -11,12 +11,16 @@ use Rattle.ps_certificate.specs.Certificates.{CertificateData, winner_of}
 use Rattle.ps_certificate.specs.Written.{text_in}
 use Rattle.ps_game.specs.Games.{NamedGameData, IsGame, vertex_count}
 use Rattle.ps_hoa.specs.Files.{FileData}
-use Rattle.ps_machine.specs.Solving.{Replays}
+use Rattle.ps_machine.specs.FileGames.{IsGameOfFile}
+use Rattle.ps_machine.specs.Solving.{IsCertified, Replays}
 use Rattle.ps_machine.specs.declared.fault.SolveFault.{SolveFault}
+use Rattle.ps_machine.specs.declared.key.Order.{Order}
+use Rattle.ps_pgsolver.specs.Written.{game_text}
 use Rattle.ps_synthesis.specs.Promises.{IsAcceptedText}
 use Rattle.ps_synthesis.specs.declared.report.Report.{Report}
 use Rattle.ps_program.specs.CommandLine.{IsLine}
 use Rattle.ps_program.specs.Cut.{behind_line, first_line}
+use Rattle.ps_program.specs.Games.{ReadsGameOf}
 use Rattle.ps_program.specs.Program.{AnswersWhole}
 use Rattle.ps_program.specs.Replies.{Reply, fault_reply, text_reply}
 use Rattle.ps_program.specs.Solvers.{SolverData, Solvers}
@@ -45,30 +49,39 @@ abbrev pub IsReplaying : SolverData → Type 0
 IsReplaying solver = (fed : Option (List ℕ)) (game : NamedGameData) (answer : Result CertificateData SolveFault) →
     solver.may_answer fed game answer → Replays game fed answer
 
--- two reports, as they are printed: who wins, and the game, are the same; so the status and the first line are
-pub record AgreeAsReports (full : Bool) (a b : Reply) : Type 0 where
+-- two reports on a text, as they are printed: who wins, and the game, which is the automaton's, are the same; so the
+-- status and the first line are
+pub record AgreeAsReports (order : Order) (full : Bool) (text : List ℕ) (a b : Reply) : Type 0 where
+  pub file : FileData
+  pub accepted : IsAcceptedText text file
+  pub game : NamedGameData
+  pub is_game : IsGameOfFile order file game
   pub one : Report
   pub other : Report
   pub is_one : a ≡ report_reply full one
   pub is_other : b ≡ report_reply full other
+  pub one_game : one.game_text.items ≡ game_text game
+  pub other_game : other.game_text.items ≡ game_text game
   pub winner : one.realizable ≡ other.realizable
-  pub game : one.game_text.items ≡ other.game_text.items
 
--- two certificates of a game, as they are printed: each vertex has the same winner
-pub record AgreeInWinners (compact : Bool) (a b : Reply) : Type 0 where
-  pub game : NamedGameData
+-- two certificates of the game, as they are printed: each vertex has the same winner
+pub record AgreeInWinners (compact : Bool) (game : NamedGameData) (a b : Reply) : Type 0 where
   pub one : CertificateData
   pub other : CertificateData
+  pub one_certified : IsCertified game one
+  pub other_certified : IsCertified game other
   pub is_one : a ≡ text_reply (text_in compact game one)
   pub is_other : b ≡ text_reply (text_in compact game other)
   pub winners : IsGame game.game → (v : ℕ) → v < vertex_count game.game → winner_of one v ≡ winner_of other v
 
--- what two answers to a line have in common, if neither is the line of a fault
-abbrev pub Agree : Line → Reply → Reply → Type 0
-Agree (Solve compact) a b = AgreeInWinners compact a b
-Agree (Cert order compact) a b = AgreeInWinners compact a b
-Agree (Synth asked) a b = AgreeAsReports asked.full a b
-Agree line a b = a ≡ b
+-- what two answers to a line have in common, if neither is the line of a fault, behind which these texts stand
+abbrev pub Agree : Line → List ℕ → Reply → Reply → Type 0
+Agree (Solve compact) text a b = (game : NamedGameData) × ReadsGameText text (Ok game) × AgreeInWinners compact game a b
+Agree (Cert order compact) text a b =
+    (game : NamedGameData) × ReadsGameOf order text (Ok game) × AgreeInWinners compact game a b
+Agree (Synth asked) texts a b =
+    (text : List ℕ) × AsksFor asked.cert texts text × AgreeAsReports asked.order asked.full text a b
+Agree line texts a b = a ≡ b
 
 abbrev pub IsFault : Reply → Type 0
 IsFault reply = (line : List ℕ) × (reply ≡ fault_reply line)
@@ -77,7 +90,7 @@ IsFault reply = (line : List ℕ) × (reply ≡ fault_reply line)
 abbrev pub HasOneAnswer : Solvers → Type 0
 HasOneAnswer solvers = (input : List ℕ) (a b : Reply) → AnswersWhole solvers input a → AnswersWhole solvers input b
     → (a ≡ b) ⊎ ((line : Line) × IsLine (first_line input) line × IsOpen line (behind_line input) ×
-    (IsFault a ⊎ IsFault b ⊎ Agree line a b))
+    (IsFault a ⊎ IsFault b ⊎ Agree line (behind_line input) a b))
 
 -- by a certificate that stands behind the text, and a solver that answers what reading it answers: the whole reply
 abbrev pub HasOneCertified : Solvers → Type 0

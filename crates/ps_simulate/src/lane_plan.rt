@@ -81,7 +81,7 @@ fn moved_places(
 {
     let mut places = places_up_to(alloc, size)?;
     for (number, row) in rows.iter().enumerate() {
-        places[row.target] = front + number;
+        places[row.target as usize] = front + number;
     }
     Ok(places)
 }
@@ -104,7 +104,7 @@ fn literal(places: &[usize], wire: Wire) -> Literal
     requires within { wire.place < length places.now }
     ensures { wire_in result ≡ move_wire places.now wire }
 {
-    let literal = Literal::positive(places[wire.place] as u32);
+    let literal = Literal::positive(places[wire.place as usize] as u32);
     if wire.is_negated {
         literal.negated()
     } else {

@@ -9,8 +9,6 @@ ghost use Rattle.ps_simulate.specs.Lassos.{HasOneVerdict};
 ghost use Rattle.ps_simulate.specs.Symbols.{HasSymbols};
 ghost use Rattle.ps_simulate.specs.declared.role.Role.{Role};
 
-use ps_circuit::Circuit;
-
 /// A law: for given inputs and latches a circuit has values, and they agree at each literal whose variable is 0 or
 /// defined.
 pub fn circuit_has_one_values()
@@ -19,10 +17,9 @@ pub fn circuit_has_one_values()
 
 /// A law: a circuit that takes letters in 256 lanes at once goes in each lane as a plain run goes on that lane's
 /// letters.
-pub fn lanes_are_plain_runs(circuit: &Circuit)
-    ensures { AreLanesPlain circuit.now }
+pub fn lanes_are_plain_runs()
+    ensures { (c : CircuitData) → IsCircuit c → AreLanesPlain c }
 {
-    let _gates = circuit.gates();
     circuit_has_one_values();
 }
 

@@ -62,7 +62,7 @@ impl<'a> Places<'a> {
     {
         let place = self.ids.place(u64::from(literal.variable())).unwrap();
         Wire {
-            place,
+            place: place as u32,
             is_negated: literal.is_negated(),
         }
     }

@@ -7,11 +7,12 @@ use crate::places::Places;
 use ps_circuit::Circuit;
 use std::alloc::{AllocError, Global};
 
-/// A literal of a circuit, by the place of its variable in the table of values.
+/// A literal of a circuit, by the place of its variable in the table of values. Places have 4 bytes, since a circuit has
+/// fewer than 2^31 variables, and a step reads three of them for each gate.
 #[derive(Clone, Copy)]
 pub struct Wire {
     /// The place.
-    pub place: usize,
+    pub place: u32,
     /// Whether the literal is negated.
     pub is_negated: bool,
 }
@@ -20,7 +21,7 @@ pub struct Wire {
 #[derive(Clone, Copy)]
 pub struct Row {
     /// The place of its value.
-    pub target: usize,
+    pub target: u32,
     /// The first literal that it reads.
     pub first: Wire,
     /// The second one.

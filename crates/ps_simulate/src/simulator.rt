@@ -113,7 +113,7 @@ fn bit(values: &[bool], wire: Wire) -> bool
     requires { wire.place < length values.now }
     ensures { result ≡ read values.now wire }
 {
-    values[wire.place] ^ wire.is_negated
+    values[wire.place as usize] ^ wire.is_negated
 }
 
 /// Works out the gates, each once.
@@ -124,7 +124,7 @@ fn work(rows: &[Row], values: &mut [bool])
     for row in rows {
         let first = bit(values, row.first);
         let second = bit(values, row.second);
-        values[row.target] = first & second;
+        values[row.target as usize] = first & second;
     }
 }
 

@@ -8,8 +8,8 @@
 --     IsSynthFault May order text fault      the cause of that fault
 --     IsOutcome May order compact text answer      what is answered to a text that is accepted, where the solver is
 --               sure
-use Rattle.std.specs.Prelude.{◌≡◌, ◌≢◌, ℕ, ◌<◌, Bool, List, length, map, slice_index, Result, Ok, Err, Vec}
-use Rattle.std.specs.Global.{Global}
+use Rattle.std.specs.Prelude.{◌≡◌, ◌≢◌, ℕ, ◌<◌, Bool, List, length, map, slice_index, Option, None, Some, Result, Ok}
+use Rattle.std.specs.Prelude.{Err}
 use Rattle.std.specs.List.{All}
 use Rattle.ps_aiger.specs.Wires.{IsOutOfLiterals}
 use Rattle.ps_automaton.specs.Answers.{IsRefused}
@@ -22,6 +22,7 @@ use Rattle.ps_hoa.specs.Texts.{ReadsFile}
 use Rattle.ps_machine.specs.FileGames.{IsGameOfFile}
 use Rattle.ps_machine.specs.Behaviours.{Behaviour}
 use Rattle.ps_machine.specs.Solving.{IsCertified}
+use Rattle.ps_machine.specs.declared.fault.SolveFault.{SolveFault}
 use Rattle.ps_machine.specs.declared.fault.SolveFault.TheVariants as solver
 use Rattle.ps_machine.specs.declared.key.Order.{Order}
 use Rattle.ps_synthesis.specs.Reports.{IsReport, IsWinners}
@@ -44,12 +45,19 @@ pub record OfGame (order : Order) (text : List ℕ) (P : FileData → NamedGameD
   pub is_game : IsGameOfFile order file game
   pub holds : P file game
 
+-- the cycle that a solver's fault tells
+abbrev pub cycle_of : SolveFault → Option (List ℕ)
+cycle_of (solver.BadCycle cycle) = Some cycle.items
+cycle_of fault = None
+
 pub record IsLost (May : MayAnswer) (game : NamedGameData) (ids : List ℕ) : Type 0 where
-  pub cycle : Vec ℕ Global
-  pub answered : May game (Err (solver.BadCycle cycle))
-  pub some : 0 < length cycle.items
-  pub vertices : All (λ v. v < vertex_count game.game) cycle.items
-  pub ids_are : ids ≡ map (λ v. slice_index game.ids v) cycle.items
+  pub fault : SolveFault
+  pub answered : May game (Err fault)
+  pub cycle : List ℕ
+  pub told : cycle_of fault ≡ Some cycle
+  pub some : 0 < length cycle
+  pub vertices : All (λ v. v < vertex_count game.game) cycle
+  pub ids_are : ids ≡ map (λ v. slice_index game.ids v) cycle
 
 pub record IsNotCertified (May : MayAnswer) (game : NamedGameData) : Type 0 where
   pub certificate : CertificateData

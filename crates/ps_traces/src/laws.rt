@@ -10,7 +10,7 @@ ghost use Rattle.ps_game.specs.Games.{ParityGame};
 ghost use Rattle.ps_certificate.specs.Certificates.{CertificateData, Fits, IsValid};
 ghost use Rattle.ps_circuit.specs.Circuits.{CircuitData, IsCircuit};
 ghost use Rattle.ps_aiger.specs.Encoded.{Encodes};
-ghost use Rattle.ps_circuit.specs.Values.{Moment, HasOneValues};
+ghost use Rattle.ps_circuit.specs.Values.{Moment};
 ghost use Rattle.ps_machine.specs.Behaviours.{Behaviour, IsMachine, IsLasso, LassosWon};
 ghost use Rattle.ps_machine.specs.Boards.{IsGameOf};
 ghost use Rattle.ps_machine.specs.BuiltBoards.{board_of};
@@ -36,12 +36,14 @@ use ps_automaton::automaton_is_there;
 use ps_machine::lassos_won;
 use ps_simulate::circuit_has_one_values;
 
-/// Of a circuit that has values, every input that repeats goes on in a lasso trace: for a stem and a lap, not empty, of
+/// Of a circuit, every input that repeats goes on in a lasso trace: for a stem and a lap, not empty, of
 /// letters of the circuit's width there are such numbers of laps, each at least 1, that a lasso trace reads the stem
 /// and the first ones, and then the others again and again.
 pub fn every_input_goes_on()
-    ensures { (c : CircuitData) → HasOneValues c → EachInputGoesOn c }
-{}
+    ensures { (c : CircuitData) → IsCircuit c → EachInputGoesOn c }
+{
+    circuit_has_one_values();
+}
 
 /// Where the inputs and outputs of a circuit are the names of propositions, each once, each moment has one letter.
 pub fn every_trace_has_letters()
@@ -71,16 +73,20 @@ pub fn meeting_is_one()
 
 /// It goes on in a lasso trace, at whose end the controller's memory has come back too.
 pub fn every_meeting_goes_on()
-    ensures { (order : Order) (c : CircuitData) (k : FiniteController) → HasOneValues c → IsInTime order Environment c →
+    ensures { (order : Order) (c : CircuitData) (k : FiniteController) → IsCircuit c → IsInTime order Environment c →
         IsController order c k → MeetsInLasso c k }
-{}
+{
+    circuit_has_one_values();
+}
 
 /// So where no lasso trace of the environment's circuit is accepted, the meeting is rejected.
 pub fn every_meeting_is_rejected()
     ensures { (order : Order) (file : FileData) (c : CircuitData) (k : FiniteController) → AreNames file.names →
-        HasOneValues c → HasShape order Environment file c → IsController order c k → NoneAccepted file c →
+        IsCircuit c → HasShape order Environment file c → IsController order c k → NoneAccepted file c →
         IsRejected file c k }
-{}
+{
+    circuit_has_one_values();
+}
 
 /// The words of a circuit's lasso traces are those of the machine that it encodes.
 pub fn circuit_has_machine_words()

@@ -1,6 +1,8 @@
 -- From winners and moves to a region and strategies.
 use Rattle.std.specs.Prelude.{◌≡◌, ℕ, ◌<◌, ◌≤◌, List, Option, Some, None, IsSome, Bool, false, IsTrue, not, slice_index}
-use Rattle.ps_game.specs.Games.{ParityGame, owner_of}
+use Rattle.std.specs.Prelude.{length}
+use Rattle.ps_game.specs.Games.{ParityGame, vertex_count, owner_of}
+use Rattle.ps_game.specs.Plays.{Holds}
 use Rattle.ps_game.specs.Regions.{has, move_at}
 
 -- the vertices that are not in a region
@@ -11,6 +13,17 @@ others region v = not (has region v)
 pub record MovesWithin (game : ParityGame) (player : ℕ) (set : ℕ → Bool) (strategy : List (Option ℕ)) : Type 0 where
   pub within : (v : ℕ) → IsSome (move_at strategy v) → IsTrue (set v)
   pub owns : (v : ℕ) → IsSome (move_at strategy v) → owner_of game v ≡ player
+
+-- player 0 holds the region by the first strategy, player 1 all other vertices by the second; each has moves there
+-- alone
+pub record IsAnswer (game : ParityGame) (region : List Bool) (first second : List (Option ℕ)) : Type 0 where
+  pub region_places : length region ≡ vertex_count game
+  pub first_places : length first ≡ vertex_count game
+  pub second_places : length second ≡ vertex_count game
+  pub first_holds : Holds game 0 (has region) (move_at first)
+  pub second_holds : Holds game 1 (others region) (move_at second)
+  pub first_moves : MovesWithin game 0 (has region) first
+  pub second_moves : MovesWithin game 1 (others region) second
 
 -- of the vertices before n the region has just those that player 0 wins
 pub record IsRegionTo (winner : List ℕ) (n : ℕ) (region : List Bool) : Type 0 where

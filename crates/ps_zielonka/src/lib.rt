@@ -10,6 +10,7 @@
 //! |---|---|
 //! | `regions` | the region of player 0, the moves of both players in their regions, and in `Counts` the depth |
 //! | `regions_in` | the same by tables with numbers of a stated width |
+//! | `regions_within` | what `regions` gives, or nothing where a budget of vertices to be placed is spent before |
 //!
 //! Calls wait for one another at most as deep as there are different priorities. The number of calls can grow
 //! exponentially with the number of priorities; a turn takes time in proportion to the edges that its attractor looks
@@ -25,4 +26,4 @@ mod nest;
 mod order;
 mod solver;
 
-pub use solver::{regions, regions_in};
+pub use solver::{regions, regions_in, regions_within};

@@ -1,7 +1,7 @@
 //! The calls that wait, one in the other, and the steps down into a subgame and back up.
 
 ghost use Rattle.std.specs.Prelude.{◌≡◌, ◌≢◌, ◌+◌, ◌-◌, ◌*◌, ◌<◌, ◌≤◌, ℕ, Bool, true, false, [], ◌∷◌, ◌++◌, IfOk, OnOk};
-ghost use Rattle.std.specs.Prelude.{IsTrue, length, slice_index};
+ghost use Rattle.std.specs.Prelude.{IsTrue, None, length, slice_index};
 ghost use Rattle.ps_game.specs.Games.{IsGame, vertex_count};
 ghost use Rattle.ps_attractor.specs.Room.{HasRoom};
 ghost use Rattle.ps_attractor.specs.Sources.{IsSourcesOf};
@@ -16,7 +16,7 @@ use crate::board::Board;
 use crate::frame::Frame;
 use crate::level::Level;
 use crate::order::{falling_order, first_unplaced, place_tops};
-use ps_attractor::Sources;
+use ps_attractor::{Sources, Tables};
 use ps_game::{Arena, Numbers, Player, Width};
 use std::alloc::{AllocError, Global};
 
@@ -35,6 +35,8 @@ pub struct Nest<W: Width> {
     pub solved: bool,
     /// The greatest number of calls that waited at one time.
     pub depth: usize,
+    /// How many vertices were placed, each as often as it was, or the greatest number of 64 bits where they were more.
+    pub work: u64,
 }
 
 impl<W: Width> Nest<W> {
@@ -55,46 +57,71 @@ impl<W: Width> Nest<W> {
             cursor: 0,
             solved: false,
             depth: 0,
+            work: 0,
         })
     }
 
-    /// Decides each vertex.
+    /// Decides each vertex, and answers whether it did: not where a budget of vertices to be placed is spent before.
     ///
     /// # Errors
     ///
     /// Fails where a growth was refused.
-    pub fn decide<A: Arena>(&mut self, alloc: Global, arena: &A) -> Result<(), AllocError>
+    pub fn decide<A: Arena>(
+        &mut self,
+        alloc: Global,
+        arena: &A,
+        budget: Option<u64>,
+    ) -> Result<bool, AllocError>
         requires room { HasRoom (A.game arena.now) W.LIMIT }
         requires stack { IsStack (A.game arena.now) self.old }
         requires deep { IsDeep (A.game arena.now) self.old }
-        ensures solved { OnOk result (IsSolvedBy (A.game arena.now) self.new.board.tables self.new.board.winner.items) }
-        ensures depth { OnOk result (IsDepth (A.game arena.now) self.new.depth) }
+        ensures solved { IfOk result (λ done. done ≡ true →
+            IsSolvedBy (A.game arena.now) self.new.board.tables self.new.board.winner.items) }
+        ensures depth { IfOk result (λ done. done ≡ true → IsDepth (A.game arena.now) self.new.depth) }
+        ensures unbounded { IfOk result (λ done. budget ≡ None → done ≡ true) }
     {
         let sources = Sources::of(alloc, arena)?;
-        self.solve(arena, &sources)
+        self.solve(arena, &sources, budget)
     }
 
-    /// Decides each vertex, where the edges to each are known.
+    /// The same, where the edges to each vertex are known.
     ///
     /// # Errors
     ///
     /// Fails where a growth was refused.
-    pub fn solve<A: Arena>(&mut self, arena: &A, sources: &Sources<W>) -> Result<(), AllocError>
+    pub fn solve<A: Arena>(
+        &mut self,
+        arena: &A,
+        sources: &Sources<W>,
+        budget: Option<u64>,
+    ) -> Result<bool, AllocError>
         requires room { HasRoom (A.game arena.now) W.LIMIT }
         requires sources { IsSourcesOf (A.game arena.now) sources.now }
         requires stack { IsStack (A.game arena.now) self.old }
         requires deep { IsDeep (A.game arena.now) self.old }
-        ensures solved { OnOk result (IsSolvedBy (A.game arena.now) self.new.board.tables self.new.board.winner.items) }
-        ensures depth { OnOk result (IsDepth (A.game arena.now) self.new.depth) }
+        ensures solved { IfOk result (λ done. done ≡ true →
+            IsSolvedBy (A.game arena.now) self.new.board.tables self.new.board.winner.items) }
+        ensures depth { IfOk result (λ done. done ≡ true → IsDepth (A.game arena.now) self.new.depth) }
+        ensures unbounded { IfOk result (λ done. budget ≡ None → done ≡ true) }
     {
         'steps: while !self.solved || !self.frames.is_empty() {
+            if self.has_spent(budget) {
+                return Ok(false);
+            }
             if self.solved {
                 self.climb(arena, sources)?;
             } else {
                 self.descend(arena, sources)?;
             }
         }
-        Ok(())
+        Ok(true)
+    }
+
+    /// Whether a budget is spent, which none is where there is none.
+    fn has_spent(&self, budget: Option<u64>) -> bool
+        ensures { budget ≡ None → result ≡ false }
+    {
+        budget.is_some_and(|most| self.work >= most)
     }
 
     /// Begins a turn where a vertex is left, and else has the answer.
@@ -155,6 +182,7 @@ impl<W: Width> Nest<W> {
         )?;
         let top = self.board.tables.placed();
         self.board.attract(arena, sources, &attraction)?;
+        self.work = work_behind(self.work, &self.board.tables, turn);
         self.frames.push(Frame {
             cursor,
             player,
@@ -217,8 +245,15 @@ impl<W: Width> Nest<W> {
             level,
         };
         self.board.attract(arena, sources, &attraction)?;
+        self.work = work_behind(self.work, &self.board.tables, frame.turn);
         self.cursor = frame.cursor;
         self.solved = false;
         Ok(())
     }
+}
+
+/// A number and, in addition, how many vertices stand in the trail from a place on.
+fn work_behind<W: Width>(work: u64, tables: &Tables<W>, turn: usize) -> u64 {
+    let placed = tables.placed().saturating_sub(turn);
+    work.saturating_add(placed as u64)
 }

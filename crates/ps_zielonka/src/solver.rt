@@ -1,11 +1,8 @@
-//! The call that solves a game.
+//! The calls that solve a game.
 
-ghost use Rattle.std.specs.Prelude.{◌≡◌, IfOk, OnOk, length};
-ghost use Rattle.ps_game.specs.Games.{vertex_count};
-ghost use Rattle.ps_game.specs.Plays.{Holds};
-ghost use Rattle.ps_game.specs.Regions.{has, move_at};
+ghost use Rattle.std.specs.Prelude.{◌≡◌, IfOk, IfSome, IfNone, OnOk, OnSome};
 ghost use Rattle.ps_attractor.specs.Room.{HasRoom};
-ghost use Rattle.ps_zielonka.specs.Answers.{others, MovesWithin};
+ghost use Rattle.ps_zielonka.specs.Answers.{IsAnswer};
 ghost use Rattle.ps_zielonka.specs.Depths.{IsDepth};
 ghost use Rattle.ps_zielonka.specs.Inner.Stacks.{IsSolvedBy};
 
@@ -27,13 +24,7 @@ pub fn regions<A: Arena>(
     arena: &A,
     counts: &mut Counts,
 ) -> Result<(Region, Strategy, Strategy), AllocError>
-    ensures region_places { IfOk result (λ answer. length answer.0 ≡ vertex_count (A.game arena.now)) }
-    ensures first_places { IfOk result (λ answer. length answer.1 ≡ vertex_count (A.game arena.now)) }
-    ensures second_places { IfOk result (λ answer. length answer.2 ≡ vertex_count (A.game arena.now)) }
-    ensures first_holds { IfOk result (λ answer. Holds (A.game arena.now) 0 (has answer.0) (move_at answer.1)) }
-    ensures second_holds { IfOk result (λ answer. Holds (A.game arena.now) 1 (others answer.0) (move_at answer.2)) }
-    ensures first_moves { IfOk result (λ answer. MovesWithin (A.game arena.now) 0 (has answer.0) answer.1) }
-    ensures second_moves { IfOk result (λ answer. MovesWithin (A.game arena.now) 1 (others answer.0) answer.2) }
+    ensures answer { IfOk result (λ answer. IsAnswer (A.game arena.now) answer.0 answer.1 answer.2) }
     ensures depth { OnOk result (IsDepth (A.game arena.now) counts.new.depth) }
     ensures raises { counts.new.raises ≡ counts.old.raises }
 {
@@ -57,19 +48,59 @@ pub fn regions_in<A: Arena, W: Width>(
     counts: &mut Counts,
 ) -> Result<(Region, Strategy, Strategy), AllocError>
     requires { HasRoom (A.game arena.now) W.LIMIT }
-    ensures region_places { IfOk result (λ answer. length answer.0 ≡ vertex_count (A.game arena.now)) }
-    ensures first_places { IfOk result (λ answer. length answer.1 ≡ vertex_count (A.game arena.now)) }
-    ensures second_places { IfOk result (λ answer. length answer.2 ≡ vertex_count (A.game arena.now)) }
-    ensures first_holds { IfOk result (λ answer. Holds (A.game arena.now) 0 (has answer.0) (move_at answer.1)) }
-    ensures second_holds { IfOk result (λ answer. Holds (A.game arena.now) 1 (others answer.0) (move_at answer.2)) }
-    ensures first_moves { IfOk result (λ answer. MovesWithin (A.game arena.now) 0 (has answer.0) answer.1) }
-    ensures second_moves { IfOk result (λ answer. MovesWithin (A.game arena.now) 1 (others answer.0) answer.2) }
+    ensures answer { IfOk result (λ answer. IsAnswer (A.game arena.now) answer.0 answer.1 answer.2) }
     ensures depth { OnOk result (IsDepth (A.game arena.now) counts.new.depth) }
     ensures raises { counts.new.raises ≡ counts.old.raises }
 {
     let nest = solved_nest::<A, W>(alloc, arena)?;
-    counts.depth = nest.depth as u64;
-    answer_of(alloc, arena, &nest.board)
+    answer_by(alloc, arena, counts, &nest)
+}
+
+/// The same as `regions` gives, or nothing where as many vertices as the budget says, or more, were placed before each
+/// was decided. How many are placed is left open: a vertex is placed again each time that it was taken back.
+///
+/// # Errors
+///
+/// Fails where a growth was refused, as `regions` does.
+pub fn regions_within<A: Arena>(
+    alloc: Global,
+    arena: &A,
+    counts: &mut Counts,
+    budget: u64,
+) -> Result<Option<(Region, Strategy, Strategy)>, AllocError>
+    ensures answer { IfOk result (λ found. IfSome found
+        (λ answer. IsAnswer (A.game arena.now) answer.0 answer.1 answer.2)) }
+    ensures depth { IfOk result (λ found. OnSome found (IsDepth (A.game arena.now) counts.new.depth)) }
+    ensures raises { counts.new.raises ≡ counts.old.raises }
+{
+    if has_room::<A, u32>(arena) {
+        answer_within::<A, u32>(alloc, arena, counts, budget)
+    } else if has_room::<A, usize>(arena) {
+        answer_within::<A, usize>(alloc, arena, counts, budget)
+    } else {
+        Err(no_room(alloc))
+    }
+}
+
+/// The same, worked out in tables with numbers of a stated width.
+fn answer_within<A: Arena, W: Width>(
+    alloc: Global,
+    arena: &A,
+    counts: &mut Counts,
+    budget: u64,
+) -> Result<Option<(Region, Strategy, Strategy)>, AllocError>
+    requires { HasRoom (A.game arena.now) W.LIMIT }
+    ensures answer { IfOk result (λ found. IfSome found
+        (λ answer. IsAnswer (A.game arena.now) answer.0 answer.1 answer.2)) }
+    ensures depth { IfOk result (λ found. OnSome found (IsDepth (A.game arena.now) counts.new.depth)) }
+    ensures raises { counts.new.raises ≡ counts.old.raises }
+{
+    let mut nest = Nest::<W>::new(alloc, arena)?;
+    if !nest.decide(alloc, arena, Some(budget))? {
+        return Ok(None);
+    }
+    let answer = answer_by(alloc, arena, counts, &nest)?;
+    Ok(Some(answer))
 }
 
 /// A nest of calls in which each vertex is decided.
@@ -79,8 +110,25 @@ fn solved_nest<A: Arena, W: Width>(alloc: Global, arena: &A) -> Result<Nest<W>, 
     ensures depth { IfOk result (λ nest. IsDepth (A.game arena.now) nest.depth) }
 {
     let mut nest = Nest::new(alloc, arena)?;
-    nest.decide(alloc, arena)?;
+    nest.decide(alloc, arena, None)?;
     Ok(nest)
+}
+
+/// The answer that a nest has, and its depth in the counts.
+fn answer_by<A: Arena, W: Width>(
+    alloc: Global,
+    arena: &A,
+    counts: &mut Counts,
+    nest: &Nest<W>,
+) -> Result<(Region, Strategy, Strategy), AllocError>
+    requires solved { IsSolvedBy (A.game arena.now) nest.now.board.tables nest.now.board.winner.items }
+    requires depth { IsDepth (A.game arena.now) nest.now.depth }
+    ensures answer { IfOk result (λ answer. IsAnswer (A.game arena.now) answer.0 answer.1 answer.2) }
+    ensures depth { OnOk result (IsDepth (A.game arena.now) counts.new.depth) }
+    ensures raises { counts.new.raises ≡ counts.old.raises }
+{
+    counts.depth = nest.depth as u64;
+    answer_of(alloc, arena, &nest.board)
 }
 
 /// The vertices that player 0 wins, and the moves of both players, as they are decided.
@@ -90,13 +138,7 @@ fn answer_of<A: Arena, W: Width>(
     board: &Board<W>,
 ) -> Result<(Region, Strategy, Strategy), AllocError>
     requires { IsSolvedBy (A.game arena.now) board.now.tables board.now.winner.items }
-    ensures region_places { IfOk result (λ answer. length answer.0 ≡ vertex_count (A.game arena.now)) }
-    ensures first_places { IfOk result (λ answer. length answer.1 ≡ vertex_count (A.game arena.now)) }
-    ensures second_places { IfOk result (λ answer. length answer.2 ≡ vertex_count (A.game arena.now)) }
-    ensures first_holds { IfOk result (λ answer. Holds (A.game arena.now) 0 (has answer.0) (move_at answer.1)) }
-    ensures second_holds { IfOk result (λ answer. Holds (A.game arena.now) 1 (others answer.0) (move_at answer.2)) }
-    ensures first_moves { IfOk result (λ answer. MovesWithin (A.game arena.now) 0 (has answer.0) answer.1) }
-    ensures second_moves { IfOk result (λ answer. MovesWithin (A.game arena.now) 1 (others answer.0) answer.2) }
+    ensures { IfOk result (λ answer. IsAnswer (A.game arena.now) answer.0 answer.1 answer.2) }
 {
     let region = region_of(alloc, &board.winner)?;
     let first = strategy_of(alloc, arena, &board.tables, &board.winner, Player::EVEN)?;

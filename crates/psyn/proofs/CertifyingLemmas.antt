@@ -1,5 +1,5 @@
 -- What a solver's answer is to a report.
-use Rattle.std.proofs.Common.{rules, arith, ◌≡◌, Result, Err, sym, subst}
+use Rattle.std.proofs.Common.{rules, arith, ◌≡◌, Result, Err, refl, sym, subst}
 use Rattle.ps_certificate.specs.Certificates.{CertificateData}
 use Rattle.ps_game.specs.Games.{NamedGameData}
 use Rattle.ps_machine.specs.Solving.{AnswersSurely, NamesVertices}
@@ -22,7 +22,15 @@ of_memory May named given is = subst (λ (f : SynthFault). IsSolverFault May nam
 
 refused_as : (May : MayAnswer) (named : NamedGameData) (fault : SolveFault) (given : SynthFault) → May named (Err fault)
     → NamesVertices named (Err fault) → IsRefusedAs named fault given → IsSolverFault May named given
-refused_as May named (solver.BadCycle cycle) (BadCycle ids) may names refused = search rules
+refused_as May named (solver.BadCycle cycle) (BadCycle ids) may names refused = record {
+  fault = solver.BadCycle cycle;
+  answered = may;
+  cycle = cycle.items;
+  told = refl;
+  some = names.0;
+  vertices = names.1;
+  ids_are = refused;
+}
 refused_as May named (solver.BadCycle cycle) (Text cause offset) may names refused = grind (arith, of_memory)
 refused_as May named (solver.BadCycle cycle) (Automaton fault) may names refused = grind (arith, of_memory)
 refused_as May named (solver.BadCycle cycle) (Certificate cause offset) may names refused = grind (arith, of_memory)
@@ -41,7 +49,15 @@ solver_fault May named answer fault given may names is refused = grind (arith, r
 -- where it is told by what the solver gave, it is one that the solver might give
 pub fault_might : (May Gave : MayAnswer) (named : NamedGameData) (given : SynthFault) →
     IsSolverFault (Answered May Gave) named given → IsSolverFault May named given
-fault_might May Gave named (BadCycle ids) h = search rules
+fault_might May Gave named (BadCycle ids) h = record {
+  fault = h.fault;
+  answered = h.answered.0;
+  cycle = h.cycle;
+  told = h.told;
+  some = h.some;
+  vertices = h.vertices;
+  ids_are = h.ids_are;
+}
 fault_might May Gave named (Certificate cause offset) h = h.0
 fault_might May Gave named NotCertified h = grind arith
 fault_might May Gave named OutOfMemory h = h

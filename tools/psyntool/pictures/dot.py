@@ -5,7 +5,8 @@ from collections import Counter
 
 from psyntool.ends import Refused
 
-FONT = "  graph [fontname=Helvetica]; node [fontname=Helvetica]; edge [fontname=Helvetica];"
+# The limits keep `dot` from minutes of layout where edges have labels.
+FONT = "  graph [fontname=Helvetica, nslimit=2, nslimit1=2]; node [fontname=Helvetica]; edge [fontname=Helvetica];"
 WIDTH = 28
 # A picture of more is none that a person can read, and `dot` takes minutes.
 MOST = 400

@@ -1,4 +1,5 @@
 """Pictures of parity games, with their regions and with the names that an automaton gives."""
+import html
 from dataclasses import dataclass
 
 from psyntool.pictures.dot import FONT, legend, quoted, within, wrapped
@@ -6,6 +7,8 @@ from psyntool.texts import Unreadable, labels
 
 REGION = {0: "palegreen", 1: "lightsalmon"}
 MOVE = {0: "darkgreen", 1: "firebrick"}
+# Above so many edges, letters stand in tables.
+FEW_EDGES = 60
 OTHER_GAME = "the certificate is one of another game: its ids are not those of the game"
 OTHER_AUTOMATON = "the game is not that of this automaton: its vertices have other names"
 
@@ -17,6 +20,11 @@ class Key:
     state: int | None
     priority: int | None
     letter: dict | None
+
+    @property
+    def is_choice(self):
+        """Whether it is a state, in which who moves first has chosen."""
+        return self.state is not None and self.letter is not None
 
 
 class Names:
@@ -49,6 +57,16 @@ class Names:
         name = "no edge" if key.state is None else self.automaton.title_of(key.state)
         return f"{wrapped(name, ',;')}\n{vertex.priority}"
 
+    def of_choice(self, vertex):
+        """The number of a state, and what was chosen in it."""
+        key = self.keys[vertex.identity]
+        return f"{key.state}: {labels.letter_text(key.letter, self.automaton.names)}"
+
+    def short(self, identity):
+        """The number of a state."""
+        state = self.keys[identity].state
+        return "no edge" if state is None else str(state)
+
     def of_edge(self, source, target):
         """The letter of a move: of the class that is chosen, or one that leads to the target."""
         before, after = self.keys[source.identity], self.keys[target.identity]
@@ -70,63 +88,104 @@ class Names:
         return next((letter for letter in found if letter is not None), None)
 
 
-def picture(game, certificate=None, automaton=None, reach=None):
-    """Player 0's vertices are diamonds, player 1's boxes; with a certificate the regions are coloured, and winning moves bold."""
-    entries = certificate.entries if certificate else {}
-    if certificate and set(entries) != set(game.by_identity):
-        raise Unreadable(OTHER_GAME)
-    first = game.vertices[0].identity
-    drawn = within("game", len(game.vertices), [first], lambda one: game.by_identity[one].successors, reach, "its first vertex")
-    vertices = [vertex for vertex in game.vertices if drawn is None or vertex.identity in drawn]
-    names = Names(automaton, game) if automaton else None
-    lines = ["digraph game {", FONT, game_legend(bool(certificate), bool(names), drawn is not None)]
-    lines += [vertex_line(vertex, entries.get(vertex.identity), names) for vertex in vertices]
-    for vertex in vertices:
-        entry = entries.get(vertex.identity)
+class Drawing:
+    """What is drawn of a game, with which colours and names; of many edges the letters stand in tables, so that none lies on another."""
+
+    def __init__(self, game, certificate, automaton, reach):
+        self.game, self.entries = game, certificate.entries if certificate else {}
+        if certificate and set(self.entries) != set(game.by_identity):
+            raise Unreadable(OTHER_GAME)
+        first = game.vertices[0].identity
+        self.drawn = within("game", len(game.vertices), [first], lambda one: game.by_identity[one].successors, reach, "its first vertex")
+        self.vertices = [vertex for vertex in game.vertices if self.drawn is None or vertex.identity in self.drawn]
+        self.names = Names(automaton, game) if automaton else None
+        self.has_tables = bool(self.names) and sum(len(vertex.successors) for vertex in self.vertices) > FEW_EDGES
+
+    def is_table(self, vertex):
+        return self.has_tables and self.names.keys[vertex.identity].is_choice
+
+    def lines(self):
+        yield from ("digraph game {", FONT, legend(self.legend_rows()))
+        for vertex in self.vertices:
+            yield self.table_line(vertex) if self.is_table(vertex) else self.vertex_line(vertex)
+        for vertex in self.vertices:
+            yield from self.edge_lines(vertex)
+        yield "}"
+
+    def vertex_line(self, vertex):
+        said = self.names.of_vertex(vertex) if self.names else f"{vertex.title}: {vertex.priority}"
+        entry = self.entries.get(vertex.identity)
+        colour = f", style=filled, fillcolor={REGION[entry.winner]}" if entry else ""
+        return f"  v{vertex.identity} [shape={'box' if vertex.owner else 'diamond'}, label={quoted(said)}{colour}];"
+
+    def table_line(self, vertex):
+        """A vertex in which one player has chosen: the state and that letter, and a row for each letter of the other one.
+
+        A row that leads to the sink says so, and has no edge.
+        """
+        entry = self.entries.get(vertex.identity)
+        shade = f' bgcolor="{REGION[entry.winner]}"' if entry else ""
+        rows = [f"<tr><td{shade}>{html.escape(self.names.of_choice(vertex))}</td></tr>"]
         for target in vertex.successors:
-            if drawn is None or target in drawn:
-                lines.append(edge_line(vertex, game.by_identity[target], entry, names))
-            else:
-                lines += [f"  more{vertex.identity} [shape=plaintext, label=\"..\"];", f"  v{vertex.identity} -> more{vertex.identity};"]
-                break
-    return "\n".join([*lines, "}", ""])
+            said = html.escape(f"{self.names.of_edge(vertex, self.game.by_identity[target])}   to {self.names.short(target)}")
+            said = f"<b>{said}</b>" if entry and target == entry.move else said
+            rows.append(f'<tr><td port="t{target}" align="left">{said}</td></tr>')
+        return f'  v{vertex.identity} [shape=plain, label=<<table border="1" cellborder="0" cellspacing="0">{"".join(rows)}</table>>];'
 
+    def edge_lines(self, vertex):
+        entry = self.entries.get(vertex.identity)
+        for target in vertex.successors:
+            if self.is_table(vertex) and self.names.keys[target].state is None:
+                continue
+            if self.drawn is not None and target not in self.drawn:
+                yield f'  more{vertex.identity} [shape=plaintext, label=".."];'
+                yield f"  v{vertex.identity} -> more{vertex.identity};"
+                return
+            port = f":t{target}" if self.is_table(vertex) else ""
+            parts = [self.label_of(vertex, target)] if self.names and not self.has_tables else []
+            if entry and target == entry.move:
+                parts.append(f"style=bold, penwidth=3, color={MOVE[entry.winner]}")
+            said = ", ".join(filter(None, parts))
+            yield f"  v{vertex.identity}{port} -> v{target}{f' [{said}]' if said else ''};"
 
-def vertex_line(vertex, entry, names):
-    said = f"{vertex.title}: {vertex.priority}"
-    if names:
-        said = names.of_vertex(vertex)
-    colour = f", style=filled, fillcolor={REGION[entry.winner]}" if entry else ""
-    return f"  v{vertex.identity} [shape={'box' if vertex.owner else 'diamond'}, label={quoted(said)}{colour}];"
+    def label_of(self, vertex, target):
+        said = self.names.of_edge(vertex, self.game.by_identity[target])
+        # a blank at either side keeps the letter off the line
+        return f"label={quoted(f' {said} ')}" if said else ""
 
+    def legend_rows(self):
+        rows = [
+            ("diamond", "player 0 moves there (in the game of an automaton the controller)", ""),
+            ("box", "player 1 moves there", ""),
+        ]
+        if self.names:
+            rows.append(("name, priority", "the state, and the priority of the edge by which it was entered", ""))
+            rows += self.letter_rows()
+            rows.append(("no edge", "the automaton has no edge for what was chosen: the controller has lost", ""))
+        else:
+            rows.append(("name: priority", "of each vertex", ""))
+        rows.append(("priority", "player 0 wins a play whose greatest priority seen for ever is even", ""))
+        if self.entries:
+            bold = "rows and edges" if self.has_tables else "edges"
+            rows += [
+                ("green", f"player 0 wins from there, by the bold {bold}", REGION[0]),
+                ("red", f"player 1 wins from there, by the bold {bold}", REGION[1]),
+            ]
+        return [*rows, *([("..", "what lies further on is not drawn", "")] if self.drawn is not None else [])]
 
-def edge_line(vertex, target, entry, names):
-    said = names.of_edge(vertex, target) if names else ""
-    # a blank at either side keeps the letter off the line
-    parts = [f"label={quoted(f' {said} ')}"] if said else []
-    if entry and target.identity == entry.move:
-        parts.append(f"style=bold, penwidth=3, color={MOVE[entry.winner]}")
-    return f"  v{vertex.identity} -> v{target.identity}{' [' + ', '.join(parts) + ']' if parts else ''};"
-
-
-def game_legend(is_solved, is_named, is_cut):
-    rows = [
-        ("diamond", "player 0 moves there (in the game of an automaton the controller)", ""),
-        ("box", "player 1 moves there", ""),
-    ]
-    if is_named:
-        rows += [
-            ("name, priority", "the state, and the priority of the edge by which it was entered", ""),
+    def letter_rows(self):
+        if self.has_tables:
+            who = "controller" if self.vertices[0].owner else "environment"
+            return [
+                ("table", f"the state's number and what was chosen in it; the {who} moves there, a row for each choice", ""),
+                ("a letter", "one of those that lead alike", ""),
+            ]
+        return [
             ("number", "the same state, when one of the players has chosen", ""),
             ("a letter at an edge", "what the player chooses there: one letter of those that lead alike", ""),
-            ("no edge", "the automaton has no edge for what was chosen: the controller has lost", ""),
         ]
-    else:
-        rows.append(("name: priority", "of each vertex", ""))
-    rows.append(("priority", "player 0 wins a play whose greatest priority seen for ever is even", ""))
-    if is_solved:
-        rows += [
-            ("green", "player 0 wins from there, by the bold green edges", REGION[0]),
-            ("red", "player 1 wins from there, by the bold red edges", REGION[1]),
-        ]
-    return legend([*rows, *([("..", "what lies further on is not drawn", "")] if is_cut else [])])
+
+
+def picture(game, certificate=None, automaton=None, reach=None):
+    """Player 0's vertices are diamonds, player 1's boxes; with a certificate the regions are coloured, and winning moves bold."""
+    return "\n".join([*Drawing(game, certificate, automaton, reach).lines(), ""])

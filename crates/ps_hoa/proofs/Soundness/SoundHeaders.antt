@@ -6,7 +6,7 @@ use Rattle.ps_label.specs.Expression.{Expression}
 use Rattle.ps_text.proofs.Simple.{none_is_some, same_some}
 use Rattle.ps_hoa.specs.Header.{HeaderData, no_items, names_of, item_name, item, AnAliasBeyond, IsBadHeader}
 use Rattle.ps_hoa.specs.Header.{out_of_range, body_value, IsBadBody, body_mark, header}
-use Rattle.ps_hoa.specs.Sound.{AreAliases}
+use Rattle.ps_label.specs.Expression.{AreOverFrom}
 use Rattle.ps_hoa.specs.declared.fault.HoaCause.{HoaCause}
 use Rattle.ps_hoa.specs.declared.fault.HoaCause.TheVariants as causes
 use Rattle.ps_hoa.specs.declared.tokens.Kind.{Kind}
@@ -37,10 +37,10 @@ keeps_header = keeps_then (keeps_many item keeps_item no_items no_items_kept) ke
 -- ## The aliases
 
 rise_sound : (count k : ℕ) (es : List Expression) → NamesRise k es → (AnAliasBeyond count es → ⊥) →
-    AreAliases k count es
+    AreOverFrom k count es
 rise_sound count k [] r n = tt
 rise_sound count k (e ∷ es) r n = (grind (arith, label_from), rise_sound count (k + 1) es r.1 (λ h. n (inr h)))
 
-pub sound_aliases : (h : HeaderData) → Kept h → HasNoFlaw h → AreAliases 0 (length (names_of h)) h.aliases
+pub sound_aliases : (h : HeaderData) → Kept h → HasNoFlaw h → AreOverFrom 0 (length (names_of h)) h.aliases
 sound_aliases h k n =
     rise_sound (length (names_of h)) 0 h.aliases k.2.rise (λ b. n causes.Range (out_of_range (inr (inl b))))

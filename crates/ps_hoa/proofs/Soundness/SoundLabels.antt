@@ -7,7 +7,7 @@ use Rattle.std.proofs.Common.{inl, inr, arith, rules}
 use Rattle.std.specs.List.{AllByRecursion}
 use Rattle.std.proofs.lemmas.List.Quantifiers.{position-Some}
 use Rattle.ps_label.specs.Expression.{Expression, constant, proposition, alias, not_of, all_of, any_of, Operands, last}
-use Rattle.ps_label.specs.Expression.{more, row_of}
+use Rattle.ps_label.specs.Expression.{more, row_of, IsOver, AreOver}
 use Rattle.ps_text.specs.Digits.{decimal_value}
 use Rattle.ps_text.specs.Parts.{Part}
 use Rattle.ps_text.proofs.Simple.{none_is_some, same_some}
@@ -16,7 +16,6 @@ use Rattle.ps_hoa.specs.Labels.{ScopeData, leaf_value, leaf_in, IsBeyond, IsBadL
 use Rattle.ps_hoa.specs.Labels.{label}
 use Rattle.ps_hoa.specs.Operands.{is_not, is_left, mark, single, joined, further, operands, row, rows}
 use Rattle.ps_hoa.specs.Operands.{bar, operand as operand_of}
-use Rattle.ps_hoa.specs.Sound.{IsLabel, AreLabels}
 use Rattle.ps_hoa.specs.Tokens.{Sign}
 use Rattle.ps_hoa.specs.declared.infix.Connective.{Connective}
 use Rattle.ps_hoa.specs.declared.infix.Connective.TheVariants as connectives
@@ -46,7 +45,7 @@ below s = omega arith
 -- what a label is, from what is read of it
 mutual
   pub label_from : (count names : ℕ) (e : Expression) → NamesBelow names e → (SpeaksBeyond count e → ⊥) →
-      IsLabel names count e
+      IsOver names count e
   label_from count names (constant b) n s = tt
   label_from count names (proposition p) n s = below s
   label_from count names (alias k) n s = n
@@ -55,7 +54,7 @@ mutual
   label_from count names (any_of es) n s = labels_from count names es n s
 
   labels_from : (count names : ℕ) (es : Operands) → AllNamesBelow names es → (SomeSpeaksBeyond count es → ⊥) →
-      AreLabels names count es
+      AreOver names count es
   labels_from count names last n s = tt
   labels_from count names (more e es) n s =
       (label_from count names e n.0 (λ h. s (inl h)), labels_from count names es n.1 (λ h. s (inr h)))

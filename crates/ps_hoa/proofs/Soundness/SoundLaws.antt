@@ -1,5 +1,5 @@
 -- What follows of a sound file, for the crates above.
---     label_within      its labels are what the truth of a label asks for
+--     label_within      its labels are over the bits of a letter
 --     aliases_ordered      so are its aliases
 --     sound_row, sound_edge      each row is sound, and so is each edge
 --     row_of_state      so is the row of a state, and it is of that state
@@ -7,14 +7,14 @@ use Rattle.std.proofs.Common.{◌≡◌, ℕ, zero, suc, ◌+◌, ◌≤◌, Lis
 use Rattle.std.specs.List.{All, AllByRecursion, slice_get}
 use Rattle.std.proofs.lemmas.Bool.Decides.{eqb_tells}
 use Rattle.ps_label.specs.Expression.{Expression, constant, proposition, alias, not_of, all_of, any_of, Operands, last}
-use Rattle.ps_label.specs.Expression.{more, IsWithin, AreWithin, AreOrderedFrom, AreOrdered}
+use Rattle.ps_label.specs.Expression.{more, IsOver, AreOver, AreOverFrom, AreOrdered}
 use Rattle.ps_text.proofs.Simple.{none_is_some, same_some}
 use Rattle.ps_hoa.specs.Edges.{row_among, row_of}
 use Rattle.ps_hoa.specs.Files.{EdgeData, RowData, FileData, stated}
-use Rattle.ps_hoa.specs.Sound.{IsLabel, AreLabels, AreAliases, IsSoundEdge, IsSoundRow, IsSoundFile}
+use Rattle.ps_hoa.specs.Sound.{IsSoundEdge, IsSoundRow, IsSoundFile}
 
 mutual
-  pub label_within : (names count : ℕ) (e : Expression) → count ≤ 64 → IsLabel names count e → IsWithin names e
+  pub label_within : (names count : ℕ) (e : Expression) → count ≤ 64 → IsOver names count e → IsOver names 64 e
   label_within names count (constant b) l i = tt
   label_within names count (proposition p) l i = omega arith
   label_within names count (alias k) l i = i
@@ -22,11 +22,11 @@ mutual
   label_within names count (all_of es) l i = labels_within names count es l i
   label_within names count (any_of es) l i = labels_within names count es l i
 
-  labels_within : (names count : ℕ) (es : Operands) → count ≤ 64 → AreLabels names count es → AreWithin names es
+  labels_within : (names count : ℕ) (es : Operands) → count ≤ 64 → AreOver names count es → AreOver names 64 es
   labels_within names count last l i = tt
   labels_within names count (more e es) l i = (label_within names count e l i.0, labels_within names count es l i.1)
 
-pub aliases_ordered : (k count : ℕ) (es : List Expression) → count ≤ 64 → AreAliases k count es → AreOrderedFrom k es
+pub aliases_ordered : (k count : ℕ) (es : List Expression) → count ≤ 64 → AreOverFrom k count es → AreOverFrom k 64 es
 aliases_ordered k count [] l a = tt
 aliases_ordered k count (e ∷ es) l a = (label_within k count e l a.0, aliases_ordered (k + 1) count es l a.1)
 
@@ -52,11 +52,11 @@ module _ (file : FileData) (s : IsSoundFile file) where
   sound_row k row e = all_get (IsSoundRow file) file.rows s.rows k row e
 
   pub edge_label : (edge : EdgeData) → IsSoundEdge file edge → (e : Expression) → edge.guard ≡ stated e →
-      IsWithin (length file.aliases) e
+      IsOver (length file.aliases) 64 e
   edge_label edge i e g = label_within (length file.aliases) (length file.names) e s.few_names (grind arith)
 
   pub state_label : (row : RowData) → IsSoundRow file row → (e : Expression) → row.label ≡ Some e →
-      IsWithin (length file.aliases) e
+      IsOver (length file.aliases) 64 e
   state_label row r e l = label_within (length file.aliases) (length file.names) e s.few_names (grind arith)
 
   among : (rows : List RowData) (q : ℕ) (row : RowData) → All (IsSoundRow file) rows → row_among rows q ≡ Some row →

@@ -16,7 +16,8 @@ use Rattle.ps_automaton.specs.Automata.{AutomatonData, node_of}
 use Rattle.ps_machine.specs.BuiltBoards.{board_of}
 use Rattle.ps_machine.specs.Dividing.{AreClassesOf, AreDivided}
 use Rattle.ps_machine.specs.Inner.Placing.{PlaysClass}
-use Rattle.ps_machine.specs.Moving.{IsFit, IsRest}
+use Rattle.ps_machine.specs.Dividing.{IsFit}
+use Rattle.ps_machine.specs.Inner.Moving.{IsRest}
 use Rattle.ps_machine.specs.Numbering.{StandsAt}
 use Rattle.ps_machine.specs.declared.key.Key.{Key}
 use Rattle.ps_machine.specs.declared.key.Key.TheVariants.{First}

@@ -15,7 +15,8 @@ use Rattle.ps_machine.specs.Boards.{LeadsTo}
 use Rattle.ps_machine.specs.BuiltBoards.{board_of}
 use Rattle.ps_machine.specs.Dividing.{AreClassesOf, AreDivided}
 use Rattle.ps_machine.specs.Inner.Knowing.{AreRemembered, HasAnswered, IsDivided, KnowsMoves}
-use Rattle.ps_machine.specs.Moving.{HasClass, IsFit, IsKnown, Remembers, class_keys}
+use Rattle.ps_machine.specs.Dividing.{IsFit}
+use Rattle.ps_machine.specs.Inner.Moving.{HasClass, IsKnown, Remembers, class_keys}
 use Rattle.ps_machine.specs.Numbering.{StandsAt}
 use Rattle.ps_machine.specs.declared.key.Key.{Key}
 use Rattle.ps_machine.specs.declared.key.Key.TheVariants.{First}

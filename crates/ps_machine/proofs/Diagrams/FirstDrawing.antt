@@ -20,7 +20,7 @@ use Rattle.ps_machine.specs.Inner.Placing.{IsEntered, IsPlaced, PlaysClass}
 use Rattle.ps_machine.specs.Extracting.{IsUsed, StandsFor}
 use Rattle.ps_machine.specs.Solving.{winner}
 use Rattle.ps_machine.specs.Keys.{mover_of}
-use Rattle.ps_machine.specs.Moving.{step_key}
+use Rattle.ps_machine.specs.Inner.Moving.{step_key}
 use Rattle.ps_machine.specs.Numbering.{StandsAt}
 use Rattle.ps_machine.specs.declared.key.Key.{Key}
 use Rattle.ps_machine.specs.declared.key.Key.TheVariants.{First, Second}

@@ -31,7 +31,8 @@ use Rattle.ps_machine.specs.Inner.Drawing.{NamesAnswer}
 use Rattle.ps_machine.specs.Extracting.{IsUsed, GoesTo, StandsFor}
 use Rattle.ps_machine.specs.Solving.{winner}
 use Rattle.ps_machine.specs.Keys.{mover_of}
-use Rattle.ps_machine.specs.Moving.{IsFit, IsRest, step_key}
+use Rattle.ps_machine.specs.Dividing.{IsFit}
+use Rattle.ps_machine.specs.Inner.Moving.{IsRest, step_key}
 use Rattle.ps_machine.specs.Numbering.{StandsAt}
 use Rattle.ps_machine.specs.declared.key.Key.{Key}
 use Rattle.ps_machine.specs.declared.key.Key.TheVariants.{First, Second}

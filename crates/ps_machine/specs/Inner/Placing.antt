@@ -10,7 +10,7 @@ use Rattle.ps_automaton.specs.Automata.{AutomatonData, pair_of}
 use Rattle.ps_machine.specs.Boards.{Board, IsClass}
 use Rattle.ps_machine.specs.Inner.Drawing.{CanEnter}
 use Rattle.ps_machine.specs.Extracting.{StandsFor}
-use Rattle.ps_machine.specs.Moving.{step_key}
+use Rattle.ps_machine.specs.Inner.Moving.{step_key}
 use Rattle.ps_machine.specs.Numbering.{StandsAt}
 use Rattle.ps_machine.specs.declared.key.Key.{Key}
 use Rattle.ps_machine.specs.declared.key.Key.TheVariants.{Second}

@@ -11,7 +11,8 @@ use Rattle.ps_machine.specs.Boards.{Board}
 use Rattle.ps_machine.specs.BuiltBoards.{board_of}
 use Rattle.ps_machine.specs.Dividing.{AreDivided}
 use Rattle.ps_machine.specs.Inner.Drawing.{CanEnter, IsReplyRow, IsDrawn, IsPlan, IsRow, NamesAnswer}
-use Rattle.ps_machine.specs.Moving.{IsFit, IsRest}
+use Rattle.ps_machine.specs.Dividing.{IsFit}
+use Rattle.ps_machine.specs.Inner.Moving.{IsRest}
 use Rattle.ps_machine.specs.Inner.Placing.{IsEntered, IsPlaced}
 use Rattle.ps_machine.specs.declared.drawing.Plan.{Plan}
 use Rattle.ps_machine.specs.declared.machine.Row.{Row}

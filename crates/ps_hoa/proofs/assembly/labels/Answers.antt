@@ -3,15 +3,15 @@ use Rattle.std.proofs.Common.{◌≡◌, ℕ, zero, suc, ◌+◌, ◌<◌, List,
 use Rattle.std.proofs.lemmas.List.{map-id}
 use Rattle.std.proofs.lemmas.Iterator.Adapters.{YieldsList-from_vec}
 use Rattle.std.proofs.lemmas.Iterator.Consumers.{YieldsList-turn, YieldsList-end}
-use Rattle.ps_label.specs.Expression.{expression, IsWithin, AreOrderedFrom}
+use Rattle.ps_label.specs.Expression.{expression, IsOver, AreOverFrom}
 use Rattle.ps_label.specs.Truth.{expressions}
 use Rattle.ps_label.specs.declared.label.Label.{Label}
 use Rattle.ps_hoa.proofs.assembly.labels.Goals as goal
 
-within_at : (k i : ℕ) (es : List Label) (d : Label) → AreOrderedFrom k (expressions es) → i < length es →
-    IsWithin (k + i) (expression (get_or es i d))
+within_at : (k i : ℕ) (es : List Label) (d : Label) → AreOverFrom k 64 (expressions es) → i < length es →
+    IsOver (k + i) 64 (expression (get_or es i d))
 within_at k i [] d a l = absurd (omega arith)
-within_at k zero (e ∷ es) d a l = let z : k ≡ k + 0 = omega arith in subst (λ m. IsWithin m (expression e)) z a.0
+within_at k zero (e ∷ es) d a l = let z : k ≡ k + 0 = omega arith in subst (λ m. IsOver m 64 (expression e)) z a.0
 within_at k (suc i) (e ∷ es) d a l = grind (arith, within_at (k + 1) i es d a.1 (omega arith))
 
 pub push-requires : goal.push-requires

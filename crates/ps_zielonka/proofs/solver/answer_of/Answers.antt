@@ -1,10 +1,20 @@
+use Rattle.std.proofs.Common.{rules}
 use Rattle.ps_zielonka.proofs.Ending.{played_first, played_second}
 use Rattle.ps_zielonka.proofs.solver.answer_of.Goals as goal
 
-pub returns-clause-first_holds : goal.returns-clause-first_holds
-returns-clause-first_holds g c = (played_first c.deref.ensures.value c.deref-2.ensures.value c.requires
-    c.in_ok-region.ensures.won c.in_ok-first.ensures.given).holds
-
-pub returns-clause-second_holds : goal.returns-clause-second_holds
-returns-clause-second_holds g c = (played_second c.deref.ensures.value c.deref-3.ensures.value c.requires
-    c.in_ok-region.ensures.won c.in_ok-second.ensures.given).holds
+pub returns : goal.returns
+returns g c =
+    let region = c.in_ok-region.ensures in
+    let first = c.in_ok-first.ensures in
+    let second = c.in_ok-second.ensures in
+    let plays_first = played_first c.deref.ensures.value c.deref-2.ensures.value c.requires region.won first.given in
+    let plays_second = played_second c.deref.ensures.value c.deref-3.ensures.value c.requires region.won second.given in
+    record {
+      region_places = search rules;
+      first_places = search rules;
+      second_places = search rules;
+      first_holds = plays_first.holds;
+      second_holds = plays_second.holds;
+      first_moves = plays_first.moves;
+      second_moves = plays_second.moves;
+    }

@@ -1,6 +1,7 @@
 use Rattle.std.proofs.Common.{◌≡◌, length, drop}
+use Rattle.ps_label.specs.Expression.{AreOverFrom}
 use Rattle.ps_label.specs.Truth.{alias_truths, expressions}
-use Rattle.ps_diagram.specs.Labels.{AreOverFrom, HaveTruths}
+use Rattle.ps_diagram.specs.Labels.{HaveTruths}
 use Rattle.ps_diagram.specs.Table.{Keeps}
 use Rattle.ps_diagram.proofs.store.Store.of_aliases.Given as goal
 

@@ -1,5 +1,5 @@
 use Rattle.std.proofs.Common.{◌≡◌, length, take, drop}
-use Rattle.ps_label.specs.Expression.{AreOrderedFrom}
+use Rattle.ps_label.specs.Expression.{AreOverFrom}
 use Rattle.ps_label.specs.Truth.{alias_truths, expressions, truths_behind}
 use Rattle.ps_label.proofs.labels.Labels.eval.Given as goal
 
@@ -9,5 +9,5 @@ invariant-loop-k l = record {
   room : length l.scratch ≡ length l.alias-items;
   known : truths_behind (take l.k l.scratch) l.letter (expressions (drop l.k l.alias-items)) ≡ alias_truths
       (expressions l.self) l.letter;
-  ordered : AreOrderedFrom l.k (expressions (drop l.k l.alias-items));
+  ordered : AreOverFrom l.k 64 (expressions (drop l.k l.alias-items));
 }

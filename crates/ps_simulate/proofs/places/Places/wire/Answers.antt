@@ -2,6 +2,7 @@ use Rattle.std.proofs.Common.{rules, arith, ◌≡◌, refl, position, Some}
 use Rattle.ps_circuit.specs.Literals.{variable}
 use Rattle.ps_ids.proofs.IdPlaces.{position_here}
 use Rattle.ps_simulate.specs.Plans.{place_of}
+use Rattle.ps_simulate.proofs.LanePlanLemmas.{few_variables}
 use Rattle.ps_simulate.proofs.PlacesLemmas.{place_known, variables_once}
 use Rattle.ps_simulate.proofs.places.Places.wire.Goals as goal
 use Rattle.ps_simulate.proofs.places.Places.wire.Goals.{After-place}
@@ -15,3 +16,7 @@ unwrap-place-requires c = rw (found (goal.at.unwrap-place-requires c).After-plac
 
 pub returns : goal.returns
 returns c = grind (arith, found)
+
+-- a circuit has fewer places than numbers of 4 bytes
+pub overflow_cast-result : goal.overflow_cast-result
+overflow_cast-result c = grind (arith, few_variables c.self.invariant.1, c.place.ensures.within)
