@@ -5,13 +5,13 @@ import unittest
 import unittest.mock
 
 from psyntool.ends import Refused
-from psyntool.parts import part
+from psyntool.parts import part, specification
 from psyntool.parts.composing import Composer
 from psyntool.parts.diagrams import Diagrams
 from psyntool.parts.specification import Specification
 from psyntool.program import path as program
-from psyntool.texts import automaton, hoa, labels
-from tests.tool import OnFiles
+from psyntool.texts import Unreadable, automaton, hoa, labels
+from tests.tool import AUTOMATON, OnFiles
 from upkeep import rows, sweeps
 
 LASSOS, SPECIFICATIONS = 1_000, 50
@@ -195,7 +195,7 @@ class Composed(OnFiles):
         self.file("below/always.hoa", b'HOA: v1 Start: 0 AP: 1 "a" controllable-AP: 0 Acceptance: 0 t --BODY-- State: 0 [0] 0 --END--\n')
         self.file("below/it.parts", b"--guarantee always.hoa # beside it\n")
         text = self.composed(os.path.join("below", "it.parts"))
-        self.assertIn('\npart: "guarantee" "always" "" "" ', text)
+        self.assertIn('\npart: "guarantee" "always" "" "HOA: v1 ', text)
         self.assertIn("[0] 0 {0 1}\n", text)
 
     def test_names_with_signs_of_their_own(self):
@@ -203,6 +203,21 @@ class Composed(OnFiles):
         self.file("odd.hoa", f'HOA: v1 Start: 0 AP: 1 "{name}" controllable-AP: 0 Acceptance: 0 t --BODY-- State: 0 "{name}" [0] 0 --END--\n'.encode())
         read = automaton.read(self.composed("--guarantee", "odd.hoa"))
         self.assertEqual((read.names, read.state_names), (('a "b" \\',), {0: 'a "b" \\'}))
+
+    def test_what_is_said_of_a_part_has_its_new_names(self):
+        text = self.composed("--assume", self.stored("stays-until"), "--as", "it=my request", "end=g", "--outs", "g")
+        kept = specification.kept(automaton.read(text)).assumptions[0]
+        self.assertEqual((kept.title, kept.names), ("stays-until(my request,g)", ("my request", "g")))
+        self.assertEqual(kept.sentence, "my request, once true, stays true until g is")
+        self.assertEqual([kept.state_name(state) for state in (0, 1)], ["my request may change", "my request must stay"])
+
+    def test_items_that_compose_did_not_write(self):
+        text = self.composed("--guarantee", self.stored("always"), "--outs", "it")
+        for old, new in (('"guarantee"', '"guarante"'), ('"guarantee" ', ""), ("0 t --BODY", "1 Fin(0) --BODY"), ('\\"it\\" acc', '\\"x\\" acc'), ("--END--\"", '"')):
+            self.assertIn(old, text)
+            with self.assertRaisesRegex(Unreadable, "not written by compose"):
+                specification.kept(automaton.read(text.replace(old, new, 1)))
+        self.assertIsNone(specification.kept(automaton.read(AUTOMATON.decode())))
 
     def test_the_readings_differ_behind_a_broken_guarantee(self):
         words = ["--assume", self.stored("always"), "--as", "it=ok", "--guarantee", self.stored("always"), "--as", "it=g", "--outs", "g"]
