@@ -24,6 +24,7 @@ FORMATS = {
     "semicolon. Player 0 wins where the greatest priority seen infinitely often is even.",
     "certificate": "psyn's own: the lines `psyncert 1` (or 2, compact), `vertices N`, `odd ..`, `even ..`, and for each vertex its id, "
     "winner, move or `-`, and a count for each priority by which the winner loses.",
+    "solution": "PGSolver's: `paritysol N;` or nothing, and for each vertex its id, winner, a move or none, and a semicolon.",
     "circuit": "AIGER 1.9 in ASCII (`aag`), without properties; the tool takes the binary form (`aig`) too.",
     "stimulus": "a line for each letter, with a digit 0 or 1 for each input; of lasso, a line `-` between the stem and the lap.",
 }

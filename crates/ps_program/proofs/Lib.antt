@@ -3,6 +3,7 @@ pub mod AutomatonLemmas
 pub mod CheckLemmas
 pub mod CircuitLemmas
 pub mod CommandLemmas
+pub mod JudgeLemmas
 pub mod KindLemmas
 pub mod LassoLemmas
 pub mod LongWords

@@ -19,6 +19,7 @@ use Rattle.ps_program.specs.Cut.{first_line, behind_line}
 use Rattle.ps_program.specs.Determined.{Agree, AgreeAsReports, AgreeInWinners, AsksFor, HasAutomaton, HasOneAnswer}
 use Rattle.ps_program.specs.Determined.{IsFault, IsOpen}
 use Rattle.ps_program.specs.Games.{AnswersCert, AnswersGameText, ReadsGameOf}
+use Rattle.ps_program.specs.Judging.{AnswersJudge, Judges, LosesCycle, ReadsSolved}
 use Rattle.ps_program.specs.Lassos.{AnswersLasso}
 use Rattle.ps_program.specs.Outcomes.{printed}
 use Rattle.ps_program.specs.Program.{AnswersInput, AnswersLine}
@@ -38,16 +39,22 @@ use Rattle.ps_program.proofs.OneStage.{OneGame, OneFlaw, OneCircuit, OneStimulus
 use Rattle.ps_program.proofs.OneStage.{OneValues, automaton_one, makes_one, tells_one, game_accepted, RefusedOr}
 use Rattle.ps_program.proofs.OneStage.{report_refused}
 use Rattle.ps_program.proofs.OneLine.{is_line_one}
+use Rattle.ps_program.proofs.JudgeLemmas.{OneSolution, OneJudged, NoFlawAndCycle, NoFlaw, NoCycle, judges_one_or}
+use Rattle.ps_solution.specs.Solved.{SolutionData}
 
 module _ (games : OneGame) (certificates : OneCertificate) (flaws : OneFlaw) (circuits : OneCircuit)
     (stimuli : OneStimulus) (files : OneFile) (refusals : OneRefusal) (outcomes : OneOutcome) (verdicts : OneVerdict)
-    (values : OneValues) (file_games : OneFileGame) (winners : OneWinner) where
+    (values : OneValues) (file_games : OneFileGame) (winners : OneWinner) (solutions : OneSolution)
+    (judged : OneJudged) (apart : NoFlawAndCycle) (no_flaw : NoFlaw) (no_cycle : NoCycle) where
   certified_one : (texts : List ℕ) → IsOne (ReadsCertified texts)
   certified_one texts = then_one _ _ (cut_one texts) (λ parts. search (rules, then_one, reading_one, ended_one))
 
   tests_one : (IsGood : ParityGame → CertificateData → Type 0) (word : List ℕ) (named : NamedGameData)
       (given : CertificateData) → IsOne (Tests IsGood word named given)
   tests_one h1 word named given h5 h6 h k = grind arith
+
+  solved_one : (texts : List ℕ) → IsOne (ReadsSolved texts)
+  solved_one texts = then_one _ _ (cut_one texts) (λ parts. search (rules, then_one, reading_one, ended_one))
 
   simulated_one : (texts : List ℕ) → IsOne (ReadsSimulated texts)
   simulated_one texts = then_one _ _ (cut_one texts) (λ parts. search (rules, then_one, reading_one, ended_one))
@@ -92,6 +99,20 @@ module _ (games : OneGame) (certificates : OneCertificate) (flaws : OneFlaw) (ci
   games_alike solver compact named x y (inr (c, s, e)) (inl (m, t, f)) = inr (inl (fault_is y m f))
   games_alike solver compact named x y (inr (c, s, e)) (inr (d, t, f)) = inr (inr (certificates_agree
       files file_games winners compact named c d (printed x) (printed y) s.0 t.0 (ap printed e) (ap printed f)))
+
+  judge_one_or : (compact : Bool) (texts : List ℕ) (x y : Result Reply (List ℕ)) → AnswersJudge compact texts x →
+      AnswersJudge compact texts y
+      → (x ≡ y) ⊎ (IsOpen (line.Judge compact) texts × Alike (Agree (line.Judge compact) texts) x y)
+  judge_one_or compact texts x y h k =
+      by (then_one_or (ReadsSolved texts) (λ both. Judges compact both.0 both.1)
+      (λ both. LosesCycle both.0 both.1 × ((line : List ℕ) × (x ≡ Err line))) (solved_one texts) x y
+      (λ both n m. judges_one_or flaws judged apart no_flaw no_cycle both.0 both.1 compact x y n m) h k)
+    where
+      by : (x ≡ y) ⊎ ((both : NamedGameData × SolutionData) × ReadsSolved texts (Ok both) ×
+          (LosesCycle both.0 both.1 × ((line : List ℕ) × (x ≡ Err line)))) →
+          (x ≡ y) ⊎ (IsOpen (line.Judge compact) texts × Alike (Agree (line.Judge compact) texts) x y)
+      by (inl same) = inl same
+      by (inr (both, reads, (lost, (l, e)))) = inr ((both.0, both.1, reads, lost), inl (fault_is x l e))
 
   solve_one_or : (solver : SolverData) (compact : Bool) (text : List ℕ) (x y : Result Reply (List ℕ)) →
       AnswersSolve solver compact text x → AnswersSolve solver compact text y
@@ -206,6 +227,7 @@ module _ (games : OneGame) (certificates : OneCertificate) (flaws : OneFlaw) (ci
   line_one solvers line.Help texts x y h k = inl (ended_one _ x y h k)
   line_one solvers line.Closed texts x y h k = inl (search (rules, then_one, certified_one, tests_one))
   line_one solvers line.Check texts x y h k = inl (search (rules, then_one, certified_one, tests_one))
+  line_one solvers (line.Judge compact) texts x y h k = judge_one_or compact texts x y h k
   line_one solvers line.Sim texts x y h k = inl (sim_one texts x y h k)
   line_one solvers (line.Lasso role) texts x y h k = inl (lasso_one role texts x y h k)
   line_one solvers (line.Solve compact) texts x y h k = solve_one_or solvers.built_in compact texts x y h k

@@ -17,8 +17,8 @@ use Rattle.ps_machine.specs.declared.key.Order.TheVariants.{Mealy, Moore}
 use Rattle.ps_simulate.specs.declared.role.Role.{Role}
 use Rattle.ps_simulate.specs.declared.role.Role.TheVariants.{Controller, Environment}
 use Rattle.ps_program.specs.declared.command_line.Line.{Line}
-use Rattle.ps_program.specs.declared.command_line.Line.TheVariants.{Refused, Help, Closed, Check, Sim, Lasso, Solve}
-use Rattle.ps_program.specs.declared.command_line.Line.TheVariants.{Game, Cert, Synth}
+use Rattle.ps_program.specs.declared.command_line.Line.TheVariants.{Refused, Help, Closed, Check, Judge, Sim, Lasso}
+use Rattle.ps_program.specs.declared.command_line.Line.TheVariants.{Solve, Game, Cert, Synth}
 use Rattle.ps_program.specs.declared.command_line.SynthLine.{SynthLine}
 
 -- what stands between runs of spaces
@@ -50,8 +50,8 @@ with_commands app [] = app
 with_commands app (command ∷ more) = with_commands (with_subcommand app (command_with command.0 command.1)) more
 
 abbrev pub commands : List (Text × List Text)
-commands = (codes "help", []) ∷ (codes "closed", []) ∷ (codes "check", []) ∷ (codes "sim", [])
-    ∷ (codes "lasso", codes "env" ∷ []) ∷ (codes "solve", codes "compact" ∷ [])
+commands = (codes "help", []) ∷ (codes "closed", []) ∷ (codes "check", []) ∷ (codes "judge", codes "compact" ∷ [])
+    ∷ (codes "sim", []) ∷ (codes "lasso", codes "env" ∷ []) ∷ (codes "solve", codes "compact" ∷ [])
     ∷ (codes "game", codes "moore" ∷ []) ∷ (codes "cert", codes "moore" ∷ codes "compact" ∷ [])
     ∷ (codes "synth", codes "full" ∷ codes "cert" ∷ codes "moore" ∷ codes "compact" ∷ []) ∷ []
 
@@ -86,6 +86,7 @@ abbrev pub line_named : Text → List Row → Line
 line_named name rows = if bytes_eq name (codes "help") then Help
     else if bytes_eq name (codes "closed") then Closed
     else if bytes_eq name (codes "check") then Check
+    else if bytes_eq name (codes "judge") then Judge (is_given (codes "compact") rows)
     else if bytes_eq name (codes "sim") then Sim
     else if bytes_eq name (codes "lasso") then Lasso (role_said rows)
     else if bytes_eq name (codes "solve") then Solve (is_given (codes "compact") rows)
@@ -125,6 +126,11 @@ pub record Usage : Type 0 where
   pub name : Text
   pub flags : List Text
   pub line : List Text → Line
+
+-- the line of `judge` with these flags
+abbrev pub judge_line : List Text → Line
+judge_line [] = Judge false
+judge_line (flag ∷ flags) = Judge true
 
 -- the line of a lasso with these flags
 abbrev pub lasso_line : List Text → Line
@@ -167,6 +173,7 @@ abbrev pub usages : List Usage
 usages = record { name = codes "help"; flags = []; line = λ _. Help }
     ∷ record { name = codes "closed"; flags = []; line = λ _. Closed }
     ∷ record { name = codes "check"; flags = []; line = λ _. Check }
+    ∷ record { name = codes "judge"; flags = codes "compact" ∷ []; line = judge_line }
     ∷ record { name = codes "sim"; flags = []; line = λ _. Sim }
     ∷ record { name = codes "lasso"; flags = codes "env" ∷ []; line = lasso_line }
     ∷ record { name = codes "solve"; flags = codes "compact" ∷ []; line = solve_line }

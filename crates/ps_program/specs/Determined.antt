@@ -1,4 +1,5 @@
--- The program's answer is determined, but for the choice that a solver has; and of that, how much is decided.
+-- The program's answer is determined, but for which lost cycle `judge` tells, and for the choice that a solver has; and
+-- of that, how much is decided.
 --     IsOpen line texts      more than one answer to the line may be right
 --     IsReplaying solver      the solver may answer only what reading the text that it was fed answers
 --     AgreeAsReports order full text a b      two reports on a text: the same winner, and the automaton's game
@@ -10,6 +11,7 @@ use Rattle.std.specs.Prelude.{◌≡◌, ◌<◌, ◌⊎◌, ℕ, Bool, true, fa
 use Rattle.ps_certificate.specs.Certificates.{CertificateData, winner_of}
 use Rattle.ps_certificate.specs.Written.{text_in}
 use Rattle.ps_game.specs.Games.{NamedGameData, IsGame, vertex_count}
+use Rattle.ps_solution.specs.Solved.{SolutionData}
 use Rattle.ps_hoa.specs.Files.{FileData}
 use Rattle.ps_machine.specs.FileGames.{IsGameOfFile}
 use Rattle.ps_machine.specs.Solving.{IsCertified, Replays}
@@ -21,13 +23,14 @@ use Rattle.ps_synthesis.specs.declared.report.Report.{Report}
 use Rattle.ps_program.specs.CommandLine.{IsLine}
 use Rattle.ps_program.specs.Cut.{behind_line, first_line}
 use Rattle.ps_program.specs.Games.{ReadsGameOf}
+use Rattle.ps_program.specs.Judging.{ReadsSolved, LosesCycle}
 use Rattle.ps_program.specs.Program.{AnswersWhole}
 use Rattle.ps_program.specs.Replies.{Reply, fault_reply, text_reply}
 use Rattle.ps_program.specs.Solvers.{SolverData, Solvers}
 use Rattle.ps_program.specs.Synthesis.{report_reply}
 use Rattle.ps_program.specs.Texts.{CutsInTwo, ReadsGameText}
 use Rattle.ps_program.specs.declared.command_line.Line.{Line}
-use Rattle.ps_program.specs.declared.command_line.Line.TheVariants.{Solve, Cert, Synth}
+use Rattle.ps_program.specs.declared.command_line.Line.TheVariants.{Judge, Solve, Cert, Synth}
 use Rattle.ps_program.specs.declared.command_line.SynthLine.{SynthLine}
 
 abbrev pub HasAutomaton : List ℕ → Type 0
@@ -38,8 +41,11 @@ abbrev pub AsksFor : (cert : Bool) → List ℕ → List ℕ → Type 0
 AsksFor false texts text = texts ≡ text
 AsksFor true texts text = (certificate : List ℕ) × CutsInTwo texts (Ok (text, certificate))
 
--- which winning moves are printed is open, where the text is that of a game, or of an automaton, that is accepted
+-- which winning moves are printed is open, where the text is that of a game, or of an automaton, that is accepted; and
+-- which cycle is told, where a player loses one
 abbrev pub IsOpen : Line → List ℕ → Type 0
+IsOpen (Judge compact) texts =
+    (named : NamedGameData) × (given : SolutionData) × ReadsSolved texts (Ok (named, given)) × LosesCycle named given
 IsOpen (Solve compact) text = (game : NamedGameData) × ReadsGameText text (Ok game)
 IsOpen (Cert order compact) text = HasAutomaton text
 IsOpen (Synth asked) texts = (text : List ℕ) × AsksFor asked.cert texts text × HasAutomaton text

@@ -6,6 +6,7 @@ pub mod Determined
 pub mod Faults
 pub mod Games
 pub mod Input
+pub mod Judging
 pub mod Lassos
 pub mod Outcomes
 pub mod Program

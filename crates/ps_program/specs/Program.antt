@@ -2,13 +2,14 @@
 use Rattle.std.specs.Prelude.{◌≡◌, ◌≤◌, ◌<◌, ◌⊎◌, ℕ, Bool, true, false, List, length, Option, Result, Ok}
 use Rattle.std.specs.Io.KnownBytes.{Appends}
 use Rattle.ps_program.specs.declared.command_line.Line.{Line}
-use Rattle.ps_program.specs.declared.command_line.Line.TheVariants.{Refused, Help, Closed, Check, Sim, Lasso, Solve}
-use Rattle.ps_program.specs.declared.command_line.Line.TheVariants.{Game, Cert, Synth}
+use Rattle.ps_program.specs.declared.command_line.Line.TheVariants.{Refused, Help, Closed, Check, Judge, Sim, Lasso}
+use Rattle.ps_program.specs.declared.command_line.Line.TheVariants.{Solve, Game, Cert, Synth}
 use Rattle.ps_program.specs.CommandLine.{IsLine}
 use Rattle.ps_program.specs.Checks.{AnswersClosed, AnswersCheck}
 use Rattle.ps_program.specs.Cut.{first_line, behind_line}
 use Rattle.ps_program.specs.Games.{AnswersGameText, AnswersCert}
 use Rattle.ps_program.specs.Input.{AgreesWith, input_limit}
+use Rattle.ps_program.specs.Judging.{AnswersJudge}
 use Rattle.ps_program.specs.Lassos.{AnswersLasso}
 use Rattle.ps_program.specs.Outcomes.{printed}
 use Rattle.ps_program.specs.Replies.{Reply, usage, help, read_fault, out_of_memory}
@@ -24,6 +25,7 @@ AnswersLine solvers Refused texts outcome = outcome ≡ Ok usage
 AnswersLine solvers Help texts outcome = outcome ≡ Ok help
 AnswersLine solvers Closed texts outcome = AnswersClosed texts outcome
 AnswersLine solvers Check texts outcome = AnswersCheck texts outcome
+AnswersLine solvers (Judge compact) texts outcome = AnswersJudge compact texts outcome
 AnswersLine solvers Sim texts outcome = AnswersSim texts outcome
 AnswersLine solvers (Lasso role) texts outcome = AnswersLasso role texts outcome
 AnswersLine solvers (Solve compact) texts outcome = AnswersSolve solvers.built_in compact texts outcome

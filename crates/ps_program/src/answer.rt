@@ -42,6 +42,9 @@ closed   a game, a certificate: `closed` where each path that follows the moves
          stays with its winner, else the first flaw
 check    a game, a certificate: `valid` where, besides, the counts show that
          the winner wins each loop, else the first flaw
+judge    a game, a solution of it, as a solver found it: the certificate with
+         these winners and moves, if they hold, else a wrong move or edge, or
+         a cycle that its player loses; --compact
 sim      a circuit, a stimulus: a line for each letter, with the latches before
          it, the inputs and the outputs
 lasso    an automaton, a circuit, a stimulus with a line - between a stem and
@@ -75,6 +78,14 @@ odd 1
 even 2
 0 0 1 0
 1 0 0 0
+
+A solution gives each vertex in the same way its id, its winner and, where the
+winner owns the vertex, a move:
+
+judge
+0 1 0 0,1; 1 2 0 0;
+%%
+paritysol 1; 0 0 1; 1 0 0;
 
 A circuit has the ASCII form of AIGER 1.9. A stimulus has a line for each
 letter, with a digit 0 or 1 for each input:

@@ -23,6 +23,11 @@ pub enum Line {
     Closed,
     /// Whether a certificate of a game is valid.
     Check,
+    /// The certificate of a game by a solution of it.
+    Judge {
+        /// As a compact text.
+        compact: bool,
+    },
     /// What a circuit does, letter by letter.
     Sim,
     /// Whether an automaton accepts what a circuit of that role does on a stem and a lap.
@@ -137,6 +142,7 @@ const COMMANDS: &[(&str, &[&str])] = &[
     ("help", &[]),
     ("closed", &[]),
     ("check", &[]),
+    ("judge", &["compact"]),
     ("sim", &[]),
     ("lasso", &["env"]),
     ("solve", &["compact"]),
@@ -212,6 +218,9 @@ fn line_named(name: &str, flags: &ArgMatches) -> Line
         "help" => Line::Help,
         "closed" => Line::Closed,
         "check" => Line::Check,
+        "judge" => Line::Judge {
+            compact: is_given(flags, "compact"),
+        },
         "sim" => Line::Sim,
         "lasso" => Line::Lasso(role_said(flags)),
         "solve" => Line::Solve {

@@ -2,5 +2,6 @@
 
 pub mod check;
 pub mod game;
+pub mod judge;
 pub mod lasso;
 pub mod sim;

@@ -6,10 +6,11 @@ ghost use Rattle.ps_program.specs.Solvers.{solver_of, solvers_of};
 use ps_machine::Solver;
 
 /// An input has one answer at most, whatever the solvers, unless its line is `solve`, `cert` or `synth` and its text is
-/// accepted: whoever meets the definitions writes the same bytes and ends with the same status, or wants memory. There
-/// two answers that are no lines of faults have the same winners: `synth` the same status, first line and game, `solve`
-/// and `cert` the same regions. With `synth --cert` there is one answer too, to the last byte, where the second solver
-/// answers only what reading the certificate that it was fed answers.
+/// accepted, or its line is `judge` and a player loses a cycle, where it is open which one is told: whoever meets the
+/// definitions writes the same bytes and ends with the same status, or wants memory. Where a text is
+/// accepted, two answers that are no lines of faults have the same winners: `synth` the same status, first line and
+/// game, `solve` and `cert` the same regions. With `synth --cert` there is one answer too, to the last byte, where the
+/// second solver answers only what reading the certificate that it was fed answers.
 pub fn one_answer<S: Solver, T: Solver>(built_in: &S, replay: &T)
     ensures answer { HasOneAnswer (solvers_of
         (solver_of (S.is_sure built_in.now) (S.fed built_in.now) (S.may_answer built_in.now))
@@ -30,4 +31,7 @@ pub fn one_answer<S: Solver, T: Solver>(built_in: &S, replay: &T)
     ps_simulate::verdict_is_one();
     ps_simulate::circuit_has_one_values();
     ps_simulate::stimulus_text_has_one_answer();
+    ps_solution::one_answer();
+    ps_referee::one_certificate();
+    ps_referee::one_verdict();
 }

@@ -7,7 +7,8 @@
 //! | `Watched::new` | a [`Source`] or a [`Sink`] of a reader or a writer of std |
 //! | `first_line`, `read_line` | the first line of an input and the rest; the [`Line`] that is asked for |
 //! | `two_texts`, `read_game`, `read_game_of` | the texts of a command, a game, the game of an automaton |
-//! | `closed`, `check`, `sim`, `lasso`, `game` | the [`Answer`] of a command that asks no solver, or its [`Refusal`] |
+//! | `ids_of(game, vertices)` | the ids by which a line names vertices |
+//! | `closed`, `check`, `judge`, `sim`, `lasso`, `game` | the [`Answer`] of a command that needs no solver |
 //! | `print(report, full)` | the answer of a report |
 //! | `settle(outcome)` | an answer of either: what is written, with its exit status |
 //! | `lines_are_read`, `one_answer` | laws: how command lines are read; one answer, but for a solver's choice |
@@ -37,6 +38,7 @@ pub use answer::{
 pub use command_line::{Line, SynthLine, lines_are_read, read_line};
 pub use commands::check::{check, closed};
 pub use commands::game::{game, read_game_of};
+pub use commands::judge::judge;
 pub use commands::lasso::lasso;
 pub use commands::sim::sim;
 pub use cut::first_line;
@@ -46,5 +48,5 @@ pub use printing::print;
 pub use reading::{INPUT_LIMIT, InputFault, read_input};
 pub use sending::{WriteFault, send};
 pub use stream::{Sink, Source};
-pub use texts::{read_game, two_texts};
+pub use texts::{ids_of, read_game, two_texts};
 pub use watched::{Reader, Watched, Writer};

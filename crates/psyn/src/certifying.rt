@@ -1,10 +1,9 @@
 //! What a solver gives for a game, checked.
 
-ghost use Rattle.std.specs.Prelude.{◌≡◌, ◌<◌, ℕ, true, List, Option, Result, Ok, Err, IfOk, IfErr, map, slice_index};
-ghost use Rattle.std.specs.List.{All};
+ghost use Rattle.std.specs.Prelude.{◌≡◌, ℕ, true, List, Option, Result, Ok, Err, IfOk, IfErr};
 ghost use Rattle.ps_certificate.specs.Certificates.{CertificateData};
 ghost use Rattle.ps_certificate.specs.Regions.{BothHold, NoneWinsOutside};
-ghost use Rattle.ps_game.specs.Games.{NamedGameData, vertex_count};
+ghost use Rattle.ps_game.specs.Games.{NamedGameData};
 ghost use Rattle.ps_machine.specs.Solving.{AnswersSurely, IsCertified, NamesVertices};
 ghost use Rattle.ps_machine.specs.declared.fault.SolveFault.{SolveFault};
 ghost use Rattle.ps_synthesis.specs.Asking.{Answered};
@@ -14,8 +13,9 @@ ghost use Rattle.ps_synthesis.specs.declared.fault.SynthFault.TheVariants.{OutOf
 use ps_certificate::{Certificate, check, fits};
 use ps_game::NamedGame;
 use ps_machine::{SolveFault, Solver};
+use ps_program::ids_of;
 use ps_synthesis::SynthFault;
-use std::alloc::{AllocError, Global};
+use std::alloc::Global;
 
 /// What a solver gives for a game, where it fits the game and is valid.
 ///
@@ -74,23 +74,11 @@ fn refused(alloc: Global, game: &NamedGame, fault: SolveFault) -> SynthFault
     ensures { IsRefusedAs game.now fault result }
 {
     match fault {
-        SolveFault::BadCycle(cycle) => match ids(alloc, game, &cycle) {
+        SolveFault::BadCycle(cycle) => match ids_of(alloc, game, &cycle) {
             Ok(ids) => SynthFault::BadCycle(ids),
             Err(_) => SynthFault::OutOfMemory,
         },
         SolveFault::Text { cause, offset } => SynthFault::Certificate { cause, offset },
         SolveFault::OutOfMemory => SynthFault::OutOfMemory,
     }
-}
-
-/// The ids of vertices.
-fn ids(alloc: Global, game: &NamedGame, vertices: &[usize]) -> Result<Vec<u64>, AllocError>
-    requires { All (λ v. v < vertex_count game.now.game) vertices.now }
-    ensures { IfOk result (λ ids. ids.items ≡ map (λ v. slice_index game.now.ids v) vertices.now) }
-{
-    let mut ids = Vec::new(alloc);
-    for vertex in vertices {
-        ids.push(game.id(*vertex))?;
-    }
-    Ok(ids)
 }

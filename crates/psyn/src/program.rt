@@ -11,7 +11,7 @@ use crate::commands::solve::solve;
 use crate::commands::synth::synth;
 use ps_machine::Solver;
 use ps_program::{
-    Answer, Line, Refusal, check, closed, first_line, game, lasso, read_line, settle, sim,
+    Answer, Line, Refusal, check, closed, first_line, game, judge, lasso, read_line, settle, sim,
 };
 use std::alloc::{AllocError, Global};
 
@@ -53,6 +53,7 @@ fn answer_line(
         Line::Help => Ok(Answer::help(alloc)?),
         Line::Closed => closed(alloc, texts),
         Line::Check => check(alloc, texts),
+        Line::Judge { compact } => judge(alloc, compact, texts),
         Line::Sim => sim(alloc, texts),
         Line::Lasso(role) => lasso(alloc, role, texts),
         Line::Solve { compact } => solve(alloc, texts, built_in, compact),

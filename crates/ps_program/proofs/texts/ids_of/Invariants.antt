@@ -1,5 +1,5 @@
 use Rattle.std.proofs.Common.{◌≡◌, map, take, slice_index}
-use Rattle.psyn.proofs.certifying.ids.Given as goal
+use Rattle.ps_program.proofs.texts.ids_of.Given as goal
 
 -- the ids of the vertices before this one
 abbrev pub invariant-loop-vertex : goal.invariant-loop-vertex

@@ -1,0 +1,153 @@
+-- What is told of a solution that was judged.
+use Rattle.std.proofs.Common.{◌≡◌, ◌⊎◌, ◌∙◌, ◌<◌, ℕ, Bool, List, length, Option, Some, None, Result, Ok, Err, IfSome, ⊤}
+use Rattle.std.proofs.Common.{refl, sym, ap, subst, inl, inr, arith, rules, zero, suc}
+use Rattle.std.specs.List.{All}
+use Rattle.std.proofs.lemmas.List.{get_or_default}
+use Rattle.std.proofs.lemmas.Bool.{cases_Bool, cases_eq}
+use Rattle.ps_text.specs.Answers.{Found}
+use Rattle.ps_game.specs.Games.{ParityGame, NamedGameData, IsGame, vertex_count, owner_of}
+use Rattle.ps_game.specs.Regions.{has, move_at}
+use Rattle.ps_certificate.specs.declared.flaw.Flaw.{Flaw}
+use Rattle.ps_certificate.specs.declared.flaw.Flaw.TheVariants as flaw
+use Rattle.ps_certificate.specs.Certificates.{CertificateData, IsFirstFlaw, IsFlaw, Remains, choice_of}
+use Rattle.ps_certificate.specs.Written.{text_in}
+use Rattle.ps_certificate.specs.declared.fault.CertCause.{CertCause}
+use Rattle.ps_referee.specs.declared.fault.JudgeFault.{JudgeFault}
+use Rattle.ps_referee.specs.declared.fault.JudgeFault.TheVariants.{Unclosed, BadCycle, OutOfMemory}
+use Rattle.ps_referee.specs.Solutions.{claimed, IsCertificateOf, IsCycleOf, IsRefusal, IsSolution}
+use Rattle.ps_referee.proofs.Claims.{choice_is}
+use Rattle.ps_solution.specs.Reading.{ReadsSolution}
+use Rattle.ps_solution.specs.Solved.{SolutionData, AreMoves}
+use Rattle.ps_program.specs.declared.answer.Refusal.{Refusal}
+use Rattle.ps_program.specs.declared.answer.Refusal.TheVariants as refusal
+use Rattle.ps_program.specs.Faults.{fault_text}
+use Rattle.ps_program.specs.Judging.{ReadsSolutionText, ReadsSolved, Judges, IsRefused, Names, IsTold, HasPlaces, claim}
+use Rattle.ps_program.specs.Judging.{AnswersJudge, LosesCycle, cycle_text}
+use Rattle.ps_program.specs.Outcomes.{Gives}
+use Rattle.ps_program.specs.Replies.{Reply, reply_of, text_reply}
+use Rattle.ps_program.specs.Texts.{CutsInTwo, ReadsGameText, NamesVertices, flaw_text}
+use Rattle.ps_program.proofs.OneStage.{OneFlaw}
+use Rattle.ps_program.proofs.OneStep.{ok_of, err_of}
+
+-- ---- texts
+
+-- a game with a solution of it
+abbrev pub Solved : Type 0
+Solved = NamedGameData × SolutionData
+
+abbrev pub solved_view : Solved → Solved
+solved_view both = (both.0, both.1)
+
+pub solved_game_fault : (texts first second : List ℕ) (fault : Refusal) → CutsInTwo texts (Ok (first, second))
+    → Gives {X = NamedGameData} (λ named. named) (ReadsGameText first) (Err fault) →
+    Gives solved_view (ReadsSolved texts) (Err fault)
+solved_game_fault texts first second (refusal.Fault fault) cuts h = inr ((first, second), cuts, grind arith)
+solved_game_fault texts first second refusal.OutOfMemory cuts h = tt
+
+pub solved_solution_fault : (texts first second : List ℕ) (named : NamedGameData) (fault : Refusal) →
+    CutsInTwo texts (Ok (first, second))
+    → ReadsGameText first (Ok named) → Gives {X = SolutionData} (λ given. given)
+    (ReadsSolutionText named second) (Err fault)
+    → Gives solved_view (ReadsSolved texts) (Err fault)
+solved_solution_fault texts first second named (refusal.Fault fault) cuts reads h =
+    inr ((first, second), cuts, inr (named, reads, inl (fault_text fault, h, refl)))
+solved_solution_fault texts first second named refusal.OutOfMemory cuts reads h = tt
+
+-- ---- the vertices of a fault
+
+module _ (named : NamedGameData) (given : SolutionData) (is_game : IsGame named.game)
+    (places : HasPlaces named given) where
+  abbrev count : ℕ
+  count = vertex_count named.game
+
+  move_within : (v : ℕ) → IfSome (move_at given.moves v) (λ w. w < count)
+  move_within v = search rules
+
+  choice_within : (v : ℕ) → v < count → IfSome (choice_of (claim named given) v) (λ w. w < count)
+  choice_within v below = grind (
+    arith,
+    choice_is named.game given.won given.moves given.moves v below,
+    move_within v,
+    cases_Bool (has given.won v),
+  )
+
+  flaw_names : (found : Flaw) → IsFlaw named.game (claim named given) found → NamesVertices count found
+  flaw_names (flaw.Move v choice) h =
+      (h.0, subst (λ o. IfSome o (λ w. w < count)) h.1 (choice_within v h.0))
+  flaw_names (flaw.Escape v w) h = (h.0.edge.0, is_game.within v w h.0.edge)
+  flaw_names (flaw.Rank v w p) h = (h.remains.edge.0, is_game.within v w h.remains.edge)
+
+  pub refusal_names : (fault : JudgeFault) → IsRefusal named.game given.won given.moves given.moves fault →
+      Names count fault
+  refusal_names (Unclosed found) refused = flaw_names found refused.is_flaw
+  refusal_names (BadCycle player cycle) refused =
+      λ k d within. subst (λ v. v < count) (get_or_default cycle.items k 0 d within) (refused.lost.vertices k within)
+  refusal_names OutOfMemory refused = tt
+
+  -- ---- what is told
+
+  pub refusal_told : (compact : Bool) (fault : JudgeFault) (refused : Refusal) →
+      IsRefusal named.game given.won given.moves given.moves fault → IsTold named fault refused →
+      Gives reply_of (Judges compact named given) (Err refused)
+  refusal_told compact (Unclosed found) (refusal.Fault line) h told = (is_game, inl (found, h, told))
+  refusal_told compact (Unclosed found) refusal.OutOfMemory h told = tt
+  refusal_told compact (BadCycle player cycle) (refusal.Fault line) h told =
+      (is_game, inr (player, cycle.items, h, told))
+  refusal_told compact (BadCycle player cycle) refusal.OutOfMemory h told = tt
+  refusal_told compact OutOfMemory (refusal.Fault line) h told = absurd told
+  refusal_told compact OutOfMemory refusal.OutOfMemory h told = tt
+
+-- ---- one answer
+
+-- the laws that are taken
+abbrev pub OneSolution : Type 0
+OneSolution = (ids text : List ℕ) (a b : Result SolutionData (Found CertCause)) → ReadsSolution ids text a →
+    ReadsSolution ids text b → a ≡ b
+
+abbrev pub OneJudged : Type 0
+OneJudged = (game : ParityGame) (won : List Bool) (first second : List (Option ℕ)) (one other : CertificateData) →
+    IsCertificateOf game won first second one → IsCertificateOf game won first second other → one ≡ other
+
+abbrev pub NoFlawAndCycle : Type 0
+NoFlawAndCycle = (game : ParityGame) (won : List Bool) (first second : List (Option ℕ)) (flaw : Flaw) (player : ℕ)
+    (cycle : List ℕ) → IsFirstFlaw game (claimed game won first second) flaw →
+    ¬ IsCycleOf game won first second player cycle
+
+abbrev pub NoFlaw : Type 0
+NoFlaw = (game : ParityGame) (won : List Bool) (first second : List (Option ℕ)) (flaw : Flaw) → IsGame game →
+    IsSolution game won first second → ¬ IsFirstFlaw game (claimed game won first second) flaw
+
+abbrev pub NoCycle : Type 0
+NoCycle = (game : ParityGame) (won : List Bool) (first second : List (Option ℕ)) (player : ℕ) (cycle : List ℕ) →
+    IsSolution game won first second → ¬ IsCycleOf game won first second player cycle
+
+module _ (flaws : OneFlaw) (certificates : OneJudged) (apart : NoFlawAndCycle) (no_flaw : NoFlaw) (no_cycle : NoCycle)
+    (named : NamedGameData) (given : SolutionData) where
+  not_refused : {line : List ℕ} → IsGame named.game → IsSolution named.game given.won given.moves given.moves →
+      IsRefused named given line → ⊥
+  not_refused is_game s (inl (flaw, first, e)) =
+      no_flaw named.game given.won given.moves given.moves flaw is_game s first
+  not_refused is_game s (inr (player, cycle, lost, e)) =
+      no_cycle named.game given.won given.moves given.moves player cycle s lost
+
+  -- one line, or the player loses a cycle
+  refused_one : {line other : List ℕ} → IsGame named.game → IsRefused named given line → IsRefused named given other →
+      (line ≡ other) ⊎ LosesCycle named given
+  refused_one is_game (inl (flaw, first, e)) (inl (flaw', first', e')) =
+      inl (e ∙ ap (flaw_text named) (flaws named.game (claim named given) flaw flaw' is_game first first') ∙ sym e')
+  refused_one is_game (inl (flaw, first, e)) (inr (player, cycle, lost, e')) =
+      absurd (apart named.game given.won given.moves given.moves flaw player cycle first lost)
+  refused_one is_game (inr (player, cycle, lost, e)) other = inr (player, cycle, lost)
+
+  pub judges_one_or : (compact : Bool) (x y : Result Reply (List ℕ)) → Judges compact named given x →
+      Judges compact named given y → (x ≡ y) ⊎ (LosesCycle named given × ((line : List ℕ) × (x ≡ Err line)))
+  judges_one_or compact (Ok r) (Ok t) (s, c, is, e) (s', c', is', e') = inl (ap (ok_of {V = Reply} {E = List ℕ}) (e
+      ∙ ap (λ d. text_reply (text_in compact named d)) (certificates named.game given.won given.moves given.moves c c'
+      is is') ∙ sym e'))
+  judges_one_or compact (Ok r) (Err m) (s, h) (is_game, refused) = absurd (not_refused is_game s refused)
+  judges_one_or compact (Err l) (Ok t) (is_game, refused) (s, h) = absurd (not_refused is_game s refused)
+  judges_one_or compact (Err l) (Err m) (is_game, refused) (is_game', refused') =
+      elim (refused_one is_game refused refused') [
+        | inl same ↦ inl (ap (err_of {V = Reply} {E = List ℕ}) same)
+        | inr lost ↦ inr (lost, l, refl)
+      ]

@@ -1,0 +1,89 @@
+-- The command that judges a solution of a game.
+--     ReadsSolved texts      a game text and the text of a solution of that game
+--     Judges compact named given      the solution's certificate; or its first flaw, or a cycle that a player loses
+--     AnswersJudge compact texts      `judge`
+use Rattle.std.specs.Prelude.{◌≡◌, ◌⊎◌, ◌<◌, ⊤, ℕ, Bool, List, length, Result, Ok, Err, codes, map}
+use Rattle.std.specs.List.{All}
+use Rattle.ps_game.specs.Games.{NamedGameData, IsGame, vertex_count}
+use Rattle.ps_certificate.specs.declared.flaw.Flaw.{Flaw}
+use Rattle.ps_certificate.specs.Certificates.{CertificateData, IsFirstFlaw}
+use Rattle.ps_certificate.specs.Faults as certificate
+use Rattle.ps_certificate.specs.Written.{text_in}
+use Rattle.ps_referee.specs.Solutions.{claimed, IsSolution, IsCycleOf, IsCertificateOf}
+use Rattle.ps_solution.specs.Reading.{ReadsSolution}
+use Rattle.ps_referee.specs.declared.fault.JudgeFault.{JudgeFault}
+use Rattle.ps_referee.specs.declared.fault.JudgeFault.TheVariants.{Unclosed, BadCycle, OutOfMemory}
+use Rattle.ps_solution.specs.Solved.{SolutionData, AreMoves}
+use Rattle.ps_program.specs.declared.answer.Refusal.{Refusal}
+use Rattle.ps_program.specs.declared.answer.Refusal.TheVariants as refusal
+use Rattle.ps_program.specs.Faults.{fault_text, line_text, ids_text}
+use Rattle.ps_program.specs.Outcomes.{Then, Reading}
+use Rattle.ps_program.specs.Replies.{Reply, text_reply}
+use Rattle.ps_program.specs.Texts.{CutsInTwo, ReadsGameText, NamesVertices, id_of, flaw_text}
+
+-- the text of a solution of that game
+abbrev pub ReadsSolutionText : NamedGameData → List ℕ → Result SolutionData (List ℕ) → Type 0
+ReadsSolutionText named text =
+    Reading certificate.cause_number certificate.cause_name (ReadsSolution named.ids text)
+
+abbrev pub ReadsSolved : List ℕ → Result (NamedGameData × SolutionData) (List ℕ) → Type 0
+ReadsSolved texts =
+    Then (CutsInTwo texts) (λ parts. Then (ReadsGameText parts.0) (λ named.
+    Then (ReadsSolutionText named parts.1) (λ given outcome. outcome ≡ Ok (named, given))))
+
+-- what is claimed, as a certificate without counts: each winner moves by the one list of moves
+abbrev pub claim : NamedGameData → SolutionData → CertificateData
+claim named given = claimed named.game given.won given.moves given.moves
+
+-- the line of a cycle: vertices are named by their ids
+abbrev pub cycle_text : NamedGameData → List ℕ → List ℕ
+cycle_text named cycle = line_text 40 (codes "BadCycle") (ids_text (map (id_of named) cycle))
+
+-- the player loses the cycle, and no move or edge is wrong
+abbrev pub Loses : NamedGameData → SolutionData → ℕ → List ℕ → Type 0
+Loses named given player cycle = IsCycleOf named.game given.won given.moves given.moves player cycle
+
+abbrev pub LosesCycle : NamedGameData → SolutionData → Type 0
+LosesCycle named given = (player : ℕ) × (cycle : List ℕ) × Loses named given player cycle
+
+-- the line of the first flaw, or of a cycle that a player loses
+abbrev pub IsRefused : NamedGameData → SolutionData → List ℕ → Type 0
+IsRefused named given line =
+    ((flaw : Flaw) × IsFirstFlaw named.game (claim named given) flaw × (line ≡ flaw_text named flaw))
+    ⊎ ((player : ℕ) × (cycle : List ℕ) × Loses named given player cycle × (line ≡ cycle_text named cycle))
+
+-- the certificate is a text with all counts, or a compact one
+abbrev pub Judges : Bool → NamedGameData → SolutionData → Result Reply (List ℕ) → Type 0
+Judges compact named given (Ok reply) = IsSolution named.game given.won given.moves given.moves
+    × ((certificate : CertificateData) × IsCertificateOf named.game given.won given.moves given.moves certificate ×
+    (reply ≡ text_reply (text_in compact named certificate)))
+Judges compact named given (Err line) = IsGame named.game × IsRefused named given line
+
+abbrev pub AnswersJudge : Bool → List ℕ → Result Reply (List ℕ) → Type 0
+AnswersJudge compact texts = Then (ReadsSolved texts) (λ both. Judges compact both.0 both.1)
+
+-- ---- what the functions of the code say
+
+-- there is a place for each vertex, and moves are vertices
+pub record HasPlaces (named : NamedGameData) (given : SolutionData) : Type 0 where
+  pub won : length given.won ≡ vertex_count named.game
+  pub moves : length given.moves ≡ vertex_count named.game
+  pub within : AreMoves (vertex_count named.game) given.moves
+
+-- the fault speaks of vertices below a number
+abbrev pub Names : ℕ → JudgeFault → Type 0
+Names count (Unclosed flaw) = NamesVertices count flaw
+Names count (BadCycle player cycle) = All (λ v. v < count) cycle.items
+Names count OutOfMemory = ⊤
+
+-- the refusal is the line of the cycle, or want of memory
+abbrev pub IsCycleTold : NamedGameData → List ℕ → Refusal → Type 0
+IsCycleTold named cycle (refusal.Fault line) = fault_text line ≡ cycle_text named cycle
+IsCycleTold named cycle refusal.OutOfMemory = ⊤
+
+-- the refusal is the line of the fault, or want of memory
+abbrev pub IsTold : NamedGameData → JudgeFault → Refusal → Type 0
+IsTold named (Unclosed flaw) (refusal.Fault line) = fault_text line ≡ flaw_text named flaw
+IsTold named (BadCycle player cycle) refused = IsCycleTold named cycle.items refused
+IsTold named OutOfMemory (refusal.Fault line) = ⊥
+IsTold named fault refusal.OutOfMemory = ⊤

@@ -1,0 +1,108 @@
+//! The command that judges a solution of a game.
+
+ghost use Rattle.std.specs.Prelude.{◌≡◌, ◌<◌, IfOk};
+ghost use Rattle.std.specs.List.{All};
+ghost use Rattle.ps_game.specs.Games.{vertex_count};
+ghost use Rattle.ps_program.specs.Judging.{AnswersJudge, Judges, ReadsSolutionText, ReadsSolved, HasPlaces, Names};
+ghost use Rattle.ps_program.specs.Judging.{IsTold};
+ghost use Rattle.ps_program.specs.Judging.{IsCycleTold};
+ghost use Rattle.ps_program.specs.Outcomes.{Gives};
+ghost use Rattle.ps_program.specs.Replies.{reply_of};
+
+use crate::answer::{Answer, Refusal};
+use crate::fault::{FaultLine, Place};
+use crate::texts::{flaw_line, ids_of, read_game, two_texts};
+use ps_game::NamedGame;
+use ps_referee::JudgeFault;
+use ps_solution::Solution;
+use ps_synthesis::certificate_text;
+use std::alloc::Global;
+
+/// The certificate of a game by a solution of it, with the least counts.
+///
+/// # Errors
+///
+/// Fails where a text is missing, else with the first cause in the game, else in the solution, else with the first
+/// wrong move or edge, else with a cycle that a player loses; and where a growth was refused.
+pub fn judge(alloc: Global, compact: bool, texts: &[u8]) -> Result<Answer, Refusal>
+    ensures { Gives reply_of (AnswersJudge compact texts.now) result }
+{
+    let (game, solution) = read_solved(alloc, texts)?;
+    judged(alloc, compact, &game, &solution)
+}
+
+/// The certificate of a game by a solution, or why there is none.
+fn judged(
+    alloc: Global,
+    compact: bool,
+    game: &NamedGame,
+    solution: &Solution,
+) -> Result<Answer, Refusal>
+    requires { HasPlaces game.now solution.now }
+    ensures { Gives reply_of (Judges compact game.now solution.now) result }
+{
+    let Solution { won, moves } = solution;
+    match ps_referee::judge(alloc, game.game(), won, moves, moves) {
+        Ok(certificate) => Ok(Answer::text(certificate_text(
+            alloc,
+            &certificate,
+            game,
+            compact,
+        )?)),
+        Err(fault) => Err(refused(alloc, game, fault)),
+    }
+}
+
+/// A game, and a solution of it.
+///
+/// # Errors
+///
+/// Fails where a text is missing, else with the first cause in the game, else in the solution; and where a growth was
+/// refused.
+fn read_solved(alloc: Global, texts: &[u8]) -> Result<(NamedGame, Solution), Refusal>
+    ensures read { Gives (λ both. (both.0, both.1)) (ReadsSolved texts.now) result }
+    ensures places { IfOk result (λ both. HasPlaces both.0 both.1) }
+{
+    let (first, second) = two_texts(texts)?;
+    let game = read_game(alloc, first)?;
+    let solution = read_solution(alloc, &game, second)?;
+    Ok((game, solution))
+}
+
+/// A solution of the game.
+fn read_solution(alloc: Global, game: &NamedGame, text: &[u8]) -> Result<Solution, Refusal>
+    ensures read { Gives (λ solution. solution) (ReadsSolutionText game.now text.now) result }
+    ensures places { IfOk result (HasPlaces game.now) }
+{
+    match ps_solution::read(alloc, text, game) {
+        Ok(solution) => Ok(solution),
+        Err(fault) => Err(Refusal::from(fault)),
+    }
+}
+
+/// The line of a fault, which names vertices by their ids.
+fn refused(alloc: Global, game: &NamedGame, fault: JudgeFault) -> Refusal
+    requires { Names (vertex_count game.now.game) fault }
+    ensures { IsTold game.now fault result }
+{
+    match fault {
+        JudgeFault::Unclosed(flaw) => Refusal::Fault(flaw_line(game, flaw)),
+        JudgeFault::BadCycle { player: _, cycle } => cycle_refusal(alloc, game, &cycle),
+        JudgeFault::OutOfMemory => Refusal::OutOfMemory,
+    }
+}
+
+/// The line of a cycle that a player loses.
+fn cycle_refusal(alloc: Global, game: &NamedGame, cycle: &[usize]) -> Refusal
+    requires { All (λ v. v < vertex_count game.now.game) cycle.now }
+    ensures { IsCycleTold game.now cycle.now result }
+{
+    match ids_of(alloc, game, cycle) {
+        Ok(ids) => Refusal::Fault(FaultLine {
+            number: 40,
+            name: "BadCycle",
+            place: Place::Cycle(ids),
+        }),
+        Err(_) => Refusal::OutOfMemory,
+    }
+}
