@@ -9,7 +9,7 @@ use Rattle.ps_game.specs.Games.{NamedGameData}
 use Rattle.ps_pgsolver.specs.Inner.Answered.{FaultAnswers, found_of}
 use Rattle.ps_pgsolver.specs.GameTexts.{pg_causes, game}
 use Rattle.ps_pgsolver.specs.GamesOf.{named_game_of}
-use Rattle.ps_pgsolver.specs.Inner.Lexer.{lex, first_size, stream_of}
+use Rattle.ps_pgsolver.specs.Lexer.{lex, first_size, stream_of}
 use Rattle.ps_pgsolver.specs.Causes.{StandsWithin, PgFault}
 use Rattle.ps_pgsolver.specs.Signs.{Sign}
 use Rattle.ps_pgsolver.specs.declared.fault.PgCause.{PgCause}

@@ -10,7 +10,7 @@ use Rattle.ps_text.proofs.Meeting.{left_entered, right_otherwise, meets_shrinks,
 use Rattle.ps_pgsolver.specs.Inner.Answered.{found_of}
 use Rattle.ps_pgsolver.specs.GameTexts.{pg_causes, setting, keyword, keyword_in, value_line, name, name_in, number_in}
 use Rattle.ps_pgsolver.specs.GameTexts.{comma, comma_in, BadId, more_successor, new_id, node, entry}
-use Rattle.ps_pgsolver.specs.Inner.Heads.{is_number, is_comma, name_of}
+use Rattle.ps_pgsolver.specs.Heads.{is_number, is_comma, name_of}
 use Rattle.ps_pgsolver.specs.Nodes.{NodeData}
 use Rattle.ps_pgsolver.specs.Signs.{Sign, Number, Word, Name, Comma}
 use Rattle.ps_pgsolver.specs.declared.fault.PgCause.{PgCause}
@@ -92,7 +92,7 @@ comma_entered known list old e =
     subst (λ there. Enters (more_successor known list) there) (sym (comma_is (next_of old) e)) (enters_then comma
     (λ _. another known list) (joint_more known list) (Some Comma) (enters_one comma_in NoBad Comma (inl (tt, refl))))
 
-number_is : (o : Option Sign) → is_number o ≡ true → (n : ℕ) × (o ≡ Some (Number n))
+pub number_is : (o : Option Sign) → is_number o ≡ true → (n : ℕ) × (o ≡ Some (Number n))
 number_is o h = search rules
 
 no_number : (t : Sign) → is_number (Some t) ≡ false → IsKind 0 t → ⊥

@@ -50,7 +50,7 @@ laws_value = laws_next laws_number (λ _. laws_semicolon) (nothing_apart _)
 abbrev pub IsWord : List ℕ → Sign → Type 0
 IsWord word t = t ≡ Word word
 
-same_word : {word letters : List ℕ} {v : Unit {0}} → keyword_in word (Word letters) ≡ Some v → letters ≡ word
+pub same_word : {word letters : List ℕ} {v : Unit {0}} → keyword_in word (Word letters) ≡ Some v → letters ≡ word
 same_word {word} {letters} {v} e = search (rules, bytes_eq-Decides, none_is_some, cases_Bool)
 
 pub takes_word : (word : List ℕ) → keyword_in word (Word word) ≡ Some tt

@@ -18,8 +18,8 @@ use Rattle.ps_text.proofs.OneTokenisation.{has_one_tokenisation}
 use Rattle.ps_text.specs.Bytes.{is_blank, is_digit, is_letter, is_unquoted}
 use Rattle.ps_pgsolver.specs.Ends.{ends_in}
 use Rattle.ps_pgsolver.specs.Signs.{Sign, Number, Word, Name, Comma, Semicolon, OpenName, Wrong}
-use Rattle.ps_pgsolver.specs.Inner.Lexer.{lex, first_sign, first_size, number_sign, word_sign, name_sign, name_size}
-use Rattle.ps_pgsolver.specs.Inner.Lexer.{mark_sign, is_closed, stream_of}
+use Rattle.ps_pgsolver.specs.Lexer.{lex, first_sign, first_size, number_sign, word_sign, name_sign, name_size}
+use Rattle.ps_pgsolver.specs.Lexer.{mark_sign, is_closed, stream_of}
 use Rattle.ps_pgsolver.specs.GameTokens.{IsRun, number_behind_word, word_behind_number, stray, IsToken, AreGameTokens}
 use Rattle.ps_pgsolver.proofs.TokenLemmas.{at_digit, at_letter, at_quote, at_mark, lex-blanks, lex-first, lex-end}
 use Rattle.ps_pgsolver.proofs.TokenLemmas.{prefix_len-behind, first_size-positive}

@@ -6,6 +6,7 @@ pub mod GameLemmas
 pub mod NodeLemmas
 pub mod KeptLemmas
 pub mod GameTokens
+pub mod OneSign
 pub mod SingleSigns
 pub mod ValueLemmas
 pub mod PartLaws

@@ -8,9 +8,9 @@ use Rattle.std.specs.List.{prefix_len}
 use Rattle.ps_text.specs.Answers.{next_of, first_of, signs}
 use Rattle.ps_text.specs.Bytes.{is_blank, is_digit, is_letter}
 use Rattle.ps_pgsolver.specs.Ends.{begins_in, ends_in}
-use Rattle.ps_pgsolver.specs.Inner.Heads.{is_number, is_comma, name_of}
-use Rattle.ps_pgsolver.specs.Inner.Lexer.{lex, first_sign, number_sign, word_sign, name_sign, mark_sign, is_closed}
-use Rattle.ps_pgsolver.specs.Inner.Lexer.{stream_from}
+use Rattle.ps_pgsolver.specs.Heads.{is_number, is_comma, name_of}
+use Rattle.ps_pgsolver.specs.Lexer.{lex, first_sign, number_sign, word_sign, name_sign, mark_sign, is_closed}
+use Rattle.ps_pgsolver.specs.Lexer.{stream_from}
 use Rattle.ps_pgsolver.specs.Signs.{Sign, Number, Comma, Semicolon, Wrong}
 use Rattle.ps_pgsolver.proofs.TokenLemmas.{stream_from-blanks, prefix_len-behind, lex-first, lex-end}
 

@@ -8,7 +8,7 @@ use Rattle.ps_game.specs.Games.{NamedGameData}
 use Rattle.ps_pgsolver.specs.Causes.{cause_number}
 use Rattle.ps_pgsolver.specs.GamesOf.{named_game_of}
 use Rattle.ps_pgsolver.specs.GameTexts.{pg_causes, game}
-use Rattle.ps_pgsolver.specs.Inner.Lexer.{stream_of}
+use Rattle.ps_pgsolver.specs.Lexer.{stream_of}
 use Rattle.ps_pgsolver.specs.Nodes.{NodeData, ids_of}
 use Rattle.ps_pgsolver.specs.Reading.{Answer, text_limit, too_long, refused, unknown, meaning}
 use Rattle.ps_pgsolver.specs.Signs.{Sign}

@@ -42,7 +42,7 @@ no_odd A t h o = none_is_some o.0 o.1
 pub nothing_apart : (A : Sign → Type 0) → Apart Nothing A
 nothing_apart A t h k = h
 
-kinds_apart : (i j : ℕ) → (i ≡ j → ⊥) → Apart (IsKind i) (IsKind j)
+pub kinds_apart : (i j : ℕ) → (i ≡ j → ⊥) → Apart (IsKind i) (IsKind j)
 kinds_apart i j d t h k = d (sym h ∙ k)
 
 pub same : (A : Sign → Type 0) → Within A A

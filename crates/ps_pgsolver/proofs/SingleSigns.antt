@@ -4,10 +4,9 @@ use Rattle.std.proofs.Common.{rules, subst, inl, inr, ⊎_elim, ◌∙◌, arith
 use Rattle.std.proofs.lemmas.Bool.{cases_Bool, ltb-true, ltb-false, lt-ltb}
 use Rattle.std.specs.List.{Contains}
 use Rattle.ps_text.specs.Answers.{Stream, next_of, offset_of}
-use Rattle.ps_text.specs.Parts.{one, NoBad, refusal_of}
+use Rattle.ps_text.specs.Parts.{NoBad}
 use Rattle.ps_text.specs.Readers.{tail}
-use Rattle.ps_text.proofs.Simple.{same_some, none_is_some}
-use Rattle.ps_text.proofs.Meeting.{meets_next, meets_bad_next, meets_refusal}
+use Rattle.ps_pgsolver.proofs.OneSign.{Fits, taken, bad, refused, one_reads}
 use Rattle.ps_ids.proofs.Members.{any-from_Contains, Contains-any}
 use Rattle.ps_pgsolver.specs.Inner.Answered.{ReadsAs, found_of, ReadsKnown, is_known, number_answer, id_answer}
 use Rattle.ps_pgsolver.specs.Inner.Answered.{owner_answer}
@@ -22,59 +21,20 @@ use Rattle.ps_pgsolver.specs.declared.fault.PgCause.{PgCause}
 use Rattle.ps_pgsolver.specs.declared.fault.PgCause.TheVariants as causes
 use Rattle.ps_text.specs.declared.faults.Fault.TheVariants as faults
 
--- the answer to a sign at an offset
-pub data Fits {V : Type 0} (take : Sign → Option V) (Bad : Sign → PgCause → Type 0) (t : Sign) (at : ℕ)
-    (r : Result V PgFault) : Type 0 where
-  taken : (v : V) → take t ≡ Some v → ((f : PgCause) → Bad t f → ⊥) → r ≡ Ok v → Fits take Bad t at r
-  bad : (f : PgCause) → Bad t f → ((g : PgCause) → Bad t g → cause_number f ≤ cause_number g) →
-      r ≡ Err (faults.Text f at) → Fits take Bad t at r
-  refused : take t ≡ None → ((f : PgCause) → Bad t f → ⊥) → r ≡ Err (faults.Text causes.Syntax at) →
-      Fits take Bad t at r
-
-one_reads : {V : Type 0} {take : Sign → Option V} {Bad : Sign → PgCause → Type 0} (s : Sign) {w : V} → take s ≡ Some w →
-    (answer : Option Sign → ℕ → Result V PgFault) → ((t : Sign) (at : ℕ) → Fits take Bad t at (answer (Some t) at)) →
-    ((at : ℕ) → answer None at ≡ Err (faults.Text causes.Syntax at)) →
-    (old : Stream Sign) {new : Stream Sign} {r : Result V PgFault} →
-    new ≡ tail old → r ≡ answer (next_of old) (offset_of old.pieces old.end) → ReadsAs (λ v. v) (one take Bad) old r new
-one_reads {V} {take} {Bad} s {w} sw answer fits none old {new} {r} n e = go (next_of old) refl
-  where
-    at : ℕ
-    at = offset_of old.pieces old.end
-
-    Goal : Result V PgFault → Type 0
-    Goal x = ReadsAs (λ v. v) (one take Bad) old x new
-
-    known : (t : Sign) → next_of old ≡ Some t → (x : Result V PgFault) → r ≡ x → Fits take Bad t at x → Goal x
-    known t h x q (taken v k good y) = subst Goal (sym y) (search (rules, meets_next))
-    known t h x q (bad f b least y) = subst Goal (sym y) (search (rules, meets_bad_next, at))
-    known t h x q (refused k good y) = subst Goal (sym y)
-        (meets_refusal found_of pg_causes take Bad (λ z. z) old new s w sw (λ u g. ap take (same_some u t (sym g ∙ h))
-        ∙ k) (λ u f g b. good f (subst (λ z. Bad z f) (same_some u t (sym g ∙ h)) b)) (faults.Text causes.Syntax at)
-        (sym (ap (λ o. Some (record { cause = refusal_of pg_causes o; offset = at })) h)))
-
-    ended : next_of old ≡ None → Goal (Err (faults.Text causes.Syntax at))
-    ended h = meets_refusal found_of pg_causes take Bad (λ z. z) old new s w sw
-        (λ u g. absurd (none_is_some u (sym h ∙ g))) (λ u f g b. absurd (none_is_some u (sym h ∙ g)))
-        (faults.Text causes.Syntax at) (sym (ap (λ o. Some (record { cause = refusal_of pg_causes o; offset = at })) h))
-
-    go : (o : Option Sign) → next_of old ≡ o → Goal r
-    go None h = grind (arith, ended h)
-    go (Some t) h = let x : r ≡ answer (Some t) at = e ∙ ap (λ o. answer o at) h in
-        subst Goal (sym x) (known t h (answer (Some t) at) x (fits t at))
-
 true_false : true ≡ false → ⊥
 true_false e = let x : true ≡ false = e in cc
 
 least_here : {f cause : PgCause} → cause ≡ f → cause_number f ≤ cause_number cause
 least_here {f} e = subst (λ z. cause_number f ≤ cause_number z) (sym e) (omega arith)
 
-number_fits : (t : Sign) (at : ℕ) → Fits number_in BadNumber t at (number_answer (Some t) at)
+number_fits : (t : Sign) (at : ℕ) → Fits cause_number causes.Syntax number_in BadNumber t at (number_answer (Some t) at)
 number_fits (Number n) at = ⊎_elim (λ (yes : ltb n too_large ≡ true). taken n refl
     (λ f b. omega (arith, ltb-true n too_large yes, b.0)) (rw yes refl)) (λ (no : ltb n too_large ≡ false). bad
     causes.Number (ltb-false n too_large no, refl) (λ g b. least_here b.1) (rw no refl)) (cases_Bool (ltb n too_large))
 number_fits _ at = refused refl (λ f b. b) refl
 
-id_fits : (ids : List ℕ) (t : Sign) (at : ℕ) → Fits number_in (BadId ids) t at (id_answer ids (Some t) at)
+id_fits : (ids : List ℕ) (t : Sign) (at : ℕ) → Fits cause_number causes.Syntax number_in (BadId ids) t at
+    (id_answer ids (Some t) at)
 id_fits ids (Number n) at = ⊎_elim (λ (yes : ltb n too_large ≡ true). ⊎_elim
     (λ (old : is_member ids n ≡ true). bad causes.NodeTwice (search (rules, ltb-true, Contains-any))
     (λ g b. search (rules, ltb-true, least_here)) (rw (yes, old) refl)) (λ (new : is_member ids n ≡ false). taken n refl
@@ -85,7 +45,7 @@ id_fits ids (Number n) at = ⊎_elim (λ (yes : ltb n too_large ≡ true). ⊎_e
     (cases_Bool (ltb n too_large))
 id_fits ids _ at = refused refl (λ f b. b) refl
 
-owner_fits : (t : Sign) (at : ℕ) → Fits number_in BadOwner t at (owner_answer (Some t) at)
+owner_fits : (t : Sign) (at : ℕ) → Fits cause_number causes.Syntax number_in BadOwner t at (owner_answer (Some t) at)
 owner_fits (Number n) at = ⊎_elim (λ (yes : ltb n 2 ≡ true).
     let small : ltb n too_large ≡ true = lt-ltb n too_large (omega (arith, ltb-true n 2 yes)) in
     taken n refl (λ f b. omega (arith, ltb-true n 2 yes, b.0)) (rw (small, yes) refl)) (λ (no : ltb n 2 ≡ false). bad
@@ -100,7 +60,7 @@ known_no None n e = true_false e
 known_no (Some ids) n e = λ h. true_false (sym (any-from_Contains n ids h) ∙ e)
 
 successor_fits : (known : Option (List ℕ)) (t : Sign) (at : ℕ) →
-    Fits number_in (BadSuccessor known) t at (successor_answer known (Some t) at)
+    Fits cause_number causes.Syntax number_in (BadSuccessor known) t at (successor_answer known (Some t) at)
 successor_fits known (Number n) at = ⊎_elim (λ (yes : ltb n too_large ≡ true). ⊎_elim
     (λ (is : is_known known n ≡ true). taken n refl
     (λ f b. ⊎_elim (λ h. omega (arith, ltb-true n too_large yes, h.0)) (λ h. known_yes known n is h.1) b)
@@ -114,24 +74,26 @@ successor_fits known _ at = refused refl (λ f b. b) refl
 
 same_fits : {V : Type 0} {take : Sign → Option V} {Bad Bad' : Sign → PgCause → Type 0}
     {t : Sign} {at : ℕ} {r : Result V PgFault} → ((f : PgCause) → Bad' t f → Bad t f) →
-    ((f : PgCause) → Bad t f → Bad' t f) → Fits take Bad t at r → Fits take Bad' t at r
+    ((f : PgCause) → Bad t f → Bad' t f) → Fits cause_number causes.Syntax take Bad t at r →
+        Fits cause_number causes.Syntax take Bad' t at r
 same_fits back on (taken v e good y) = taken v e (λ f b. good f (back f b)) y
 same_fits back on (bad f b least y) = bad f (on f b) (λ g c. least g (back g c)) y
 same_fits back on (refused e good y) = refused e (λ f b. good f (back f b)) y
 
 first_fits : (known : Option (List ℕ)) (t : Sign) (at : ℕ) →
-    Fits number_in (BadFirst known) t at (first_answer known (Some t) at)
+    Fits cause_number causes.Syntax number_in (BadFirst known) t at (first_answer known (Some t) at)
 first_fits known (Number n) at = same_fits (λ f b. b) (λ f b. b) (successor_fits known (Number n) at)
 first_fits known Semicolon at = bad causes.NoSuccessor refl (λ g b. least_here b) refl
 first_fits known (Name x) at = bad causes.NoSuccessor refl (λ g b. least_here b) refl
 first_fits known OpenName at = bad causes.NoSuccessor refl (λ g b. least_here b) refl
 first_fits known _ at = refused refl (λ f b. b) refl
 
-semicolon_fits : (t : Sign) (at : ℕ) → Fits semicolon_in NoBad t at (semicolon_answer (Some t) at)
+semicolon_fits : (t : Sign) (at : ℕ) → Fits cause_number causes.Syntax semicolon_in NoBad t at
+    (semicolon_answer (Some t) at)
 semicolon_fits Semicolon at = taken tt refl (λ f b. b) refl
 semicolon_fits _ at = refused refl (λ f b. b) refl
 
-comma_fits : (t : Sign) (at : ℕ) → Fits comma_in NoBad t at (comma_answer (Some t) at)
+comma_fits : (t : Sign) (at : ℕ) → Fits cause_number causes.Syntax comma_in NoBad t at (comma_answer (Some t) at)
 comma_fits Comma at = taken tt refl (λ f b. b) refl
 comma_fits _ at = refused refl (λ f b. b) refl
 
@@ -140,39 +102,43 @@ comma_fits _ at = refused refl (λ f b. b) refl
 pub reads_number : (old : Stream Sign) {new : Stream Sign} {r : Result ℕ PgFault} → new ≡ tail old →
     r ≡ number_answer (next_of old) (offset_of old.pieces old.end) → ReadsAs (λ n. n) number old r new
 unfolding number
-reads_number old = one_reads (Number 0) refl number_answer number_fits (λ at. refl) old
+reads_number old = one_reads cause_number causes.Syntax (Number 0) refl number_answer number_fits (λ at. refl) old
 
 pub reads_id : (ids : List ℕ) (old : Stream Sign) {new : Stream Sign} {r : Result ℕ PgFault} → new ≡ tail old →
     r ≡ id_answer ids (next_of old) (offset_of old.pieces old.end) → ReadsAs (λ n. n) (new_id ids) old r new
 unfolding new_id
-reads_id ids old = one_reads (Number 0) refl (id_answer ids) (id_fits ids) (λ at. refl) old
+reads_id ids old = one_reads cause_number causes.Syntax (Number 0) refl (id_answer ids) (id_fits ids) (λ at. refl) old
 
 pub reads_owner : (old : Stream Sign) {new : Stream Sign} {r : Result ℕ PgFault} → new ≡ tail old →
     r ≡ owner_answer (next_of old) (offset_of old.pieces old.end) → ReadsAs (λ n. n) owner old r new
 unfolding owner
-reads_owner old = one_reads (Number 0) refl owner_answer owner_fits (λ at. refl) old
+reads_owner old = one_reads cause_number causes.Syntax (Number 0) refl owner_answer owner_fits (λ at. refl) old
 
 pub reads_successor : (known : Option (List ℕ)) (old : Stream Sign) {new : Stream Sign} {r : Result ℕ PgFault} →
     new ≡ tail old → r ≡ successor_answer known (next_of old) (offset_of old.pieces old.end) →
     ReadsAs (λ n. n) (successor known) old r new
 unfolding successor
-reads_successor known old = one_reads (Number 0) refl (successor_answer known) (successor_fits known) (λ at. refl) old
+reads_successor known old =
+    one_reads cause_number causes.Syntax (Number 0) refl (successor_answer known) (successor_fits known)
+    (λ at. refl) old
 
 pub reads_first : (known : Option (List ℕ)) (old : Stream Sign) {new : Stream Sign} {r : Result ℕ PgFault} →
     new ≡ tail old → r ≡ first_answer known (next_of old) (offset_of old.pieces old.end) →
     ReadsAs (λ n. n) (first_successor known) old r new
 unfolding first_successor
-reads_first known old = one_reads (Number 0) refl (first_answer known) (first_fits known) (λ at. refl) old
+reads_first known old =
+    one_reads cause_number causes.Syntax (Number 0) refl (first_answer known) (first_fits known) (λ at. refl) old
 
 pub reads_semicolon : (old : Stream Sign) {new : Stream Sign} {r : Result (Unit {0}) PgFault} → new ≡ tail old →
     r ≡ semicolon_answer (next_of old) (offset_of old.pieces old.end) → ReadsAs (λ u. u) semicolon old r new
 unfolding semicolon
-reads_semicolon old = one_reads Semicolon refl semicolon_answer semicolon_fits (λ at. refl) old
+reads_semicolon old =
+    one_reads cause_number causes.Syntax Semicolon refl semicolon_answer semicolon_fits (λ at. refl) old
 
 pub reads_comma : (old : Stream Sign) {new : Stream Sign} {r : Result (Unit {0}) PgFault} → new ≡ tail old →
     r ≡ comma_answer (next_of old) (offset_of old.pieces old.end) → ReadsAs (λ u. u) comma old r new
 unfolding comma
-reads_comma old = one_reads Comma refl comma_answer comma_fits (λ at. refl) old
+reads_comma old = one_reads cause_number causes.Syntax Comma refl comma_answer comma_fits (λ at. refl) old
 
 -- ## The same with other ids known
 

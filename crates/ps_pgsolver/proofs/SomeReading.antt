@@ -17,7 +17,7 @@ use Rattle.ps_pgsolver.specs.GameTexts.{pg_causes, too_large, number_in, comma_i
 use Rattle.ps_pgsolver.specs.GameTexts.{BadNumber, BadId, BadOwner, BadSuccessor, BadFirst, IsUnknown, number, new_id}
 use Rattle.ps_pgsolver.specs.GameTexts.{owner, successor, first_successor, comma, semicolon, more_successor, successors}
 use Rattle.ps_pgsolver.specs.GameTexts.{name, node, entry, entries, keyword, value_line, setting, game}
-use Rattle.ps_pgsolver.specs.Inner.Lexer.{stream_of}
+use Rattle.ps_pgsolver.specs.Lexer.{stream_of}
 use Rattle.ps_pgsolver.specs.Nodes.{NodeData, ids_of}
 use Rattle.ps_pgsolver.specs.Reading.{Answer, HasTokens, text_limit, too_long, refused, unknown, meaning}
 use Rattle.ps_pgsolver.specs.Signs.{Sign, Number, Word, Name, Comma, Semicolon, OpenName, Wrong}

@@ -8,8 +8,8 @@ use Rattle.ps_text.specs.Digits.{decimal_value}
 use Rattle.ps_text.specs.Readers.{tail}
 use Rattle.ps_text.specs.Bytes.{is_blank, is_digit, is_letter}
 use Rattle.ps_pgsolver.specs.Ends.{begins_in, ends_in}
-use Rattle.ps_pgsolver.specs.Inner.Heads.{sign_of}
-use Rattle.ps_pgsolver.specs.Inner.Lexer.{first_sign, first_size, stream_from}
+use Rattle.ps_pgsolver.specs.Heads.{sign_of}
+use Rattle.ps_pgsolver.specs.Lexer.{first_sign, first_size, stream_from}
 use Rattle.ps_pgsolver.specs.Signs.{Sign, Number, Comma, Semicolon}
 use Rattle.ps_pgsolver.specs.declared.token.Kind.{Kind}
 use Rattle.ps_pgsolver.proofs.TokenLemmas.{at_digit, at_mark, reads_split}

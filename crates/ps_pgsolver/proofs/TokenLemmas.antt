@@ -11,11 +11,11 @@ use Rattle.ps_text.specs.Bytes.{is_blank, is_digit, is_letter}
 use Rattle.ps_pgsolver.specs.Ends.{ends_in}
 use Rattle.ps_text.specs.Answers.{Stream, offset_of}
 use Rattle.ps_pgsolver.specs.Signs.{Sign}
-use Rattle.ps_pgsolver.specs.Inner.Heads.{IsHead, sign_of}
+use Rattle.ps_pgsolver.specs.Heads.{IsHead, sign_of}
 use Rattle.ps_text.specs.Readers.{tail}
 use Rattle.ps_pgsolver.specs.declared.token.Kind.{Kind}
-use Rattle.ps_pgsolver.specs.Inner.Lexer.{lex, first_sign, first_size, number_sign, word_sign, name_sign, name_size}
-use Rattle.ps_pgsolver.specs.Inner.Lexer.{mark_sign, stream_from}
+use Rattle.ps_pgsolver.specs.Lexer.{lex, first_sign, first_size, number_sign, word_sign, name_sign, name_size}
+use Rattle.ps_pgsolver.specs.Lexer.{mark_sign, stream_from}
 
 nil_of : (xs : List ℕ) → length xs ≤ 0 → xs ≡ []
 nil_of [] h = refl

@@ -1,6 +1,4 @@
 -- What private functions say of each other; no public clause cites these.
 
 pub mod Answered
-pub mod Heads
 pub mod Kept
-pub mod Lexer

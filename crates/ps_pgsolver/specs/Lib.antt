@@ -5,6 +5,8 @@ pub mod Nodes
 pub mod GameTokens
 pub mod GameTexts
 pub mod GamesOf
+pub mod Heads
+pub mod Lexer
 pub mod Reading
 pub mod Written
 pub mod Inner

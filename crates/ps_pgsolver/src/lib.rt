@@ -4,6 +4,9 @@
 //! | Call | What it gives |
 //! |---|---|
 //! | `read(text)` | the game with its ids and names, or the first `PgFault` in the text; at most 16,777,216 bytes |
+//! | `Tokens::new(text)`, `peek`, `next`, `start` | the tokens of a text, also of a solution (`ps_solution`) |
+//! | `Tokens::take_number`, `take_comma`, `take_semicolon` | the next token, if it is that |
+//! | `Tokens::is_at_number`, `is_at_comma`, `is_at_word`, `next_name` | whether that comes next |
 //! | `write(game)` | a text, which `read` reads as that game again |
 //! | `PgCause::number`, `name` | a cause as psyn's list of faults has it |
 //!
@@ -24,4 +27,5 @@ mod writer;
 pub use fault::{PgCause, PgFault};
 pub use laws::{one_answer, one_list_of_tokens, some_answer};
 pub use reader::read;
+pub use token::{Kind, Token, Tokens};
 pub use writer::write;

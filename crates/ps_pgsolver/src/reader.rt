@@ -14,8 +14,8 @@ ghost use Rattle.ps_pgsolver.specs.Inner.Answered.{successor_of_number, successo
 ghost use Rattle.ps_pgsolver.specs.Inner.Answered.{semicolon_answer, end_answer};
 ghost use Rattle.ps_pgsolver.specs.GameTexts as parts;
 ghost use Rattle.ps_pgsolver.specs.Causes.{StandsWithin};
-ghost use Rattle.ps_pgsolver.specs.Inner.Heads.{IsPlain, sign_of};
-ghost use Rattle.ps_pgsolver.specs.Inner.Lexer.{stream_of};
+ghost use Rattle.ps_pgsolver.specs.Heads.{IsPlain, sign_of};
+ghost use Rattle.ps_pgsolver.specs.Lexer.{stream_of};
 ghost use Rattle.ps_pgsolver.specs.Reading.{IsGameAnswer};
 ghost use Rattle.ps_pgsolver.specs.Inner.Kept.{node_with};
 ghost use Rattle.ps_pgsolver.specs.Nodes.{IsNewNode, KnowsEach, KnowsNode, KnowsAll, ids_of};

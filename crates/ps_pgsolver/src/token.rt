@@ -9,9 +9,9 @@ ghost use Rattle.ps_text.specs.Cursors.{in_class};
 ghost use Rattle.ps_text.specs.Answers.{Stream};
 ghost use Rattle.ps_text.specs.Digits.{decimal_value};
 ghost use Rattle.ps_pgsolver.specs.Signs.{Sign, Number};
-ghost use Rattle.ps_pgsolver.specs.Inner.Heads.{sign_of, IsPlain, IsAhead};
-ghost use Rattle.ps_pgsolver.specs.Inner.Lexer.{stream_of, stream_from, first_sign, first_size, number_sign, word_sign};
-ghost use Rattle.ps_pgsolver.specs.Inner.Lexer.{name_sign, name_size, mark_sign};
+ghost use Rattle.ps_pgsolver.specs.Heads.{sign_of, IsPlain, IsAhead};
+ghost use Rattle.ps_pgsolver.specs.Lexer.{stream_of, stream_from, first_sign, first_size, number_sign, word_sign};
+ghost use Rattle.ps_pgsolver.specs.Lexer.{name_sign, name_size, mark_sign};
 
 use ps_text::cursor::{Class, run_length};
 use ps_text::numbers::{LeadingNumber, leading_number};
@@ -71,7 +71,7 @@ impl<'a> Tokens<'a> {
     ghost use Rattle.std.specs.Prelude.{◌↔◌, IsTrue, IfSome, IfNone, option_copied};
     ghost use Rattle.ps_text.specs.Answers.{next_of, offset_of};
     ghost use Rattle.ps_text.specs.Readers.{tail};
-    ghost use Rattle.ps_pgsolver.specs.Inner.Heads.{IsHead, IsNumberTaken, IsTaken, is_number, is_comma, name_of};
+    ghost use Rattle.ps_pgsolver.specs.Heads.{IsHead, IsNumberTaken, IsTaken, is_number, is_comma, name_of};
     ghost use Rattle.ps_text.specs.Bytes.{is_unquoted};
     ghost use Rattle.ps_pgsolver.specs.Signs.{Word, Comma, Semicolon};
 

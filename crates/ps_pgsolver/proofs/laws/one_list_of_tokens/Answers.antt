@@ -1,5 +1,5 @@
 -- The tokens are those that the lexer finds.
-use Rattle.ps_pgsolver.specs.Inner.Lexer.{stream_of}
+use Rattle.ps_pgsolver.specs.Lexer.{stream_of}
 use Rattle.ps_pgsolver.proofs.GameTokens.{tokens_found, only_tokens}
 use Rattle.ps_pgsolver.proofs.laws.one_list_of_tokens.Goals as goal
 

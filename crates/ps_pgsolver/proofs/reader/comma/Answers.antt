@@ -1,7 +1,7 @@
 use Rattle.std.proofs.Common.{arith, sym, ap, subst}
 use Rattle.ps_text.specs.Answers.{offset_of}
 use Rattle.ps_pgsolver.specs.Inner.Answered.{comma_answer}
-use Rattle.ps_pgsolver.specs.Inner.Heads.{IsTaken}
+use Rattle.ps_pgsolver.specs.Heads.{IsTaken}
 use Rattle.ps_pgsolver.specs.Signs.{Comma}
 use Rattle.ps_pgsolver.proofs.SingleSigns.{reads_comma}
 use Rattle.ps_pgsolver.proofs.reader.comma.Goals as goal

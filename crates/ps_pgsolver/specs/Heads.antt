@@ -6,7 +6,7 @@ use Rattle.ps_text.specs.Readers.{tail}
 use Rattle.ps_text.specs.Digits.{decimal_value}
 use Rattle.ps_text.specs.Bytes.{is_unquoted}
 use Rattle.ps_pgsolver.specs.GameTexts.{too_large}
-use Rattle.ps_pgsolver.specs.Inner.Lexer.{stream_from}
+use Rattle.ps_pgsolver.specs.Lexer.{stream_from}
 use Rattle.ps_pgsolver.specs.Signs.{Sign, Number, Word, Name, Comma, Semicolon, OpenName, Wrong}
 use Rattle.ps_pgsolver.specs.declared.token.Kind.{Kind}
 use Rattle.ps_pgsolver.specs.declared.token.Kind.TheVariants as kinds

@@ -1,0 +1,6 @@
+-- The law is a lemma.
+use Rattle.ps_solution.proofs.OneReading.{one_reading}
+use Rattle.ps_solution.proofs.laws.one_answer.Goals as goal
+
+pub returns : goal.returns
+returns c = one_reading

@@ -1,0 +1,6 @@
+-- The law is a lemma.
+use Rattle.ps_solution.proofs.SomeReading.{some_reading}
+use Rattle.ps_solution.proofs.laws.some_answer.Goals as goal
+
+pub returns : goal.returns
+returns c = some_reading

@@ -1,0 +1,3 @@
+-- What private functions say of each other; no public clause cites these.
+
+pub mod Answered

@@ -1,0 +1,4 @@
+pub mod Inner
+pub mod Reading
+pub mod Solved
+pub mod Texts

@@ -1,0 +1,30 @@
+-- What the reading of a solution answers: what the text says of each vertex, or its first cause and where it stands.
+use Rattle.std.specs.Prelude.{◌≡◌, ℕ, List, length, Result, Ok, Err}
+use Rattle.ps_text.specs.Answers.{Stream, Found}
+use Rattle.ps_text.specs.Parts.{PartAnswers}
+use Rattle.ps_text.specs.Faults.{UnlessMemory}
+use Rattle.ps_certificate.specs.Faults.{CertFault}
+use Rattle.ps_certificate.specs.declared.fault.CertCause.{CertCause}
+use Rattle.ps_certificate.specs.declared.fault.CertCause.TheVariants.{OtherGame}
+use Rattle.ps_pgsolver.specs.GameTokens.{AreGameTokens}
+use Rattle.ps_pgsolver.specs.Signs.{Sign}
+use Rattle.ps_solution.specs.Solved.{SolvedData, SolutionData, IsWhole, solution_of}
+use Rattle.ps_solution.specs.Texts.{solution_causes, solution}
+
+-- the answer to a text, for a game whose vertices have these ids
+pub data ReadsSolution (ids text : List ℕ) (answer : Result SolutionData (Found CertCause)) : Type 0 where
+  -- the first cause in text order
+  refused : (stream : Stream Sign) (found : Found CertCause) → AreGameTokens text stream →
+      PartAnswers solution_causes (solution ids) stream (Err found) → answer ≡ Err found → ReadsSolution ids text answer
+  -- behind the end, where there is none: some vertex was not named
+  incomplete : (stream : Stream Sign) (solved : SolvedData) → AreGameTokens text stream →
+      PartAnswers solution_causes (solution ids) stream (Ok solved) → ¬ IsWhole solved →
+      answer ≡ Err (record { cause = OtherGame; offset = length text }) → ReadsSolution ids text answer
+  -- the text has no cause
+  meaning : (stream : Stream Sign) (solved : SolvedData) → AreGameTokens text stream →
+      PartAnswers solution_causes (solution ids) stream (Ok solved) → IsWhole solved →
+      answer ≡ Ok (solution_of solved) → ReadsSolution ids text answer
+
+-- what a call answers is that, unless memory ran out
+abbrev pub IsSolutionAnswer : List ℕ → List ℕ → Result SolutionData CertFault → Type 0
+IsSolutionAnswer ids text result = UnlessMemory (ReadsSolution ids text) result

@@ -1,0 +1,97 @@
+-- PGSolver's solutions of a game: their grammar, and what may be wrong inside it.
+--     solution ::= ("paritysol" N ";")? entry+
+--     entry ::= N W N? ";"
+-- The fields of an entry are the id of a vertex, its winner, a number of value 0 or 1, and a move, the id of a vertex.
+-- ids are those of the game's vertices, in order; the value is what the text says of these.
+use Rattle.std.specs.Prelude.{◌≡◌, ℕ, ◌<◌, ◌≤◌, ◌⊎◌, List, length, Option, None, Some, codes, true}
+use Rattle.std.specs.List.{Contains}
+use Rattle.ps_text.specs.Parts.{Part, Causes, give, one, then_by, either, many, mapped, NoBad}
+use Rattle.ps_ids.specs.Ids.{place_of}
+use Rattle.ps_game.specs.Regions.{has}
+use Rattle.ps_certificate.specs.Faults.{cause_number}
+use Rattle.ps_certificate.specs.declared.fault.CertCause.{CertCause}
+use Rattle.ps_certificate.specs.declared.fault.CertCause.TheVariants.{Syntax, OtherGame}
+use Rattle.ps_pgsolver.specs.Signs.{Sign, Number}
+use Rattle.ps_pgsolver.specs.GameTexts.{too_large, semicolon_in, keyword_in}
+use Rattle.ps_solution.specs.Solved.{SolvedData, none_solved, with_entry}
+
+-- no sign is a cause by itself; what the grammar does not allow is a fault of syntax
+abbrev pub solution_causes : Causes Sign CertCause
+solution_causes = record { number = cause_number; own = λ _. None; syntax = Syntax }
+
+-- a part of the grammar that is read from a text's tokens
+abbrev pub Field : Type 0 → Type 1
+Field V = Part Sign V CertCause
+
+-- ## Single signs
+
+-- a number, by the value that is made of it
+abbrev pub value_in : {V : Type 0} → (ℕ → V) → Sign → Option V
+value_in value (Number n) = Some (value n)
+value_in value _ = None
+
+-- a number is too large, or something is wrong with its value
+abbrev pub BadValue : (ℕ → CertCause → Type 0) → Sign → CertCause → Type 0
+BadValue Wrong (Number n) cause = ((too_large ≤ n) × (cause ≡ Syntax)) ⊎ ((n < too_large) × Wrong n cause)
+BadValue Wrong _ cause = ⊥
+
+abbrev pub AnyValue : ℕ → CertCause → Type 0
+AnyValue n cause = ⊥
+
+unfoldable pub number : Field ℕ
+number = one (value_in (λ n. n)) (BadValue AnyValue)
+
+-- an id that is none of the game's, or that an earlier entry has
+abbrev pub IsOther : List ℕ → SolvedData → ℕ → CertCause → Type 0
+IsOther ids s n cause = ((¬ Contains ids n) ⊎ (has s.named (place_of ids n) ≡ true)) × (cause ≡ OtherGame)
+
+unfoldable pub vertex : List ℕ → SolvedData → Field ℕ
+vertex ids s = one (value_in (place_of ids)) (BadValue (IsOther ids s))
+
+-- a winner is 0 or 1
+abbrev pub IsNoPlayer : ℕ → CertCause → Type 0
+IsNoPlayer n cause = (2 ≤ n) × (cause ≡ Syntax)
+
+unfoldable pub winner : Field ℕ
+winner = one (value_in (λ n. n)) (BadValue IsNoPlayer)
+
+-- a move that is no id
+abbrev pub IsUnknown : List ℕ → ℕ → CertCause → Type 0
+IsUnknown ids n cause = (¬ Contains ids n) × (cause ≡ OtherGame)
+
+unfoldable pub successor : List ℕ → Field ℕ
+successor ids = one (value_in (place_of ids)) (BadValue (IsUnknown ids))
+
+unfoldable pub semicolon : Field (Unit {0})
+semicolon = one semicolon_in NoBad
+
+unfoldable pub keyword : List ℕ → Field (Unit {0})
+keyword word = one (keyword_in word) NoBad
+
+-- ## The grammar
+
+-- a move, or nothing
+unfoldable pub choice : List ℕ → Field (Option ℕ)
+choice ids = either (mapped (λ v. Some v) (successor ids)) (give None)
+
+-- an entry, behind what was said before it
+unfoldable pub entry : List ℕ → SolvedData → Field SolvedData
+entry ids s =
+    then_by (vertex ids s) (λ v.
+    then_by winner (λ w.
+    then_by (choice ids) (λ c.
+    mapped (λ _. with_entry s v w c) semicolon)))
+
+unfoldable pub entries : List ℕ → Field SolvedData
+entries ids = then_by (entry ids (none_solved (length ids))) (λ s. many (entry ids) s)
+
+-- a number, which has no meaning, and a semicolon
+unfoldable pub value_line : Field (Unit {0})
+value_line = then_by number (λ _. semicolon)
+
+-- `paritysol 7;`, or nothing
+unfoldable pub heading : Field (Unit {0})
+heading = either (then_by (keyword (codes "paritysol")) (λ _. value_line)) (give tt)
+
+unfoldable pub solution : List ℕ → Field SolvedData
+solution ids = then_by heading (λ _. entries ids)
