@@ -117,7 +117,8 @@ class Meaning(unittest.TestCase):
                 wanted.append(is_in(*sides, is_strict, stem, lap))
         where = program()
         said = sweeps.at_once(lambda row: rows.answered(where, row)[0].split(b" ")[0], asked)
-        self.assertEqual(said, [b"accepted" if it else b"rejected" for it in wanted])
+        wrong = [row.given.decode() for row, word, it in zip(asked, said, wanted) if word != (b"accepted" if it else b"rejected")]
+        self.assertFalse(wrong, f"{len(wrong)} of {len(asked)} wrong, the first one:\n{''.join(wrong[:1])}")
         self.assertGreater(min(wanted.count(True), wanted.count(False)), LASSOS // 5)
 
 
@@ -225,6 +226,12 @@ class Composed(OnFiles):
         self.assertIn('"a guarantee has broken"', implied)
         self.assertNotIn("a guarantee has broken", strict)
         self.assertIn('"an assumption has broken"', strict)
+
+    def test_a_guarantee_that_no_word_meets_is_broken_before_the_first_step(self):
+        self.file("none.hoa", b"HOA: v1 Start: 0 AP: 0 Acceptance: 1 Inf(0) --BODY-- State: 0 [t] 0 --END--\n")
+        words = ["--assume", self.stored("always"), "--guarantee", "none.hoa", "--outs", "it"]
+        self.assertTrue(self.composed(*words, "--strict").endswith('--BODY--\nState: 0 "a guarantee has broken"\n--END--\n'))
+        self.assertIn('[0] 0 {0}\nState: 1 "an assumption has broken"\n', self.composed(*words))
 
     def test_more_states_than_the_program_reads(self):
         ring = "".join(f"State: {state} [t] {(state + 1) % count}\n" for count in (41,) for state in range(count))
