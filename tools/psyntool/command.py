@@ -37,6 +37,14 @@ TO_FILES = Flag(
     "parts to PREFIX.hoa",
     "PREFIX",
 )
+# Of games that another solver solves.
+BY = Flag(
+    "--by",
+    "another solver solves the game: the words of a command, where {game} is the file that it reads (else its standard input), and "
+    "{solution} the file that it writes (else its standard output)",
+    "COMMAND",
+)
+PICTURE = Flag("--picture", "where a player loses a cycle: the game, the solution and that cycle as Graphviz DOT", "FILE")
 # Of specifications in parts.
 ASSUME = Flag("--assume", "parts that are assumed", "PART..", many=True)
 GUARANTEE = Flag("--guarantee", "parts that are guaranteed", "PART..", many=True)

@@ -2,17 +2,19 @@
 import re
 from collections import Counter
 
-from psyntool import faults
+from psyntool import faults, judging
 from psyntool.command import ENV, wrong_kinds
 from psyntool.kinds import Kind
+from psyntool.marking import placed
 from psyntool.program import MOST_BYTES
 from psyntool.texts import Unreadable, automaton, circuit, labels
 
-WIDTH = 100
 # What the tool hands on can always be read, if it is not too long.
-READ_FAULT, SYMBOLS = 25, 72
+READ_FAULT, OTHER_GAME, SYMBOLS = 25, 54, 72
 # Longer texts are not read here, since that takes longer than the program does.
 LONGEST = 1 << 21
+# Faults of a certificate are those of a solution too.
+SPEAKS_TOO = {Kind.CERTIFICATE: Kind.SOLUTION}
 PLAYERS_OF_A_GAME = b"spot-state-player:"
 
 
@@ -27,8 +29,9 @@ def lines(request, texts, answer):
     if number == READ_FAULT:
         return [*told, f"cause: the files have more than {MOST_BYTES:,} bytes together, the most that psyn reads"]
     if fault and fault.kind and found[4]:
-        told += place_of(fault, next((it for it in texts if it.kind is fault.kind), None), int(found[4]))
+        told += place_of(fault, next((it for it in texts if it.kind in (fault.kind, SPEAKS_TOO.get(fault.kind))), None), int(found[4]))
     told += seen_in_texts(number, found[5] or "", request, texts)
+    told += seen_in_solution(number, found[4], found[5] or "", texts)
     if number is None:
         return [*told, "cause: this program knows no such command line: it is not of the same version as this tool"]
     return told + [f"{word.lower()}: {fault.entries[word]}" for word in ("Cause", "Place", "Mend") if fault and word in fault.entries]
@@ -42,34 +45,8 @@ def games_of_spot(texts):
     ]
 
 
-# ---- places
-
-
-def line_and_column(data, offset):
-    """The line and the column of a byte, both from 1."""
-    return data.count(b"\n", 0, offset) + 1, offset - data.rfind(b"\n", 0, offset)
-
-
-def shown(data, offset, width=WIDTH):
-    """The line in which a byte stands, with a mark under the byte."""
-    start = data.rfind(b"\n", 0, offset) + 1
-    stop = data.find(b"\n", offset)
-    line = data[start : len(data) if stop < 0 else stop].decode("utf-8", "replace").replace("\t", " ")
-    column = len(data[start:offset].decode("utf-8", "replace"))
-    cut = max(0, column - width // 2)
-    printable = "".join(sign if sign.isprintable() else "?" for sign in line[cut : cut + width])
-    return [f"  {printable}", "  " + " " * (column - cut) + "^"]
-
-
 def place_of(fault, text, offset):
     return placed(text, offset, fault.name) if text else []
-
-
-def placed(text, offset, what):
-    """A place of a text in its file, and its line."""
-    at = text.place_in_file(offset)
-    row, column = line_and_column(text.original, at)
-    return [f"{text.name}:{row}:{column}: {what}", *shown(text.original, at)]
 
 
 # ---- what only the texts can tell
@@ -82,6 +59,19 @@ def seen_in_texts(number, behind, request, texts):
         return []
     try:
         return seen(behind, request, texts)
+    except Unreadable:
+        return []
+
+
+def seen_in_solution(number, offset, behind, texts):
+    """Further lines for what is wrong with a solution, by the names of the game's vertices."""
+    if texts[-1].kind is not Kind.SOLUTION or any(len(text.bytes) > LONGEST for text in texts):
+        return []
+    try:
+        if number == OTHER_GAME:
+            return judging.other_game(int(offset), texts)
+        seen = {40: judging.lost_cycle, 50: judging.wrong_move, 51: judging.escape}.get(number)
+        return seen(behind, texts) if seen else []
     except Unreadable:
         return []
 

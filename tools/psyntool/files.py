@@ -118,7 +118,10 @@ class Reader:
     def text(self, kind, path):
         """The text of a file (`-` is standard input), mended as the settings say; a kind FILE is found by how it begins."""
         name, original = title_of(path), self.bytes_of(path)
-        kind = (kind_of(original) or kind) if kind is Kind.FILE else kind
+        return self.mended((kind_of(original) or kind) if kind is Kind.FILE else kind, name, original)
+
+    def mended(self, kind, name, original):
+        """The text of some bytes, mended as the settings say."""
         if kind is Kind.CIRCUIT and original.startswith(b"aig "):
             original = self.converted(name, original)
         elif original.startswith(OTHER_MARKS):

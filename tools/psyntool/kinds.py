@@ -36,7 +36,7 @@ SIGNS = [
     (Kind.AUTOMATON, rb"\s*HOA\s*:"),
     (Kind.CERTIFICATE, rb"\s*psyncert\b"),
     (Kind.CIRCUIT, rb"\s*a[ai]g\s+\d"),
-    (Kind.SOLUTION, rb"\s*paritysol\b"),
+    (Kind.SOLUTION, rb"\s*paritysol\b|\s*\d+\s+0*[01](\s+\d+)?\s*;"),
     (Kind.ANSWER, rb"(UN)?REALIZABLE\r?\n"),
     (Kind.STIMULUS, rb"\n*([01]+|-)\r?(\n|$)"),
     (Kind.LIST, rb"(\s|#[^\n]*\n)*--(assume|guarantee|as|outs|strict)\b"),

@@ -4,6 +4,7 @@ import signal
 
 from psyntool.ends import BY_SIGNAL, Stopped
 
+KILL = signal.SIGKILL
 TAKEN = (signal.SIGINT, signal.SIGTERM, signal.SIGHUP)
 WORDS = {signal.SIGINT: "stopped by Ctrl-C", signal.SIGTERM: "ended by TERM", signal.SIGHUP: "ended by HUP"}
 

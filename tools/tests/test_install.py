@@ -70,6 +70,8 @@ class Installed(unittest.TestCase):
         self.assertEqual(self.completed("psyn", "help", "wa"), ["wave"])
         self.assertEqual(self.completed("psyn", "games", "la"), ["ladder", "ladder2"])
         self.assertEqual(self.completed("psyn", "show", "--reach", ""), [""])
+        self.assertIn("true", self.completed("psyn", "solve", "--by", "tru"))
+        self.assertEqual(self.completed("psyn", "judge", "--picture", "lo"), ["loop.cert", "loop.pg"])
 
     def test_bash_completes_files_by_their_kinds(self):
         self.assertEqual(self.completed("psyn", "check", "lo"), ["loop.pg"])

@@ -164,8 +164,11 @@ class Others(unittest.TestCase):
             stimulus.read("-\n-\n")
 
     def test_a_solution_is_read_exactly(self):
-        self.assertEqual(solution.read("paritysol 1;\n0 0 1;\n1 1;\n"), {0: (0, 1), 1: (1, None)})
-        for text in ("", "paritysol 1;\n0 0 1;\ngarbage here\n", "paritysol 1;\n0 0 1; 0 1 1;\n", "paritysol 1;\n0 2;\n"):
+        for text in ("paritysol 1;\n0 0 1;\n1 1;\n", "0 00 1 ; 1\t01;"):
+            read = solution.read(text)
+            self.assertEqual([(v, it.winner, it.move) for v, it in read.entries.items()], [(0, 0, 1), (1, 1, None)])
+            self.assertEqual(read.text(), "paritysol 1;\n0 0 1;\n1 1;\n")
+        for text in ("", "paritysol 1;", "paritysol 1;\n0 0 1;\ngarbage here\n", "paritysol 1;\n0 0 1; 0 1 1;\n", "paritysol 1;\n0 2;\n"):
             with self.subTest(text), self.assertRaises(Unreadable):
                 solution.read(text)
 

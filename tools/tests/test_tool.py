@@ -166,10 +166,14 @@ class Commands(OnFiles):
         self.assertIn(b'label=" !r "', named)
         self.assertEqual(named, self.tool("show", automaton, whole).stdout)
 
-    def test_another_solvers_answer_is_judged_by_closed(self):
-        game = self.file("game", GAME)
-        made = self.tool("certificate", game, "-", given=b"paritysol 1;\n0 1 1;\n1 1 1;\n")
-        self.assertEqual(self.tool("closed", game, "-", given=made.stdout).stdout, b"closed\n")
+    def test_a_certificate_as_a_solution_comes_back(self):
+        for text in (GAME, b"0 0 1 0,1; 1 1 1 1;\n7 4 0 0,7;\n"):
+            game = self.file("game", text)
+            solved = self.tool("solve", game).stdout
+            made = self.tool("solution", game, "-", given=solved)
+            self.assertEqual((made.stderr, made.returncode), (b"", 0))
+            self.assertEqual(self.tool("judge", game, "-", given=made.stdout).stdout, solved)
+            self.assertIn(b"digraph game", self.tool("show", game, self.file("made", made.stdout)).stdout)
 
 
 class Refusals(OnFiles):

@@ -24,7 +24,8 @@ _psyn() {
 @CASES@
   esac
   case $before in
-    -o) mapfile -t COMPREPLY < <(compgen -f -- "$word"); return ;;
+    -o | --picture) mapfile -t COMPREPLY < <(compgen -f -- "$word"); return ;;
+    --by) mapfile -t COMPREPLY < <(compgen -c -- "$word"); return ;;
     @NUMBERED@) COMPREPLY=(); return ;;
   esac
   if [[ $word == -* ]]; then

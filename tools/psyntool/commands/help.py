@@ -44,8 +44,13 @@ Which game does this automaton define, and who wins it?
 A game with its regions in two colours, the winning moves bold, and the automaton's names:
   {name} show game.pg game.cert automaton.hoa | dot -Tsvg > game.svg
 
-Does another solver's answer keep each player's region?
-  {name} certificate game.pg game.sol | {name} closed game.pg -
+Is another solver's solution right? If it is, this is its certificate; if not, this is a cycle that a player loses:
+  {name} judge game.pg game.sol > game.cert
+  {name} judge --picture lost.dot game.pg game.sol
+
+A certificate, or a circuit, from the solution of another solver, whatever its command is:
+  {name} solve --by 'oink {{game}} {{solution}}' game.pg
+  {name} synth --by 'oink {{game}} {{solution}}' arbiter.hoa
 
 The commands of the program:
 {programs}

@@ -1,12 +1,24 @@
-"""`judge`: whether another solver's solution of a game is right."""
-from psyntool import asking
-from psyntool.command import COMPACT, Command
+"""`judge`: whether another solver's solution of a game is right; with --picture the cycle that a player loses is drawn."""
+from psyntool import asking, files, judging, program
+from psyntool.command import COMPACT, PICTURE, Command
 from psyntool.kinds import Kind
+
+
+def run(request):
+    if not request.has(PICTURE):
+        return asking.run(request)
+    path, texts = judging.path_of(request), request.texts()
+    answer = program.ask(files.joined("judge", request.passed, texts))
+    status = asking.hand_on(request, texts, answer)
+    judging.draw(request, path, answer, texts)
+    return status
+
 
 COMMAND = Command(
     "judge",
     "the certificate by another solver's solution, or what is wrong with it",
     (Kind.GAME, Kind.SOLUTION),
-    asking.run,
+    run,
     flags=(COMPACT,),
+    own=(PICTURE,),
 )

@@ -4,11 +4,11 @@ from psyntool.command import Command, Flag
 from psyntool.ends import Refused
 from psyntool.kinds import Kind
 from psyntool.pictures import automata, circuits, games
-from psyntool.texts import automaton, certificate, circuit, game, report
+from psyntool.texts import automaton, certificate, circuit, game, report, solution
 
 REACH = Flag("--reach", "only what so many steps from the start reach (of a circuit: from the outputs back)", "N")
-READERS = {Kind.GAME: game.read, Kind.CERTIFICATE: certificate.read, Kind.AUTOMATON: automaton.read, Kind.CIRCUIT: circuit.read}
-WANTED = "show draws a game, a game and its certificate, with both the automaton behind them, an automaton, or a circuit"
+READERS = {Kind.GAME: game.read, Kind.CERTIFICATE: certificate.read, Kind.AUTOMATON: automaton.read, Kind.CIRCUIT: circuit.read, Kind.SOLUTION: solution.read}
+WANTED = "show draws a game, a game and its certificate or solution, with both the automaton behind them, an automaton, or a circuit"
 
 
 def parts_of(text):
@@ -38,8 +38,8 @@ def run(request):
 
 def drawn(found, reach):
     """The picture of what was found, by kind."""
-    if Kind.GAME in found and Kind.CIRCUIT not in found:
-        return games.picture(found[Kind.GAME], found.get(Kind.CERTIFICATE), found.get(Kind.AUTOMATON), reach)
+    if Kind.GAME in found and Kind.CIRCUIT not in found and not {Kind.CERTIFICATE, Kind.SOLUTION} <= set(found):
+        return games.picture(found[Kind.GAME], found.get(Kind.CERTIFICATE) or found.get(Kind.SOLUTION), found.get(Kind.AUTOMATON), reach)
     if set(found) == {Kind.AUTOMATON}:
         return automata.picture(found[Kind.AUTOMATON], reach)
     if set(found) == {Kind.CIRCUIT}:
@@ -49,7 +49,7 @@ def drawn(found, reach):
 
 COMMAND = Command(
     "show",
-    "a picture of a game, with its certificate and its automaton, of an automaton or of a circuit, as Graphviz DOT",
+    "a picture of a game, with its certificate or solution and its automaton, of an automaton or of a circuit, as Graphviz DOT",
     (Kind.FILE, Kind.FILE, Kind.FILE),
     run,
     own=(REACH,),

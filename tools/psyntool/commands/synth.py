@@ -1,24 +1,28 @@
-"""`synth`: a circuit for an automaton, or for parts; with -o the circuit, the game and the certificate in files of their own."""
-from psyntool import asking, console, files, outputs, program
-from psyntool.command import CERT, COMPACT, FULL, MOORE, OF_PARTS, PARTS, TO_FILES, Command
+"""`synth`: a circuit for an automaton, or for parts; with -o the circuit, the game and the certificate in files of their own; with
+--by from the solution of another solver."""
+from psyntool import asking, console, files, judging, outputs, program, solvers
+from psyntool.command import BY, CERT, COMPACT, FULL, MOORE, OF_PARTS, PARTS, PICTURE, TO_FILES, Command
 from psyntool.ends import FAULT, Refused
 from psyntool.kinds import Kind
 from psyntool.parts import specification
 from psyntool.parts.composing import ASSUMPTIONS_FAIL, Composer
-from psyntool.texts import Unreadable, report
+from psyntool.texts import Unreadable, automaton, report
 
 ENDINGS = (".aag", ".pg", ".cert")
 BY_BREAKING = "a controller can make the assumptions fail, so this one may win without keeping the guarantees"
 
 
 def run(request):
+    judging.check_picture(request)
     if any(request.has(flag) for flag in (PARTS, *OF_PARTS)):
         return run_on_parts(request)
-    if not request.has(TO_FILES):
+    paths = paths_of(request, ENDINGS) if request.has(TO_FILES) else []
+    if request.has(BY):
+        solving = Solving(request)
+        return solving.run(request.texts(), paths, {})
+    if not paths:
         return asking.run(request)
-    paths = paths_of(request, ENDINGS)
-    texts = request.texts()
-    return to_files(request, texts, paths, {})
+    return to_files(request, request.texts(), paths, {})
 
 
 def run_on_parts(request):
@@ -26,10 +30,14 @@ def run_on_parts(request):
     if request.has(CERT):
         raise Refused(f"{CERT.name} is for an automaton: compose makes one of parts")
     paths = paths_of(request, (*ENDINGS, ".hoa")) if request.has(TO_FILES) else []
+    solving = Solving(request) if request.has(BY) else None
     whole = Composer(specification.asked(request)).composed()
     texts = [files.Text(Kind.AUTOMATON, "the automaton of these parts", whole.text().encode("utf-8", "surrogateescape"))]
-    if paths:
-        status = to_files(request, texts, paths[:-1], {paths[-1]: whole.text()})
+    others = {path: whole.text() for path in paths[-1:]}
+    if solving:
+        status = solving.run(texts, paths[:-1], others)
+    elif paths:
+        status = to_files(request, texts, paths[:-1], others)
     elif request.quiet:
         program.become(files.joined("synth", request.passed, texts))
     else:
@@ -37,6 +45,30 @@ def run_on_parts(request):
     if status == 10 and not request.quiet and whole.specification.assumptions and can_break(request, whole):
         console.tell(BY_BREAKING)
     return status
+
+
+class Solving:
+    """A run in which another solver solves the game."""
+
+    def __init__(self, request):
+        if request.has(CERT):
+            raise Refused(f"{CERT.name} and {BY.name} can't stand together: the certificate is that of the other solver's solution")
+        self.request, self.picture, self.solver = request, judging.path_of(request), solvers.Solver(request)
+
+    def run(self, texts, paths, others):
+        """The answer to an automaton by the certificate of the solution; where that is wrong, what is wrong with it."""
+        request = self.request
+        game = program.ask(files.joined("game", [name for name in request.passed if name == MOORE.name], texts))
+        if not asking.is_had(game):
+            return asking.hand_on(request, texts, game)
+        solved, certificate = self.solver.judged(files.Text(Kind.GAME, "the game of this automaton", game.bytes))
+        if not asking.is_had(certificate):
+            return self.solver.hand_on(solved, certificate, self.picture, automaton.read(texts[0].string) if self.picture else None)
+        given = [*texts, files.Text(Kind.CERTIFICATE, f"the certificate of {self.solver.name}", certificate.bytes)]
+        flags = [CERT.name, *request.passed]
+        if paths:
+            return to_files(request, given, paths, others, flags)
+        return asking.hand_on(request, given, program.ask(files.joined("synth", flags, given)))
 
 
 def can_break(request, whole):
@@ -51,9 +83,9 @@ def paths_of(request, endings):
     return outputs.checked([prefix + ending for ending in endings], TO_FILES.shown, prefix)
 
 
-def to_files(request, texts, paths, others):
+def to_files(request, texts, paths, others, passed=()):
     """Writes the three parts of the answer and other texts, and then the first line."""
-    flags = list(dict.fromkeys([*request.passed, FULL.name]))
+    flags = list(dict.fromkeys([*(passed or request.passed), FULL.name]))
     answer = program.ask(files.joined("synth", flags, texts))
     if answer.is_fault:
         return asking.hand_on(request, texts, answer)
@@ -81,7 +113,7 @@ COMMAND = Command(
     (Kind.AUTOMATON,),
     run,
     flags=(FULL, CERT, MOORE, COMPACT),
-    own=(TO_FILES, PARTS, *OF_PARTS),
+    own=(TO_FILES, BY, PICTURE, PARTS, *OF_PARTS),
     behind={CERT.name: Kind.CERTIFICATE},
     instead={flag.name: (Kind.LIST,) for flag in (PARTS, *OF_PARTS)},
 )

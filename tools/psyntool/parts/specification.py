@@ -5,7 +5,7 @@ import re
 import shlex
 from dataclasses import dataclass, field
 
-from psyntool import explaining, faults, program, words
+from psyntool import faults, marking, program, words
 from psyntool.command import AS, ASSUME, GUARANTEE, OF_PARTS, OUTS, STRICT
 from psyntool.ends import Refused
 from psyntool.files import Reader
@@ -195,7 +195,7 @@ def refuse_faults(text):
         if found[3]:
             offset = int(found[3])
             offset -= len(OWNERS) if at is not None and offset > at else 0
-            place = ":{}:{}".format(*explaining.line_and_column(text.original, text.place_in_file(offset)))
+            place = ":{}:{}".format(*marking.line_and_column(text.original, text.place_in_file(offset)))
         raise Refused(f"{text.name}{place}: fault {fault.number} {fault.name}: {fault.entries['Cause']}")
 
 

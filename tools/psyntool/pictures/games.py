@@ -7,9 +7,10 @@ from psyntool.texts import Unreadable, labels
 
 REGION = {0: "palegreen", 1: "lightsalmon"}
 MOVE = {0: "darkgreen", 1: "firebrick"}
+CYCLE = "blue"
 # Above so many edges, letters stand in tables.
 FEW_EDGES = 60
-OTHER_GAME = "the certificate is one of another game: its ids are not those of the game"
+OTHER_GAME = "the certificate, or the solution, is one of another game: its ids are not those of the game"
 OTHER_AUTOMATON = "the game is not that of this automaton: its vertices have other names"
 
 
@@ -91,18 +92,24 @@ class Names:
 class Drawing:
     """What is drawn of a game, with which colours and names; of many edges the letters stand in tables, so that none lies on another."""
 
-    def __init__(self, game, certificate, automaton, reach):
+    def __init__(self, game, certificate, automaton, reach, cycle=()):
         self.game, self.entries = game, certificate.entries if certificate else {}
+        self.cycle = set(zip(cycle, [*cycle[1:], *cycle[:1]]))
         if certificate and set(self.entries) != set(game.by_identity):
             raise Unreadable(OTHER_GAME)
-        first = game.vertices[0].identity
-        self.drawn = within("game", len(game.vertices), [first], lambda one: game.by_identity[one].successors, reach, "its first vertex")
+        begins, begin = (cycle, "the cycle") if cycle else ([game.vertices[0].identity], "its first vertex")
+        self.drawn = within("game", len(game.vertices), begins, lambda one: game.by_identity[one].successors, reach, begin)
         self.vertices = [vertex for vertex in game.vertices if self.drawn is None or vertex.identity in self.drawn]
         self.names = Names(automaton, game) if automaton else None
         self.has_tables = bool(self.names) and sum(len(vertex.successors) for vertex in self.vertices) > FEW_EDGES
 
     def is_table(self, vertex):
         return self.has_tables and self.names.keys[vertex.identity].is_choice
+
+    def is_move(self, vertex, target):
+        """Whether the winner moves so; solutions may have moves of losers, which say nothing."""
+        entry = self.entries.get(vertex.identity)
+        return bool(entry) and entry.winner == vertex.owner and entry.move == target
 
     def lines(self):
         yield from ("digraph game {", FONT, legend(self.legend_rows()))
@@ -128,7 +135,7 @@ class Drawing:
         rows = [f"<tr><td{shade}>{html.escape(self.names.of_choice(vertex))}</td></tr>"]
         for target in vertex.successors:
             said = html.escape(f"{self.names.of_edge(vertex, self.game.by_identity[target])}   to {self.names.short(target)}")
-            said = f"<b>{said}</b>" if entry and target == entry.move else said
+            said = f"<b>{said}</b>" if self.is_move(vertex, target) else said
             rows.append(f'<tr><td port="t{target}" align="left">{said}</td></tr>')
         return f'  v{vertex.identity} [shape=plain, label=<<table border="1" cellborder="0" cellspacing="0">{"".join(rows)}</table>>];'
 
@@ -143,7 +150,9 @@ class Drawing:
                 return
             port = f":t{target}" if self.is_table(vertex) else ""
             parts = [self.label_of(vertex, target)] if self.names and not self.has_tables else []
-            if entry and target == entry.move:
+            if (vertex.identity, target) in self.cycle:
+                parts.append(f"style=bold, penwidth=4, color={CYCLE}")
+            elif self.is_move(vertex, target):
                 parts.append(f"style=bold, penwidth=3, color={MOVE[entry.winner]}")
             said = ", ".join(filter(None, parts))
             yield f"  v{vertex.identity}{port} -> v{target}{f' [{said}]' if said else ''};"
@@ -171,6 +180,8 @@ class Drawing:
                 ("green", f"player 0 wins from there, by the bold {bold}", REGION[0]),
                 ("red", f"player 1 wins from there, by the bold {bold}", REGION[1]),
             ]
+        if self.cycle:
+            rows.append(("blue", f"a cycle that player {self.entries[next(iter(self.cycle))[0]].winner} loses, and was to win", "skyblue"))
         return [*rows, *([("..", "what lies further on is not drawn", "")] if self.drawn is not None else [])]
 
     def letter_rows(self):
@@ -186,6 +197,7 @@ class Drawing:
         ]
 
 
-def picture(game, certificate=None, automaton=None, reach=None):
-    """Player 0's vertices are diamonds, player 1's boxes; with a certificate the regions are coloured, and winning moves bold."""
-    return "\n".join([*Drawing(game, certificate, automaton, reach).lines(), ""])
+def picture(game, certificate=None, automaton=None, reach=None, cycle=()):
+    """Player 0's vertices are diamonds, player 1's boxes; with a certificate or a solution the regions are coloured, and winning
+    moves bold; of a cycle the edges are blue, and what is drawn begins with it."""
+    return "\n".join([*Drawing(game, certificate, automaton, reach, cycle).lines(), ""])

@@ -1,0 +1,129 @@
+"""What is wrong with a solution of a game, by the names of its vertices: faults 40, 50, 51 and 54 of `judge`."""
+import re
+from dataclasses import dataclass
+
+from psyntool import console, outputs
+from psyntool.command import BY, PICTURE
+from psyntool.ends import Refused
+from psyntool.marking import placed
+from psyntool.pictures import games
+from psyntool.pictures.dot import MOST as MOST_DRAWN
+from psyntool.texts import Unreadable, game, solution
+
+# A longer cycle is told in part.
+MOST = 24
+
+
+@dataclass(frozen=True)
+class Case:
+    """A game, and what a text says of it: its entries as far as they can be read, and the text itself."""
+
+    game: game.Game
+    entries: dict
+    text: object
+
+    def named(self, identity):
+        """A vertex by its id and its name."""
+        vertex = self.game.by_identity[identity]
+        return f"vertex {identity}" + ("" if vertex.name is None else f' "{vertex.name}"')
+
+    def entry(self, identity):
+        if identity not in self.entries:
+            raise Unreadable("this is no solution")
+        return self.entries[identity]
+
+    def entry_line(self, identity, what):
+        offset = self.entry(identity).offset
+        return placed(self.text, len(self.text.string[:offset].encode("utf-8", "surrogateescape")), what)
+
+
+def case_of(texts):
+    return Case(game.read(texts[0].string), solution.begin(texts[1].string)[0], texts[1])
+
+
+def parity(priority):
+    return "odd" if priority % 2 else "even"
+
+
+def lost_cycle(behind, texts):
+    """The cycle, with names and priorities, and who loses it."""
+    case, cycle = case_of(texts), [int(word) for word in behind.split()]
+    vertices = [case.game.by_identity[identity] for identity in cycle]
+    loser, greatest = case.entry(cycle[0]).winner, max(vertex.priority for vertex in vertices)
+    told = [f"by {case.text.name} player {loser} wins these vertices; it loses the cycle, whose greatest priority {greatest} is {parity(greatest)}:"]
+    for vertex, target in list(zip(vertices, [*cycle[1:], cycle[0]]))[:MOST]:
+        way = "moves" if vertex.owner == loser else "can move"
+        told.append(f"  {case.named(vertex.identity)}, priority {vertex.priority}: player {vertex.owner} {way} to {target}")
+    return told + ([f"  .. and {len(cycle) - MOST} more"] if len(cycle) > MOST else [])
+
+
+def wrong_move(behind, texts):
+    """A vertex at which its winner, who owns it, has no move, or one along no edge."""
+    case, (word, move) = case_of(texts), behind.split()
+    vertex = case.game.by_identity[int(word)]
+    to = ", ".join(map(str, vertex.successors[:MOST])) + (" .." if len(vertex.successors) > MOST else "")
+    wrong = "without a move" if move == "-" else f"by a move to {move}"
+    return [
+        *case.entry_line(vertex.identity, "Move"),
+        f"player {vertex.owner}, who owns {case.named(vertex.identity)}, is to win it {wrong}; its edges lead to {to}",
+    ]
+
+
+def escape(behind, texts):
+    """An edge by which a play leaves what its winner was given."""
+    case, (source, target) = case_of(texts), map(int, behind.split())
+    vertex, winner = case.game.by_identity[source], case.entry(source).winner
+    way = "moves" if vertex.owner == winner else "can move"
+    return [
+        *case.entry_line(source, "Escape"),
+        f"player {winner} is to win {case.named(source)}, but player {vertex.owner} {way} from there to {case.named(target)}, "
+        f"which player {1 - winner} is to win",
+    ]
+
+
+def other_game(offset, texts):
+    """The id that is wrong at a place, or the vertices without an entry at the end."""
+    case = case_of(texts)
+    found = re.compile(rb"0*(\d{1,20})").match(texts[1].bytes, offset)
+    if not found:
+        missing = [identity for identity in case.game.by_identity if identity not in case.entries]
+        more = f"; {len(missing)} vertices have none" if missing[1:] else ""
+        return [f"{case.named(missing[0])} has no entry{more}"] if missing else []
+    identity = int(found[1])
+    return [f"vertex {identity} has an entry before" if identity in case.game.by_identity else f"{identity} is no vertex of the game"]
+
+
+# ---- the picture
+
+
+def check_picture(request):
+    """A picture is one of another solver's cycle."""
+    if request.has(PICTURE) and not request.has(BY):
+        raise Refused(f"{request.command.name} {PICTURE.name} wants {BY.shown}")
+
+
+def path_of(request):
+    """The file of the picture, where one is asked for and can be written."""
+    path = request.value(PICTURE)
+    return outputs.checked([path], PICTURE.shown, path)[0] if request.has(PICTURE) else None
+
+
+def draw(request, path, answer, texts, automaton=None):
+    """Writes the picture, if an answer is a lost cycle; a line on standard error tells it."""
+    found = re.fullmatch(r"fault 40 BadCycle((?: \d+)+)\n", answer.text)
+    if not path or not found:
+        return
+    cycle = [int(word) for word in found[1].split()]
+    outputs.write_all({path: drawn(game.read(texts[0].string), solution.read(texts[1].string), automaton, cycle)})
+    if not request.quiet:
+        console.tell(f"{path} draws it")
+
+
+def drawn(read, said, automaton, cycle):
+    """All of a small game, else what lies a step from the cycle, or the cycle alone."""
+    for reach in (None, 1, 0):
+        try:
+            return games.picture(read, said, automaton, reach, cycle)
+        except Refused:
+            pass
+    raise Refused(f"the cycle has {len(cycle)} vertices, and a picture of more than {MOST_DRAWN} can't be read")

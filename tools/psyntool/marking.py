@@ -1,0 +1,26 @@
+"""Places of texts as people read them: file, line and column, and the line with a mark below."""
+
+WIDTH = 100
+
+
+def line_and_column(data, offset):
+    """The line and the column of a byte, both from 1."""
+    return data.count(b"\n", 0, offset) + 1, offset - data.rfind(b"\n", 0, offset)
+
+
+def shown(data, offset, width=WIDTH):
+    """The line in which a byte stands, with a mark under the byte."""
+    start = data.rfind(b"\n", 0, offset) + 1
+    stop = data.find(b"\n", offset)
+    line = data[start : len(data) if stop < 0 else stop].decode("utf-8", "replace").replace("\t", " ")
+    column = len(data[start:offset].decode("utf-8", "replace"))
+    cut = max(0, column - width // 2)
+    printable = "".join(sign if sign.isprintable() else "?" for sign in line[cut : cut + width])
+    return [f"  {printable}", "  " + " " * (column - cut) + "^"]
+
+
+def placed(text, offset, what):
+    """A place of a text in its file, and its line."""
+    at = text.place_in_file(offset)
+    row, column = line_and_column(text.original, at)
+    return [f"{text.name}:{row}:{column}: {what}", *shown(text.original, at)]

@@ -1,0 +1,111 @@
+"""Another solver: its command gets a game, and the solution that it writes goes to `judge`."""
+import dataclasses
+import os
+import shlex
+import subprocess
+import tempfile
+
+from psyntool import asking, console, files, judging, program, signals
+from psyntool.command import BY
+from psyntool.ends import Refused, Unwritten
+from psyntool.files import Reader
+from psyntool.kinds import Kind
+
+GAME, SOLUTION = "{game}", "{solution}"
+
+
+def words_of(request):
+    """The words of the command, so that one of no meaning is refused before anything runs."""
+    said = request.value(BY)
+    try:
+        words = shlex.split(said)
+    except ValueError as error:
+        raise Refused(f"{BY.shown}: {said!r} can't be taken apart: {str(error)[:1].lower()}{str(error)[1:]}") from None
+    if not words or {GAME, SOLUTION} & {words[0]}:
+        raise Refused(f"{BY.shown}: {said!r} names no program")
+    return words
+
+
+class Solver:
+    """A solver by its command line."""
+
+    def __init__(self, request):
+        # what goes wrong with the solution is explained as `judge` explains it
+        self.request, self.words = dataclasses.replace(request, command=request.table["judge"]), words_of(request)
+        self.name = os.path.basename(self.words[0])
+
+    def solution(self, game):
+        """The text that the solver writes for a game's text."""
+        with tempfile.TemporaryDirectory() as room:
+            paths = {GAME: os.path.join(room, "game.pg"), SOLUTION: os.path.join(room, "solution")}
+            with open(paths[GAME], "wb") as file:
+                file.write(game.bytes)
+            self.run(paths)
+            original = read(paths[SOLUTION])
+        if not original.strip():
+            raise Unwritten(f"{self.name} wrote no solution")
+        return Reader(self.request).mended(Kind.SOLUTION, f"the solution of {self.name}", original)
+
+    def judged(self, game):
+        """A game's text and the solution of it, and what `judge` answers to them."""
+        texts = [game, self.solution(game)]
+        return texts, program.ask(files.joined("judge", self.request.passed, texts))
+
+    def hand_on(self, texts, answer, path, automaton=None):
+        """Writes what `judge` answers, explains what is wrong, and draws a lost cycle where a path is given; gives the status."""
+        status = asking.hand_on(self.request, texts, answer)
+        judging.draw(self.request, path, answer, texts, automaton)
+        return status
+
+    def run(self, paths):
+        """Runs the command, and waits for its end; what it says goes to standard error, with --quiet nowhere."""
+        words = self.words
+        for sign, path in paths.items():
+            words = [word.replace(sign, path) for word in words]
+        is_named = {sign: any(sign in word for word in self.words) for sign in paths}
+        with (
+            open(os.devnull if is_named[GAME] else paths[GAME], "rb") as given,
+            open(os.devnull, "wb") as nowhere,
+            open(paths[SOLUTION] if not is_named[SOLUTION] else os.devnull, "wb") as written,
+        ):
+            said = nowhere if self.request.quiet else console.ERROR
+            child = None
+            try:
+                signals.hold()
+                child = self.started(words, stdin=given, stdout=said if is_named[SOLUTION] else written, stderr=said)
+                signals.let_go()
+                program.waited_for(child, None)
+            finally:
+                signals.let_go()
+                if child:
+                    end(child)
+        if child.returncode:
+            raise Unwritten(f"{self.name} {ended(child.returncode)}, so there is no solution to judge")
+
+    def started(self, words, **streams):
+        """The command at work, in a group of processes of its own, so that all of them can be ended."""
+        try:
+            return subprocess.Popen(words, process_group=0, preexec_fn=program.before_it_runs(), **streams)
+        except (OSError, ValueError) as error:
+            why = error.strerror if isinstance(error, OSError) else error
+            raise Refused(f"{BY.shown}: {self.words[0]} can't be run: {why}") from None
+
+
+def end(child):
+    """Ends what is left of a solver."""
+    if child.poll() is None:
+        os.killpg(child.pid, signals.KILL)
+    child.wait()
+
+
+def ended(status):
+    return f"was ended by {signals.name_of(-status)}" if status < 0 else f"ended with status {status}"
+
+
+def read(path):
+    """What a solver wrote, no more than the program takes and one byte."""
+    try:
+        with open(path, "rb") as file:
+            return file.read(program.MOST_BYTES + 1)
+    except OSError:
+        return b""
