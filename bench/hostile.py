@@ -1,12 +1,13 @@
 #!/usr/bin/env python3
 """Runs psyn on texts that are made to be hard, and says how long each run takes and how much memory it holds.
 
-  bench/hostile.py PSYN [--only KIND,..] [--commands COMMAND,..] [--seconds N] [--mebibytes N] [--stack KIBIBYTES]
+  bench/hostile.py PSYN [--only KIND,..] [--commands COMMAND,..] [--rungs N] [--seconds N] [--mebibytes N] [--stack KIBIBYTES]
 
-hostile_texts.py says what the kinds are; most texts have 16 MiB. Each is run through each command that takes it, with a stack of
-1,024 KiB, with at most 1,024 MiB of memory (more is refused), and for at most 60 seconds of processor time, if nothing else is
-given. A line for each run has its kind and its number within the kind, the command, the seconds of processor time and by the
-clock, the most memory held (MB), the bytes of the answer, the status and the answer's first line. Behind it stands, where it is so:
+hostile_texts.py says what the kinds are; most texts have 16 MiB, and games by rungs have 40 rungs. Each is run through each
+command that takes it, with a stack of 1,024 KiB, with at most 1,024 MiB of memory (more is refused), and for at most 60 seconds of
+processor time, if nothing else is given. A line for each run has its kind and its number within the kind, the command, the seconds
+of processor time and by the clock, the most memory held (MB), the bytes of the answer, the status and the answer's first line.
+Behind it stands, where it is so:
 
   LARGER    want of memory is the answer that is due: the answer, or counts that it has by definition, are larger
   SLOW      more than 10 seconds of processor time
@@ -28,7 +29,7 @@ import time
 sys.dont_write_bytecode = True
 sys.path.insert(0, os.path.dirname(os.path.abspath(__file__)))
 
-from hostile_texts import KINDS  # noqa: E402
+from hostile_texts import BY_RUNGS, KINDS  # noqa: E402
 
 SLOW = 10
 STATUSES = (0, 1, 2, 10, 20)
@@ -45,10 +46,10 @@ def limits(given):
     return hold
 
 
-def written(kind, room):
+def written(kind, rungs, room):
     """Writes the inputs of a kind to files, and says how each run is called and whether its answer is larger."""
     told = []
-    for number, run in enumerate(kind()):
+    for number, run in enumerate(kind(rungs) if kind in BY_RUNGS else kind()):
         with open(os.path.join(room, f"{number}.input"), "wb") as file:
             # A text that another follows ends before the newline of the line `%%`.
             texts = [text.removesuffix("\n") for text in run.texts[:-1]] + list(run.texts[-1:])
@@ -57,10 +58,10 @@ def written(kind, room):
     return told
 
 
-def written_apart(kind, room):
+def written_apart(kind, rungs, room):
     """The same in a process of its own: what this one holds would be counted as held by those that it starts."""
     with multiprocessing.get_context("fork").Pool(1) as pool:
-        return pool.apply(written, (kind, room))
+        return pool.apply(written, (kind, rungs, room))
 
 
 def measured(given, path):
@@ -97,7 +98,7 @@ def is_wrong(is_larger, status, start):
 def measure_kind(given, kind, counts):
     """Prints a line for each run of a kind, and counts them."""
     with tempfile.TemporaryDirectory() as room:
-        for number, (command, is_larger) in enumerate(written_apart(kind, room)):
+        for number, (command, is_larger) in enumerate(written_apart(kind, given.rungs, room)):
             if given.commands and command not in given.commands.split(","):
                 continue
             status, start, length, used, seconds = measured(given, os.path.join(room, f"{number}.input"))
@@ -123,6 +124,7 @@ def main():
     parser.add_argument("psyn", type=os.path.abspath)
     parser.add_argument("--only", default="")
     parser.add_argument("--commands", default="")
+    parser.add_argument("--rungs", type=int, default=40)
     parser.add_argument("--seconds", type=int, default=60)
     parser.add_argument("--mebibytes", type=int, default=1024)
     parser.add_argument("--stack", type=int, default=1024)

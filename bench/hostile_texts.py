@@ -188,17 +188,95 @@ def fan():
     return on_games(fanned) + on_games(f"0 0 0 0{',0' * (SIZE // 2 - 10)};\n")
 
 
-def ladder():
-    """A ladder of 24 rungs, made for solvers that go down and up again (2^24 calls and more); 120 vertices."""
-    owners, priorities_of = {"a": 1, "b": 0, "c": 1, "d": 0, "e": 0}, {"c": 4, "d": 3, "e": 5}
-    successors = {"a": [("b", 0)], "b": [("a", 0), ("c", 1)], "c": [("b", 0), ("d", 0)], "d": [("e", 0), ("d", -1)], "e": [("b", 1), ("d", 0)]}
+# Games by rungs. A family says of each vertex of a rung, a, b, c and so on, its player, its priority, and where its edges lead: to a
+# vertex of the same rung, or with + of the next one, with - of the one before. Edges past the ends are left out, and a vertex that has
+# none then leads to itself. A priority is low where all rungs have the same ones; else it rises or falls from rung to rung, by a step.
+# Where a family turns, players and low priorities change sides with each rung.
+Family = collections.namedtuple("Family", "step turns vertices")
+
+
+def priority_at(family, kind, number, rung, rungs):
+    if kind == "low":
+        return number ^ (rung % 2) if family.turns else number
+    return number + 2 + family.step * (rung if kind == "rises" else rungs - 1 - rung)
+
+
+def targets_at(family, leads, rung, rungs):
+    """The places to which the edges lead, each once."""
+    places = []
+    for lead in leads.split():
+        to = rung + lead.count("+") - lead.count("-")
+        if 0 <= to < rungs:
+            places.append(to * len(family.vertices) + ord(lead[0]) - ord("a"))
+    return list(dict.fromkeys(places))
+
+
+def game_by_rungs(family, rungs):
     lines = []
-    for i in range(24):
-        for x in "abcde":
-            priority = 3 * i + priorities_of[x] if x in priorities_of else 1 - i % 2
-            targets = [5 * (i + k) + "abcde".index(y) for y, k in successors[x] if 0 <= i + k < 24]
-            lines.append(f"{len(lines)} {priority} {(i + owners[x]) % 2} {','.join(map(str, targets))};\n")
-    return on_games("".join(lines))
+    for rung in range(rungs):
+        for player, kind, number, leads in family.vertices:
+            here = len(lines)
+            targets = targets_at(family, leads, rung, rungs) or [here]
+            owner = player ^ (rung % 2) if family.turns else player
+            lines.append(f"{here} {priority_at(family, kind, number, rung, rungs)} {owner} {','.join(map(str, targets))};\n")
+    return "".join(lines)
+
+
+LADDER = Family(3, True, (
+    (1, "low", 1, "b"), (0, "low", 1, "a c+"), (1, "rises", 2, "b d"), (0, "rises", 1, "e d-"), (0, "rises", 3, "b+ d"),
+))
+SECOND_LADDER = Family(3, True, (
+    (1, "low", 1, "b"), (0, "low", 1, "a c+"), (0, "rises", 2, "b d"), (0, "rises", 3, "e d-"), (0, "rises", 1, "b+ d"),
+))
+TWISTED = Family(3, True, (
+    (0, "low", 1, "a d+"), (0, "low", 1, "f- c-"), (0, "low", 0, "e a h"), (0, "falls", 0, "a b+"),
+    (0, "low", 0, "b+"), (0, "low", 1, "g- a"), (0, "falls", 0, "a-"), (1, "falls", 2, "d b"),
+))
+BRAIDED = Family(1, True, (
+    (0, "low", 1, "d- d f a+"), (1, "rises", 1, "d c"), (0, "low", 0, "b- a a+"),
+    (1, "low", 0, "b+ e+ a"), (1, "low", 1, "b- c+ d+ c b+ f-"), (1, "rises", 0, "d f b e+ b+ e- e"),
+))
+STEEP = Family(3, True, (
+    (0, "rises", 3, "e a d- a-"), (1, "rises", 4, "d e+ c b"), (1, "low", 0, "c b e+"),
+    (1, "rises", 2, "b- e d e- d- a- e+"), (1, "rises", 0, "b- c+ a- e+"),
+))
+SLOW_TO_IMPROVE = Family(4, False, (
+    (0, "rises", 1, "e+ f+"), (1, "rises", 2, "d- f+ b f"), (1, "rises", 3, "a+ c-"),
+    (0, "low", 1, "d c+"), (0, "rises", 4, "b d- b+"), (0, "rises", 3, "e+"),
+))
+
+
+def ladder(rungs=40):
+    """A ladder for solvers that go down and up again: some 2.1 times as many calls for each rung of five vertices."""
+    return on_games(game_by_rungs(LADDER, rungs))
+
+
+def second_ladder(rungs=40):
+    """The same shape with two priorities exchanged and other players: twice as many calls for each rung."""
+    return on_games(game_by_rungs(SECOND_LADDER, rungs))
+
+
+def twisted(rungs=40):
+    """Rungs of eight vertices that stay hard where each call takes components, and for priority promotion."""
+    return on_games(game_by_rungs(TWISTED, rungs))
+
+
+def braided(rungs=40):
+    """The same of six vertices."""
+    return on_games(game_by_rungs(BRAIDED, rungs))
+
+
+def steep(rungs=40):
+    """2.55 times as many calls for each rung of five vertices, the most that was found."""
+    return on_games(game_by_rungs(STEEP, rungs))
+
+
+def slow_to_improve(rungs=40):
+    """Twice as many calls for each rung of six vertices, and rounds of strategy improvement that grow with the rungs."""
+    return on_games(game_by_rungs(SLOW_TO_IMPROVE, rungs))
+
+
+BY_RUNGS = (ladder, second_ladder, twisted, braided, steep, slow_to_improve)
 
 
 def names_of_games():
@@ -316,5 +394,5 @@ def first_lines():
 
 KINDS = (
     label, wide_label, twined_label, condition, states, edges, equal_edges, marks, inputs, cascades, nesting, comments, names, vertices, ids, priorities,
-    fan, ladder, names_of_games, certificates, gates, latches, wires, variables, stimuli, letters_and_gates, counting, inputs_at_the_limit, first_lines,
+    fan, *BY_RUNGS, names_of_games, certificates, gates, latches, wires, variables, stimuli, letters_and_gates, counting, inputs_at_the_limit, first_lines,
 )

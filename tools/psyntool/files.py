@@ -92,6 +92,11 @@ def returns_at_line_ends(kind, text):
     return ends
 
 
+def title_of(path):
+    """How a file is called in messages, on one line."""
+    return "standard input" if path == "-" else path if path.isprintable() else repr(path)
+
+
 class Reader:
     """Reads the files of one command line: all together no more than the program takes, and one byte."""
 
@@ -106,13 +111,13 @@ class Reader:
                 with open(path, "rb") as file:
                     data = file.read(self.left)
             except OSError as error:
-                raise Refused(f"{path}: {error.strerror}") from None
+                raise Refused(f"{title_of(path)}: {error.strerror}") from None
         self.left -= len(data)
         return data
 
     def text(self, kind, path):
         """The text of a file (`-` is standard input), mended as the settings say; a kind FILE is found by how it begins."""
-        name, original = "standard input" if path == "-" else path, self.bytes_of(path)
+        name, original = title_of(path), self.bytes_of(path)
         return self.mended((kind_of(original) or kind) if kind is Kind.FILE else kind, name, original)
 
     def mended(self, kind, name, original):

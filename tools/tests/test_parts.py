@@ -5,13 +5,13 @@ import unittest
 import unittest.mock
 
 from psyntool.ends import Refused
-from psyntool.parts import part
+from psyntool.parts import part, specification
 from psyntool.parts.composing import Composer
 from psyntool.parts.diagrams import Diagrams
 from psyntool.parts.specification import Specification
 from psyntool.program import path as program
-from psyntool.texts import automaton, hoa, labels
-from tests.tool import OnFiles
+from psyntool.texts import Unreadable, automaton, hoa, labels
+from tests.tool import AUTOMATON, OnFiles
 from upkeep import rows, sweeps
 
 LASSOS, SPECIFICATIONS = 1_000, 50
@@ -117,7 +117,8 @@ class Meaning(unittest.TestCase):
                 wanted.append(is_in(*sides, is_strict, stem, lap))
         where = program()
         said = sweeps.at_once(lambda row: rows.answered(where, row)[0].split(b" ")[0], asked)
-        self.assertEqual(said, [b"accepted" if it else b"rejected" for it in wanted])
+        wrong = [row.given.decode() for row, word, it in zip(asked, said, wanted) if word != (b"accepted" if it else b"rejected")]
+        self.assertFalse(wrong, f"{len(wrong)} of {len(asked)} wrong, the first one:\n{''.join(wrong[:1])}")
         self.assertGreater(min(wanted.count(True), wanted.count(False)), LASSOS // 5)
 
 
@@ -195,7 +196,7 @@ class Composed(OnFiles):
         self.file("below/always.hoa", b'HOA: v1 Start: 0 AP: 1 "a" controllable-AP: 0 Acceptance: 0 t --BODY-- State: 0 [0] 0 --END--\n')
         self.file("below/it.parts", b"--guarantee always.hoa # beside it\n")
         text = self.composed(os.path.join("below", "it.parts"))
-        self.assertIn('\npart: "guarantee" "always" "" "" ', text)
+        self.assertIn('\npart: "guarantee" "always" "" "HOA: v1 ', text)
         self.assertIn("[0] 0 {0 1}\n", text)
 
     def test_names_with_signs_of_their_own(self):
@@ -204,12 +205,33 @@ class Composed(OnFiles):
         read = automaton.read(self.composed("--guarantee", "odd.hoa"))
         self.assertEqual((read.names, read.state_names), (('a "b" \\',), {0: 'a "b" \\'}))
 
+    def test_what_is_said_of_a_part_has_its_new_names(self):
+        text = self.composed("--assume", self.stored("stays-until"), "--as", "it=my request", "end=g", "--outs", "g")
+        kept = specification.kept(automaton.read(text)).assumptions[0]
+        self.assertEqual((kept.title, kept.names), ("stays-until(my request,g)", ("my request", "g")))
+        self.assertEqual(kept.sentence, "my request, once true, stays true until g is")
+        self.assertEqual([kept.state_name(state) for state in (0, 1)], ["my request may change", "my request must stay"])
+
+    def test_items_that_compose_did_not_write(self):
+        text = self.composed("--guarantee", self.stored("always"), "--outs", "it")
+        for old, new in (('"guarantee"', '"guarante"'), ('"guarantee" ', ""), ("0 t --BODY", "1 Fin(0) --BODY"), ('\\"it\\" acc', '\\"x\\" acc'), ("--END--\"", '"')):
+            self.assertIn(old, text)
+            with self.assertRaisesRegex(Unreadable, "not written by compose"):
+                specification.kept(automaton.read(text.replace(old, new, 1)))
+        self.assertIsNone(specification.kept(automaton.read(AUTOMATON.decode())))
+
     def test_the_readings_differ_behind_a_broken_guarantee(self):
         words = ["--assume", self.stored("always"), "--as", "it=ok", "--guarantee", self.stored("always"), "--as", "it=g", "--outs", "g"]
         implied, strict = self.composed(*words), self.composed(*words, "--strict")
         self.assertIn('"a guarantee has broken"', implied)
         self.assertNotIn("a guarantee has broken", strict)
         self.assertIn('"an assumption has broken"', strict)
+
+    def test_a_guarantee_that_no_word_meets_is_broken_before_the_first_step(self):
+        self.file("none.hoa", b"HOA: v1 Start: 0 AP: 0 Acceptance: 1 Inf(0) --BODY-- State: 0 [t] 0 --END--\n")
+        words = ["--assume", self.stored("always"), "--guarantee", "none.hoa", "--outs", "it"]
+        self.assertTrue(self.composed(*words, "--strict").endswith('--BODY--\nState: 0 "a guarantee has broken"\n--END--\n'))
+        self.assertIn('[0] 0 {0}\nState: 1 "an assumption has broken"\n', self.composed(*words))
 
     def test_more_states_than_the_program_reads(self):
         ring = "".join(f"State: {state} [t] {(state + 1) % count}\n" for count in (41,) for state in range(count))

@@ -1,5 +1,5 @@
 -- What is told of a solution that was judged.
-use Rattle.std.proofs.Common.{◌≡◌, ◌⊎◌, ◌∙◌, ◌<◌, ℕ, Bool, List, length, Option, Some, None, Result, Ok, Err, IfSome, ⊤}
+use Rattle.std.proofs.Common.{◌≡◌, ◌⊎◌, ◌∙◌, ◌<◌, ℕ, Bool, List, length, Option, Some, None, Result, Ok, Err, IfSome}
 use Rattle.std.proofs.Common.{refl, sym, ap, subst, inl, inr, arith, rules, zero, suc}
 use Rattle.std.specs.List.{All}
 use Rattle.std.proofs.lemmas.List.{get_or_default}
@@ -18,6 +18,7 @@ use Rattle.ps_referee.specs.Solutions.{claimed, IsCertificateOf, IsCycleOf, IsRe
 use Rattle.ps_referee.proofs.Claims.{choice_is}
 use Rattle.ps_solution.specs.Reading.{ReadsSolution}
 use Rattle.ps_solution.specs.Solved.{SolutionData, AreMoves}
+use Rattle.ps_program.specs.declared.answer.Answer.{Answer}
 use Rattle.ps_program.specs.declared.answer.Refusal.{Refusal}
 use Rattle.ps_program.specs.declared.answer.Refusal.TheVariants as refusal
 use Rattle.ps_program.specs.Faults.{fault_text}
@@ -60,14 +61,14 @@ module _ (named : NamedGameData) (given : SolutionData) (is_game : IsGame named.
   abbrev count : ℕ
   count = vertex_count named.game
 
-  move_within : (v : ℕ) → IfSome (move_at given.moves v) (λ w. w < count)
-  move_within v = search rules
+  move_within : (v : ℕ) → v < count → IfSome (move_at given.moves v) (λ w. w < count)
+  move_within v below = places.within v None (subst (λ n. v < n) (sym places.moves) below)
 
   choice_within : (v : ℕ) → v < count → IfSome (choice_of (claim named given) v) (λ w. w < count)
   choice_within v below = grind (
     arith,
     choice_is named.game given.won given.moves given.moves v below,
-    move_within v,
+    move_within v below,
     cases_Bool (has given.won v),
   )
 
@@ -96,6 +97,14 @@ module _ (named : NamedGameData) (given : SolutionData) (is_game : IsGame named.
   refusal_told compact (BadCycle player cycle) refusal.OutOfMemory h told = tt
   refusal_told compact OutOfMemory (refusal.Fault line) h told = absurd told
   refusal_told compact OutOfMemory refusal.OutOfMemory h told = tt
+
+  pub certificate_told : (compact : Bool) (certificate : CertificateData) (text : List ℕ) (answer : Answer) →
+      IsSolution named.game given.won given.moves given.moves →
+      IsCertificateOf named.game given.won given.moves given.moves certificate →
+      text ≡ text_in compact named certificate → reply_of answer ≡ text_reply text →
+      Gives reply_of (Judges compact named given) (Ok answer)
+  certificate_told compact certificate text answer holds is written told =
+      (holds, (certificate, is, told ∙ ap text_reply written))
 
 -- ---- one answer
 
@@ -141,7 +150,7 @@ module _ (flaws : OneFlaw) (certificates : OneJudged) (apart : NoFlawAndCycle) (
 
   pub judges_one_or : (compact : Bool) (x y : Result Reply (List ℕ)) → Judges compact named given x →
       Judges compact named given y → (x ≡ y) ⊎ (LosesCycle named given × ((line : List ℕ) × (x ≡ Err line)))
-  judges_one_or compact (Ok r) (Ok t) (s, c, is, e) (s', c', is', e') = inl (ap (ok_of {V = Reply} {E = List ℕ}) (e
+  judges_one_or compact (Ok r) (Ok t) (s, (c, is, e)) (s', (c', is', e')) = inl (ap (ok_of {V = Reply} {E = List ℕ}) (e
       ∙ ap (λ d. text_reply (text_in compact named d)) (certificates named.game given.won given.moves given.moves c c'
       is is') ∙ sym e'))
   judges_one_or compact (Ok r) (Err m) (s, h) (is_game, refused) = absurd (not_refused is_game s refused)
@@ -149,5 +158,5 @@ module _ (flaws : OneFlaw) (certificates : OneJudged) (apart : NoFlawAndCycle) (
   judges_one_or compact (Err l) (Err m) (is_game, refused) (is_game', refused') =
       elim (refused_one is_game refused refused') [
         | inl same ↦ inl (ap (err_of {V = Reply} {E = List ℕ}) same)
-        | inr lost ↦ inr (lost, l, refl)
+        | inr lost ↦ inr (lost, (l, refl))
       ]

@@ -202,11 +202,7 @@ pub fn flaw_line(game: &NamedGame, flaw: Flaw) -> FaultLine
 /// # Errors
 ///
 /// Fails where a growth was refused.
-pub fn ids_of(
-    alloc: Global,
-    game: &NamedGame,
-    vertices: &[usize],
-) -> Result<Vec<u64>, AllocError>
+pub fn ids_of(alloc: Global, game: &NamedGame, vertices: &[usize]) -> Result<Vec<u64>, AllocError>
     requires { All (λ v. v < vertex_count game.now.game) vertices.now }
     ensures { IfOk result (λ ids. ids.items ≡ map (λ v. slice_index game.now.ids v) vertices.now) }
 {

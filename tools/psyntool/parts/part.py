@@ -24,12 +24,11 @@ class Move(NamedTuple):
 
 @dataclass(frozen=True, eq=False)
 class Part:
-    """Its title, what it says in a sentence or nothing, its automaton with new names, and its text with what was renamed."""
+    """Its title, what it says in a sentence or nothing, its automaton, and its text."""
 
     title: str
     sentence: str
     automaton: automaton.Automaton
-    renamed: dict
     text: str
 
     @property
@@ -46,15 +45,14 @@ class Part:
         return "controllable-AP:" in self.automaton.headers
 
     def state_name(self, state):
-        """The state's name, with new names; or its number behind the part's title, or nothing where there is no other state."""
-        name = spoken(self.automaton.state_names.get(state, ""), self.renamed)
+        """The state's name; or its number behind the part's title, or nothing where there is no other state."""
+        name = self.automaton.state_names.get(state)
         return name or (f"{self.title}:{state}" if len(self.automaton.states) > 1 else "")
 
     @property
     def item(self):
         """The words of the header item by which a composed automaton keeps the part."""
-        renames = " ".join(f"{old}={new}" for old, new in self.renamed.items())
-        return (self.title, self.sentence, renames, self.text)
+        return (self.title, self.sentence, self.text)
 
 
 def part_of(stem, sentence, renamed, text):
@@ -69,29 +67,42 @@ def part_of(stem, sentence, renamed, text):
     twice = next((name for name in names if names.count(name) > 1), None)
     if twice is not None:
         raise Refused(f"two of its propositions would be {twice}")
-    title = f"{stem}({','.join(names)})" if renamed else stem
-    whole = " ".join(token.text for token in hoa.tokens_of(text))
+    text = with_names(text, renamed)
+    read = automaton.read(text)
     said = hoa.unquoted(" ".join(read.headers.get("name:", ['""'])))
-    part = Part(title, sentence or spoken(said, renamed), automaton.renamed(read, names), renamed, whole)
+    part = Part(f"{stem}({','.join(names)})" if renamed else stem, sentence or said, read, text)
     Moves(part, {name: number for number, name in enumerate(names)}, Diagrams())
     return part
 
 
-def spoken(said, renamed):
-    """What is said of an automaton or of a state, with the new names where it speaks of propositions."""
-    return re.sub(r"\w+", lambda word: renamed.get(word[0], word[0]), said)
+def with_names(text, renamed):
+    """The text in one line, without comments, with the new names; what is said of the automaton and of its states has them too."""
+    words, is_listed = [], False
+    for token in (it.text for it in hoa.tokens_of(text)):
+        if token.startswith('"'):
+            said = hoa.unquoted(token)
+            new = renamed.get(said, said) if is_listed else re.sub(r"\w+", lambda word: renamed.get(word[0], word[0]), said)
+            token = token if new == said else quoted(new)
+        elif token.endswith(":"):
+            is_listed = token == "AP:"
+        words.append(token)
+    return " ".join(words)
 
 
-def from_item(words):
-    """The part that such a header item keeps."""
-    title, sentence, renames, text = words
-    renamed = dict(word.split("=", 1) for word in renames.split())
+def quoted(text):
+    """A string as HOA texts have it."""
+    return '"' + text.replace("\\", "\\\\").replace('"', '\\"') + '"'
+
+
+def from_item(title, sentence, text, names):
+    """The part that such a header item keeps; its propositions are among these names."""
     try:
         read = automaton.read(text)
     except Unreadable:
-        raise Unreadable("an item `part:` of this automaton was not written by compose") from None
-    names = tuple(renamed.get(name, name) for name in read.names)
-    return Part(title, sentence, automaton.renamed(read, names), renamed, text)
+        read = None
+    if read is None or read.condition not in (SAFETY, BUCHI) or not set(names).issuperset(read.names):
+        raise Unreadable("an item `part:` of this automaton was not written by compose")
+    return Part(title, sentence, read, text)
 
 
 class Moves:

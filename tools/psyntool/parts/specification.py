@@ -14,6 +14,8 @@ from psyntool.parts import part
 from psyntool.texts import Unreadable, automaton, hoa
 
 MOST_PROPOSITIONS = 64
+# Of a header item `part:`: the side, the title, the sentence and the text.
+WORDS_OF_AN_ITEM = 4
 FLAGS = {flag.name: flag for flag in OF_PARTS}
 # A circuit that has no name of any automaton: the program judges the automaton first.
 NO_CIRCUIT = b"aag 0 0 0 0 0\n%%\n-\n"
@@ -223,11 +225,12 @@ def kept(read):
     if not tokens:
         return None
     said = [hoa.unquoted(token) for token in tokens]
-    if len(said) % 5 or any(side not in ("assume", "guarantee") for side in said[::5]):
+    if len(said) % WORDS_OF_AN_ITEM or any(side not in ("assume", "guarantee") for side in said[::WORDS_OF_AN_ITEM]):
         raise Unreadable("an item `part:` of this automaton was not written by compose")
     sides = {"assume": [], "guarantee": []}
-    for at in range(0, len(said), 5):
-        sides[said[at]].append(part.from_item(said[at + 1 : at + 5]))
+    for at in range(0, len(said), WORDS_OF_AN_ITEM):
+        side, title, sentence, text = said[at : at + WORDS_OF_AN_ITEM]
+        sides[side].append(part.from_item(title, sentence, text, read.names))
     mine = frozenset(read.names[number] for number in read.controllable)
     is_strict = read.headers.get("reading:") == ["strict"]
     return Specification(tuple(sides["assume"]), tuple(sides["guarantee"]), read.names, mine, is_strict)

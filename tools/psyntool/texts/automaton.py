@@ -1,5 +1,5 @@
 """Automata, as texts of the Hanoi Omega-Automata format have them."""
-from dataclasses import dataclass, field, replace
+from dataclasses import dataclass, field
 from functools import cached_property
 
 from psyntool.texts import hoa, labels
@@ -79,8 +79,3 @@ def place_without_owners(text):
         if token.text == "--BODY--":
             return token.offset
     return None
-
-
-def renamed(read, names):
-    """The same automaton with other names for its propositions."""
-    return replace(read, names=names)

@@ -43,12 +43,7 @@ fn judged(
 {
     let Solution { won, moves } = solution;
     match ps_referee::judge(alloc, game.game(), won, moves, moves) {
-        Ok(certificate) => Ok(Answer::text(certificate_text(
-            alloc,
-            &certificate,
-            game,
-            compact,
-        )?)),
+        Ok(certificate) => Ok(Answer::text(certificate_text(alloc, &certificate, game, compact)?)),
         Err(fault) => Err(refused(alloc, game, fault)),
     }
 }
