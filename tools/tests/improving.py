@@ -1,13 +1,9 @@
 #!/usr/bin/env python3
-"""A solver of parity games that owes psyn nothing: strategy improvement.
+"""A solver of parity games that owes psyn nothing: improving.py GAME SOLUTION. It improves strategies, once for each player.
 
-  improving.py GAME SOLUTION [winner|move|half]
-
-With a word behind it errs: it exchanges a winner, takes other moves, or leaves the second half of the vertices out.
-
-A player may stop wherever it owns a vertex. A play that stops is worth the sum of its weights, N to the power of a priority's
-rank, and less than 0 where the other player wants it; one that goes on for ever is worth more than all, or less. As long as an
-edge is worth more than the move, the move is changed; what is then worth more than all is won.
+A priority counts more than all lower ones of a play, for the player of its parity and against the other one. The player may stop
+at each vertex that it owns, and begins so; a play that stops is worth the sum of what it met. As long as an edge leads to what is
+worth more than the move, it becomes the move. Where no play stops then, and none is lost, the player wins.
 """
 import re
 import sys
@@ -52,29 +48,19 @@ def won_by(game, player):
         moves.update(better)
 
 
-def erring(game, solved, word):
-    """The solution with the first winner exchanged, with other moves inside what each wins, or with half of the vertices."""
-    winners = {v: winner for v, (winner, _) in solved.items()}
-    if word == "half":
-        return dict(list(solved.items())[: len(solved) // 2])
-    if word == "winner":
-        first = next(iter(solved))
-        solved[first] = (1 - winners[first], None)
-    for v, (winner, move) in solved.items() if word == "move" else ():
-        others = [w for w in game[v][2] if move is not None and w != move and winners[w] == winner]
-        solved[v] = (winner, others[0] if others else move)
-    return solved
+def solve(game):
+    """By id the winner and its move or None."""
+    solved = {v: (player, move) for player in (0, 1) for v, move in won_by(game, player).items()}
+    return {v: solved[v] for v in game}
 
 
-def main(game_path, solution_path, word=""):
+def main(answer, game_path, solution_path):
     with open(game_path, encoding="utf-8") as file:
         game = read(file.read())
-    solved = {v: (player, move) for player in (0, 1) for v, move in won_by(game, player).items()}
-    solved = erring(game, {v: solved[v] for v in game}, word)
-    lines = [f"{v} {winner}{'' if move is None else f' {move}'};\n" for v, (winner, move) in solved.items()]
+    lines = [f"{v} {winner}{'' if move is None else f' {move}'};\n" for v, (winner, move) in answer(game).items()]
     with open(solution_path, "w", encoding="utf-8") as file:
         file.write(f"paritysol {max(game)};\n" + "".join(lines))
 
 
 if __name__ == "__main__":
-    main(*sys.argv[1:])
+    main(solve, *sys.argv[1:])

@@ -5,16 +5,22 @@ import shlex
 import sys
 
 from psyntool import families
+from psyntool.program import ask
 from psyntool.program import path as program
+from psyntool.texts import game
+from tests import improving
 from tests.tool import AUTOMATON, OnFiles
 
-SOLVER = os.path.join(os.path.dirname(os.path.abspath(__file__)), "improving.py")
+SOLVER, ERRING = (os.path.join(os.path.dirname(os.path.abspath(__file__)), name) for name in ("improving.py", "erring.py"))
+# Of changed solutions.
+COUNT = 1000
 # Player 0 goes round 0 and 1 or away to 2; by the loop of 2, and by 0 and 1, it wins; at 3 it loses.
 GAME = b'0 1 0 1,0 "a";\n1 2 1 0,2;\n2 4 0 2;\n3 1 1 3,0 "d";\n'
 
 
-def by(word="", solver=SOLVER):
-    return f"{shlex.quote(sys.executable)} {shlex.quote(solver)} {{game}} {{solution}} {word}".strip()
+def by(word=""):
+    """The command of the solver, or of the one that errs, with how."""
+    return f"{shlex.quote(sys.executable)} -B {shlex.quote(ERRING if word else SOLVER)} {{game}} {{solution}} {word}".strip()
 
 
 def small(seed):
@@ -23,6 +29,43 @@ def small(seed):
     count = draw.randint(2, 12)
     rows = [(draw.randrange(6), draw.randrange(2), [draw.randrange(count) for _ in range(draw.randint(1, 3))]) for _ in range(count)]
     return families.game_of(rows).text().encode()
+
+
+def is_right(read, entries):
+    """Whether each player holds what it is said to win, by a plain search for edges that leave it and for cycles that it loses."""
+    remaining = {}
+    for vertex in read.vertices:
+        winner, move = entries[vertex.identity]
+        remaining[vertex.identity] = [move] if vertex.owner == winner else list(vertex.successors)
+        if move not in vertex.successors and vertex.owner == winner or any(entries[to][0] != winner for to in remaining[vertex.identity]):
+            return False
+    priorities = {vertex.identity: vertex.priority for vertex in read.vertices}
+    return not any(
+        comes_back(remaining, {v for v in priorities if priorities[v] <= priorities[begin]}, begin)
+        for begin in priorities
+        if priorities[begin] % 2 != entries[begin][0]
+    )
+
+
+def comes_back(remaining, inside, begin):
+    """Whether a path of at least one edge leads from a vertex to itself, inside a set."""
+    seen, waiting = set(), [begin]
+    while waiting:
+        for to in remaining[waiting.pop()]:
+            if to == begin:
+                return True
+            if to in inside and to not in seen:
+                seen.add(to)
+                waiting.append(to)
+    return False
+
+
+def changed(draw, read, entries):
+    """The entries with another winner, or another move, at one vertex."""
+    one = draw.choice(read.vertices)
+    winner, move = entries[one.identity]
+    other = (1 - winner, move) if draw.randrange(2) else (winner, draw.choice([None, *one.successors]))
+    return {**entries, one.identity: other}
 
 
 def winners(certificate):
@@ -37,18 +80,18 @@ class Solving(OnFiles):
     def test_its_solution_becomes_a_certificate(self):
         games = [GAME, *map(small, range(8)), families.game_of(families.ladder(6)).text().encode()]
         for number, text in enumerate(games):
-            game = self.file("game", text)
-            done = self.tool("solve", "--by", by(), game)
+            path = self.file("game", text)
+            done = self.tool("solve", "--by", by(), path)
             self.assertEqual((done.stderr, done.returncode), (b"", 0), number)
-            self.assertEqual(self.tool("check", game, "-", given=done.stdout).stdout, b"valid\n")
-            self.assertEqual(winners(done.stdout), winners(self.tool("solve", game).stdout))
-        compact = self.tool("solve", "--compact", "--quiet", "--by", by(), game).stdout
+            self.assertEqual(self.tool("check", path, "-", given=done.stdout).stdout, b"valid\n")
+            self.assertEqual(winners(done.stdout), winners(self.tool("solve", path).stdout))
+        compact = self.tool("solve", "--compact", "--quiet", "--by", by(), path).stdout
         self.assertTrue(compact.startswith(b"psyncert 2\n"))
 
     def test_standard_streams_serve_too(self):
-        game = self.file("game", GAME)
+        path = self.file("game", GAME)
         shell = "sh -c 'cat > in.pg; exec \"$0\" \"$1\" in.pg /dev/stdout' {} {}".format(sys.executable, SOLVER)
-        self.assertEqual(self.tool("solve", "--by", shell, game).stdout, self.tool("solve", "--by", by(), game).stdout)
+        self.assertEqual(self.tool("solve", "--by", shell, path).stdout, self.tool("solve", "--by", by(), path).stdout)
 
     def test_its_solution_becomes_a_circuit(self):
         automaton, prefix = self.file("automaton", AUTOMATON), os.path.join(self.room, "out")
@@ -68,10 +111,26 @@ class Solving(OnFiles):
 
     def test_what_solve_finds_comes_back_byte_for_byte(self):
         for name, (rule, _) in families.FAMILIES.items():
-            game = self.file("game", families.game_of(rule(6)).text().encode())
-            solved = self.tool("solve", game).stdout
-            made = self.tool("solution", game, self.file("cert", solved)).stdout
-            self.assertEqual(self.tool("judge", game, "-", given=made).stdout, solved, name)
+            path = self.file("game", families.game_of(rule(6)).text().encode())
+            solved = self.tool("solve", path).stdout
+            made = self.tool("solution", path, self.file("cert", solved)).stdout
+            self.assertEqual(self.tool("judge", path, "-", given=made).stdout, solved, name)
+
+
+    def test_changed_solutions_are_judged_as_a_plain_search_judges_them(self):
+        draw, wrong, counts = random.Random(64), [], {True: 0, False: 0}
+        for seed in range(COUNT):
+            read = game.read(small(seed).decode())
+            solved = improving.solve(improving.read(read.text()))
+            entries = changed(draw, read, solved) if seed % 5 else solved
+            text = "".join(f"{v} {winner}{'' if move is None else f' {move}'};\n" for v, (winner, move) in entries.items())
+            answer = ask(f"judge\n{read.text()}%%\n{text}".encode())
+            right = is_right(read, entries)
+            counts[right] += 1
+            if answer.is_fault == right or answer.is_fault and not answer.text[6:8] in ("40", "50", "51"):
+                wrong.append((seed, text, answer.text))
+        self.assertEqual(wrong, [])
+        self.assertGreater(min(counts.values()), COUNT // 5)
 
 
 class Erring(OnFiles):
@@ -80,8 +139,8 @@ class Erring(OnFiles):
         return done.stdout.decode(), done.stderr.decode().splitlines(), done.returncode
 
     def test_a_solver_that_errs_is_told_with_its_cycle(self):
-        game, picture = self.file("game", GAME), os.path.join(self.room, "lost.dot")
-        done = self.tool("solve", "--by", by("move"), "--picture", picture, game)
+        path, picture = self.file("game", GAME), os.path.join(self.room, "lost.dot")
+        done = self.tool("solve", "--by", by("move"), "--picture", picture, path)
         self.assertEqual((done.stdout, done.returncode), (b"fault 40 BadCycle 0\n", 1))
         told = [
             "by the solution of python player 0 wins these vertices; it loses the cycle, whose greatest priority 1 is odd:",
