@@ -56,7 +56,5 @@ pub use laws::{
     winners_are_one,
 };
 pub use row::Row;
-pub use text::{
-    certificate_text_has_one_answer, certificate_text_has_some_answer, ids_of, read,
-};
+pub use text::{certificate_text_has_one_answer, certificate_text_has_some_answer, ids_of, read};
 pub use writer::{write, write_compact};

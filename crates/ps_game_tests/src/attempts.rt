@@ -11,7 +11,8 @@ use std::test::Fail;
 const BOTH: &[u8] = b"0 1 0 0,1; 1 2 1 0; 2 3 0 3; 3 0 1 2,0; 4 5 1 1,2;";
 
 /// Two rungs of a ladder and a loop that player 1 wins, which is a component of its own.
-const RUNGS: &[u8] = b"0 1 1 1; 1 1 0 0,7; 2 4 1 1,3; 3 3 0 4; 4 5 0 6,3; 5 0 0 6; 6 0 1 5; 7 7 0 6,8; 8 6 1 9,3;
+const RUNGS: &[u8] =
+    b"0 1 1 1; 1 1 0 0,7; 2 4 1 1,3; 3 3 0 4; 4 5 0 6,3; 5 0 0 6; 6 0 1 5; 7 7 0 6,8; 8 6 1 9,3;
     9 8 1 8; 10 1 1 10;";
 
 /// Whether two regions have the same vertices.

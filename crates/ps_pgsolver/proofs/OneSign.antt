@@ -45,15 +45,17 @@ one_reads {F} {V} number syntax {take} {Bad} s {w} sw answer fits none old {new}
     known t h x q (bad f b least y) = subst Goal (sym y) (search (rules, meets_bad_next, at))
     known t h x q (refused k good y) = subst Goal (sym y)
         (meets_refusal found_of (sign_causes number syntax) take Bad (λ z. z) old new s w sw
-            (λ u g. ap take (same_some u t (sym g ∙ h))
+        (λ u g. ap take (same_some u t (sym g ∙ h))
         ∙ k) (λ u f g b. good f (subst (λ z. Bad z f) (same_some u t (sym g ∙ h)) b)) (faults.Text syntax at)
         (sym (ap (λ o. Some (record { cause = refusal_of (sign_causes number syntax) o; offset = at })) h)))
 
     ended : next_of old ≡ None → Goal (Err (faults.Text syntax at))
     ended h = meets_refusal found_of (sign_causes number syntax) take Bad (λ z. z) old new s w sw
         (λ u g. absurd (none_is_some u (sym h ∙ g))) (λ u f g b. absurd (none_is_some u (sym h ∙ g)))
-        (faults.Text syntax at) (sym (ap (λ o. Some (record { cause = refusal_of (sign_causes number syntax) o;
-            offset = at })) h))
+        (faults.Text syntax at) (sym (ap (λ o. Some (record {
+          cause = refusal_of (sign_causes number syntax) o;
+          offset = at;
+        })) h))
 
     go : (o : Option Sign) → next_of old ≡ o → Goal r
     go None h = grind (arith, ended h)

@@ -75,7 +75,7 @@ successor_fits known _ at = refused refl (λ f b. b) refl
 same_fits : {V : Type 0} {take : Sign → Option V} {Bad Bad' : Sign → PgCause → Type 0}
     {t : Sign} {at : ℕ} {r : Result V PgFault} → ((f : PgCause) → Bad' t f → Bad t f) →
     ((f : PgCause) → Bad t f → Bad' t f) → Fits cause_number causes.Syntax take Bad t at r →
-        Fits cause_number causes.Syntax take Bad' t at r
+    Fits cause_number causes.Syntax take Bad' t at r
 same_fits back on (taken v e good y) = taken v e (λ f b. good f (back f b)) y
 same_fits back on (bad f b least y) = bad f (on f b) (λ g c. least g (back g c)) y
 same_fits back on (refused e good y) = refused e (λ f b. good f (back f b)) y

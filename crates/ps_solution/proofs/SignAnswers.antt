@@ -123,7 +123,7 @@ module _ (old : Stream Sign) {new : Stream Sign} (rest : new ≡ tail old) where
   unfolding successor
   reads_successor ids = one_reads cause_number Syntax (Number 0) refl (value_answer (successor_of_number ids))
       (value_fits (place_of ids) (IsUnknown ids) (successor_of_number ids) (successor_verdict ids))
-          (λ at. refl) old rest
+      (λ at. refl) old rest
 
   pub reads_semicolon : {r : Result (Unit {0}) CertFault} →
       r ≡ semicolon_answer (next_of old) (offset_of old.pieces old.end) → ReadsAs (λ u. u) semicolon old r new
