@@ -4,7 +4,7 @@ A `[[line]]` has
 
   name      what it shows; no other one has it
   defect    which report of a defect it keeps away, if one does
-  command   what bash runs in a folder with `ladder.pg` and the files of `FILES` and `PROGRAMS`; `psyn` is the tool, `install-psyn` tools/install
+  command   what bash runs in a folder with `slow.pg` and the files of `FILES` and `PROGRAMS`; `psyn` is the tool, `install-psyn` tools/install
   cut       what comes in between: Ctrl-C, TERM, HUP or KILL once the program is at work, or `closed pipe`, an output that
             nobody reads; none where the command says all
   output    what it writes on standard output; where it is not given, that is not looked at
@@ -24,14 +24,17 @@ import termios
 import time
 import tomllib
 
-from psyntool import families
 from upkeep.sweeps import TOP
+
+sys.path.insert(0, os.path.join(TOP, "bench"))
+
+import hostile_texts  # noqa: E402
 
 KEYS = {"name", "defect", "command", "cut", "output", "error", "status", "files"}
 SIGNALS = {"TERM": signal.SIGTERM, "HUP": signal.SIGHUP, "KILL": signal.SIGKILL}
 SECONDS = 300
-# A game on which psyn is at work for days.
-RUNGS = 60
+# A game on which psyn is at work for minutes.
+RUNGS = 300
 FILES = ("arbiter.hoa", "grant.hoa", "delay.hoa", "loop.pg", "loop.cert", "stays.cert", "toggle.aag", "lamp.aag", "presses.stim")
 # Programs in the place of psyn: one that is long at work, psyn itself with its number told, one that a signal ends in its answer,
 # one that says nothing, one that says something else, one that says half an answer, and a file that is no program.
@@ -64,8 +67,8 @@ def started(tool):
 
 def furnish(room):
     """Puts the files and the programs into a folder, and the tool beside it."""
-    with open(os.path.join(room, "ladder.pg"), "w", encoding="utf-8") as file:
-        file.write(families.game_of(families.ladder(RUNGS)).text())
+    with open(os.path.join(room, "slow.pg"), "w", encoding="utf-8") as file:
+        file.write(hostile_texts.game_by_rungs(hostile_texts.SLOW_TO_IMPROVE, RUNGS))
     for name in FILES:
         with open(os.path.join(TOP, "examples", "files", name), "rb") as source, open(os.path.join(room, name), "wb") as file:
             file.write(source.read())
