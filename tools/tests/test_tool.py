@@ -32,7 +32,7 @@ class Commands(OnFiles):
         turned = self.tool("lasso", "--env", automaton, circuit, stimulus)
         self.assertEqual((turned.stdout, turned.returncode), (b"fault 72 Symbols\n", 1))
         self.assertIn(b"the symbols are those of a controller: ask without --env\n", turned.stderr)
-        self.assertIn(b"cause: for `lasso` the symbols", turned.stderr)
+        self.assertIn(b"cause: for `lasso`, the symbols", turned.stderr)
 
     def test_synth_reads_an_automaton_and_with_its_flag_a_certificate(self):
         automaton = self.file("automaton", b"HOA: v1 Start: 0 controllable-AP: Acceptance: 0 t --BODY-- State: 0 0 --END--")

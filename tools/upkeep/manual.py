@@ -7,33 +7,33 @@ from psyntool.table import COMMANDS
 
 ABOUT = """\
 psyn turns a deterministic parity automaton into a sequential circuit: a controller, or an environment that defeats every
-finite-state controller. It makes, solves and checks parity games, and runs circuits. Each answer of the program is proved right, by
-contracts: it is written in Rattle.
+finite-state controller. It also makes, solves and checks parity games, and runs circuits. Every answer of the program is proved
+right: it is written in Rattle, whose functions have contracts that a prover checks.
 PP
-`psyn` is the tool that takes files by their names (`-` is standard input) and explains faults. The program behind it reads
-the command, a newline and the texts, with a line %% between two of them, from standard input, and takes no arguments.
+`psyn` is the tool that takes files by their names (`-` is standard input) and explains faults. It runs a program that takes no
+arguments. That program reads from standard input: the command, a newline, and the input texts, separated by lines %%.
 """
 FORMATS = {
-    "automaton": "Hanoi Omega-Automata format, version v1, with `controllable-AP:`, the numbers of the controller's propositions. It is "
-    "deterministic, and its acceptance is a parity chain: parity min or max, Buchi, co-Buchi, one Rabin or Streett pair.",
-    "part": "an automaton of one rule: its acceptance is `0 t` or `1 Inf(0)`, a letter without an edge breaks it, and it need not say "
-    "whose its propositions are.",
-    "list": "the words of a command line of compose, in lines; files stand beside the list, `#` begins a comment, and a comment is the "
-    "sentence of the parts below it, up to an empty line.",
-    "game": "PGSolver's format: for each vertex its id, priority, owner (0 or 1), successors and a name in quotes or none, and a "
-    "semicolon. Player 0 wins where the greatest priority seen infinitely often is even.",
+    "automaton": "Hanoi Omega-Automata format, version v1, with `controllable-AP:`, which lists the numbers of the controller's propositions. "
+    "It is deterministic, and its acceptance is a parity chain: parity min or max, Buchi, co-Buchi, one Rabin or Streett pair.",
+    "part": "an automaton of one rule. Its acceptance is `0 t` or `1 Inf(0)`, and a letter without an edge breaks it. It need not say "
+    "who controls its propositions.",
+    "list": "the words of a command line of compose, in lines. Files are relative to the folder of the list. `#` begins a comment, which is "
+    "the sentence of the parts that follow it, up to an empty line.",
+    "game": "PGSolver's format: for each vertex its id, priority, owner (0 or 1), successors, optionally a name in quotes, and a "
+    "semicolon. Player 0 wins if the greatest priority that occurs infinitely often is even.",
     "certificate": "psyn's own: the lines `psyncert 1` (or 2, compact), `vertices N`, `odd ..`, `even ..`, and for each vertex its id, "
-    "winner, move or `-`, and a count for each priority by which the winner loses.",
-    "solution": "PGSolver's: `paritysol N;` or nothing, and for each vertex its id, winner, a move or none, and a semicolon.",
-    "circuit": "AIGER 1.9 in ASCII (`aag`), without properties; the tool takes the binary form (`aig`) too.",
-    "stimulus": "a line for each letter, with a digit 0 or 1 for each input; of lasso, a line `-` between the stem and the lap.",
+    "winner, move or `-`, and a count for each priority by which the winner would lose.",
+    "solution": "PGSolver's: optionally `paritysol N;`, and for each vertex its id, its winner, optionally a move, and a semicolon.",
+    "circuit": "AIGER 1.9 in ASCII (`aag`), without properties; the tool also accepts the binary form (`aig`).",
+    "stimulus": "a line for each letter, with a digit 0 or 1 for each input; for lasso, a line `-` between the stem and the lap.",
 }
 STATUSES = {
     "0": "an answer",
     "10": "REALIZABLE: a controller's circuit follows",
     "20": "UNREALIZABLE: an environment's circuit follows",
-    "1": "a fault, or an answer that could not be written whole",
-    "2": "a command line or a file that is refused",
+    "1": "a fault, or an answer that could not be written completely",
+    "2": "the command line or a file was refused",
     "130": "ended by Ctrl-C; 143 by TERM and 129 by HUP",
 }
 
@@ -60,10 +60,10 @@ def page():
     section("DESCRIPTION", re.sub(r"(?m)^PP$", ".PP", plain(ABOUT)))
     section("COMMANDS", *(entry(it.usage, it.says + ".") for it in COMMANDS.values() if it.is_of_the_program))
     section("COMMANDS OF THE TOOL ALONE", *(entry(it.usage, it.says + ".") for it in COMMANDS.values() if not it.is_of_the_program))
-    section("FLAGS", "Flags stand anywhere; behind \\fB\\-\\-\\fR no word is one.\n", *(entry(name, f"{says}.") for name, says in flags_told(COMMANDS)))
+    section("FLAGS", "Flags may stand anywhere; after \\fB\\-\\-\\fR no word is a flag.\n", *(entry(name, f"{says}.") for name, says in flags_told(COMMANDS)))
     section("FORMATS", *(entry(name, says) for name, says in FORMATS.items()))
     section("EXIT STATUS", *(entry(status, says + ".") for status, says in STATUSES.items()))
     told = [(f"{fault.number or ''} {fault.name}".strip(), fault.entries["Cause"]) for fault in faults.read_document()]
-    section("FAULTS", "One line in place of the answer: `fault`, a number and a name, and where it stands.\n".replace("`", ""), *(entry(*it) for it in told))
-    section("ENVIRONMENT", entry("PSYN", "the program, where it is not the one that was installed or built."))
+    section("FAULTS", "A fault is one line in place of the answer: `fault`, a number and a name, and its place.\n".replace("`", ""), *(entry(*it) for it in told))
+    section("ENVIRONMENT", entry("PSYN", "the program, if it is not the one that was installed or built."))
     return "".join(parts)

@@ -12,7 +12,7 @@ def run(request):
     texts = request.texts()
     read, given = circuit.read(texts[0].string), stimulus.read(texts[1].string)
     if given.lap == ():
-        raise Refused(f"{texts[1].name}: no letter stands behind the line `-`, so there is nothing that comes again and again")
+        raise Refused(f"{texts[1].name}: no letter follows the line `-`, so there is nothing that repeats")
     if given.lap is None:
         answer, lap_from = simulated(texts, [*given.stem]), None
     else:
