@@ -1,7 +1,7 @@
-"""Documents as tests see them: their lines, cells and sentences, their links, and the commands that they show.
+"""Documents as tests see them: their lines and sentences, their links, and the commands that they show.
 
-A fence that begins with ```console shows commands, each behind `$ ` (its further lines behind `> `), and below each what it
-prints, on standard output and standard error. ```console foreign shows commands of other tools, and ```console gate those
+A fence that begins with ```console shows commands. Each is marked by `$ ` (its further lines by `> `), and what it prints
+on standard output and standard error follows it. ```console foreign shows commands of other tools, and ```console gate those
 that build or prove psyn; ```text and the like show no command.
 """
 import glob
@@ -57,27 +57,26 @@ def fences_of(lines):
 
 
 def prose_of(lines):
-    """The paragraphs and cells outside fences, each with its line: cells of tables are told apart."""
-    paragraphs, cells, inside, now = [], [], False, []
+    """The paragraphs, each with its first line. Fences, tables, headings, quotations and indented blocks are left out."""
+    paragraphs, inside, now = [], False, []
     for number, line in enumerate([*lines, ""], 1):
         if line.startswith("```"):
             inside = not inside
-        ends = inside or not line or line.startswith(("|", "#", "```", "    ")) or re.match(r"\s*(- |\d+\. )", line)
-        if ends and now:
+        skipped = inside or not line or line.startswith(("|", "#", "```", "    ", ">"))
+        if now and (skipped or re.match(r"\s*(- |\d+\. )", line)):
             paragraphs.append((now[0], " ".join(now[1:])))
             now = []
-        if not inside and line.startswith("|"):
-            cells += [(number, cell) for cell in re.split(r"(?<!\\)\|", line)[1:-1]]
-        elif not inside and line and not line.startswith(("#", "```", "    ")):
+        if not skipped:
             now = now or [number]
-            now.append(re.sub(r"^\s*(- |\d+\. |> )", "", line).strip())
-    return paragraphs, cells
+            now.append(re.sub(r"^\s*(- |\d+\. )", "", line).strip())
+    return paragraphs
 
 
 def sentences_of(paragraph):
+    """The sentences of a paragraph. Inline code counts as one word, and a link as its text. Only `.`, `?` and `!` end a sentence."""
     bare = re.sub(r"`[^`]*`", "code", paragraph)
     bare = re.sub(r"\[([^]]*)\]\([^)]*\)", r"\1", bare)
-    return re.split(r"(?<=[.:;?!])\s+(?=[A-Z0-9'\"(c*]|$)", bare)
+    return re.split(r"(?<=[.?!])[)*']*\s+", bare)
 
 
 def links_of(lines):
@@ -91,7 +90,7 @@ def links_of(lines):
 
 
 def sources(*folders):
-    """All that stands in these folders of the crates."""
+    """The text of all files in these folders of the crates."""
     paths = [path for folder in folders for path in glob.glob(os.path.join(TOP, "crates", "*", folder, "**", "*.*t*"), recursive=True)]
     texts = []
     for path in sorted(paths):
@@ -107,10 +106,9 @@ def calls_of(lines):
 
 
 def definitions_of(lines):
-    """The files and the names that stand in the brackets behind definitions, each with the line of the definition."""
-    paragraphs, _ = prose_of(lines)
-    behind = [(number, re.findall(r"`([^`]+)`", found[-1])) for number, text in paragraphs if (found := re.findall(r"\([^()]*\)\.?$", text))]
-    return [(number, code) for number, codes in behind for code in codes]
+    """The files and names in the brackets at the end of each definition, with the line of the definition."""
+    last = [(number, re.findall(r"`([^`]+)`", found[-1])) for number, text in prose_of(lines) if (found := re.findall(r"\([^()]*\)\.?$", text))]
+    return [(number, code) for number, codes in last for code in codes]
 
 
 def furnish(room):
@@ -120,7 +118,7 @@ def furnish(room):
 
 
 def wrong_answers(name, fences, room, environment):
-    """The commands of the fences that print something else than the document shows, run one behind another in a folder."""
+    """The commands of the fences that print something else than the document shows. All run in one folder, in order."""
     wrong = []
     for fence in fences:
         for command, wanted in fence.commands():
