@@ -22,7 +22,7 @@ use Rattle.ps_simulate.proofs.LaneLemmas.{worked_on}
 use Rattle.ps_simulate.proofs.PlacesLemmas.{variables_once, variables_at}
 use Rattle.ps_simulate.proofs.RowLemmas.{length-variables, gate_within, length-rows, row_of_gate, target_is}
 use Rattle.ps_simulate.proofs.RowLemmas.{IsScheduled-rows}
-use Rattle.ps_simulate.proofs.WorkLemmas.{row, no_row}
+use Rattle.ps_simulate.specs.NeededGates.{row, no_row}
 
 module _ {c : CircuitData} (is : IsCircuit c) where
   -- a circuit has no more variables than literals have room for

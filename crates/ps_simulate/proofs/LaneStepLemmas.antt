@@ -20,7 +20,7 @@ use Rattle.ps_simulate.proofs.MoveLemmas.{IsWorkedOut-unmoved, reads-unmoved, un
 use Rattle.ps_simulate.proofs.RowLemmas.{length-variables}
 use Rattle.ps_simulate.proofs.StepLemmas.{rows_within, outputs_within, nexts_within, Steps-worked_out}
 use Rattle.ps_simulate.proofs.StepLemmas.{IsTable-worked_out}
-use Rattle.ps_simulate.proofs.WorkLemmas.{no_wire}
+use Rattle.ps_simulate.specs.NeededGates.{no_wire}
 
 -- literals that name wires of the table that were moved
 literals_within : {size front : ℕ} {places : List ℕ} (literals : List ℕ) (wires : List Wire) →

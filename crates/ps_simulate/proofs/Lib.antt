@@ -8,6 +8,7 @@ pub mod WorkLemmas
 pub mod RowLemmas
 pub mod ValueLemmas
 pub mod StepLemmas
+pub mod NeededLemmas
 pub mod LetterLists
 pub mod NamingLemmas
 pub mod LetterLemmas

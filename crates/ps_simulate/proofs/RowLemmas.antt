@@ -9,7 +9,7 @@ use Rattle.ps_circuit.specs.Literals.{variable}
 use Rattle.ps_simulate.specs.declared.plan.Row.{Row}
 use Rattle.ps_simulate.specs.Plans.{variables, place_of, row_at, no_gate, AreRows, IsWithin}
 use Rattle.ps_simulate.proofs.PlacesLemmas.{variables_at, place_of-at, place_known, gate_known, sides_known}
-use Rattle.ps_simulate.proofs.WorkLemmas.{row, no_row, IsScheduled}
+use Rattle.ps_simulate.specs.NeededGates.{row, no_row, IsScheduled}
 
 abbrev pub no_latch : Latch
 no_latch = record { literal = 0; next = 0; reset = Rattle.std.proofs.Common.false }

@@ -11,7 +11,8 @@ use Rattle.ps_simulate.specs.Plans.{IsPlan, IsWithin, IsWorkedOut, read, wire_of
 use Rattle.ps_simulate.specs.Tables.{IsTable}
 use Rattle.ps_simulate.proofs.PlacesLemmas.{place_known, output_known, next_known}
 use Rattle.ps_simulate.proofs.RowLemmas.{no_latch, target_is, IsWithin-row}
-use Rattle.ps_simulate.proofs.WorkLemmas.{no_row, length-work_out, work_out-other}
+use Rattle.ps_simulate.specs.NeededGates.{no_row}
+use Rattle.ps_simulate.proofs.WorkLemmas.{length-work_out, work_out-other}
 use Rattle.ps_simulate.proofs.ValueLemmas.{values_by, bit_of-values_by, AreValues-work_out}
 
 module _ {c : CircuitData} (is : IsCircuit c) {plan : Plan} (p : IsPlan c plan) where

@@ -17,7 +17,8 @@ use Rattle.ps_simulate.proofs.PlacesLemmas.{place_of-at, sides_known}
 use Rattle.ps_simulate.proofs.RowLemmas.{no_latch, length-definitions, length-variables, definitions_input}
 use Rattle.ps_simulate.proofs.RowLemmas.{definitions_latch, definitions_gate, place_of-definition, row_is, row_of_gate}
 use Rattle.ps_simulate.proofs.RowLemmas.{target_is, IsScheduled-rows, IsWithin-row}
-use Rattle.ps_simulate.proofs.WorkLemmas.{row, work_out-other, work_out-row}
+use Rattle.ps_simulate.specs.NeededGates.{row}
+use Rattle.ps_simulate.proofs.WorkLemmas.{work_out-other, work_out-row}
 
 -- the values by variables, of a table by places
 abbrev pub values_by : CircuitData → List Bool → List Bool

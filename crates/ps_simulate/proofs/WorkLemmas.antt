@@ -3,24 +3,8 @@ use Rattle.std.proofs.Common.{◌≡◌, ◌≢◌, ℕ, zero, suc, ◌<◌, ◌
 use Rattle.std.proofs.Common.{refl, sym, ap, ap₂, ◌∙◌, arith, length-set, get_or-set_same, get_or-set_other}
 use Rattle.ps_simulate.specs.declared.plan.Wire.{Wire}
 use Rattle.ps_simulate.specs.declared.plan.Row.{Row}
+use Rattle.ps_simulate.specs.NeededGates.{IsScheduled, row}
 use Rattle.ps_simulate.specs.Plans.{read, work_row, work_out}
-
-abbrev pub no_wire : Wire
-no_wire = record { place = 0; is_negated = false }
-
-abbrev pub no_row : Row
-no_row = record { target = 0; first = no_wire; second = no_wire }
-
-abbrev pub row : List Row → ℕ → Row
-row rows k = get_or rows k no_row
-
--- no two rows have one target, and what a row reads is the target of none but an earlier one
-pub record IsScheduled (rows : List Row) : Type 0 where
-  pub once : (k l : ℕ) → k < length rows → l < length rows → (row rows k).target ≡ (row rows l).target → k ≡ l
-  pub first_behind : (k l : ℕ) → k < length rows → l < length rows →
-      (row rows k).first.place ≡ (row rows l).target → l < k
-  pub second_behind : (k l : ℕ) → k < length rows → l < length rows →
-      (row rows k).second.place ≡ (row rows l).target → l < k
 
 IsScheduled-tail : {r : Row} {rows : List Row} → IsScheduled (r ∷ rows) → IsScheduled rows
 IsScheduled-tail s = record {

@@ -1,5 +1,6 @@
 pub mod Simulations
 pub mod Plans
+pub mod NeededGates
 pub mod Tables
 pub mod Faults
 pub mod LanePlans

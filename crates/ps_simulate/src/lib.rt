@@ -30,6 +30,7 @@ mod lassos;
 mod laws;
 mod letters;
 mod naming;
+mod needed;
 mod places;
 mod plan;
 mod role;

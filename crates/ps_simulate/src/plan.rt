@@ -1,6 +1,7 @@
 //! The table of gates that a simulator works through.
 
 ghost use Rattle.std.specs.Prelude.{◌≡◌, ◌<◌, length, map, slice_index_or, All, IfOk};
+ghost use Rattle.ps_circuit.specs.Circuits.{IsCircuit};
 ghost use Rattle.ps_simulate.specs.Plans.{AreRows, wire_of};
 
 use crate::places::Places;
@@ -44,6 +45,7 @@ pub struct Plan {
 }
 
 impl Plan {
+    ghost use Rattle.ps_circuit.specs.Circuits.{IsCircuit};
     ghost use Rattle.ps_simulate.specs.Plans.{IsPlan};
 
     /// The plan of a circuit.
@@ -52,7 +54,8 @@ impl Plan {
     ///
     /// Fails where a growth was refused.
     pub fn new(alloc: Global, circuit: &Circuit) -> Result<Self, AllocError>
-        ensures { IfOk result (IsPlan circuit.now) }
+        ensures plan { IfOk result (IsPlan circuit.now) }
+        ensures well_formed { IfOk result (λ _. IsCircuit circuit.now) }
     {
         let places = Places::new(alloc, circuit)?;
         Plan::by_places(alloc, circuit, &places)
@@ -61,7 +64,8 @@ impl Plan {
     /// The plan of a circuit whose variables have these places.
     fn by_places(alloc: Global, circuit: &Circuit, places: &Places) -> Result<Self, AllocError>
         requires { places.now ≡ circuit.now }
-        ensures { IfOk result (IsPlan circuit.now) }
+        ensures plan { IfOk result (IsPlan circuit.now) }
+        ensures well_formed { IfOk result (λ _. IsCircuit circuit.now) }
     {
         Ok(Plan {
             size: places.count(),
@@ -75,7 +79,8 @@ impl Plan {
 /// A row for each gate, in the circuit's order.
 fn rows_of(alloc: Global, circuit: &Circuit, places: &Places) -> Result<Vec<Row>, AllocError>
     requires { places.now ≡ circuit.now }
-    ensures { IfOk result (λ rows. AreRows circuit.now rows.items) }
+    ensures rows { IfOk result (λ rows. AreRows circuit.now rows.items) }
+    ensures well_formed { IfOk result (λ _. IsCircuit circuit.now) }
 {
     let gates = circuit.gates();
     let order = circuit.order();

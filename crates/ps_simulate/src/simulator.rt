@@ -5,6 +5,7 @@ ghost use Rattle.std.specs.Prelude.{Some, false};
 ghost use Rattle.ps_circuit.specs.Circuits.{IsCircuit};
 ghost use Rattle.ps_simulate.specs.Plans.{IsWithin, IsWorkedOut, read, work_out};
 
+use crate::needed::plan_of_needed;
 use crate::plan::{Plan, Row, Wire};
 use ps_circuit::Circuit;
 use std::alloc::{AllocError, Global};
@@ -24,11 +25,14 @@ impl<'a> Model for Simulator<'a> {
 
     ghost Value = { Simulation };
 
+    ghost use Rattle.ps_simulate.specs.NeededGates.{IsCut};
     ghost use Rattle.ps_simulate.specs.Tables.{IsTable};
+    ghost use Rattle.ps_simulate.specs.declared.plan.Plan.{Plan};
 
     ghost view = { λ s. record { circuit = s.circuit.now; latches = s.latches.items } };
 
-    ghost invariant = { λ s. IsTable s.circuit.now s.plan s.values.items s.latches.items };
+    ghost invariant = { λ s. (whole : Plan) × IsCut whole s.plan
+        × IsTable s.circuit.now whole s.values.items s.latches.items };
 }
 
 impl<'a> Simulator<'a> {
@@ -44,7 +48,7 @@ impl<'a> Simulator<'a> {
         ensures circuit { IfOk result (λ s. s.circuit ≡ circuit.now) }
         ensures latches { IfOk result (λ s. s.latches ≡ resets circuit.now) }
     {
-        let plan = Plan::new(alloc, circuit)?;
+        let plan = plan_of_needed(alloc, circuit)?;
         let latches = first_latches(alloc, circuit)?;
         let values = vec![in alloc; false; plan.size]?;
         Ok(Simulator {

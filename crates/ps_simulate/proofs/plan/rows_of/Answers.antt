@@ -59,8 +59,8 @@ loop-place-preserved c =
     ∙ sym (ap (map (row_at circuit)) (take_more order k 0 c.loop-place-test.true)
     ∙ map-append (row_at circuit) (take k order) (place ∷ []))
 
-pub returns : goal.returns
-returns c = grind (arith, common_steps)
+pub returns-clause-rows : goal.returns-clause-rows
+returns-clause-rows c = grind (arith, common_steps)
 
 pub offset_bounds-gates-place : goal.offset_bounds-gates-place
 offset_bounds-gates-place c = grind (arith, elements)

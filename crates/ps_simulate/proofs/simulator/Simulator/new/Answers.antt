@@ -3,4 +3,9 @@ use Rattle.std.proofs.lemmas.Grind.{common_steps}
 use Rattle.ps_simulate.proofs.simulator.Simulator.new.Goals as goal
 
 pub invariant_of-result : goal.invariant_of-result
-invariant_of-result c = grind (arith, common_steps)
+invariant_of-result c =
+    let plan = c.in_ok-plan.ensures in (
+      plan.0,
+      plan.2,
+      grind (arith, common_steps, plan.1.size_is, plan.2.size_is),
+    )
