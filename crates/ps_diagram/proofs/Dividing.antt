@@ -111,7 +111,7 @@ known_divided_kept s {t} {u} mask known k h =
 pub tests_kept : {t u : Table} (known : ℕ × ℕ × ℕ → Option ℕ) → Keeps t u → KnowsTests t known → KnowsTests u known
 tests_kept known k h p a b made e = search (rules, tested_kept)
 
-test_same : (a b : ℕ × ℕ × ℕ) → test_eq a b ≡ true → a ≡ b
+pub test_same : (a b : ℕ × ℕ × ℕ) → test_eq a b ≡ true → a ≡ b
 test_same (n, x, y) (p, a, b) e = search (rules, and_both, eqb-true)
 
 pub tests_more : {t : Table} (known new : ℕ × ℕ × ℕ → Option ℕ) (n : ℕ) {x y value : ℕ} →

@@ -47,7 +47,7 @@ pub knows_more : (R : Tree → Tree → Type 0) (s t : Table) (known new : ℕ �
 knows_more R s t known new update h hk hv r = one_more (λ k v. IsNode s k × IsNode t v × R (tree_of s k) (tree_of t v))
     eqb eqb-true known new update h (hk, hv, r)
 
-pair_same : (a b : ℕ × ℕ) → pair_eq a b ≡ true → a ≡ b
+pub pair_same : (a b : ℕ × ℕ) → pair_eq a b ≡ true → a ≡ b
 pair_same (x, y) (a, b) e = search (rules, and_both, eqb-true)
 
 pub pairs_more : (R : Tree → Tree → Tree → Type 0) (t : Table) (known new : ℕ × ℕ → Option ℕ) {x y value : ℕ} →

@@ -16,3 +16,6 @@ pub mod Numbering
 pub mod Classing
 pub mod Halving
 pub mod Unions
+pub mod Distinct
+pub mod Choosing
+pub mod Pairing

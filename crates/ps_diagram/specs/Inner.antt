@@ -1,5 +1,6 @@
 -- What private functions say of each other; no public clause cites these.
 
+pub mod Chosen
 pub mod Known
 pub mod Numbered
 pub mod Parts

@@ -16,3 +16,8 @@ AreAlike (Some k) (Some m) = k ≡ m
 abbrev pub opposite : Option ℕ → Option ℕ
 opposite None = Some 1
 opposite (Some k) = None
+
+-- the second leaf where there is a first, else the third
+abbrev pub chosen : Option ℕ → Option ℕ → Option ℕ → Option ℕ
+chosen None one other = other
+chosen (Some k) one other = one

@@ -2,6 +2,7 @@ pub mod Letters
 pub mod Tree
 pub mod Table
 pub mod Leaves
+pub mod Pairs
 pub mod Labels
 pub mod Split
 pub mod Clashes

@@ -11,6 +11,9 @@
 //! | `of_letter(letter)` | 1 at that letter alone |
 //! | `of_leaves(leaves)` | the one at the letter's place in the list, or none behind its end |
 //! | `overlay(first, second)` | that of the first, or else that of the second; `Clash` exactly where two differ |
+//! | `choose(truth, one, other)` | that of `one` where the truth has a leaf, else that of `other` |
+//! | `both(first, second, pairs)` | the place in the list of the pair of both leaves, none where one of them is none |
+//! | `negated(node)` | 1 where the node has no leaf, else none |
 //! | `guard(node, value)` | `value` where the node has a leaf, else none |
 //! | `fill(node, value)` | that of the node, or else `value` |
 //! | `relabel(node, values)` | `values[k]` where the node has k, else none |
@@ -22,12 +25,14 @@
 //! those that lead alike (`AreClasses`), `classes_from(other, node, split)` into those that a node of another store
 //! leads alike; both keep each node too. `copy` is a store of the same value.
 //!
-//! A store never drops a node, and equal diagrams are one node, which a hash table finds. `guard`, `fill`, `relabel`
-//! and `relabel_from` look at each node below theirs once, `overlay` at each pair of nodes that it comes to once;
-//! `of_letter` makes a node for each proposition, `of_label` joins the diagrams of its operands by halves, `classes`
-//! copies the store first.
+//! A store never drops a node, and equal diagrams are one node, which a hash table finds. `negated`, `guard`, `fill`,
+//! `relabel` and `relabel_from` look at each node below theirs once, `overlay` and `both` at each pair of nodes that they
+//! come to once, `choose` at each three; `of_letter` makes a node for each proposition, `of_label` joins the diagrams of
+//! its operands by halves, `classes` copies the store first.
 #![tactic(auto)]
 
+mod both;
+mod choose;
 mod classes;
 mod fault;
 mod labels;

@@ -191,8 +191,12 @@ impl Store {
         self.mapped(Some(other), node, &Relabelled(values))
     }
 
-    /// The diagram with 1 wherever the node has no leaf.
-    pub(crate) fn negated(&mut self, node: Node) -> Result<Node, AllocError>
+    /// The diagram with 1 wherever the node has no leaf, and with no leaf wherever it has one.
+    ///
+    /// # Errors
+    ///
+    /// Fails where a growth was refused.
+    pub fn negated(&mut self, node: Node) -> Result<Node, AllocError>
         requires held { IsNode self.old node }
         ensures keeps { Keeps self.old self.new }
         ensures held { IfOk result (λ made. IsNode self.new made) }

@@ -31,7 +31,7 @@ impl Store {
     ghost use Rattle.ps_diagram.specs.Split.{IsConstant, IsSides, IsSplit, root_of};
 
     /// The first proposition that a node tests, or how many there are.
-    fn level(&self, node: Node) -> u32
+    pub(crate) fn level(&self, node: Node) -> u32
         requires held { IsNode self.now node }
         ensures root { result ≡ root_of self.now.propositions (tree_of self.now node) }
         ensures within { result ≤ self.now.propositions }
@@ -44,7 +44,7 @@ impl Store {
     }
 
     /// The sides of a node for a proposition that none which it tests comes before.
-    fn sides(&self, node: Node, proposition: u32) -> Sides
+    pub(crate) fn sides(&self, node: Node, proposition: u32) -> Sides
         requires held { IsNode self.now node }
         requires later { proposition ≤ root_of self.now.propositions (tree_of self.now node) }
         requires named { proposition < self.now.propositions }

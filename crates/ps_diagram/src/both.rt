@@ -1,0 +1,114 @@
+//! Two diagrams as one of pairs.
+
+ghost use Rattle.std.specs.Prelude.{◌≡◌, ℕ, ◌+◌, IfOk, Some};
+ghost use Rattle.indexmap.specs.IndexMap.{get};
+ghost use Rattle.ps_diagram.specs.Inner.Chosen.{IsPairOf, Meet};
+ghost use Rattle.ps_diagram.specs.Inner.Known.{KnowsPairs, pair_eq};
+ghost use Rattle.ps_diagram.specs.Pairs.{Adds, IsPaired, MeetAt};
+ghost use Rattle.ps_diagram.specs.Split.{IsConstant};
+ghost use Rattle.ps_diagram.specs.Table.{IsNode, Keeps, leaf_of, tree_of};
+
+use crate::split::Split;
+use crate::store::Store;
+use crate::view::Node;
+use indexmap::{IndexMap, IndexSet};
+use std::alloc::AllocError;
+
+impl Store {
+    /// The diagram whose leaf at a letter is the place in the list of the pair of both leaves there, and that has no
+    /// leaf where one of the two has none. A pair that is not listed yet is put at the end of the list.
+    ///
+    /// # Errors
+    ///
+    /// Fails where a growth was refused.
+    pub fn both(
+        &mut self,
+        first: Node,
+        second: Node,
+        pairs: &mut IndexSet<(u64, u64)>,
+    ) -> Result<Node, AllocError>
+        requires first { IsNode self.old first }
+        requires second { IsNode self.old second }
+        ensures keeps { Keeps self.old self.new }
+        ensures adds { Adds (MeetAt self.old first second) pairs.old.keys pairs.new.keys }
+        ensures held { IfOk result (λ made. IsNode self.new made) }
+        ensures leaf { IfOk result
+            (λ made. (letter : ℕ) → IsPaired pairs.new.keys (leaf_of self.old first letter)
+            (leaf_of self.old second letter) (leaf_of self.new made letter)) }
+    {
+        let mut known = IndexMap::new(self.allocator());
+        self.paired(first, second, pairs, &mut known)
+    }
+
+    /// The same, where the table has what was paired already.
+    fn paired(
+        &mut self,
+        first: Node,
+        second: Node,
+        pairs: &mut IndexSet<(u64, u64)>,
+        known: &mut IndexMap<(Node, Node), Node>,
+    ) -> Result<Node, AllocError>
+        requires first { IsNode self.old first }
+        requires second { IsNode self.old second }
+        requires known { KnowsPairs (IsPairOf pairs.old.keys) self.old (get pair_eq known.old) }
+        ensures keeps { Keeps self.old self.new }
+        ensures adds { Adds (Meet (tree_of self.old first) (tree_of self.old second)) pairs.old.keys pairs.new.keys }
+        ensures known { KnowsPairs (IsPairOf pairs.new.keys) self.new (get pair_eq known.new) }
+        ensures held { IfOk result (λ made. IsNode self.new made) }
+        ensures leaf { IfOk result
+            (λ made. IsPairOf pairs.new.keys (tree_of self.old first) (tree_of self.old second)
+            (tree_of self.new made)) }
+    {
+        if self.is_nothing(first) {
+            return Ok(first);
+        }
+        if self.is_nothing(second) {
+            return Ok(second);
+        }
+        if let Some(made) = known.get(&(first, second)) {
+            return Ok(*made);
+        }
+        let Some(split) = self.split(first, second) else {
+            return self.paired_leaves(first, second, pairs);
+        };
+        let Split {
+            proposition,
+            left,
+            right,
+        } = split;
+        let low = self.paired(left.low, right.low, pairs, known)?;
+        let high = self.paired(left.high, right.high, pairs, known)?;
+        let _ = pairs.as_slice();
+        let made = self.test(proposition, low, high)?;
+        let _ = known.insert((first, second), made)?;
+        Ok(made)
+    }
+
+    /// The same of two diagrams that test nothing.
+    fn paired_leaves(
+        &mut self,
+        first: Node,
+        second: Node,
+        pairs: &mut IndexSet<(u64, u64)>,
+    ) -> Result<Node, AllocError>
+        requires first { IsNode self.old first }
+        requires second { IsNode self.old second }
+        requires first_constant { IsConstant (tree_of self.old first) }
+        requires second_constant { IsConstant (tree_of self.old second) }
+        ensures keeps { Keeps self.old self.new }
+        ensures adds { Adds (Meet (tree_of self.old first) (tree_of self.old second)) pairs.old.keys pairs.new.keys }
+        ensures held { IfOk result (λ made. IsNode self.new made) }
+        ensures leaf { IfOk result
+            (λ made. IsPairOf pairs.new.keys (tree_of self.old first) (tree_of self.old second)
+            (tree_of self.new made)) }
+    {
+        let Some(one) = self.eval(first, 0) else {
+            return Ok(first);
+        };
+        let Some(other) = self.eval(second, 0) else {
+            return Ok(second);
+        };
+        let (place, _) = pairs.insert_full((one, other))?;
+        self.constant(Some(place as u64))
+    }
+}

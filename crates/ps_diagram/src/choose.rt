@@ -1,0 +1,110 @@
+//! Of two diagrams the one or the other, letter by letter.
+
+ghost use Rattle.std.specs.Prelude.{◌≡◌, ℕ, ◌+◌, ◌<◌, IfOk, Some};
+ghost use Rattle.indexmap.specs.IndexMap.{get};
+ghost use Rattle.ps_diagram.specs.Inner.Chosen.{IsChosen, IsCut, KnowsTriples};
+ghost use Rattle.ps_diagram.specs.Inner.Rests.{test_eq};
+ghost use Rattle.ps_diagram.specs.Leaves.{chosen};
+ghost use Rattle.ps_diagram.specs.Split.{root_of};
+ghost use Rattle.ps_diagram.specs.Table.{IsNode, Keeps, leaf_of, tree_of};
+
+use crate::split::Sides;
+use crate::store::Store;
+use crate::view::{Node, View};
+use indexmap::IndexMap;
+use std::alloc::AllocError;
+
+/// Three nodes at the first proposition that one of them tests.
+#[derive(Clone, Copy)]
+pub(crate) struct Cut {
+    /// The proposition.
+    pub proposition: u32,
+    /// The sides of the truth.
+    pub truth: Sides,
+    /// Those of the node that is chosen where it holds.
+    pub one: Sides,
+    /// Those of the node that is chosen elsewhere.
+    pub other: Sides,
+}
+
+impl Store {
+    /// The diagram that has the leaf of `one`, or none, where the truth has a leaf, and that of `other` elsewhere.
+    ///
+    /// # Errors
+    ///
+    /// Fails where a growth was refused.
+    pub fn choose(&mut self, truth: Node, one: Node, other: Node) -> Result<Node, AllocError>
+        requires truth { IsNode self.old truth }
+        requires one { IsNode self.old one }
+        requires other { IsNode self.old other }
+        ensures keeps { Keeps self.old self.new }
+        ensures held { IfOk result (λ made. IsNode self.new made) }
+        ensures leaf { IfOk result
+            (λ made. (letter : ℕ) → leaf_of self.new made letter ≡ chosen (leaf_of self.old truth letter)
+            (leaf_of self.old one letter) (leaf_of self.old other letter)) }
+    {
+        let mut known = IndexMap::new(self.allocator());
+        self.chosen(truth, one, other, &mut known)
+    }
+
+    /// The same, where the table has what was chosen already.
+    fn chosen(
+        &mut self,
+        truth: Node,
+        one: Node,
+        other: Node,
+        known: &mut IndexMap<(Node, Node, Node), Node>,
+    ) -> Result<Node, AllocError>
+        requires truth { IsNode self.old truth }
+        requires one { IsNode self.old one }
+        requires other { IsNode self.old other }
+        requires known { KnowsTriples self.old (get test_eq known.old) }
+        ensures keeps { Keeps self.old self.new }
+        ensures known { KnowsTriples self.new (get test_eq known.new) }
+        ensures held { IfOk result (λ made. IsNode self.new made) }
+        ensures leaf { IfOk result
+            (λ made. IsChosen (tree_of self.old truth) (tree_of self.old one) (tree_of self.old other)
+            (tree_of self.new made)) }
+    {
+        if one == other {
+            return Ok(one);
+        }
+        let first = match self.cell(truth) {
+            View::Nothing => return Ok(other),
+            View::Leaf(_) => return Ok(one),
+            View::Test { proposition, .. } => proposition,
+        };
+        if let Some(made) = known.get(&(truth, one, other)) {
+            return Ok(*made);
+        }
+        let Cut {
+            proposition,
+            truth: test,
+            one: left,
+            other: right,
+        } = self.cut(first, truth, one, other);
+        let low = self.chosen(test.low, left.low, right.low, known)?;
+        let high = self.chosen(test.high, left.high, right.high, known)?;
+        let made = self.test(proposition, low, high)?;
+        let _ = known.insert((truth, one, other), made)?;
+        Ok(made)
+    }
+
+    /// Three nodes cut at the first proposition that one of them tests, where the truth tests `first`.
+    fn cut(&self, first: u32, truth: Node, one: Node, other: Node) -> Cut
+        requires truth { IsNode self.now truth }
+        requires one { IsNode self.now one }
+        requires other { IsNode self.now other }
+        requires named { first < self.now.propositions }
+        requires first { first ≡ root_of self.now.propositions (tree_of self.now truth) }
+        ensures { IsCut self.now truth one other result }
+    {
+        let proposition = first.min(self.level(one)).min(self.level(other));
+        Cut {
+            proposition,
+            truth: self.sides(truth, proposition),
+            one: self.sides(one, proposition),
+            other: self.sides(other, proposition),
+        }
+    }
+}
