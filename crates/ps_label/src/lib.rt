@@ -7,7 +7,7 @@
 //! |---|---|
 //! | `Labels::new`, `push`, `as_slice` | the aliases of a text, each over earlier ones |
 //! | `Labels::eval(label, letter, scratch)` | exactly whether the label is true at the letter, without memory |
-//! | `labels::one_table_of_truths` | a law: there is one table in which each alias has the truth of its own expression |
+//! | `labels::one_table_of_truths` | a law: in one table each alias has the truth of its own expression |
 #![tactic(auto)]
 
 pub mod label;

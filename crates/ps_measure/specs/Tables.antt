@@ -1,4 +1,4 @@
--- Rows of counts that are kept as chains of cells: the counts of a vertex lead on from the number of its first one.
+-- Rows of counts that are stored as chains of cells: the counts of a vertex follow from the number of its first cell.
 -- Cell i has the number i + 1, and 0 is the end.
 use Rattle.std.specs.Prelude.{◌≡◌, ℕ, zero, suc, ◌<◌, ◌≤◌, ◌==◌, List, length, map, max, Option, None, Some}
 use Rattle.std.specs.Prelude.{if◌then◌else◌, slice_get, slice_index}

@@ -5,10 +5,10 @@
 //! | Call | What it gives |
 //! |---|---|
 //! | `numbers::write_number(out, number)` | appends a number in decimal |
-//! | `numbers::leading_number(text)` | the number with which a text begins and how many digits it has, if 64 bits hold it |
+//! | `numbers::leading_number(text)` | the number with which a text begins, if 64 bits hold it |
 //! | `cursor::Cursor::new(text)`, `of_lines(text)` | a cursor over the bytes of a text, or of a text of lines |
 //! | `Cursor::peek`, `comes`, `offset`, `is_at_end`, `refusal` | what comes next and where, and a refusal there |
-//! | `Cursor::step`, `byte`, `word`, `run`, `digits`, `finish` | moves past a byte, a word, a run of a class, digits, or all |
+//! | `Cursor::step`, `byte`, `word`, `run`, `digits`, `finish` | moves past a byte, a word, a run, digits, or all |
 //! | `cursor::run_length(text, class)` | how many bytes of a class a text begins with |
 //! | `faults::Cause::number`, `name` | the number and name of a cause in psyn's list of faults |
 //! | `faults::Fault::number`, `name` | those of a fault: of its cause, or of out of memory (24) |

@@ -35,7 +35,8 @@ pub record AreLevels (game : ParityGame) (levels : List ℕ) : Type 0 where
   pub each : length levels ≡ vertex_count game
   pub is : (v : ℕ) → v < vertex_count game → slice_index levels v ≡ priority_of game v
 
--- rows of counts: the least ones for the priorities at the places before one, and 0 for the others; so many are not 0
+-- rows of counts: the least ones for the priorities at the places before one, and 0 for the others; the number is how
+-- many are not 0
 pub record AreRanked (game : ParityGame) (player : ℕ) (set : ℕ → Bool) (table : ℕ → Option ℕ) (priorities : List ℕ)
     (rows : List (List ℕ)) (place raises : ℕ) : Type 0 where
   pub shape : AreRows rows (vertex_count game) (length priorities)
