@@ -8,12 +8,12 @@ abbrev pub count_at : List PlacedCount → ℕ → ℕ
 count_at [] place = 0
 count_at (p ∷ ps) place = if p.place == place then p.count else count_at ps place
 
--- the counts at so many places, from one on
+-- a number of counts, from one place on
 abbrev pub counts_from : List PlacedCount → ℕ → ℕ → List ℕ
 counts_from placed zero place = []
 counts_from placed (suc n) place = count_at placed place ∷ counts_from placed n (suc place)
 
--- a list of so many counts
+-- a list of counts with that length
 abbrev pub row_of : ℕ → List PlacedCount → List ℕ
 row_of width placed = counts_from placed width 0
 

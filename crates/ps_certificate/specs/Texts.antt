@@ -114,7 +114,7 @@ vertex_of ids id = position (λ other. other == id) ids
 abbrev pub choice : List ℕ → Field (Option ℕ)
 choice ids = either (mapped (λ _. None) (byte 45)) (mapped (vertex_of ids) (number (λ id. ¬ Contains ids id)))
 
--- so many counts, each after a space, and the end of the line
+-- a number of counts, each after a space, and the end of the line
 abbrev pub counts : ℕ → Field (List ℕ)
 counts zero = mapped (λ _. []) (byte 10)
 counts (suc n) = then_by (byte 32) (λ _. then_by (number Never) (λ count. mapped (λ others. count ∷ others) (counts n)))

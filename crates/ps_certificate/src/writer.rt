@@ -244,7 +244,7 @@ fn write_fields(out: &mut Vec<u8>, numbers: &[u64]) -> Result<(), AllocError>
     Ok(())
 }
 
-/// Writes so many zeros, each after a space.
+/// Writes `zeros` zeros, each after a space.
 fn write_zeros(out: &mut Vec<u8>, zeros: usize) -> Result<(), AllocError>
     requires { zeros ≤ 40 }
     ensures { OnOk result (out.new.items ≡ out.old.items ++ fields (replicate zeros 0)) }

@@ -71,7 +71,7 @@ pub record HeaderData : Type 0 where
   pub outputs : ℕ
   pub gates : ℕ
 
--- at most so many counts of sections, and the end of the line
+-- at most n counts of sections, and the end of the line
 unfoldable pub sections : ℕ → Field (Unit {0})
 sections zero = line_end
 sections (suc n) = then_by more (by_more (then_by (number WrongCount) (λ _. sections n)) (give tt))

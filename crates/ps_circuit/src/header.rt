@@ -87,7 +87,7 @@ fn count(cursor: &mut Cursor) -> Result<u64, AigFault>
     Ok(count.value)
 }
 
-/// Reads at most so many counts of sections, which must be 0, and the end of the line.
+/// Reads at most `left` counts of sections, which must be 0, and the end of the line.
 fn sections(cursor: &mut Cursor, left: u32) -> Result<(), AigFault>
     ensures { Tells (λ u. u) (parts.sections left) cursor.old result cursor.new }
 {

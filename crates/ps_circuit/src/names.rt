@@ -30,7 +30,7 @@ pub struct Names {
 }
 
 impl Names {
-    /// No names, for so many inputs, latches and outputs. Fails if out of memory.
+    /// No names, for the given numbers of inputs, latches and outputs. Fails if out of memory.
     pub fn none(
         alloc: Global,
         inputs: usize,

@@ -29,7 +29,7 @@ loop_priority game path i j = greatest (map (priority_of game) (slice_range path
 abbrev pub WinsLoop : ParityGame → ℕ → List ℕ → ℕ → ℕ → Type 0
 WinsLoop game player path i j = loop_priority game path i j % 2 ≡ player
 
--- the other one of the players 0 and 1
+-- the opponent of player 0 or 1
 abbrev pub other_player : ℕ → ℕ
 other_player player = 1 - player
 

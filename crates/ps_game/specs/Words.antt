@@ -12,7 +12,7 @@ bit_in words v = bit_at (slice_index words (v / 64)) (v % 64) == 1
 unfoldable pub members : ℕ → List ℕ → List Bool
 members places words = map (λ v. bit_in words v) (range_with_len 0 places)
 
--- just enough words for the places, and no bit set past the last place
+-- as few words as hold all places, and no bit set past the last place
 pub record ArePacked (places : ℕ) (words : List ℕ) : Type 0 where
   pub few : places < 2 ^ 64
   pub enough : places ≤ 64 * length words

@@ -188,7 +188,7 @@ impl Vertices {
     }
 }
 
-/// Makes room for one more vertex with so many successors.
+/// Makes room for one more vertex with a given number of successors.
 fn make_room(
     offsets: &mut Vec<usize>,
     owners: &mut Vec<u8>,
@@ -239,7 +239,7 @@ fn places_in(numbers: &mut [usize], ids: &Ids)
     }
 }
 
-/// Up to so many numbers are compared with one another.
+/// The greatest length at which numbers are compared with one another.
 const FEW: usize = 8;
 
 /// Whether it is clear at once that no number occurs twice in a list: few are compared with one another, more must

@@ -20,7 +20,7 @@ pub(crate) fn unite(words: &mut [u64], others: &[u64])
     unite_rest(words, others, groups * LANES);
 }
 
-/// Like `unite`, for so many groups of eight words.
+/// Like `unite`, for a number of groups of eight words.
 fn unite_groups(words: &mut [u64], others: &[u64], groups: usize)
     requires words { groups * 8 ≤ length words.old }
     requires others { groups * 8 ≤ length others.now }
@@ -59,7 +59,7 @@ pub(crate) fn subtract(words: &mut [u64], others: &[u64])
     subtract_rest(words, others, groups * LANES);
 }
 
-/// Like `subtract`, for so many groups of eight words.
+/// Like `subtract`, for a number of groups of eight words.
 fn subtract_groups(words: &mut [u64], others: &[u64], groups: usize)
     requires words { groups * 8 ≤ length words.old }
     requires others { groups * 8 ≤ length others.now }
@@ -96,7 +96,7 @@ pub(crate) fn count_set(words: &[u64]) -> usize
     count_groups(words, groups) + count_rest(words, groups * LANES)
 }
 
-/// How many bits are set in so many groups of eight words.
+/// How many bits are set in a number of groups of eight words.
 fn count_groups(words: &[u64], groups: usize) -> usize
     requires groups { groups * 8 ≤ length words.now }
     requires room { sum_by count_ones words.now < 2 ^ 64 }
@@ -132,7 +132,7 @@ pub(crate) fn is_clear(words: &[u64]) -> bool
     are_groups_clear(words, groups) && is_rest_clear(words, groups * LANES)
 }
 
-/// Whether no bit is set in so many groups of eight words.
+/// Whether no bit is set in a number of groups of eight words.
 fn are_groups_clear(words: &[u64], groups: usize) -> bool
     requires { groups * 8 ≤ length words.now }
     ensures { IsTrue result ↔ ((k : ℕ) → k < groups * 8 → slice_index words.now k ≡ 0) }

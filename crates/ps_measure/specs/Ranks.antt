@@ -39,7 +39,7 @@ width_in (Some row) = length row
 abbrev pub width_of : List (List ℕ) → ℕ → ℕ
 width_of rows v = width_in (slice_get rows v)
 
--- so many rows of one length
+-- `count` rows of length `width`
 pub record AreRows (rows : List (List ℕ)) (count width : ℕ) : Type 0 where
   pub each : length rows ≡ count
   pub wide : (v : ℕ) → v < count → width_of rows v ≡ width

@@ -41,7 +41,7 @@ impl Packed {
         }
     }
 
-    /// The empty list, with room for so many numbers that fit in 4 bytes.
+    /// The empty list, with room for `count` numbers that fit in 4 bytes.
     pub(crate) fn with_capacity(alloc: Global, count: usize) -> Result<Self, AllocError>
         ensures { IfOk result (λ list. list ≡ []) }
     {

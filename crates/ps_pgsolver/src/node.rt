@@ -110,7 +110,7 @@ impl Nodes {
     }
 }
 
-/// Makes room for the name of the node after so many others, if it has one; those without a name get a place.
+/// Makes room for the name of the next node, if it has one; earlier nodes without a name get a place.
 fn make_room(
     names: &mut Vec<Option<Vec<u8>>>,
     count: usize,

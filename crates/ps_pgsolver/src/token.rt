@@ -17,7 +17,7 @@ use ps_text::cursor::{Class, run_length};
 use ps_text::numbers::{LeadingNumber, leading_number};
 use std::marker::Model;
 
-/// With so many digits or more, a number may be too large.
+/// From this number of digits on, a number may be too large.
 const FEW: usize = 18;
 
 /// What a token is, with its bytes.

@@ -28,7 +28,7 @@ AreLetters names c (m ∷ ms) (letter ∷ letters) = IsLetterOf names c m letter
 
 -- ## The first repetition
 
--- so many laps, one after another
+-- a number of laps, one after another
 abbrev pub laps_of : List (List Bool) → ℕ → List (List Bool)
 laps_of lap zero = []
 laps_of lap (suc laps) = laps_of lap laps ++ lap

@@ -10,7 +10,7 @@ pub record StimulusData : Type 0 where
 abbrev pub letters_of : List (Vec Bool Global) → List (List Bool)
 letters_of letters = map (λ letter. letter.items) letters
 
--- so many letters of that width, whose bits are in one list
+-- letters of that width and number, whose bits are in one list
 abbrev pub letters_in : ℕ → ℕ → List Bool → List (List Bool)
 letters_in width zero bits = []
 letters_in width (suc count) bits = take width bits ∷ letters_in width count (drop width bits)

@@ -150,7 +150,7 @@ fn verdict_of(
     })
 }
 
-/// Whether each letter has so many bits.
+/// Whether each letter has `width` bits.
 fn are_wide(width: usize, letters: &[Vec<bool>]) -> bool
     ensures yes { IsTrue result → All (λ letter. length letter ≡ width) (letters_of letters.now) }
     ensures not { result ≡ false → ¬ All (λ letter. length letter ≡ width) (letters_of letters.now) }

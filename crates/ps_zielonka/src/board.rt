@@ -30,7 +30,7 @@ pub struct Board<W: Width> {
 }
 
 impl<W: Width> Board<W> {
-    /// A board on which none of so many vertices is decided. Fails if out of memory.
+    /// A board on which none of `count` vertices is decided. Fails if out of memory.
     pub fn undecided(alloc: Global, count: usize) -> Result<Board<W>, AllocError>
         requires { count ≤ W.LIMIT }
         ensures levels { IfOk result (λ board. board.tables.level ≡ replicate count (mark_of Level.Unplaced)) }

@@ -52,7 +52,7 @@ abbrev pub IsComplete : ParityGame → ℕ → List ℕ → Type 0
 IsComplete game parity list =
     (v : ℕ) → v < vertex_count game → priority_of game v % 2 ≡ parity → Contains list (priority_of game v)
 
--- the entry of a vertex fits a game of so many vertices
+-- the entry of a vertex fits a game with that number of vertices
 pub record EntryFits (vertices : ℕ) (certificate : CertificateData) (v : ℕ) : Type 0 where
   pub winner : winner_of certificate v < 2
   pub choice : IfSome (choice_of certificate v) (λ w. w < vertices)

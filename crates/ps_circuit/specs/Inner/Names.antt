@@ -21,7 +21,7 @@ names_data n =
       outputs = map name_bytes n.outputs.items;
     }
 
--- a name or none for each of so many inputs, latches and outputs
+-- a name or none for each input, latch and output, whose numbers are given
 pub record AreNames (n : Names) (inputs latches outputs : ℕ) : Type 0 where
   pub inputs_each : vec_len n.inputs ≡ inputs
   pub latches_each : vec_len n.latches ≡ latches

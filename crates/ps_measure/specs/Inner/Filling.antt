@@ -12,7 +12,7 @@ use Rattle.ps_measure.specs.Inner.Outcomes.{IsClosing}
 use Rattle.ps_measure.specs.Ranks.{AreLeastFor, AreRows, count_of}
 use Rattle.ps_measure.specs.Tables.{HasColumn}
 
--- the least counts were put at a place, and so many of them are not 0
+-- the least counts were put at a place; the number is how many of them are not 0
 pub record IsFilled (g : Digraph) (weight : ℕ → ℕ) (old new : List (List ℕ)) (place raised : ℕ) : Type 0 where
   pub counts : ℕ → ℕ
   pub least : AreLeast g weight counts

@@ -13,7 +13,7 @@ IsPropositionOf names controllable wanted symbol (Some p) =
 IsPropositionOf names controllable wanted symbol None =
     (p : ℕ) → p < length names → is_among p controllable ≡ wanted → ¬ (slice_index_or names p [] ≡ symbol)
 
--- so many symbols have their places
+-- the first symbols have their places
 pub record ArePut (names : List (List ℕ)) (controllable : List ℕ) (wanted : Bool) (symbols : List (Option (List ℕ)))
     (count : ℕ) (places : List (Option ℕ)) : Type 0 where
   pub size : length places ≡ length names
