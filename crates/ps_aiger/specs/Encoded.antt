@@ -1,6 +1,6 @@
 -- The circuit of a machine.
---     number_of bits      the first bit counts 1, the next one 2, and so on
---     memory_at b code      the memory with that code; memory 0 for a code of none
+--     number_of bits      the first bit counts 1, the next one 2, then 4, and so on
+--     memory_at b code      the memory with that code; memory 0 for a code of no memory
 --     memory_of b latches      the memory whose code the latches hold
 --     Encodes b c      the circuit begins at memory 0, and its step is the machine's
 --     IsTidy c      how its variables are numbered, and which gates it has
@@ -51,12 +51,12 @@ pub record Encodes (b : Behaviour) (c : CircuitData) : Type 0 where
   pub latch_names : All (λ name. name ≡ None) c.latch_names
   pub resets_are : All (λ bit. bit ≡ false) (resets c)
   pub room : b.memories ≤ 2 ^ length c.latches
-  -- no latch more than needed
+  -- no more latches than needed
   pub needed : (n : ℕ) → b.memories ≤ 2 ^ n → length c.latches ≤ n
   pub steps : (latches inputs outputs next : List Bool) → Steps c latches inputs outputs next →
       StepsAs b latches inputs outputs next
 
--- two literals of different variables, none constant, the greater first and below the gate's own
+-- two literals of different variables, neither constant, the greater first and less than the gate's own
 pub record IsTidyGate (g : Gate) : Type 0 where
   pub below : g.first < g.literal
   pub falls : g.second < g.first

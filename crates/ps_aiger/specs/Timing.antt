@@ -1,4 +1,4 @@
--- SeesNoInput c: at equal latches the outputs of a circuit are equal for all inputs.
+-- SeesNoInput c: if the latches are equal, the outputs of a circuit are equal for all inputs.
 use Rattle.std.specs.Prelude.{◌≡◌, Bool, List}
 use Rattle.ps_circuit.specs.Circuits.{CircuitData}
 use Rattle.ps_circuit.specs.Values.{Steps}

@@ -1,10 +1,10 @@
--- The gates of a machine's circuit in the order in which they are made, however many they are.
+-- The gates of a machine's circuit in the order in which they are made, without a limit on their number.
 --     over_variables variables f d      the literal of a function of the variables' bits
 --     next_bit b j, output_bit b p      a bit of the machine's step, by memory and input letter
 --     code_made b f latches code d      the literal of such a bit, at the memories whose code begins so
 --     next_wires, output_wires b latches      the literals of all: the next values of the latches, and then the outputs
 --     IsWired b c      the circuit's literals and gates are these, in their order
---     IsOutOfLiterals b      where no circuit is made: the gates need too many variables
+--     IsOutOfLiterals b      when no circuit is made: the gates need too many variables
 use Rattle.std.specs.Prelude.{◌≡◌, ℕ, zero, suc, ◌+◌, ◌*◌, ◌^◌, ◌<◌, ◌≤◌, Bool, true, false, if◌then◌else◌, List, []}
 use Rattle.std.specs.Prelude.{◌∷◌, length, map, slice_get, Some}
 use Rattle.std.specs.List.{range_with_len}
@@ -19,8 +19,8 @@ use Rattle.ps_aiger.specs.Encoded.{letter_over, memory_at}
 
 -- ## Functions
 
--- A function of the bits of these variables: what it is where the first variable is true, then where it is false, then
--- the choice. Where it does not depend on that variable the two are one literal, and the choice needs no gate.
+-- A function of the bits of these variables: first its value if the first variable is true, then if it is false, then
+-- the choice. If it does not depend on that variable the two are one literal, and the choice needs no gate.
 unfoldable pub over_variables : List ℕ → (List Bool → Bool) → Drafted → Made
 over_variables [] f d = record { draft = d; literal = if f [] then 1 else 0 }
 over_variables (v ∷ vs) f d =
@@ -41,7 +41,7 @@ next_bit b j memory x = is_in j (b.next memory x)
 abbrev pub output_bit : Behaviour → ℕ → StepBit
 output_bit b p memory x = is_in p (b.plays memory x)
 
--- That bit at each memory whose code begins so, where that many latches are free: the last of them goes first. At one
+-- That bit at each memory whose code begins so, while that many latches are free: the last of them goes first. At one
 -- memory it is a function of the inputs.
 unfoldable pub code_made : Behaviour → StepBit → ℕ → ℕ → Drafted → Made
 code_made b f zero code d =
@@ -88,7 +88,7 @@ pub record IsWiredBy (b : Behaviour) (c : CircuitData) (latches : ℕ) : Type 0 
 abbrev pub IsWired : Behaviour → CircuitData → Type 0
 IsWired b c = IsWiredBy b c (length c.latches)
 
--- With as many latches as are needed, the circuit's gates take more variables than have literals.
+-- With as many latches as are needed, the circuit's gates take more variables than there are literals.
 pub record IsOutOfLiterals (b : Behaviour) : Type 0 where
   pub latches : ℕ
   pub room : b.memories ≤ 2 ^ latches

@@ -24,7 +24,7 @@ use std::alloc::{AllocError, Global};
 ///
 /// # Errors
 ///
-/// Fails where 2147483647 variables are there and one more is needed, or a growth was refused.
+/// Fails if 2147483647 variables exist and one more is needed, or if out of memory.
 pub fn encode(alloc: Global, machine: &Machine) -> Result<Circuit, EncodeFault>
     ensures encodes { IfOk result (λ circuit. Encodes (behaviour machine.now) circuit) }
     ensures tidy { IfOk result (λ circuit. IsTidy circuit) }
@@ -61,7 +61,7 @@ fn next_literals(
     literals_of(alloc, builder, machine, latches, &next_bits)
 }
 
-/// The literals of the outputs, made behind those of the next values of the latches.
+/// The literals of the outputs, made after those of the next values of the latches.
 fn output_literals(
     alloc: Global,
     builder: &mut Builder,
@@ -199,7 +199,7 @@ fn parts_of(
     })
 }
 
-/// The literals of that many variables from one on.
+/// The literals of `count` variables, from the first one on.
 fn literals_from(alloc: Global, first: u32, count: u32) -> Result<Vec<Literal>, AllocError>
     requires { first + count ≤ 2 ^ 31 }
     ensures { IfOk result (λ literals. literals.items ≡ map (λ v. 2 * v) (range_with_len first count)) }
@@ -211,7 +211,7 @@ fn literals_from(alloc: Global, first: u32, count: u32) -> Result<Vec<Literal>, 
     Ok(literals)
 }
 
-/// The latches from that variable on, with these next literals.
+/// The latches from the first variable on, with these next literals.
 fn latches_of(alloc: Global, first: u32, next: &[Literal]) -> Result<Vec<Latch>, AllocError>
     requires { first + length next.now ≤ 2 ^ 31 }
     ensures { IfOk result (λ latches. AreLatches first next.now latches.items) }
@@ -262,7 +262,7 @@ fn symbols(
     Ok(names)
 }
 
-/// No name, that many times.
+/// A list of `count` missing names.
 fn no_symbols(alloc: Global, count: usize) -> Result<Vec<Option<Vec<u8>>>, AllocError>
     ensures many { IfOk result (λ names. length names.items ≡ count) }
     ensures none { IfOk result (λ names. map name_bytes names.items ≡ replicate count None) }

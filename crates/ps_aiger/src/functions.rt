@@ -26,8 +26,8 @@ pub(crate) enum Wanted {
     Output(u32),
 }
 
-/// The literal that has, in each memory and at each input letter, the wanted bit of the row: input k is variable k + 1,
-/// and the latches come next.
+/// The literal that has, in each memory and at each input letter, the wanted bit of the row. Input k is variable k + 1,
+/// and the latches come after the inputs.
 pub(crate) fn literal_of(
     alloc: Global,
     builder: &mut Builder,
@@ -49,8 +49,8 @@ pub(crate) fn literal_of(
     over_latches(builder, machine, wanted, &mut known, latches, 0)
 }
 
-/// The same for the memories whose codes begin like that: the code of the first of them is given, and how many latches
-/// are free.
+/// The same for the memories whose codes have a given beginning. The code of the first of them is given, and how many
+/// latches are free.
 fn over_latches(
     builder: &mut Builder,
     machine: &Machine,
@@ -95,7 +95,7 @@ fn node_at(machine: &Machine, code: usize) -> Node
     }
 }
 
-/// The same for one memory, whose diagram that is. The table has the literals of nodes that came before.
+/// The same for one memory, given its diagram. The table has the literals of earlier nodes.
 fn over_inputs(
     builder: &mut Builder,
     machine: &Machine,

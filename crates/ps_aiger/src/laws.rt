@@ -7,20 +7,20 @@ ghost use Rattle.ps_circuit.specs.Circuits.{CircuitData};
 ghost use Rattle.ps_aiger.specs.Encoded.{Encodes, IsTidy};
 ghost use Rattle.ps_aiger.specs.Wires.{IsOutOfLiterals, IsWired};
 
-/// Machines that do the same have one circuit at most: any two of them are equal, in all that is printed.
+/// Machines that do the same have at most one circuit: any two of them are equal, in everything that is printed.
 pub fn one_circuit()
     ensures { (b o : Behaviour) (c d : CircuitData) → IsMachine b → BehavesAs b o → Encodes b c →
         IsTidy c → IsWired b c →
         Encodes o d → IsTidy d → IsWired o d → c ≡ d }
 {}
 
-/// A circuit has a literal for each variable: a machine whose gates need too many has none.
+/// A circuit has a literal for each variable, so a machine whose gates need too many variables has no circuit.
 pub fn circuit_has_literals()
     ensures { (b o : Behaviour) (c : CircuitData) → IsMachine b → BehavesAs b o → Encodes b c → IsTidy c → IsWired b c →
         ¬ IsOutOfLiterals o }
 {}
 
-/// Each machine has a circuit, unless its gates need more variables than have literals.
+/// Each machine has a circuit, unless its gates need more variables than there are literals.
 pub fn circuit_is_there()
     ensures { (b : Behaviour) → IsMachine b →
         IsOutOfLiterals b ⊎ ((c : CircuitData) × Encodes b c × IsTidy c × IsWired b c) }

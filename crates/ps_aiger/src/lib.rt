@@ -1,19 +1,22 @@
-//! Circuits of machines, and all of `ps_circuit` by name: circuits, their builder, reader and writer.
+//! Circuits of machines. The crate re-exports `ps_circuit`: circuits, their builder, reader and writer.
 //!
 //! | Call | What it gives |
 //! |---|---|
-//! | `encode(machine)` | the circuit whose step is the machine's, with the names of the propositions as symbols |
-//! | those of `ps_circuit` | `read`, `write`, `Builder`, `Circuit`, `Literal`: its head has a table |
+//! | `encode(machine)` | the circuit of a machine, with the names of the propositions as symbols |
+//!
+//! At each code of the latches the circuit's step is the machine's; a code of no memory stands for memory 0. There are
+//! no more latches than the memories need. If the player moves first, outputs do not depend on inputs. `encode` fails
+//! only if out of memory, or if its gates need more variables than there are literals.
 //!
 //! | Law | What it says |
 //! |---|---|
-//! | `one_circuit` | machines that do the same have one circuit at most |
-//! | `circuit_has_literals` | and none, where their gates need more variables than have literals |
-//! | `circuit_is_there` | else there is one |
+//! | `one_circuit` | machines that do the same have at most one circuit |
+//! | `circuit_has_literals` | a machine whose gates need too many variables has none |
+//! | `circuit_is_there` | every other machine has one |
 //!
 //! Memories are numbered in binary in the latches. Each output and each latch is a literal that is made from the
-//! machine's decision diagrams node by node, as a choice by the proposition that the node tests; a gate that is there
-//! is used again.
+//! machine's decision diagrams node by node, as a choice by the proposition that the node tests; an existing gate is
+//! used again.
 #![tactic(auto)]
 
 mod encoding;

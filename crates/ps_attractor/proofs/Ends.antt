@@ -1,4 +1,4 @@
--- The end of the walk: what is no more free is the attractor.
+-- The end of the walk: what is no longer free is the attractor.
 use Rattle.std.proofs.Common.{◌≡◌, ◌≢◌, ℕ, ◌+◌, ◌-◌, ◌<◌, ◌≤◌, ◌⊎◌, inl, inr, Bool, IsTrue, length, get_or, drop, rules}
 use Rattle.std.proofs.Common.{sym, ◌∙◌, arith}
 use Rattle.std.proofs.lemmas.Bool.{cases_eq, cases_lt}
@@ -23,7 +23,7 @@ pub record Ended (game : ParityGame) (aim : Aim) (old new : TablesData) (subgame
   pub taken : IsTaken aim new subgame set
   pub reached : Reaching game aim old new (From (length new.trail))
 
--- a vertex of the subgame was free or stood in the trail
+-- a vertex of the subgame was free or in the trail
 was_there : {game : ParityGame} {aim : Aim} {old : TablesData} {subgame target : ℕ → Bool} (w : ℕ) →
     IsPosed game aim old subgame target → IsTrue (subgame w) → (level_of old w ≡ aim.free) ⊎ StandsFrom old aim.begin w
 was_there w posed inside = elim (posed.split w inside) [
@@ -31,7 +31,7 @@ was_there w posed inside = elim (posed.split w inside) [
   | inr there ↦ inr (posed.target_stands w there)
 ]
 
--- the rank of what stands before a place of the trail is less than the place
+-- the rank of what is before a place of the trail is less than the place
 rank_before : (aim : Aim) (new : TablesData) (end w : ℕ) → end ≤ length new.trail → StandsBefore aim new end w →
     aim.begin + rank_of aim new w < end
 rank_before aim new end w within stands =
@@ -39,7 +39,7 @@ rank_before aim new end w within stands =
     let there : aim.begin + (stands.place - aim.begin) ≡ stands.place = omega arith in
     grind (arith, place_in-le, length-drop, get_or-drop)
 
--- a vertex stands at the place that its rank says
+-- the rank of a vertex gives its place
 rank_at : (aim : Aim) {new : TablesData} {v : ℕ} → StandsFrom new aim.begin v →
     (aim.begin + rank_of aim new v < length new.trail) × (get_or new.trail (aim.begin + rank_of aim new v) 0 ≡ v)
 rank_at aim {new} {v} stands =
@@ -61,12 +61,12 @@ module _ {game : ParityGame} {aim : Aim} {old new : TablesData} {subgame target 
   target_in : IsWithin target set
   target_in v there = search (rules, was_free)
 
-  -- what is in the set stands in the trail
+  -- what is in the set is in the trail
   in_trail : (v : ℕ) → IsTrue (set v) → StandsFrom new aim.begin v
   in_trail v inside = stands_now v ended.begins ended.reached.grown (ended.taken.placed v inside)
       (was_there v ended.posed (ended.taken.within v inside))
 
-  -- what stands in the trail is in the set
+  -- what is in the trail is in the set
   trail_in : {w : ℕ} → w < vertex_count game → StandsFrom new aim.begin w → IsTrue (set w)
   trail_in {w = w} is_vertex stands = search (rules, cases_lt, target_in)
 
@@ -132,7 +132,7 @@ module _ {game : ParityGame} {aim : Aim} {old new : TablesData} {subgame target 
         ],
       )
 
-  -- an edge to what stands before the place of a vertex leads down
+  -- an edge to what is before the place of a vertex leads down
   leads_down : (v w : ℕ) → aim.begin + rank_of aim new v < length new.trail → HasEdge game v w →
       StandsBefore aim new (aim.begin + rank_of aim new v) w → LeadsDown game subgame set (rank_of aim new) v w
   leads_down v w within edge stands = grind (

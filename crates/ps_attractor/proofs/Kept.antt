@@ -1,4 +1,4 @@
--- A level stands for itself where it is kept.
+-- A level that is stored stands for itself.
 use Rattle.std.proofs.Common.{◌≡◌, ℕ, zero, suc, ◌^◌, ◌<◌, ◌∷◌, map, replicate, ap, refl, rules}
 use Rattle.std.specs.Prelude.{min}
 use Rattle.std.proofs.lemmas.Bool.Decides.{nat_tests}

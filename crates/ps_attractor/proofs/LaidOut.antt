@@ -114,7 +114,7 @@ module _ {game : ParityGame} {player : ℕ} {subgame target : List Bool} {new : 
   region_vertex : (v : ℕ) → IsTrue (has region v) → v < vertex_count game
   region_vertex v inside = search (rules, cases_lt, false≢true)
 
-  -- what is in the region stands in the trail, and is in the subgame
+  -- what is in the region is in the trail, and in the subgame
   stands_inside : (v : ℕ) → IsTrue (has region v) → StandsFrom new 0 v × IsTrue (has subgame v)
   stands_inside v inside =
       let made = answer.made in

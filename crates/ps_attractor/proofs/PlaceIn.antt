@@ -4,13 +4,13 @@ use Rattle.std.proofs.Common.{get_or, refl, arith}
 use Rattle.std.proofs.lemmas.Bool.{eqb-true, eq-eqb, false≢true}
 use Rattle.ps_attractor.specs.Tables.{place_in}
 
--- at most each place where it stands
+-- at most each place where the number occurs
 pub place_in-le : (xs : List ℕ) (v i : ℕ) → i < length xs → get_or xs i 0 ≡ v → place_in xs v ≤ i
 place_in-le [] v i within is = absurd (omega arith)
 place_in-le (x ∷ xs) v zero within is = rw (eq-eqb x v is) (omega arith)
 place_in-le (x ∷ xs) v (suc i) within is = grind (arith, place_in-le xs v i (omega arith) is)
 
--- where it stands at all, it stands there
+-- if the number occurs at all, it is there
 pub place_in-at : (xs : List ℕ) (v i : ℕ) → i < length xs → get_or xs i 0 ≡ v → get_or xs (place_in xs v) 0 ≡ v
 place_in-at [] v i within is = absurd (omega arith)
 place_in-at (x ∷ xs) v i within is = by_test (λ i within is. place_in-at xs v i within is) (eqb x v) refl i within is

@@ -17,11 +17,11 @@ pub record Places (aim : Aim) (mid new : TablesData) (u : ℕ) : Type 0 where
   pub moves : (v : ℕ) → v ≢ u → get_or new.moves v 0 ≡ get_or mid.moves v 0
   pub trail : new.trail ≡ mid.trail ++ u ∷ []
 
--- what stands from a place on stands from an earlier one on
+-- what is in the trail from a place on is there from an earlier place on
 pub stands_after : {tables : TablesData} {m n v : ℕ} → StandsFrom tables m v → n ≤ m → StandsFrom tables n v
 stands_after stands earlier = search rules
 
--- what stands in the trail stands there where the trail goes on
+-- what is in the trail is still there when the trail is longer
 pub stands_longer : {old new : TablesData} {m v : ℕ} → length old.trail ≤ length new.trail →
     ((j : ℕ) → j < length old.trail → get_or new.trail j 0 ≡ get_or old.trail j 0) → StandsFrom old m v →
     StandsFrom new m v

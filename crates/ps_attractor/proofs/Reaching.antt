@@ -136,7 +136,7 @@ module _ {game : ParityGame} {aim : Aim} {old mid : TablesData} (list : List ℕ
         ];
       }
 
--- each vertex that was free or stood in the trail, and is not free, stands in the trail
+-- each vertex that was free or in the trail, and is not free, is in the trail
 pub stands_now : {aim : Aim} {old new : TablesData} (w : ℕ) → aim.begin ≤ length old.trail → IsGrown aim old new →
     level_of new w ≢ aim.free → (level_of old w ≡ aim.free) ⊎ StandsFrom old aim.begin w → StandsFrom new aim.begin w
 stands_now w begins grown not_free there = elim there [

@@ -1,5 +1,5 @@
--- What a player aims at within the tables, and what was reached: the attractor to the vertices that stand in the trail
--- from a place on. A vertex is free where its level is a stated one: it is in the subgame and not in the set yet.
+-- What a player aims at within the tables, and what was reached: the attractor of the vertices of the trail from a
+-- place on. A vertex is free if its level is a stated one: it is in the subgame and not yet in the set.
 use Rattle.std.specs.Prelude.{◌≡◌, ◌≢◌, ℕ, ◌<◌, ◌≤◌, ◌⊎◌, length, drop, Option, Bool, IsTrue, slice_index}
 use Rattle.ps_game.specs.Games.{ParityGame, vertex_count}
 use Rattle.ps_game.specs.Subgames.{IsWithin, LeadsInto, IsSubgame}
@@ -7,14 +7,14 @@ use Rattle.ps_game.specs.Attractors.{IsClosed, Falls, IsLeast}
 use Rattle.ps_attractor.specs.declared.aim.Aim.{Aim}
 use Rattle.ps_attractor.specs.Tables.{TablesData, level_of, place_in}
 
--- the vertex stands in the trail, from a place on
+-- the vertex is in the trail, from a place on
 pub record StandsFrom (tables : TablesData) (from v : ℕ) : Type 0 where
   pub place : ℕ
   pub after : from ≤ place
   pub within : place < length tables.trail
   pub is : slice_index tables.trail place ≡ v
 
--- the vertices of the subgame are the free ones and those of the target, which stand in the trail
+-- the vertices of the subgame are the free ones and those of the target, which are in the trail
 pub record IsPosed (game : ParityGame) (aim : Aim) (tables : TablesData) (subgame target : ℕ → Bool) : Type 0 where
   pub is_subgame : IsSubgame game subgame
   pub split : (v : ℕ) → IsTrue (subgame v) → (level_of tables v ≡ aim.free) ⊎ IsTrue (target v)
@@ -49,13 +49,13 @@ pub record IsSameAt (old new : TablesData) (v : ℕ) : Type 0 where
   pub level : level_of new v ≡ level_of old v
   pub move : slice_index new.moves v ≡ slice_index old.moves v
 
--- a vertex was free, has its level now, and stands in the trail behind what stood there
+-- a vertex was free, has its level now, and was appended to the trail
 pub record IsPlaced (aim : Aim) (old new : TablesData) (v : ℕ) : Type 0 where
   pub was_free : level_of old v ≡ aim.free
   pub level : level_of new v ≡ aim.mark
   pub stands : StandsFrom new (length old.trail) v
 
--- each vertex is as it was, or is placed; the trail goes on with placed vertices alone
+-- each vertex is as it was, or is placed; only placed vertices were appended to the trail
 pub record IsGrown (aim : Aim) (old new : TablesData) : Type 0 where
   pub longer : length old.trail ≤ length new.trail
   pub front : (j : ℕ) → j < length old.trail → slice_index new.trail j ≡ slice_index old.trail j

@@ -1,7 +1,7 @@
--- How a level is kept as a number up to a limit.
+-- How a level is stored as a number up to a limit.
 use Rattle.std.specs.Prelude.{◌≡◌, ℕ, ◌-◌, ◌^◌, ◌<◌, ◌⊎◌, ◌==◌, if◌then◌else◌}
 
--- the greatest number that fits stands for the greatest of all, each other one for itself
+-- the greatest number that fits stands for the greatest `usize`, any other number for itself
 abbrev pub level_in : ℕ → ℕ → ℕ
 level_in limit number = if number == limit then 2 ^ 64 - 1 else number
 

@@ -11,7 +11,7 @@ use Rattle.ps_attractor.specs.declared.attractor.Attracted.{Attracted}
 use Rattle.ps_attractor.specs.Tables.{TablesData, level_of, moves_of, place_in}
 use Rattle.ps_attractor.specs.Aims.{IsAttracted, IsGrown, IsTaken, StandsFrom, rank_of}
 
--- the vertices before n have their levels, and those of the target among them stand in the trail
+-- the vertices before n have their levels, and those of the target among them are in the trail
 pub record AreLaidOut (subgame target : List Bool) (n : ℕ) (tables : TablesData) : Type 0 where
   pub targets : (v : ℕ) → v < n → IsTrue (has target v) → level_of tables v ≡ PLACED
   pub frees : (v : ℕ) → v < n → has target v ≡ false → IsTrue (has subgame v) → level_of tables v ≡ FREE
@@ -25,7 +25,7 @@ pub record AreLaidOut (subgame target : List Bool) (n : ℕ) (tables : TablesDat
 abbrev pub aim_of : ℕ → Aim
 aim_of player = record { player = player; begin = 0; mark = PLACED; free = FREE }
 
--- the tables grew from those in which just the target is placed, to the attractor
+-- the tables grew from those in which only the target is placed, to the attractor
 pub record AreAttracted (game : ParityGame) (player : ℕ) (subgame target : List Bool) (tables : TablesData) : Type 0
   where
     pub old : TablesData
@@ -34,7 +34,7 @@ pub record AreAttracted (game : ParityGame) (player : ℕ) (subgame target : Lis
     pub attracted : (set : ℕ → Bool) → IsTaken (aim_of player) tables (has subgame) set
         → IsAttracted game (has subgame) player (has target) set (moves_of tables) (rank_of (aim_of player) tables)
 
--- of the vertices before n the region has just those that were placed
+-- of the vertices before n the region has exactly those that were placed
 pub record IsRegionTo (tables : TablesData) (n : ℕ) (region : List Bool) : Type 0 where
   pub placed : (v : ℕ) → v < n → IsTrue (has region v) → level_of tables v ≡ PLACED
   pub all : (v : ℕ) → v < n → level_of tables v ≡ PLACED → IsTrue (has region v)
@@ -46,7 +46,7 @@ pub record Moves (game : ParityGame) (tables : TablesData) (player : ℕ) (targe
   pub owns : owner_of game v ≡ player
   pub outside : has target v ≡ false
 
--- of the vertices before n just those have a move, the one of the tables
+-- of the vertices before n exactly those have a move, the one of the tables
 pub record AreMovesTo (game : ParityGame) (tables : TablesData) (player : ℕ) (target : List Bool) (n : ℕ)
     (moves : List (Option ℕ)) : Type 0 where
   pub given : (v : ℕ) → v < n → Moves game tables player target v → move_at moves v ≡ Some (slice_index tables.moves v)

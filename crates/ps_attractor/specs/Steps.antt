@@ -21,8 +21,8 @@ pub record HasFree (game : ParityGame) (free : ℕ) (tables : TablesData) (v : �
   pub edge : HasEdge game v to
   pub is_free : level_of tables to ≡ free
 
--- what comes of an edge from v to w, which is in the set: nothing where v is in it too, or is the other player's and
--- can stay out; else v is placed, and has w as its move where it is the player's
+-- the result of an edge from v to w, which is in the set: nothing if v is in it too, or is the other player's and can
+-- stay out; otherwise v is placed, and if it is the player's its move is w
 pub data Look (game : ParityGame) (aim : Aim) (old new : TablesData) (v w : ℕ) : Type 0 where
   NotFree : level_of old v ≢ aim.free → new ≡ old → Look game aim old new v w
   Escapes : owner_of game v ≢ aim.player → HasFree game aim.free old v → new ≡ old → Look game aim old new v w
@@ -32,13 +32,13 @@ pub data Look (game : ParityGame) (aim : Aim) (old new : TablesData) (v w : ℕ)
       ((x : ℕ) → HasEdge game v x → level_of old x ≢ aim.free) → new ≡ with_placed old v aim.mark →
       Look game aim old new v w
 
--- a successor that is free, or stands in the trail from where the target begins
+-- a successor that is free, or is in the trail from where the target begins
 pub record GoesOn (game : ParityGame) (aim : Aim) (tables : TablesData) (v : ℕ) : Type 0 where
   pub to : ℕ
   pub edge : HasEdge game v to
   pub there : (level_of tables to ≡ aim.free) ⊎ StandsFrom tables aim.begin to
 
--- a place of the trail to which the edge is still to be looked at
+-- a place of the trail with an edge that is still to be looked at
 pub record IsPending (aim : Aim) (tables : TablesData) (P : ℕ → ℕ → Type 0) (v w : ℕ) : Type 0 where
   pub place : ℕ
   pub after : aim.begin ≤ place
@@ -52,14 +52,14 @@ pub record CanGoOn (game : ParityGame) (aim : Aim) (tables : TablesData) (P : �
   pub edge : HasEdge game v to
   pub there : (level_of tables to ≡ aim.free) ⊎ IsPending aim tables P v to
 
--- a vertex stands in the trail before a place
+-- a vertex is in the trail before a place
 pub record StandsBefore (aim : Aim) (tables : TablesData) (end v : ℕ) : Type 0 where
   pub place : ℕ
   pub after : aim.begin ≤ place
   pub before : place < end
   pub is : slice_index tables.trail place ≡ v
 
--- a placed vertex leads to earlier places: by its move if it is the player's, and else by each edge that matters
+-- a placed vertex leads to earlier places: by its move if it is the player's, otherwise by each edge that matters
 pub record LeadsBack (game : ParityGame) (aim : Aim) (old new : TablesData) (place v : ℕ) : Type 0 where
   pub own : owner_of game v ≡ aim.player → HasEdge game v (slice_index new.moves v) ×
       StandsBefore aim new place (slice_index new.moves v)
@@ -86,7 +86,7 @@ pub record StandsAmong (list : List ℕ) (from v : ℕ) : Type 0 where
   pub within : number < length list
   pub is : slice_index list number ≡ v
 
--- all edges to the places behind k, and those to the place k from the sources with a number from n on
+-- all edges to the places after k, and those to the place k from the sources with a number from n on
 abbrev pub FromSource : ℕ → List ℕ → ℕ → ℕ → ℕ → Type 0
 FromSource k sources n v j = (k < j) ⊎ ((j ≡ k) × StandsAmong sources n v)
 

@@ -9,7 +9,7 @@ pub record TablesData : Type 0 where
   pub moves : List ℕ
   pub trail : List ℕ
 
--- a level and a move for each vertex, and the trail is of vertices
+-- a level and a move for each vertex; the trail has only vertices
 pub record FitsGame (game : ParityGame) (tables : TablesData) : Type 0 where
   pub levels : length tables.level ≡ vertex_count game
   pub choices : length tables.moves ≡ vertex_count game

@@ -9,6 +9,6 @@ pub struct Aim {
     pub begin: usize,
     /// The level that a vertex gets when it is placed.
     pub mark: usize,
-    /// The level of the vertices that are free: in the subgame, and not in the set yet.
+    /// The level of free vertices: in the subgame, and not yet in the set.
     pub free: usize,
 }

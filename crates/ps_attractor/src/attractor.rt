@@ -28,7 +28,7 @@ const PLACED: usize = 1;
 /// The level of the other vertices of the subgame.
 const FREE: usize = 2;
 
-/// From where a player can lead every play within a subgame to a target, by which moves, and how far from it.
+/// From where a player can lead every play within a subgame to a target, by which moves, and how soon.
 #[derive(Drop)]
 pub struct Attracted {
     /// The vertices from where the player can.
@@ -42,9 +42,7 @@ pub struct Attracted {
 /// The attractor of a player to a target within a subgame: the least set with the target, each vertex of the player
 /// with an edge into the set, and each vertex of the other player from which all edges within the subgame lead into it.
 ///
-/// # Errors
-///
-/// Fails where a growth was refused, as that of a table for 2^63 - 2 vertices or 2^64 edges is.
+/// Fails if out of memory, always so if a table for 2^63 - 2 vertices or 2^64 edges is needed.
 pub fn attract<A: Arena>(
     alloc: Global,
     arena: &A,
@@ -97,7 +95,7 @@ fn attract_in<A: Arena, W: Width>(
     read_off(alloc, arena, &tables, player, target)
 }
 
-/// The region, the moves and the ranks that stand in tables.
+/// The region, the moves and the ranks in the tables.
 fn read_off<A: Arena, W: Width>(
     alloc: Global,
     arena: &A,
@@ -119,7 +117,7 @@ fn read_off<A: Arena, W: Width>(
     })
 }
 
-/// Tables in which the target and all that is attracted to it are placed.
+/// Tables in which the target, and all that is attracted to it, are placed.
 fn attracted_tables<A: Arena, W: Width>(
     alloc: Global,
     arena: &A,
@@ -147,7 +145,7 @@ fn attracted_tables<A: Arena, W: Width>(
     Ok(tables)
 }
 
-/// Tables in which just the vertices of the target are placed.
+/// Tables in which exactly the vertices of the target are placed.
 fn laid_out<W: Width>(
     alloc: Global,
     count: usize,
@@ -239,7 +237,7 @@ fn placed_moves<A: Arena, W: Width>(
     Ok(moves)
 }
 
-/// The first place of each vertex that stands in the trail.
+/// The first place of each vertex of the trail.
 fn first_places<W: Width>(
     alloc: Global,
     tables: &Tables<W>,

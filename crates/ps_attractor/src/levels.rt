@@ -1,4 +1,4 @@
-//! Levels, kept at a stated width.
+//! Levels, stored at a stated width.
 
 ghost use Rattle.std.specs.Prelude.{◌≡◌, ◌<◌, ◌≤◌, IfOk, length, replicate, slice_index, slice_set};
 ghost use Rattle.ps_attractor.specs.Levels.{IsLevel};
@@ -7,7 +7,8 @@ use ps_game::{Numbers, Width};
 use std::alloc::{AllocError, Global};
 use std::marker::Model;
 
-/// A level for each vertex. The greatest number of all is a level at every width: it is kept as the greatest that fits.
+/// A level for each vertex. The greatest `usize` is a level at every width: it is stored as the greatest number that
+/// fits.
 #[derive(Drop)]
 pub struct Levels<W: Width> {
     numbers: Numbers<W>,
@@ -23,11 +24,7 @@ impl<W: Width> Model for Levels<W> {
 }
 
 impl<W: Width> Levels<W> {
-    /// Each vertex at one level.
-    ///
-    /// # Errors
-    ///
-    /// Fails where a growth was refused.
+    /// All vertices at one level. Fails if out of memory.
     pub fn filled(alloc: Global, level: usize, count: usize) -> Result<Levels<W>, AllocError>
         requires { IsLevel W.LIMIT level }
         ensures { IfOk result (λ levels. levels ≡ replicate count level) }

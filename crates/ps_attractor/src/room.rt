@@ -16,7 +16,7 @@ pub fn has_room<A: Arena, W: Width>(arena: &A) -> bool
     limit >= 4 && arena.count() <= (limit - 4) / 2 && has_room_for_edges::<A, W>(arena)
 }
 
-/// What is answered where no width has room: a table of as many numbers is asked for, and refused.
+/// The error if no width has room: a table of as many numbers is asked for, which no memory holds.
 pub fn no_room(alloc: Global) -> AllocError {
     match Vec::<usize>::with_capacity(alloc, usize::MAX) {
         Err(refused) => refused,

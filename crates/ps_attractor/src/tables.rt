@@ -1,5 +1,5 @@
-//! Levels, moves and the trail. For each vertex of the other player the tables also keep which successor was found free
-//! last; the view of the tables leaves that out, since no answer depends on it.
+//! Levels, moves and the trail. For each vertex of the other player the tables also remember which successor was last
+//! found free. The view of the tables leaves that out, since no answer depends on it.
 
 ghost use Rattle.std.specs.Prelude.{◌≡◌, ◌<◌, ◌≤◌, [], IfOk, OnOk, OnErr, length, replicate, take, slice_index};
 ghost use Rattle.std.specs.Prelude.{slice_set};
@@ -11,8 +11,8 @@ use ps_game::{Numbers, Width};
 use std::alloc::{AllocError, Global};
 use std::marker::Model;
 
-/// A level and a move for each vertex, and the trail: the vertices that were placed, in order. All are kept at a stated
-/// width.
+/// A level and a move for each vertex, and the trail: the vertices that were placed, in order. All are stored at a
+/// stated width.
 #[derive(Drop)]
 pub struct Tables<W: Width> {
     level: Levels<W>,
@@ -33,11 +33,7 @@ impl<W: Width> Model for Tables<W> {
 }
 
 impl<W: Width> Tables<W> {
-    /// Each vertex at one level, and none placed. There is room for each vertex in the trail.
-    ///
-    /// # Errors
-    ///
-    /// Fails where a growth was refused.
+    /// All vertices at one level, and none placed. There is room for each vertex in the trail. Fails if out of memory.
     pub fn new(alloc: Global, count: usize, level: usize) -> Result<Tables<W>, AllocError>
         requires room { count ≤ W.LIMIT }
         requires fits { IsLevel W.LIMIT level }
@@ -73,7 +69,7 @@ impl<W: Width> Tables<W> {
         self.moves.at(vertex)
     }
 
-    /// How many vertices stand in the trail.
+    /// How many vertices are in the trail.
     pub fn placed(&self) -> usize
         ensures { result ≡ length self.now.trail }
     {
@@ -108,11 +104,7 @@ impl<W: Width> Tables<W> {
         self.moves.set(vertex, successor);
     }
 
-    /// Puts a vertex at the end of the trail, and gives it a level. For want of memory nothing changes.
-    ///
-    /// # Errors
-    ///
-    /// Fails where a growth was refused.
+    /// Appends a vertex to the trail, and gives it a level. If memory runs out, nothing changes.
     pub fn place(&mut self, vertex: usize, level: usize) -> Result<(), AllocError>
         requires vertex { vertex < length self.old.level }
         requires fits { IsLevel W.LIMIT level }
@@ -124,7 +116,7 @@ impl<W: Width> Tables<W> {
         Ok(())
     }
 
-    /// Keeps so many vertices of the trail, and drops the rest.
+    /// Keeps the first `placed` vertices of the trail, and drops the rest.
     pub fn cut(&mut self, placed: usize)
         ensures trail { self.new.trail ≡ take placed self.old.trail }
         ensures level { self.new.level ≡ self.old.level }
@@ -133,15 +125,15 @@ impl<W: Width> Tables<W> {
         self.trail.truncate(placed);
     }
 
-    /// The number of the successor at which the last search from a vertex ended. A greater one than 32 bits hold is
-    /// kept as the greatest of these.
+    /// The number of the successor at which the last search from a vertex ended. A number above 32 bits is stored as
+    /// the greatest of 32 bits.
     pub(crate) fn watched(&self, vertex: usize) -> usize
         requires { vertex < length self.now.level }
     {
         self.watch[vertex] as usize
     }
 
-    /// Keeps the number of the successor at which a search from a vertex ended.
+    /// Remembers the number of the successor at which a search from a vertex ended.
     pub(crate) fn watch(&mut self, vertex: usize, number: usize)
         requires { vertex < length self.old.level }
         ensures { self.new ≡ self.old }

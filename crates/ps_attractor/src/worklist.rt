@@ -1,4 +1,4 @@
-//! The search: the trail is the worklist, and what is reached is put at its end.
+//! The search: the trail is the worklist, and what is reached is appended to it.
 
 ghost use Rattle.std.specs.Prelude.{◌≡◌, ◌≢◌, ◌+◌, ◌<◌, ◌≤◌, ℕ, Bool, IfSome, IfNone, OnOk, OnErr, IsTrue, false};
 ghost use Rattle.std.specs.Prelude.{length, slice_index};
@@ -16,13 +16,11 @@ use ps_game::{Arena, Width};
 use std::alloc::AllocError;
 
 impl<W: Width> Tables<W> {
-    /// Attracts to the vertices that stand in the trail from a place on: the trail is walked to its end, and each free
-    /// vertex from which the player can lead every play there is put behind it. Takes time in proportion to the edges
-    /// into the vertices that stand there, and those of the other player's vertices among their sources.
+    /// Attracts to the vertices of the trail from a place on. The trail is walked to its end, and each free vertex from
+    /// which the player can lead every play there is appended. Takes time proportional to the edges into these
+    /// vertices, and to the edges of the other player's vertices among their sources.
     ///
-    /// # Errors
-    ///
-    /// Fails where a growth was refused; what was placed before stays.
+    /// Fails if out of memory; what was placed before stays.
     pub fn attract<A: Arena>(
         &mut self,
         arena: &A,
@@ -79,7 +77,7 @@ impl<W: Width> Tables<W> {
         Ok(())
     }
 
-    /// Looks at an edge into a vertex that was reached.
+    /// Handles an edge into a vertex that was reached.
     fn look<A: Arena>(
         &mut self,
         arena: &A,

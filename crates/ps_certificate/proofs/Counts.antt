@@ -147,7 +147,7 @@ pub own_edges : (game : ParityGame) (certificate : CertificateData) (v : ℕ) {w
     v ≡ winner_of certificate v → choice_of certificate v ≡ Some w → {w' : ℕ} → Remains game certificate v w' → w' ≡ w
 own_edges game certificate v own is {w'} remains = search rules
 
--- behind edges that keep the rule, in the order of successors
+-- after edges that keep the rule, in the order of successors
 pub other_edges : (game : ParityGame) (certificate : CertificateData) (v w number : ℕ) →
     number < length (successors_of game v) → w ≡ slice_index (successors_of game v) number →
     ((k : ℕ) → k < number → KeepsCounts game certificate v (get_or (successors_of game v) k 0)) → (w' : ℕ) → Remains

@@ -40,7 +40,7 @@ Remains-own game certificate v is edge = record { edge = edge; chosen = λ _. is
 pub IsSomeAnd-at : {A : Type 0} {o : Option A} (P : A → Type 0) {x : A} → o ≡ Some x → IsSomeAnd o P → P x
 IsSomeAnd-at {A} P is holds = let F : Option A → Type 0 = λ p. IsSomeAnd p P in subst F is holds
 
--- what stands at a place of the option
+-- what an option holds
 pub some_of : {A : Type 0} (o : Option A) (P : A → Type 0) → IsSomeAnd o P → (x : A) × (o ≡ Some x) × P x
 some_of o P h = search rules
 

@@ -1,7 +1,7 @@
 -- How moves, the lines of vertices and the text are read, and how reading them fails.
 --     choice_dash, choice_fails, choice_reads      a move
---     past_id, .., entry_reads      the line of a vertex, behind the fields that were read
---     past_first, .., head_read      what stands before these lines, behind the parts that were read
+--     past_id, .., entry_reads      the line of a vertex, after the fields that were read
+--     past_first, .., head_read      what precedes these lines, after the parts that were read
 --     text_fails, text_reads, text_trails      the text
 use Rattle.std.proofs.Common.{◌≡◌, ◌≢◌, ℕ, Bool, not, cond, eqb, ltb, List, [], ◌∷◌, length, Option, Some, None, Result}
 use Rattle.std.proofs.Common.{Ok, Err, IsErrAnd, refl, sym, ap, subst, ◌∙◌, arith, rules}
@@ -79,7 +79,7 @@ module _ (compact : Bool) (odd even ids : List ℕ) (id : ℕ) where
   abbrev line : Field EntryData
   line = entry compact odd even ids id
 
-  -- what is left of the line behind the fields that were read
+  -- what is left of the line after the fields that were read
   module _ {old s1 : Stream Seen} {n : ℕ} (m1 : Reads (number (λ n. n ≡ id → ⊥)) old n s1) where
     pub past_id : Left line old (behind_id compact odd even ids) s1
     past_id = past (chain_id compact odd even ids id) unread m1
@@ -111,7 +111,7 @@ module _ (compact : Bool) (odd even ids : List ℕ) (id : ℕ) where
             entry_reads {cs} {new} m = reads_last (λ cs. record { winner = w; choice = c; counts = cs }) past_choice
                 (subst (λ xs. Reads (counts_in compact xs) s5 cs new) lost m) refl
 
--- ## What stands before the lines of the vertices
+-- ## What precedes the lines of the vertices
 
 module _ (odd even ids : List ℕ) where
   abbrev whole : Field CertificateData
@@ -178,7 +178,7 @@ module _ (odd even ids : List ℕ) where
       → Stops causes whole old (found_of e) → IsErrAnd r (λ y. y ≡ e) → TellsHead odd even ids old r new
   head_fails old new e r s i = search (rules, err_from_is_err_and)
 
-  -- the lines of the vertices, behind what stands before them
+  -- the lines of the vertices, after what precedes them
   module _ (compact : Bool) (all : List ℕ) (same : all ≡ ids) (start now : Stream Seen)
       (k : Carries causes whole start (all_entries compact odd even ids) now) where
     abbrev with_lists : List EntryData → CertificateData

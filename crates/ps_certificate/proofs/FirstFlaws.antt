@@ -9,7 +9,7 @@ use Rattle.ps_certificate.specs.Certificates.{choice_of}
 use Rattle.ps_certificate.specs.Inner.Prefixes.{IsSoundAt, IsFirstFlawAt, stage_of, vertex_of}
 use Rattle.ps_certificate.proofs.Edges.{HasWrongMove-from_not_right, not_wrong_when_right}
 
--- a flaw of the same stage at a later vertex comes behind
+-- a flaw of the same stage at a later vertex comes later
 later_vertex : (game : ParityGame) (flaw other : Flaw) → stage_of flaw ≡ stage_of other →
     vertex_of flaw < vertex_of other → Precedes game flaw other
 later_vertex game flaw other h k = search rules
@@ -33,7 +33,7 @@ pub sound_has_no_flaw : {game : ParityGame} {certificate : CertificateData} {v :
     (flaw : Flaw) → IsFlaw game certificate flaw → stage_of flaw ≡ 0 → vertex_of flaw ≡ v → ⊥
 sound_has_no_flaw h flaw k m n = search (rules, not_wrong_when_right)
 
--- the first flaw at a vertex behind sound ones is the first of all
+-- the first flaw at a vertex after sound ones is the first of all
 pub first_unsound : {game : ParityGame} {certificate : CertificateData} {v : ℕ} {flaw : Flaw} → ((u : ℕ) →
     u < v → IsSoundAt game certificate u) → IsFirstFlawAt game certificate 0 v flaw → IsFirstFlaw game certificate flaw
 first_unsound {game} {flaw} sound at = record {

@@ -2,7 +2,7 @@
 --     fails      the exit of a `?`, where the part's first fault was found
 --     word_next, word_fails, word_ends      a word, byte by byte
 --     priorities_fail, priorities_end      the numbers of a line of priorities
---     Listing      what is left is read, behind a front of a list
+--     Listing      what is left is read, after a front of a list
 use Rattle.std.proofs.Common.{◌≡◌, ℕ, suc, ◌+◌, ◌-◌, ◌<◌, ◌≤◌, Bool, true, false, not, eqb, List, [], ◌∷◌, ◌++◌, length}
 use Rattle.std.proofs.Common.{get_or, drop, Option, Some, Result, Ok, Err, IsErrAnd, sym, subst, append_assoc, arith}
 use Rattle.std.proofs.Common.{rules}

@@ -90,7 +90,7 @@ wrong_run_is {bytes} e l w = grind (arith, numeral_split bytes, numeral_plain by
 one_byte : (b : ℕ) (more : List ℕ) → IsPlainNumber (b ∷ more) → IsPlainNumber (b ∷ [])
 one_byte b more h = plain_front (b ∷ []) more (omega arith) h
 
--- the first sign is a digit, and no cause stands there
+-- the first sign is a digit, and there is no cause at it
 module _ (Wrong : Verdict) (settled : Settled Wrong) (t : Seen) (after : List Seen)
     (long : 0 < run_length (t.byte ∷ t.behind))
     (right : (f : CertCause) → IsWrongRun Wrong (t.byte ∷ t.behind) f → ⊥) where

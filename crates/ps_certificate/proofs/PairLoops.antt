@@ -63,7 +63,7 @@ no_pairs_yet {ps} {start} {n} e = record {
   carries = carries_start causes (many (pair ps) no_pairs) start;
 }
 
--- what a pair says, behind any pairs with that last priority
+-- what a pair says, after any pairs with that last priority
 abbrev pub ReadsPair : List ℕ → Option ℕ → Stream Seen → ℕ → ℕ → Stream Seen → Type 0
 ReadsPair ps last old p m new = (pairs : Pairs) → pairs.last ≡ last
     → Reads (pair ps pairs) old (with_pair pairs p m) new

@@ -23,7 +23,7 @@ pub same_place : (list : List ℕ) → IsStrictlyIncreasing list → {i j : ℕ}
     slice_index list i ≡ slice_index list j → i ≡ j
 same_place list rising {i} {j} i_within j_within same = search (rules, cases_order, rising_far)
 
--- marks stand only at priorities of the game
+-- only priorities of the game are marked
 pub record AreMarks (game : ParityGame) (window : List ℕ) (seen : List Bool) (vertex : ℕ) : Type 0 where
   pub room : length window ≤ length seen
   pub marked : (k : ℕ) → k < length window → get_or seen k false ≡ true → HasPriority game (get_or window k 0)

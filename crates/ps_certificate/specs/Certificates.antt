@@ -7,7 +7,7 @@ use Rattle.ps_game.specs.Ranking.{RemainsFor, ListsPriorities, KeepsRule}
 use Rattle.ps_certificate.specs.declared.flaw.Flaw.{Flaw}
 use Rattle.ps_certificate.specs.declared.flaw.Flaw.TheVariants.{Move, Escape, Rank}
 
--- what is said of one vertex: who wins it, the winner's move, and the counts
+-- what is said about one vertex: who wins it, the winner's move, and the counts
 pub record EntryData : Type 0 where
   pub winner : ℕ
   pub choice : Option ℕ
@@ -19,7 +19,7 @@ pub record CertificateData : Type 0 where
   pub even : List ℕ
   pub entries : List EntryData
 
--- what stands past the last entry: nobody wins there
+-- what is read after the last entry: nobody wins there
 abbrev pub no_entry : EntryData
 no_entry = record { winner = 2; choice = None; counts = [] }
 
@@ -36,8 +36,8 @@ counts_of certificate v = (slice_index_or certificate.entries v no_entry).counts
 unfoldable pub opposing : CertificateData → ℕ → List ℕ
 opposing certificate player = if player == 0 then certificate.odd else certificate.even
 
--- one entry for each vertex, winners 0 or 1, moves that are vertices, just the priorities of the game,
--- and one count for each priority by which the winner loses
+-- one entry for each vertex, winners 0 or 1, moves that are vertices, exactly the priorities of the game, and one count
+-- for each priority by which the winner loses
 pub record Fits (game : ParityGame) (certificate : CertificateData) : Type 0 where
   pub entry_each : length certificate.entries ≡ vertex_count game
   pub winners : (v : ℕ) → v < vertex_count game → winner_of certificate v < 2
@@ -47,7 +47,7 @@ pub record Fits (game : ParityGame) (certificate : CertificateData) : Type 0 whe
   pub count_each : (v : ℕ) → v < vertex_count game → length (counts_of certificate v) ≡ length
       (opposing certificate (winner_of certificate v))
 
--- an edge remains when it leaves a vertex of the loser, or is the winner's move
+-- an edge remains if it leaves a vertex of the loser, or is the winner's move
 abbrev pub Remains : ParityGame → CertificateData → ℕ → ℕ → Type 0
 Remains game certificate v w = RemainsFor game (winner_of certificate v) (choice_of certificate) v w
 
@@ -78,8 +78,7 @@ pub record IsValid (game : ParityGame) (certificate : CertificateData) : Type 0 
   pub counts : (v w k : ℕ) → Remains game certificate v w → winner_of certificate w ≡ winner_of certificate v →
       k < length (opposing certificate (winner_of certificate v)) → KeepsCount game certificate v w k
 
--- the winner owns the vertex, and its move is none or no successor; or the loser owns it, and a move
--- is given
+-- the winner owns the vertex, and its move is missing or not a successor; or the loser owns it, and a move is given
 abbrev pub HasWrongMove : ParityGame → CertificateData → ℕ → Type 0
 HasWrongMove game certificate v =
     ((owner_of game v ≡ winner_of certificate v) × ¬ IsSomeAnd (choice_of certificate v) (HasEdge game v))
@@ -102,7 +101,7 @@ IsFlaw game certificate (Escape v w) =
     Remains game certificate v w × (winner_of certificate w ≢ winner_of certificate v)
 IsFlaw game certificate (Rank v w p) = BreaksCount game certificate v w p
 
--- one number stands before another one in a list
+-- one number comes before another in a list
 abbrev pub StandsBefore : List ℕ → ℕ → ℕ → Type 0
 StandsBefore xs x y =
     (i : ℕ) × (j : ℕ) × (i < j) × (j < length xs) × (slice_index xs i ≡ x) × (slice_index xs j ≡ y)
@@ -111,8 +110,8 @@ StandsBefore xs x y =
 abbrev pub EdgePrecedes : ParityGame → ℕ → ℕ → ℕ → ℕ → Type 0
 EdgePrecedes game v w v' w' = (v < v') ⊎ ((v ≡ v') × StandsBefore (successors_of game v) w w')
 
--- the order of flaws: moves and escapes by vertex, at one vertex the move first, then escapes in the
--- order of successors; behind all of them ranks, by vertex, successor and priority
+-- the order of flaws: moves and escapes by vertex, at one vertex the move first, then escapes in the order of
+-- successors; after all of them ranks, by vertex, successor and priority
 abbrev pub Precedes : ParityGame → Flaw → Flaw → Type 0
 Precedes game (Move v _) (Move v' _) = v < v'
 Precedes game (Move v _) (Escape v' _) = v ≤ v'
@@ -124,7 +123,7 @@ Precedes game (Escape _ _) (Rank _ _ _) = Unit {0}
 Precedes game (Rank _ _ _) (Move _ _) = ⊥
 Precedes game (Rank _ _ _) (Escape _ _) = ⊥
 
--- a flaw that each other one comes behind
+-- a flaw that comes before every other
 pub record IsFirstFlaw (game : ParityGame) (certificate : CertificateData) (flaw : Flaw) : Type 0 where
   pub is_flaw : IsFlaw game certificate flaw
   pub first : (other : Flaw) → IsFlaw game certificate other → (flaw ≡ other) ⊎ Precedes game flaw other

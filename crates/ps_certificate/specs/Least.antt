@@ -1,6 +1,6 @@
 -- Certificates with the same winners and moves, and the least counts among them.
 --     SaysTheSame game c d      the same winners and moves
---     DiffersInCounts game c d      besides, the same priorities
+--     DiffersInCounts game c d      also the same priorities
 --     HasLeastCounts game c      no valid certificate with its winners and moves has a smaller count
 use Rattle.std.specs.Prelude.{◌≡◌, ℕ, ◌<◌, ◌≤◌, length, slice_index}
 use Rattle.ps_game.specs.Games.{ParityGame, priority_of, vertex_count}
@@ -12,13 +12,13 @@ pub record SaysTheSame (game : ParityGame) (one other : CertificateData) : Type 
   pub winners : (v : ℕ) → v < vertex_count game → winner_of one v ≡ winner_of other v
   pub moves : (v : ℕ) → v < vertex_count game → choice_of one v ≡ choice_of other v
 
--- certificates that differ in counts alone
+-- certificates that differ only in counts
 pub record DiffersInCounts (game : ParityGame) (one other : CertificateData) : Type 0 where
   pub odd : one.odd ≡ other.odd
   pub even : one.even ≡ other.even
   pub same : SaysTheSame game one other
 
--- each count is the least one among valid certificates that differ in counts alone, and 0 for a priority below the
+-- each count is the least among valid certificates that differ only in counts, and 0 for a priority less than the
 -- vertex's own, where it has no meaning
 pub record HasLeastCounts (game : ParityGame) (certificate : CertificateData) : Type 0 where
   pub least : (other : CertificateData) → Fits game other → IsValid game other →

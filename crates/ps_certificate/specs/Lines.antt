@@ -1,5 +1,5 @@
--- How a certificate keeps its entries: winners, and moves with the parts of one list where the counts of each vertex
--- stand that are not 0. (Of private fields.)
+-- How a certificate stores its entries: winners, and moves with the parts of one list that have the counts of each
+-- vertex that are not 0. (For private fields.)
 use Rattle.std.specs.Prelude.{◌≡◌, ℕ, ◌≤◌, List, length, map}
 use Rattle.std.specs.List.{All, slice_range, zip}
 use Rattle.ps_certificate.specs.Certificates.{EntryData}
@@ -7,7 +7,7 @@ use Rattle.ps_certificate.specs.Sparse.{row_of, IsRow}
 use Rattle.ps_certificate.specs.declared.entries.Line.{Line}
 use Rattle.ps_certificate.specs.declared.row.PlacedCount.{PlacedCount}
 
--- what a line names in the list of all
+-- the part of the list of all that a line names
 abbrev pub part_of : List PlacedCount → Line → List PlacedCount
 part_of placed line = slice_range placed line.start line.end
 
@@ -25,7 +25,7 @@ pub record IsWithin (placed : List PlacedCount) (line : Line) : Type 0 where
   pub ends : line.end ≤ length placed
   pub row : IsRow line.width (part_of placed line)
 
--- a winner for each line, whose counts are there
+-- a winner for each line, whose counts are in the list
 pub record AreLines (winners : List ℕ) (lines : List Line) (placed : List PlacedCount) : Type 0 where
   pub each : length winners ≡ length lines
   pub within : All (IsWithin placed) lines

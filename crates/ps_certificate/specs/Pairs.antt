@@ -1,4 +1,4 @@
--- The counts of a line of a compact text, as pairs of a priority and its count, so far.
+-- The counts of a line of a compact text so far, as pairs of a priority and its count.
 use Rattle.std.specs.Prelude.{ℕ, ◌≤◌, Option, Some, None, IsSomeAnd, ◌==◌, if◌then◌else◌}
 
 -- the last priority, and the count for each priority: 0 where none was given

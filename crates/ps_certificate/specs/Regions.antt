@@ -1,4 +1,4 @@
--- What a certificate claims of a game: each player's region, held by the moves that are given.
+-- What a certificate claims about a game: each player's region, held by the given moves.
 use Rattle.std.specs.Prelude.{◌≢◌, ℕ, ◌<◌, Bool, ◌==◌}
 use Rattle.ps_game.specs.Games.{ParityGame, vertex_count}
 use Rattle.ps_game.specs.Plays.{KeepsTo, Holds}
@@ -14,7 +14,7 @@ abbrev pub BothKeep : ParityGame → CertificateData → Type 0
 BothKeep game certificate =
     (player : ℕ) → player < 2 → KeepsTo game player (region_of certificate player) (choice_of certificate)
 
--- each player holds the player's region by the moves that are given
+-- each player holds the player's region by the given moves
 abbrev pub BothHold : ParityGame → CertificateData → Type 0
 BothHold game certificate =
     (player : ℕ) → player < 2 → Holds game player (region_of certificate player) (choice_of certificate)

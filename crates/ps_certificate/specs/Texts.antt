@@ -4,17 +4,16 @@
 --     odd p p ..                      odd p p ..
 --     even p p ..                     even p p ..
 --     id winner move m m ..           id winner move p:m p:m ..
--- Each line is ended by one newline, fields are separated by one space, and numbers have no leading zeros. The second
--- line has the number of vertices, the next two the priorities that are present, rising. Then one line for each vertex,
--- in the game's order: its id, the winner, 0 or 1, the winner's move, which is the id of a vertex or `-`, and one count
--- for each priority by which the winner loses. The compact text, on the right, has a count only where it is not 0,
--- behind its priority, and these priorities rise.
--- A text has the form of a certificate, whichever numbers stand where a number of vertices, a priority, an id or a move
--- stands, and however many priorities are listed. Where it leaves this form it is refused by 53 (`Syntax`), and so it
--- is at the first digit of a number that no word of 64 bits holds, at a count 0 behind its priority, and at the first
--- digit of a count's priority that does not rise, if a space, a newline or a colon ends it. It is refused by 54
--- (`OtherGame`) at a number that is not the one that the game has there, if one of these ends it, and at the newline
--- where a priority is missing.
+-- Each line ends with one newline, fields are separated by one space, and numbers have no leading zeros. The second
+-- line has the number of vertices, the next two the priorities of the game, ascending. Then there is one line for each
+-- vertex, in the game's order: its id, the winner, 0 or 1, the winner's move, which is the id of a vertex or `-`, and
+-- one count for each priority by which the winner loses. The compact text, on the right, has a count only if it is not
+-- 0, after its priority, and these priorities ascend. Any number is well formed where a number of vertices, a priority,
+-- an id or a move is expected, and any number of priorities may be listed. A text that does not have this form is
+-- refused by 53 (`Syntax`). So is a number that does not fit in 64 bits, at its first digit; a count 0 after its
+-- priority; and a count's priority that does not ascend, at its first digit, if a space, a newline or a colon follows
+-- it. A text is refused by 54 (`OtherGame`) at a number that is not the game's, if one of these three follows it, and
+-- at the newline where a priority is missing.
 use Rattle.std.specs.Prelude.{◌≡◌, ◌≢◌, ℕ, zero, suc, ◌^◌, ◌<◌, ◌≤◌, ◌⊎◌, List, [], ◌∷◌, ◌++◌, length, map, drop}
 use Rattle.std.specs.Prelude.{Option, Some, None, Result, Bool, true, false, ◌==◌, if◌then◌else◌, slice_get, position}
 use Rattle.std.specs.List.{Contains}
@@ -54,11 +53,11 @@ abbrev pub EndsField : List ℕ → Type 0
 EndsField [] = ⊥
 EndsField (b ∷ bytes) = (b ≡ 32) ⊎ (b ≡ 10) ⊎ (b ≡ 58)
 
--- what may be wrong with a number where it stands: a cause, by what stands behind it and by its value
+-- what may be wrong with a number at its place: a cause, by what follows it and by its value
 abbrev pub Verdict : Type 1
 Verdict = List ℕ → ℕ → CertCause → Type 0
 
--- the digits that begin at that byte are of a number that is too large, or that is wrong there
+-- the digits that begin at that byte are of a number that is too large, or wrong there
 pub record IsBadNumber (Wrong : Verdict) (s : Seen) (f : CertCause) : Type 0 where
   pub digits : List ℕ
   pub more : List ℕ
@@ -73,7 +72,7 @@ judged Wrong = record {
   IsCause = λ front s f. (front ≡ []) × IsBadNumber Wrong s f;
 }
 
--- the number is ended, and not the game's
+-- the number is complete, and not the game's
 abbrev pub OfOtherGame : (ℕ → Type 0) → Verdict
 OfOtherGame Wrong more n f = (f ≡ OtherGame) × EndsField more × Wrong n
 
@@ -90,15 +89,15 @@ Never n = ⊥
 abbrev pub NotNext : List ℕ → ℕ → Type 0
 NotNext ps n = slice_get ps 0 ≢ Some n
 
--- a number behind a space; what is left of the list is the value
+-- a number after a space; what is left of the list is the value
 abbrev pub priority : List ℕ → Field (List ℕ)
 priority ps = then_by (byte 32) (λ _. mapped (λ _. drop 1 ps) (number (NotNext ps)))
 
--- the newline stands where a priority of the list is missing
+-- there is a newline although a priority of the list is missing
 abbrev pub IsMissing : List ℕ → Seen → CertCause → Type 0
 IsMissing ps s f = (s.byte ≡ 10) × (0 < length ps) × (f ≡ OtherGame)
 
--- the rest of a line that has to list these priorities
+-- the rest of a line that must list these priorities
 abbrev pub priorities : List ℕ → Field (Unit {0})
 priorities ps = then_by (many priority ps) (λ left. one (take_byte 10) (IsMissing left))
 
@@ -115,12 +114,12 @@ vertex_of ids id = position (λ other. other == id) ids
 abbrev pub choice : List ℕ → Field (Option ℕ)
 choice ids = either (mapped (λ _. None) (byte 45)) (mapped (vertex_of ids) (number (λ id. ¬ Contains ids id)))
 
--- so many counts, each behind a space, and the end of the line
+-- a number of counts, each after a space, and the end of the line
 abbrev pub counts : ℕ → Field (List ℕ)
 counts zero = mapped (λ _. []) (byte 10)
 counts (suc n) = then_by (byte 32) (λ _. then_by (number Never) (λ count. mapped (λ others. count ∷ others) (counts n)))
 
--- the priority of a count is ended, and does not rise, or is none by which the winner loses
+-- the priority of a count is complete, and does not ascend, or is not one by which the winner loses
 abbrev pub WrongPriority : List ℕ → Pairs → Verdict
 WrongPriority ps pairs more n f =
     EndsField more × (((f ≡ Syntax) × DoesNotRise pairs n) ⊎ ((f ≡ OtherGame) × ¬ Contains ps n))
@@ -129,7 +128,7 @@ WrongPriority ps pairs more n f =
 abbrev pub IsZero : Verdict
 IsZero more n f = (f ≡ Syntax) × (n ≡ 0)
 
--- a count behind a space, its priority and a colon
+-- a count after a space, its priority and a colon
 abbrev pub pair : List ℕ → Pairs → Field Pairs
 pair ps pairs =
     then_by (byte 32) (λ _. then_by (judged (WrongPriority ps pairs)) (λ p.
@@ -182,6 +181,6 @@ pub record ReadsCertificate (game : NamedGameData) (text : List ℕ)
   pub even_listed : ListsPriorities game.game 0 even
   pub answers : PartAnswers causes (certificate odd even game.ids) (stream_at 0 text) answer
 
--- what the reader answers: this, unless memory runs out
+-- what the reader returns: this, unless memory runs out
 abbrev pub IsCertificateAnswer : NamedGameData → List ℕ → Result CertificateData CertFault → Type 0
 IsCertificateAnswer game text result = UnlessMemory (ReadsCertificate game text) result

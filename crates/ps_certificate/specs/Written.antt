@@ -1,12 +1,12 @@
 -- The bytes of a certificate that is written.
---     fields xs      each of the numbers behind one space
---     pairs ps cs      each count that is not 0, behind one space, its priority and a colon
+--     fields xs      each of the numbers after one space
+--     pairs ps cs      each count that is not 0, after one space, its priority and a colon
 --     entry_line compact odd even ids id entry      the line of the vertex with that id
---     IsWritable count odd even entry      what such a line can be written of
---     IsWord n, HasWords ids c      numbers that the code holds in words
+--     IsWritable count odd even entry      what is needed of an entry to write its line
+--     IsWord n, HasWords ids c      numbers that the code can hold in words
 --     text_in compact game c      the first line, the number of vertices, the odd and the even priorities, and a line
 --               for each vertex
---     certificate_text, compact_text      in each of the two texts
+--     certificate_text, compact_text      in each of the two forms
 use Rattle.std.specs.Prelude.{◌≡◌, ℕ, ◌+◌, ◌^◌, ◌<◌, Bool, true, false, ◌==◌, if◌then◌else◌, List, [], ◌∷◌, ◌++◌}
 use Rattle.std.specs.Prelude.{length, decimal, Option, Some, None, IfSome, slice_index}
 use Rattle.std.specs.List.{All}
@@ -29,12 +29,11 @@ abbrev pub counts_text : Bool → List ℕ → List ℕ → List ℕ
 counts_text false ps cs = fields cs
 counts_text true ps cs = pairs ps cs
 
--- a word of 64 bits holds the number
+-- the number fits in 64 bits
 abbrev pub IsWord : ℕ → Type 0
 IsWord n = n < 2 ^ 64
 
--- the winner is 0 or 1, the move one of so many vertices, and there is a count for each priority by which the winner
--- loses
+-- the winner is 0 or 1, the move is less than `count`, and there is a count for each priority by which the winner loses
 pub record IsWritable (count : ℕ) (odd even : List ℕ) (entry : EntryData) : Type 0 where
   pub winner : entry.winner < 2
   pub choice : IfSome entry.choice (λ w. w < count)
@@ -81,7 +80,7 @@ certificate_text game certificate = text_in false game certificate
 abbrev pub compact_text : NamedGameData → CertificateData → List ℕ
 compact_text game certificate = text_in true game certificate
 
--- words hold the ids of a game, how many there are, and the numbers of a certificate
+-- the ids of a game, their number, and the numbers of a certificate fit in words
 pub record HasWords (all : List ℕ) (certificate : CertificateData) : Type 0 where
   pub count : IsWord (length all)
   pub ids : All IsWord all

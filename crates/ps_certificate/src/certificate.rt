@@ -7,12 +7,12 @@ use crate::entries::Entries;
 use crate::row::Row;
 use std::marker::Model;
 
-/// Who wins each vertex of a game, by which moves, with the counts that show it.
+/// Who wins each vertex of a game, by which moves, with the counts that prove it.
 #[derive(Debug, Drop)]
 pub struct Certificate {
-    /// The odd priorities of the game, rising. Player 0 loses by them.
+    /// The odd priorities of the game, ascending. Player 0 loses by them.
     pub odd: Vec<u64>,
-    /// The even priorities of the game, rising. Player 1 loses by them.
+    /// The even priorities of the game, ascending. Player 1 loses by them.
     pub even: Vec<u64>,
     /// One entry for each vertex.
     pub entries: Entries,
@@ -54,7 +54,7 @@ impl Certificate {
         self.entries.counts(vertex)
     }
 
-    /// The priorities by which a player loses, rising.
+    /// The priorities by which a player loses, ascending.
     pub fn opposing(&self, player: u8) -> &[u64]
         ensures { result.now ≡ opposing self.now player }
     {

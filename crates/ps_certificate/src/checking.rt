@@ -1,4 +1,4 @@
-//! The whole check: what is closed, and the rule of counts on each edge that remains.
+//! The whole check: the certificate is closed, and each edge that remains keeps the rule of counts.
 
 ghost use Rattle.std.specs.Prelude.{◌≡◌, ℕ, ◌+◌, ◌<◌, ◌↔◌, IsTrue, IsOk, IfErr, OnOk, IfNone, IfSome};
 ghost use Rattle.ps_game.specs.Games.{vertex_count};
@@ -14,8 +14,8 @@ use crate::flaw::Flaw;
 use crate::rising::first_at_least;
 use ps_game::Arena;
 
-/// The first opposing priority for which an edge breaks the rule of counts. Priorities below those of the edge's ends
-/// are passed over by a search; behind them only counts that are not 0 are compared.
+/// The first opposing priority for which an edge breaks the rule of counts. A search skips priorities less than those
+/// of the edge's ends; from there on only counts that are not 0 are compared.
 fn broken_priority<A: Arena>(
     arena: &A,
     certificate: &Certificate,
@@ -81,7 +81,7 @@ fn unranked_at<A: Arena>(arena: &A, certificate: &Certificate, vertex: usize) ->
     None
 }
 
-/// The first flaw in counts of the vertices up to one, from that of the earlier ones.
+/// The first flaw in the counts of the vertices up to one, given that of the earlier ones.
 fn unranked_through<A: Arena>(
     arena: &A,
     certificate: &Certificate,
@@ -102,9 +102,9 @@ fn unranked_through<A: Arena>(
     }
 }
 
-/// Whether a certificate is valid: it is closed, and each edge that remains keeps the rule of counts.
-/// Else the first flaw: that of [`crate::closed`] if there is one, else the first edge that breaks the rule, by
-/// vertex, in the order of successors, by priority. Takes no memory.
+/// Whether a certificate is valid: it is closed, and each edge that remains keeps the rule of counts. Otherwise returns
+/// the first flaw: that of [`crate::closed`] if there is one, else the first edge that breaks the rule, by vertex, then
+/// successor, then priority. Takes no memory.
 ///
 /// # Errors
 ///

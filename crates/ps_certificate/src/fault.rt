@@ -7,9 +7,9 @@ use ps_text::faults::{Cause, Fault};
 /// What is wrong with the text of a certificate.
 #[derive(Clone, Copy, Debug, PartialEq, Eq)]
 pub enum CertCause {
-    /// The text leaves the form of certificates, or a number in it is too large.
+    /// The text does not have the form of a certificate, or a number in it is too large.
     Syntax,
-    /// The text has the form of a certificate, but not of one for this game.
+    /// The text has the form of a certificate, but of another game.
     OtherGame,
 }
 

@@ -20,7 +20,7 @@ pub(crate) fn ends(cursor: &Cursor) -> bool
     matches!(cursor.peek(), Some(b' ' | b'\n' | b':'))
 }
 
-/// The number that comes next: 0, or digits that don't begin with it.
+/// The number that comes next: a single 0, or digits that don't begin with 0.
 pub(crate) fn number(cursor: &mut Cursor) -> Result<u64, CertFault>
     ensures { TellsNumber cursor.old result cursor.new }
 {
@@ -39,7 +39,7 @@ pub(crate) fn number(cursor: &mut Cursor) -> Result<u64, CertFault>
     }
 }
 
-/// The number that comes next, which has to be that one if it is ended.
+/// The number that comes next, which must be the wanted one if it is complete.
 pub(crate) fn exactly(cursor: &mut Cursor, wanted: u64) -> Result<u64, CertFault>
     ensures { Tells (λ n. n) (parts.number (λ n. n ≢ wanted)) cursor.old result cursor.new }
 {
@@ -51,7 +51,7 @@ pub(crate) fn exactly(cursor: &mut Cursor, wanted: u64) -> Result<u64, CertFault
     Ok(found)
 }
 
-/// Goes behind the rest of a line that has to list these numbers, each behind a space.
+/// Moves past the rest of a line that must list these numbers, each after a space.
 pub(crate) fn priorities(cursor: &mut Cursor, priorities: &[u64]) -> Result<(), CertFault>
     ensures { Tells (λ u. u) (parts.priorities priorities.now) cursor.old result cursor.new }
 {
@@ -62,7 +62,7 @@ pub(crate) fn priorities(cursor: &mut Cursor, priorities: &[u64]) -> Result<(), 
     line_end(cursor, left)
 }
 
-/// Goes behind a space and a number, which has to be the first of these: those that are left.
+/// Moves past a space and a number, which must be the first of these. Returns those that are left.
 fn listed<'p>(cursor: &mut Cursor, priorities: &'p [u64]) -> Result<&'p [u64], CertFault>
     ensures { Tells (λ left. left.now) (parts.priority priorities.now) cursor.old result cursor.new }
 {
@@ -75,7 +75,7 @@ fn listed<'p>(cursor: &mut Cursor, priorities: &'p [u64]) -> Result<&'p [u64], C
     Ok(without_first(priorities))
 }
 
-/// Goes to the next line, where none of these is wanted any more.
+/// Moves to the next line; none of these numbers may be left.
 fn line_end(cursor: &mut Cursor, left: &[u64]) -> Result<(), CertFault>
     ensures { Tells (λ u. u) (one (take_byte 10) (IsMissing left.now)) cursor.old result cursor.new }
 {
@@ -119,7 +119,7 @@ pub(crate) fn winner(cursor: &mut Cursor) -> Result<u8, CertFault>
     Err(cursor.refusal(CertCause::Syntax))
 }
 
-/// The move that comes next: none, or the vertex with the id that is given.
+/// The move that comes next: none, or the vertex with the given id.
 pub(crate) fn choice(cursor: &mut Cursor, ids: &Ids) -> Result<Option<usize>, CertFault>
     ensures { Tells (λ c. c) (parts.choice ids.now) cursor.old result cursor.new }
 {
@@ -136,7 +136,7 @@ pub(crate) fn choice(cursor: &mut Cursor, ids: &Ids) -> Result<Option<usize>, Ce
     Ok(vertex)
 }
 
-/// So many counts, each behind a space, and the end of the line.
+/// So many counts, each after a space, and the end of the line.
 pub(crate) fn all_counts(
     cursor: &mut Cursor,
     count: usize,

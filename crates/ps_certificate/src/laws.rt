@@ -1,4 +1,4 @@
-//! Laws on certificates. Each is the contract of a function that does nothing.
+//! Laws on certificates. Each is the contract of a function with an empty body.
 
 ghost use Rattle.std.specs.Prelude.{◌≡◌, ◌<◌, ℕ};
 ghost use Rattle.ps_game.specs.Games.{ParityGame, IsGame, owner_of, vertex_count};
@@ -6,7 +6,7 @@ ghost use Rattle.ps_certificate.specs.Certificates.{CertificateData, Fits, IsClo
 ghost use Rattle.ps_certificate.specs.declared.flaw.Flaw.{Flaw};
 ghost use Rattle.ps_certificate.specs.Regions.{BothKeep, BothHold, NoneWinsOutside};
 
-/// Paths that follow the moves of a closed certificate stay in the region that they begin in.
+/// Paths that follow the moves of a closed certificate stay in the region in which they begin.
 pub fn closed_regions_are_kept()
     ensures { (game : ParityGame) (certificate : CertificateData) → IsClosed game certificate →
         BothKeep game certificate }
@@ -18,13 +18,13 @@ pub fn valid_regions_are_held()
         BothHold game certificate }
 {}
 
-/// No strategy wins outside the region that a valid certificate gives its player.
+/// No strategy of a player wins outside the region that a valid certificate gives that player.
 pub fn no_strategy_wins_outside()
     ensures { (game : ParityGame) (certificate : CertificateData) → IsGame game → Fits game certificate →
         IsValid game certificate → NoneWinsOutside game certificate }
 {}
 
-/// Valid certificates of a game, whose vertices belong to the two players, give each vertex the same winner.
+/// Valid certificates of a game whose vertices belong to the two players give each vertex the same winner.
 pub fn winners_are_one()
     ensures { (game : ParityGame) (one other : CertificateData) →
         ((v : ℕ) → v < vertex_count game → owner_of game v < 2) →
@@ -32,7 +32,7 @@ pub fn winners_are_one()
         (v : ℕ) → v < vertex_count game → winner_of one v ≡ winner_of other v }
 {}
 
-/// A certificate has one first flaw at most.
+/// A certificate has at most one first flaw.
 pub fn first_flaw_is_one()
     ensures { (game : ParityGame) (certificate : CertificateData) (flaw other : Flaw) → IsGame game →
         IsFirstFlaw game certificate flaw → IsFirstFlaw game certificate other → flaw ≡ other }

@@ -1,31 +1,34 @@
-//! Certificates of parity games: what says who wins each vertex, by which move, and why.
+//! Certificates of parity games, which say who wins each vertex, by which move, and why.
 //!
-//! The why are counts: for each vertex one for each priority by which the winner loses. Along each edge that remains
-//! where the winner moves by the certificate, a count does not rise where neither end has a greater priority, and falls
-//! where the edge leaves a vertex of that priority. docs/CERTIFICATES.md has the format and the rule for a checker by
-//! somebody else.
+//! The reason is given by counts: each vertex has one for each priority by which its winner loses. Take an edge that
+//! remains when the winner moves by the certificate, and neither end of which has a greater priority. Along it the
+//! count does not rise, and it falls if the edge leaves a vertex of that priority. docs/CERTIFICATES.md has the format
+//! and the rule, for those who write another checker.
 //!
 //! | Call | What it gives |
 //! |---|---|
 //! | `read(text, game)` | the certificate of a text, plain or compact, that fits the game, or the first `CertFault` |
-//! | `fits(arena, certificate)` | whether a certificate has the form that the game asks for, which the checks require |
-//! | `closed(arena, certificate)` | whether moves are right and stay with their winner, or the first `Flaw` |
-//! | `check(arena, certificate)` | whether, besides, each edge that remains keeps the rule, or the first `Flaw` |
+//! | `fits(arena, certificate)` | exactly whether a certificate has the form that the checks need |
+//! | `closed(arena, certificate)` | Ok exactly if moves are right and stay in their region; else the first `Flaw` |
+//! | `check(arena, certificate)` | Ok exactly if the certificate is valid; else the first `Flaw` |
 //! | `ids_of(game)` | the ids of a game, with a table of their places |
-//! | `write`, `write_compact` | the text with all counts; with those alone that are not 0, each behind its priority |
-//! | `Certificate::winner`, `choice`, `counts`, `opposing` | what it says of a vertex; by what a player loses |
-//! | `Flaw::number`, `name`, `CertCause::number`, `name` | a flaw or a cause as psyn's list of faults has it |
+//! | `write`, `write_compact` | the text with all counts; with those that are not 0, each after its priority |
+//! | `Certificate::winner`, `choice`, `counts`, `opposing` | what it says of a vertex; a player's opposing priorities |
+//! | `Entries::push`, `len`, `winner`, `choice`, `counts` | entries as a list; if memory runs out, nothing changes |
+//! | `Row::at`, `len`, `copy_into` | the counts of a vertex as a list, of which only those that are not 0 are stored |
+//! | `Flaw::number`, `name` | the number and name of a flaw in psyn's list of faults |
 //!
-//! `fits`, `closed` and `check` take no memory; `closed` takes time in proportion to the edges, `check` for each
-//! priority. The laws:
+//! `fits`, `closed` and `check` take no memory. `closed` ignores priorities and counts, and takes time proportional to
+//! the edges; `check` takes that time for each priority.
 //!
 //! | Law | What it says |
 //! |---|---|
-//! | `closed_regions_are_kept` | paths by the moves of a closed certificate stay in their region |
-//! | `valid_regions_are_held` | the moves of a valid one hold both regions |
-//! | `no_strategy_wins_outside` | no strategy, whatever its memory, wins outside the region that a valid one gives |
-//! | `first_flaw_is_one`, `certificate_text_has_one_answer` | one first flaw, and one answer to a text at most |
-//! | `certificate_text_has_some_answer` | there is an answer to each text |
+//! | `closed_regions_are_kept` | paths that follow the moves of a closed certificate stay in their region |
+//! | `valid_regions_are_held` | the moves of a valid certificate win every loop of every path from their region |
+//! | `no_strategy_wins_outside` | outside it no strategy of finite memory wins, and every history table is beaten |
+//! | `winners_are_one` | valid certificates of one game have the same winner at each vertex |
+//! | `first_flaw_is_one` | a certificate has at most one first flaw |
+//! | `certificate_text_has_one_answer`, `certificate_text_has_some_answer` | a text has exactly one answer for a game |
 #![tactic(auto)]
 
 mod certificate;

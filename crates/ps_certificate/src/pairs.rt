@@ -1,4 +1,4 @@
-//! The counts of a line of a compact text, each behind its priority.
+//! The counts of a line of a compact text, each after its priority.
 
 ghost use Rattle.std.specs.Prelude.{◌≡◌, ◌<◌, IfOk, length, slice_index, true};
 ghost use Rattle.std.specs.List.Sorted.{IsStrictlyIncreasing};
@@ -12,8 +12,8 @@ use crate::fields::{all_counts, ends, number};
 use crate::rising::place_of;
 use ps_text::cursor::Cursor;
 
-/// The counts for these priorities that come next, all of them, or in a compact text those that are not 0; and the
-/// end of the line. They take the place of what was in a list.
+/// The counts for these priorities that come next, and the end of the line: all counts, or in a compact text those that
+/// are not 0. They replace the contents of a list.
 pub(crate) fn counts_for(
     cursor: &mut Cursor,
     priorities: &[u64],
@@ -30,7 +30,7 @@ pub(crate) fn counts_for(
     }
 }
 
-/// Pairs of a priority and its count, each behind a space, and the end of the line. A count left out is 0.
+/// Pairs of a priority and its count, each after a space, and the end of the line. A count that is left out is 0.
 fn pairs(cursor: &mut Cursor, priorities: &[u64], counts: &mut Vec<u64>) -> Result<(), CertFault>
     requires { IsStrictlyIncreasing priorities.now }
     ensures { Tells (λ _. counts.new.items) (parts.counts_in true priorities.now) cursor.old result cursor.new }
@@ -66,7 +66,7 @@ fn pair(
     Ok((place, count))
 }
 
-/// The place of the priority that comes next, which has to be above the last one.
+/// The place of the priority that comes next, which must be above the last one.
 fn priority(cursor: &mut Cursor, priorities: &[u64], last: Option<u64>) -> Result<usize, CertFault>
     requires { IsStrictlyIncreasing priorities.now }
     ensures read { (pairs : Pairs) → pairs.last ≡ last → TellsPriority priorities.now pairs cursor.old

@@ -1,11 +1,11 @@
-//! Lists of numbers that rise.
+//! Ascending lists of numbers.
 
 ghost use Rattle.std.specs.Prelude.{◌≡◌, ℕ, ◌+◌, ◌<◌, ◌≤◌, ◌↔◌, IsTrue, IfNone, IfSome, length, slice_index};
 ghost use Rattle.std.specs.List.{Contains};
 ghost use Rattle.std.specs.List.Sorted.{IsStrictlyIncreasing};
 ghost use Rattle.ps_certificate.specs.Inner.Prefixes.{IsAt};
 
-/// Whether each number is below the next one.
+/// Whether each number is less than the next one.
 pub(crate) fn is_rising(list: &[u64]) -> bool
     ensures { IsTrue result ↔ IsStrictlyIncreasing list.now }
 {
@@ -19,7 +19,7 @@ pub(crate) fn is_rising(list: &[u64]) -> bool
     true
 }
 
-/// The place of a number in a rising list.
+/// The place of a number in an ascending list.
 pub(crate) fn place_of(list: &[u64], number: u64) -> Option<usize>
     requires { IsStrictlyIncreasing list.now }
     ensures none { IfNone result (¬ Contains list.now number) }
@@ -31,7 +31,7 @@ pub(crate) fn place_of(list: &[u64], number: u64) -> Option<usize>
     }
 }
 
-/// The place of the first number of a rising list that is not below a given one.
+/// The place of the first number of an ascending list that is at least a given one.
 pub(crate) fn first_at_least(list: &[u64], number: u64) -> usize
     requires { IsStrictlyIncreasing list.now }
     ensures within { result ≤ length list.now }

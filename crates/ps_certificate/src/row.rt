@@ -1,4 +1,4 @@
-//! The counts of an entry. Most are 0, and only the others are kept, each with its place.
+//! The counts of an entry. Most are 0; only the others are stored, each with its place.
 
 ghost use Rattle.std.specs.Bool.{OnTrue};
 ghost use Rattle.std.specs.Prelude.{◌≡◌, ◌==◌, ◌<◌, length, slice_index, IfNone, IfSome, OnOk};
@@ -56,11 +56,7 @@ impl<'a> Row<'a> {
         count_in(self.placed, place, number)
     }
 
-    /// Has a list hold these counts and no others.
-    ///
-    /// # Errors
-    ///
-    /// Fails where a growth was refused.
+    /// Replaces the contents of a list by these counts. Fails if out of memory.
     pub fn copy_into(&self, list: &mut Vec<u64>) -> Result<(), AllocError>
         ensures { OnOk result (list.new.items ≡ self.now) }
     {
@@ -74,7 +70,7 @@ impl<'a> Row<'a> {
         Ok(())
     }
 
-    /// The first place from one on where the count is above that of another row.
+    /// The first place, from a given one on, where the count is above that of another row.
     pub(crate) fn first_above(&self, other: &Row<'_>, from: usize) -> Option<usize>
         requires { length other.now ≡ length self.now }
         ensures none { IfNone result (AreAtMost self.now other.now from (length self.now)) }
@@ -94,8 +90,8 @@ impl<'a> Row<'a> {
     }
 }
 
-/// The number of the first of some counts whose place is not below a given one. It is sought from a number on that is
-/// given as a hint, if it doesn't stand before that.
+/// The number of the first of some counts whose place is at least a given one. The search starts at a hint, unless the
+/// result comes before it.
 fn first_from(placed: &[PlacedCount], hint: usize, place: usize) -> usize
     requires { AreRising placed.now }
     ensures { IsFirstFrom placed.now place result }
@@ -111,7 +107,7 @@ fn first_from(placed: &[PlacedCount], hint: usize, place: usize) -> usize
     number
 }
 
-/// Whether all counts before a number have places below a given one.
+/// Whether all counts before a number have places less than a given one.
 fn is_before(placed: &[PlacedCount], number: usize, place: usize) -> bool
     requires { AreRising placed.now }
     ensures { OnTrue result (AreBefore placed.now place number) }
@@ -119,7 +115,7 @@ fn is_before(placed: &[PlacedCount], number: usize, place: usize) -> bool
     number == 0 || number <= placed.len() && placed[number - 1].place < place
 }
 
-/// The count at a place, by the number of the first count from there on.
+/// The count at a place, given the number of the first count from there on.
 fn count_in(placed: &[PlacedCount], place: usize, number: usize) -> u64
     requires rising { AreRising placed.now }
     requires number { IsFirstFrom placed.now place number }

@@ -21,19 +21,19 @@ use ps_ids::Ids;
 use ps_text::cursor::Cursor;
 use std::alloc::{AllocError, Global};
 
-/// What is known of a game before the text is read.
+/// What is known about a game before the text is read.
 #[derive(Drop)]
 struct Known {
-    /// The odd priorities, rising.
+    /// The odd priorities, ascending.
     odd: Vec<u64>,
-    /// The even priorities, rising.
+    /// The even priorities, ascending.
     even: Vec<u64>,
     /// The ids of the vertices.
     ids: Ids,
 }
 
 impl Known {
-    /// The priorities by which a player loses, rising.
+    /// The priorities by which a player loses, ascending.
     fn lost_by(&self, player: u8) -> &[u64]
         ensures { result.now ≡ parts.lost_by self.now.odd.items self.now.even.items player }
     {
@@ -45,11 +45,7 @@ impl Known {
     }
 }
 
-/// The ids of a game, with a table of their places.
-///
-/// # Errors
-///
-/// Fails where a growth was refused.
+/// The ids of a game, with a table of their places. Fails if out of memory.
 pub fn ids_of(alloc: Global, game: &NamedGame) -> Result<Ids, AllocError>
     ensures { IfOk result (λ ids. ids ≡ game.now.ids) }
 {
@@ -60,7 +56,7 @@ pub fn ids_of(alloc: Global, game: &NamedGame) -> Result<Ids, AllocError>
     Ok(ids)
 }
 
-/// Goes behind the lines that stand before those of the vertices, and says whether the text is a compact one.
+/// Moves past the lines before those of the vertices, and returns whether the text is a compact one.
 fn head(cursor: &mut Cursor, known: &Known, count: usize) -> Result<bool, CertFault>
     ensures { (ids : List ℕ) → count ≡ length ids → TellsHead known.now.odd.items known.now.even.items ids cursor.old
         result cursor.new }
@@ -83,7 +79,7 @@ struct Won {
     choice: Option<usize>,
 }
 
-/// Who wins the vertex with an id, by which move, from its line. Its counts take the place of what was in a list.
+/// Who wins the vertex with an id, by which move, read from its line. Its counts replace the contents of a list.
 fn entry(
     cursor: &mut Cursor,
     known: &Known,
@@ -106,7 +102,7 @@ fn entry(
     Ok(Won { winner, choice })
 }
 
-/// The entries of all vertices, a line each.
+/// The entries of all vertices, one line each.
 fn entries(
     alloc: Global,
     cursor: &mut Cursor,
@@ -155,14 +151,14 @@ fn entries_of(
     }
 }
 
-/// Reads the text of a certificate of a game, which may be a compact one. Winners are 0 or 1, moves are read by the ids
-/// of the game and kept by place.
+/// Reads the text of a certificate of a game, plain or compact. Winners are 0 or 1; moves are read as ids of the game
+/// and stored as places.
 ///
 /// # Errors
 ///
-/// [`CertFault::Text`] with the first cause in the text's order, at its byte; else want of memory.
+/// [`CertFault::Text`] with the first cause in the text's order, at its byte; out of memory.
 pub fn read(alloc: Global, text: &[u8], game: &NamedGame) -> Result<Certificate, CertFault>
-    // The text's certificate, or the first cause for which it is none.
+    // The text's certificate, or the first cause for which it is not one.
     ensures exact { IsCertificateAnswer game.now text.now result }
     ensures fits { IfOk result (Fits game.now.game) }
 {
@@ -176,13 +172,13 @@ pub fn read(alloc: Global, text: &[u8], game: &NamedGame) -> Result<Certificate,
     Ok(Certificate { odd, even, entries })
 }
 
-/// The text of a certificate has one answer at most for a game.
+/// The text of a certificate has at most one answer for a game.
 pub fn certificate_text_has_one_answer()
     ensures { (game : NamedGameData) (text : List ℕ) (answer other : Result CertificateData (Found CertCause)) →
         ReadsCertificate game text answer → ReadsCertificate game text other → answer ≡ other }
 {}
 
-/// The text of a certificate has an answer for a game. This asks no call, so that want of memory is no answer here.
+/// The text of a certificate has an answer for a game. No call is made here, so out of memory is not an answer.
 pub fn certificate_text_has_some_answer()
     ensures { (game : NamedGameData) (text : List ℕ) → (answer : Result CertificateData (Found CertCause)) ×
         ReadsCertificate game text answer }

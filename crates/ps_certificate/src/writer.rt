@@ -16,19 +16,15 @@ use ps_game::{Arena, NamedGame};
 use ps_text::numbers::write_number;
 use std::alloc::{AllocError, Global};
 
-/// Forty zeros, each behind a space.
+/// Forty zeros, each after a space.
 const ZEROS: &[u8; 80] =
     b" 0 0 0 0 0 0 0 0 0 0 0 0 0 0 0 0 0 0 0 0 0 0 0 0 0 0 0 0 0 0 0 0 0 0 0 0 0 0 0 0";
 
-/// How many bytes a line has beside its counts, where ids have six digits.
+/// How many bytes a line has besides its counts, if ids have six digits.
 const LINE: usize = 18;
 
 /// Writes a certificate of a game: the first line, the number of vertices, the odd and the even priorities, and a line
-/// for each vertex, with all its counts.
-///
-/// # Errors
-///
-/// Fails where a growth was refused.
+/// for each vertex, with all its counts. Fails if out of memory.
 pub fn write(
     alloc: Global,
     certificate: &Certificate,
@@ -41,11 +37,8 @@ pub fn write(
     write_text(alloc, certificate, game, false)
 }
 
-/// The same as a compact text, which has only the counts that are not 0, each behind its priority.
-///
-/// # Errors
-///
-/// Fails where a growth was refused.
+/// The same as a compact text, which has only the counts that are not 0, each after its priority. Fails if out of
+/// memory.
 pub fn write_compact(
     alloc: Global,
     certificate: &Certificate,
@@ -58,7 +51,7 @@ pub fn write_compact(
     write_text(alloc, certificate, game, true)
 }
 
-/// Writes the one text or the other.
+/// Writes one form or the other.
 fn write_text(
     alloc: Global,
     certificate: &Certificate,
@@ -77,7 +70,7 @@ fn write_text(
     Ok(out)
 }
 
-/// How many bytes most texts need, so that they are written where they stay.
+/// How many bytes most texts need, so that the buffer need not move.
 fn room_for(entries: &Entries, compact: bool) -> usize {
     let mut room: usize = 0;
     for vertex in 0..entries.len() {
@@ -93,7 +86,7 @@ fn room_for(entries: &Entries, compact: bool) -> usize {
     room
 }
 
-/// Writes the lines that stand before those of the vertices.
+/// Writes the lines before those of the vertices.
 fn write_head(
     out: &mut Vec<u8>,
     count: usize,
@@ -123,7 +116,7 @@ fn version_digit(compact: bool) -> u8
     if compact { b'2' } else { b'1' }
 }
 
-/// Writes a line for each vertex. What was in the row is overwritten.
+/// Writes a line for each vertex. The contents of `row` are overwritten.
 fn write_entries(
     out: &mut Vec<u8>,
     row: &mut Vec<u64>,
@@ -190,7 +183,7 @@ fn write_entry(
     Ok(())
 }
 
-/// Writes the counts of these priorities: all of them, or those that are not 0, each behind its priority.
+/// Writes the counts of these priorities: all of them, or those that are not 0, each after its priority.
 fn write_counts(
     out: &mut Vec<u8>,
     priorities: &[u64],
@@ -208,7 +201,7 @@ fn write_counts(
     }
 }
 
-/// Writes the counts of these priorities that are not 0, each behind its priority.
+/// Writes the counts of these priorities that are not 0, each after its priority.
 fn write_pairs(out: &mut Vec<u8>, priorities: &[u64], counts: &[u64]) -> Result<(), AllocError>
     requires { length counts.now ≡ length priorities.now }
     ensures bytes { OnOk result (out.new.items ≡ out.old.items ++ pairs priorities.now counts.now) }
@@ -222,7 +215,7 @@ fn write_pairs(out: &mut Vec<u8>, priorities: &[u64], counts: &[u64]) -> Result<
     Ok(())
 }
 
-/// Writes a count behind a space, its priority and a colon.
+/// Writes a space, a priority, a colon and its count.
 fn write_pair(out: &mut Vec<u8>, priority: u64, count: u64) -> Result<(), AllocError>
     ensures { OnOk result (out.new.items ≡ out.old.items ++ 32 ∷ decimal priority ++ 58 ∷ decimal count) }
 {
@@ -232,7 +225,7 @@ fn write_pair(out: &mut Vec<u8>, priority: u64, count: u64) -> Result<(), AllocE
     write_number(out, count)
 }
 
-/// Writes numbers, each behind a space. Most counts are 0, so a run of them is written as one.
+/// Writes numbers, each after a space. Most counts are 0, so a run of zeros is written at once.
 fn write_fields(out: &mut Vec<u8>, numbers: &[u64]) -> Result<(), AllocError>
     ensures bytes { OnOk result (out.new.items ≡ out.old.items ++ fields numbers.now) }
     ensures words { OnOk result (All IsWord numbers.now) }
@@ -251,7 +244,7 @@ fn write_fields(out: &mut Vec<u8>, numbers: &[u64]) -> Result<(), AllocError>
     Ok(())
 }
 
-/// Writes so many zeros, each behind a space.
+/// Writes `zeros` zeros, each after a space.
 fn write_zeros(out: &mut Vec<u8>, zeros: usize) -> Result<(), AllocError>
     requires { zeros ≤ 40 }
     ensures { OnOk result (out.new.items ≡ out.old.items ++ fields (replicate zeros 0)) }
@@ -260,7 +253,7 @@ fn write_zeros(out: &mut Vec<u8>, zeros: usize) -> Result<(), AllocError>
     Ok(())
 }
 
-/// Writes a number behind a space.
+/// Writes a number after a space.
 fn write_field(out: &mut Vec<u8>, number: u64) -> Result<(), AllocError>
     ensures { OnOk result (out.new.items ≡ out.old.items ++ 32 ∷ decimal number) }
 {

@@ -1,9 +1,9 @@
-//! Lists of numbers most of which are 0.
+//! Lists of numbers, most of which are 0.
 
 ghost use Rattle.std.specs.Prelude.{◌≡◌, ℕ, ◌+◌, ◌<◌, ◌≤◌, length, take, replicate, slice_index};
 ghost use Rattle.std.specs.Bool.{OnTrue};
 
-/// With how many zeros a list begins, up to a stated number of them.
+/// How many zeros a list begins with, up to a stated number of them.
 pub(crate) fn leading_zeros(numbers: &[u64], most: usize) -> usize
     ensures within { result ≤ length numbers.now }
     ensures few { result ≤ most }

@@ -1,7 +1,7 @@
 -- What the lines of one kind add to what was read before them.
 --     LineKind X      the literals that items define, and those that they read
---     AddsItem kind c d x      d has the item x more than c
---     Added kind before read d      behind what was defined and read before, d has what its items define and read
+--     AddsItem kind c d x      d has one item more than c, which is x
+--     Added kind before read d      after what was defined and read before, d has what its items define and read
 --     input_kind, latch_kind, output_kind, gate_kind      the four kinds of lines
 use Rattle.std.proofs.Common.{arith, ◌≡◌, ℕ, List, [], ◌∷◌, ◌++◌, map, flat_map, refl, rules, append_assoc}
 use Rattle.std.proofs.lemmas.List.{map-append}

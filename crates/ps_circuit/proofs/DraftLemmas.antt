@@ -1,7 +1,7 @@
 -- What the lines of a text add, and what they make.
---     Lined kind most before read d      what the lines of one kind define, behind what was defined before, and read
+--     Lined kind most before read d      what the lines of one kind define, after what was defined before, and read
 --     gates_placed      each gate of a draft has the offset of its line
---     sound_draft      a draft whose literals are all defined makes a circuit, but that a gate may depend on itself
+--     sound_draft      a draft whose literals are all defined makes a circuit, except that a gate may depend on itself
 --     each_named      a name or none for each item
 use Rattle.std.proofs.Common.{◌≡◌, ℕ, zero, suc, ◌+◌, ◌*◌, ◌^◌, ◌<◌, List, [], ◌∷◌, ◌++◌, length, map, Option, All}
 use Rattle.std.proofs.Common.{refl, sym, ap, subst, append-nil, append_assoc, arith, length-append, rules}

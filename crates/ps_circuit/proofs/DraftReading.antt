@@ -62,7 +62,7 @@ text_trails text new d {b} m n is = subst (λ x. FoundAnswers text (found_of x))
         subst (λ x. PartAnswers aig_causes circuit_text (stream_of text) (Err (record { cause = Syntax; offset = x })))
         o (answers_trailing laws_text.laws (stream_of text) new d p ps m.0 m.1 y)
 
--- ## The parts of the text, one behind another
+-- ## The parts of the text, one after another
 
 -- what is left is read from here, and there are not too many bytes
 pub record Reached (start now : Stream Seen) (rest : Field DraftData) : Type 0 where
@@ -82,7 +82,7 @@ pub text_unread : {start : Stream Seen} → Left circuit_text start (then_by hea
 unfolding circuit_text
 text_unread = unread
 
--- the four sections of number lines, and what stands behind them
+-- the four sections of number lines, and what follows them
 abbrev pub body_inputs : HeaderData → Lines ℕ → Field DraftData
 body_inputs h c = then_by (times h.inputs (input_line h.most) c) (body_latches h)
 
@@ -92,7 +92,7 @@ unfolding body
 past_header {start} {next} {most} {d} e short m is = subst (λ x. Reached start next (body_inputs (numbers most d) x))
     (sym is) (reads_on chain_text (record { left = text_unread; short = short }) (numbers most d) (grind arith))
 
--- the lines of one kind stand there, as many as the code counts, behind what it has noted
+-- the lines of one kind come next, as many as the code counts, after what it has noted
 pub record Ahead {A : Type 0} (item : Lines A → Field (Lines A)) (Q : Lines A → Field DraftData)
     (start now : Stream Seen) (count : ℕ) (noted : Lines A) : Type 0 where
   pub n : ℕ
@@ -112,7 +112,7 @@ module _ {A : Type 0} {item : Lines A → Field (Lines A)} {Q : Lines A → Fiel
       Stops aig_causes circuit_text start o
   lines_fail o m = stops_at x.chain x.reached.left o (m x.n x.counted x.reached.short)
 
--- the names, and the comment behind them
+-- the names, and the comment after them
 module _ (most : ℕ) (i : Lines ℕ) (l : Lines Latch) (u : Lines ℕ) (a : Lines Gate) {start now : Stream Seen}
     (r : Reached start now (symbols most i l u a)) {n0 : NamesData} (en : n0 ≡ first_names most i l u a) where
   pub symbols_fail : (o : Option (Found AigCause)) → Stops aig_causes (many symbol_line n0) now o →

@@ -99,7 +99,7 @@ module _ (old : Stream Seen) where
 
 -- ## Values
 
--- the greatest word stands for what no word holds
+-- the greatest word stands for a number that fits in no word
 pub value_saturated : (n : ℕ) (v : Option ℕ) {r : ℕ} → r ≡ unwrap_or v 18446744073709551615 → r < 2 ^ 64 →
     IfSome v (λ w. w ≡ n) → IfNone v (2 ^ 64 ≤ n) → r ≡ saturated n
 value_saturated n None e small held large = omega (arith, e, large)

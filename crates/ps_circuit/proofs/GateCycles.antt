@@ -1,4 +1,4 @@
--- Whether a gate depends on itself is decided, and the first that does is found.
+-- It can be decided whether a gate depends on itself, and the first that does is found.
 --     Through n i j      a way from i to j whose inner numbers are below n, as a fact that is decided by recursion on n
 --     first_or_none      the first number that leads back to itself, or there is none
 use Rattle.std.proofs.Common.{◌≡◌, ℕ, zero, suc, ◌<◌, ◌≤◌, ◌⊎◌, List, length, slice_get, Option, None, Some, refl, sym}

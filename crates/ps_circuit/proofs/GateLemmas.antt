@@ -133,7 +133,7 @@ pub placed-bit : (d : Drafted) (s : Sides) (place : ℕ) → slice_get d.gates p
     bit v (2 * (d.given + 1 + place)) ≡ (bit v s.first && bit v s.second)
 placed-bit d s place at v m = bit-plain v (d.given + 1 + place) ∙ m.each place s at
 
--- where a gate is wanted
+-- where a gate is needed
 pub needs : (d : Drafted) (own : ℕ) (s : Sides) → IsSoundDraft d → AreSides own s → IsNew d s.first s.second →
     NeedsGate d s.first s.second
 needs d own s is a new = search rules

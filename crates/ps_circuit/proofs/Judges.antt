@@ -47,7 +47,7 @@ judge_reset latch n = judge_one cause_number (judge_cause cause_number UnsetLatc
 
 -- ## Symbols
 
--- the bytes behind a sign begin with these digits, or with none
+-- the bytes after a sign begin with these digits, or with none
 pub record Digits (s : Seen) (digits : List ℕ) : Type 0 where
   pub rest : List ℕ
   pub split : s.behind ≡ digits ++ rest

@@ -1,5 +1,5 @@
 -- The number lines of a text: how they are read, and how they fail.
---     past_..      what is left of a line behind what was read of it
+--     past_..      what is left of a line after what was read of it
 --     Lining      the invariant of a loop over the lines of one kind
 use Rattle.std.proofs.Common.{◌≡◌, ℕ, ◌+◌, ◌-◌, ◌*◌, ◌^◌, ◌<◌, ◌≤◌, Bool, true, false, List, [], ◌∷◌, ◌++◌, length}
 use Rattle.std.proofs.Common.{Option, Result, Ok, Err, Contains, refl, subst, inl, inr, arith, rules}

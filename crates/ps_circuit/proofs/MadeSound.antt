@@ -42,7 +42,7 @@ made-later m p e x sound made = record {
   is = λ v meets. made.is v (meets-extends m.draft e x v meets);
 }
 
--- it is made, unless there is no room
+-- it is made, unless no variable is left
 pub record Makes (m : Made) (wanted : (ℕ → Bool) → Bool) : Type 0 where
   pub made : HasRoom m.draft → IsMade m wanted
 

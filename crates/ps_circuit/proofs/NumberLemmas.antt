@@ -70,7 +70,7 @@ unfolding number
 number_none Wrong {old} new e m =
     grind (arith, run_stops is_digit number_at (BadDigits Wrong) cause_number Syntax 48 refl m.0)
 
--- ## Numbers behind a gap
+-- ## Numbers after a gap
 
 pub field_reads : {Wrong : ℕ → AigCause → Type 0} → Judges Wrong → {old mid new : Stream Seen} {n : Number} →
     Reads gap old tt mid → Reads (number Wrong) mid n new → Reads (field Wrong) old n new
@@ -161,7 +161,7 @@ pub header_unread : {old : Stream Seen} → Left header old (then_by (word (code
 unfolding header
 header_unread = unread
 
--- what is left of it behind the numbers that were read
+-- what is left of it after the numbers that were read
 module _ {old : Stream Seen} {s0 s1 : Stream Seen} {m : Number}
     (w : Reads {F = AigCause} (word (codes "aag")) old tt s0)
     (r1 : Reads (field WrongMost) s0 m s1) where

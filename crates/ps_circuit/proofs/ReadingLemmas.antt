@@ -22,7 +22,7 @@ use Rattle.ps_circuit.specs.Inner.Reading.{AddsVariable, Defines, IsKnownIn, Tel
 use Rattle.ps_circuit.specs.declared.number.Number.{Number}
 use Rattle.std.specs.Bool.{OnTrue}
 
--- a variable that is none of those goes behind them
+-- a variable that is not one of those is appended to them
 pub adds_variable : {old new : List ℕ} {v : ℕ} → new ≡ old ++ v ∷ [] → (Contains old v → ⊥) → AddsVariable old v new
 adds_variable {old} e none = search (rules, Contains-get_or)
 

@@ -1,7 +1,7 @@
 -- The laws of the signs of an AIGER text: sets of signs, bytes, words, numbers, gaps and ends of lines.
---     Separates      a space, a tab or a newline: what stands behind a number
---     AtBody, AtTail      the first byte of what stands behind the first line, and behind the number lines
---     numbers, optional      the chains of a number, and of a further field or none, and what stands behind them
+--     Separates      a space, a tab or a newline: what follows a number
+--     AtBody, AtTail      the first byte of what follows the first line, and the number lines
+--     numbers, optional      the chains of a number, and of a further field or none, and what follows them
 use Rattle.std.proofs.Common.{◌≡◌, ℕ, ◌⊎◌, Bool, true, false, refl, sym, ap, inl, inr, ◌∙◌, rules}
 use Rattle.std.proofs.lemmas.Bool.{eqb-true}
 use Rattle.ps_text.specs.Parts.{give, then_by, either, mapped}
@@ -126,12 +126,12 @@ unfolding more
 laws_more = either_of laws_ends_here chain_gap_more.whole (λ t e h. space_newline t h e) (λ t h. inr h) (λ t h. inl h)
     (λ t h. absurd h) (λ t h. h) (λ t h. absurd h.0)
 
--- a number, and what stands behind it
+-- a number, and what follows it
 pub numbers : {B : Type 0} {Q : Number → Field B} {Wrong : ℕ → AigCause → Type 0} {More : Seen → Type 0} →
     Judges Wrong → ((n : Number) → Lawful (Q n) Separates More ⊥) → Chain (number Wrong) Q AtDigit More ⊥
 numbers judge q = next (laws_number judge) q digit_separates
 
--- a further field of the line, or the value that stands for none
+-- a further field of the line, or the value that stands for a missing one
 pub optional : {V : Type 0} {P : Field V} → Lawful P AtDigit Separates ⊥ → (v : V) →
     Chain more (by_more P (give v)) Separates Separates ⊥
 optional {P = P} l v = chained laws_more by (λ t h d. digit_separates t d h) (λ t h. h) (λ t h. absurd h.0) (λ t h. h)

@@ -1,6 +1,6 @@
 -- The lines of names, and the comment: how they are read, and how they fail.
---     AtLetter      a letter of a symbol comes, and one step goes behind it
---     past_letter, past_number, past_space, past_name      what is left of the line behind them
+--     AtLetter      a letter of a symbol comes, and one step moves past it
+--     past_letter, past_number, past_space, past_name      what is left of the line after them
 use Rattle.std.proofs.Common.{◌≡◌, ◌≢◌, ℕ, zero, suc, ◌+◌, ◌^◌, ◌<◌, true, false, List, [], ◌∷◌, ◌++◌, length, map, set}
 use Rattle.std.proofs.Common.{Option, None, Some, Vec, refl, sym, ap, subst, inl, inr, ◌∙◌, arith, rules}
 use Rattle.std.specs.Prelude.{slice_get, All}
@@ -44,7 +44,7 @@ use Rattle.ps_circuit.proofs.TextLaws.{chain_number, chain_space, chain_name, la
 use Rattle.ps_circuit.proofs.SignLaws.{AtKind}
 use Rattle.ps_circuit.proofs.NumberLemmas.{number_any}
 
--- what the next sign sees is what stands behind it
+-- what the next sign sees is what follows it
 behind_is : {old new : Stream Seen} {t : Seen} (at : ℕ) {bytes : List ℕ} → IsAhead old → next_of old ≡ Some t →
     new ≡ tail old → new.pieces ≡ pieces_at at bytes → t.behind ≡ bytes
 behind_is {old} {t} at {bytes} x n e k = go x.1 x.2

@@ -1,6 +1,7 @@
--- The laws of the parts of an AIGER text: with which bytes each begins, and with which it goes on. Its signs: SignLaws.
---     fields      the chain of a number behind a gap, and what stands behind it
---     chain_..      a part of a production and what stands behind it
+-- The laws of the parts of an AIGER text: with which bytes each begins, and with which it continues. Its signs:
+-- SignLaws.
+--     fields      the chain of a number after a gap, and what follows it
+--     chain_..      a part of a production and what follows it
 use Rattle.std.proofs.Common.{◌≡◌, ℕ, zero, suc, Bool, false, eqb, List, Some, refl, inl, inr, rules}
 use Rattle.std.specs.Prelude.{codes}
 use Rattle.std.proofs.lemmas.Bool.{eqb-true}
@@ -48,7 +49,7 @@ pub chain_field : {Wrong : ℕ → AigCause → Type 0} → Judges Wrong → Cha
 chain_field judge = chained laws_gap (λ _. laws_number judge) space_digit (λ t h. inl h) (λ t h. absurd h.0) (λ t h. h)
     (λ t h. absurd h.0) (λ n. n.0)
 
--- a number behind a gap, and what stands behind it
+-- a number after a gap, and what follows it
 pub fields : {B : Type 0} {Q : Number → Field B} {Wrong : ℕ → AigCause → Type 0} {More : Seen → Type 0} →
     Judges Wrong → ((n : Number) → Lawful (Q n) Separates More ⊥) → Chain (field Wrong) Q Separates More ⊥
 unfolding field

@@ -1,9 +1,9 @@
 -- Gates made one after another.
---     Drafted      how many variables are no gates, and the two literals of each gate; the gates' variables come next,
+--     Drafted      how many variables are not gates, and the two literals of each gate; the gates' variables come next,
 --               in order
---     bit v literal      the bit of a literal, where each variable has one
+--     bit v literal      the bit of a literal, given one for each variable
 --     Meets d v      variable 0 is false, and each gate is the conjunction of its two literals
---     Extends old new      the gates that were there are there, at their variables
+--     Extends old new      the gates that were there are still there, at their variables
 --     IsSoundDraft d      what is true of the gates of a builder
 use Rattle.std.specs.Prelude.{◌≡◌, ◌≢◌, ℕ, ◌+◌, ◌^◌, ◌<◌, ◌≤◌, ◌&&◌, ◌||◌, Bool, false, not, if◌then◌else◌, List}
 use Rattle.std.specs.Prelude.{length}
@@ -15,7 +15,7 @@ pub record Drafted : Type 0 where
   pub given : ℕ
   pub gates : List Sides
 
--- how many variables there are, 0 not counted
+-- how many variables there are, not counting 0
 abbrev pub variables_of : Drafted → ℕ
 variables_of d = d.given + length d.gates
 
@@ -36,7 +36,7 @@ pub record Extends (old new : Drafted) : Type 0 where
   pub more : length old.gates ≤ length new.gates
   pub same : (k : ℕ) (s : Sides) → slice_get old.gates k ≡ Some s → slice_get new.gates k ≡ Some s
 
--- two literals of different variables below that one, none constant, the greater first
+-- two literals of different variables below that one, neither constant, the greater first
 pub record AreSides (own : ℕ) (s : Sides) : Type 0 where
   pub below : variable s.first < own
   pub falls : s.second < s.first
@@ -53,11 +53,11 @@ pub record IsSoundDraft (d : Drafted) : Type 0 where
 abbrev pub IsFull : Drafted → Type 0
 IsFull d = variables_of d ≡ 2147483647
 
--- no gate there has these two literals
+-- no existing gate has these two literals
 abbrev pub IsNew : Drafted → ℕ → ℕ → Type 0
 IsNew d x y = (k : ℕ) (s : Sides) → slice_get d.gates k ≡ Some s → ¬ ((s.first ≡ x) × (s.second ≡ y))
 
--- the conjunction of the two literals is none of them and not constant, and there is no gate for it
+-- the conjunction of the two literals is neither of them and not constant, and there is no gate for it
 pub record NeedsGate (d : Drafted) (x y : ℕ) : Type 0 where
   pub first_varies : 0 < variable x
   pub second_varies : 0 < variable y
@@ -65,13 +65,13 @@ pub record NeedsGate (d : Drafted) (x y : ℕ) : Type 0 where
   pub is_new : IsNew d x y
   pub is_new_too : IsNew d y x
 
--- the disjunction of the two literals is the choice, of the first where s is true and of the second where it is false
+-- the disjunction of the two literals is the choice: the first if s is true, the second if it is false
 abbrev pub IsChoice : Drafted → (s high low x y : ℕ) → Type 0
 IsChoice d s high low x y =
     (v : ℕ → Bool) → Meets d v → (bit v x || bit v y) ≡ (if bit v s then bit v high else bit v low)
 
--- there is no gate for one of the conjunctions that a choice is made of: that of `s` and `high`, that of `low` and
--- `s` negated, or the one whose negation is the choice
+-- there is no gate for one of the conjunctions of which a choice is made: that of `s` and `high`, that of `low` and `s`
+-- negated, or the one whose negation is the choice
 pub data NeedsChoice (d : Drafted) (s high low : ℕ) : Type 0 where
   for_high : NeedsGate d s high → NeedsChoice d s high low
   for_low : NeedsGate d (negated s) low → NeedsChoice d s high low

@@ -3,7 +3,7 @@
 --               latch and output
 --     definitions, readings      the literals that define a variable, and those that are read
 --     ReadsGate gates i j, Way      one gate reads another; it depends on it
---     IsDraft, IsCircuit      all but that no gate depends on itself; the whole
+--     IsDraft, IsCircuit      all except that no gate depends on itself; the whole
 use Rattle.std.specs.Prelude.{◌≡◌, ◌≢◌, ℕ, ◌+◌, ◌*◌, ◌%◌, ◌<◌, ◌≤◌, ◌⊎◌, ◌^◌, List, [], ◌∷◌, ◌++◌, length, map}
 use Rattle.std.specs.Prelude.{slice_get, Option, None, Some, All, AllPairs, Contains}
 use Rattle.std.specs.List.{flat_map}

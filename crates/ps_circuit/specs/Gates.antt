@@ -1,4 +1,4 @@
--- The gates of a builder in the order in which they are made, however many they are.
+-- The gates of a builder in the order in which they are made, without a limit on their number.
 --     Made      the gates so far, and a literal over them
 --     gate_of d s      the literal of the gate with these sides
 --     and_of d x y, or_of d x y, mux_of d s high low      the literal that is both, one of them, the one that s chooses
@@ -15,7 +15,7 @@ pub record Made : Type 0 where
 abbrev pub has_sides : Sides → Sides → Bool
 has_sides s gate = s.first == gate.first && s.second == gate.second
 
--- a gate that is there is used again; a new one takes the next variable
+-- an existing gate is used again; a new one takes the next variable
 unfoldable pub gate_of : Drafted → Sides → Made
 gate_of d s = record {
   draft = record { given = d.given; gates = if list_any (has_sides s) d.gates then d.gates else d.gates ++ s ∷ [] };
@@ -36,7 +36,7 @@ inverted made = record { draft = made.draft; literal = negated made.literal }
 unfoldable pub or_of : Drafted → ℕ → ℕ → Made
 or_of d x y = inverted (and_of d (negated x) (negated y))
 
--- where neither of the two is constant, nor are they one literal
+-- if neither of the two is constant, and they are different literals
 unfoldable pub chosen_of : Drafted → ℕ → ℕ → ℕ → Made
 chosen_of d s high low =
     let where_true = and_of d s high in

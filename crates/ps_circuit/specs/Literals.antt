@@ -1,4 +1,4 @@
--- A literal as a number: twice its variable, and one more where it is negated. Variable 0 is false.
+-- A literal as a number: twice its variable, plus one if it is negated. Variable 0 is false.
 use Rattle.std.specs.Prelude.{ℕ, ◌+◌, ◌-◌, ◌/◌, ◌%◌, ◌==◌, Bool, if◌then◌else◌}
 
 abbrev pub variable : ℕ → ℕ

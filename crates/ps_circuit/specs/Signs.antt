@@ -1,6 +1,6 @@
 -- The parts of an AIGER text that are made of single bytes and of runs of bytes (`ps_text`).
---     number Wrong      the longest run of digits, leading zeros and all; Wrong says which numbers are wrong
---     gap, newline, line_end, more      what stands between the fields of a line and at its end
+--     number Wrong      the longest run of digits, leading zeros included; Wrong says which numbers are wrong
+--     gap, newline, line_end, more      what separates the fields of a line and ends the line
 use Rattle.std.specs.Prelude.{ℕ, Bool, true, false, List}
 use Rattle.ps_text.specs.Parts.{Part, Causes, give, then_by, either, mapped}
 use Rattle.ps_text.specs.Bytes.{Seen, byte_causes, byte, run, NoBadRun, is_digit, is_space, is_inner}
@@ -25,11 +25,11 @@ number_at at digits = record { value = decimal_value digits; offset = at }
 unfoldable pub number : (ℕ → AigCause → Type 0) → Field Number
 number Wrong = run is_digit number_at (λ digits f. Wrong (decimal_value digits) f)
 
--- one space or tab, or more
+-- one or more spaces or tabs
 unfoldable pub gap : Field (Unit {0})
 gap = run is_space (λ at bytes. tt) NoBadRun
 
--- what stands up to the end of the line, at least one byte
+-- everything up to the end of the line, at least one byte
 unfoldable pub rest_of_line : Field (List ℕ)
 rest_of_line = run is_inner (λ at bytes. bytes) NoBadRun
 
@@ -38,15 +38,15 @@ rest_of_line = run is_inner (λ at bytes. bytes) NoBadRun
 unfoldable pub newline : Field (Unit {0})
 newline = byte 10
 
--- the end of a line, with spaces or tabs before it or none
+-- the end of a line; spaces or tabs may come before it
 unfoldable pub line_end : Field (Unit {0})
 line_end = then_by (either gap (give tt)) (λ _. newline)
 
--- the end of a line, or a gap, behind which a further field comes; true says that one comes
+-- the end of a line, or a gap before a further field; true says that a field comes
 unfoldable pub more : Field Bool
 more = either (mapped (λ _. false) newline) (then_by gap (λ _. either (mapped (λ _. false) newline) (give true)))
 
--- the one part where a further field comes, and else the other
+-- the one part if a further field comes, and else the other
 abbrev pub by_more : {V : Type 0} → Field V → Field V → Bool → Field V
 by_more P Q true = P
 by_more P Q false = Q

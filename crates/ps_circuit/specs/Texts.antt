@@ -6,18 +6,18 @@
 --     A lines   lhs rhs0 rhs1
 --     symbols   iK name | lK name | oK name
 --     c         and then anything
--- A field of a number line stands behind a gap: spaces or tabs, at least one. A number line may end with a gap. Numbers
--- may be of any size and have leading zeros; the last newline may be missing. I, L, O and A say how many lines there
--- are, whatever their size. A name is what stands behind one space up to the end of the line, at least one byte.
---     61 (`Syntax`)      a byte, or an end, that can't stand there; the letter of a symbol whose K is too large or has
---               a name
+-- A field of a number line comes after a gap: one or more spaces or tabs. A number line may end with a gap. Numbers may
+-- be of any size and have leading zeros; the last newline may be missing. I, L, O and A say how many lines there are,
+-- whatever their size. A name is what follows one space up to the end of the line, at least one byte.
+--     61 (`Syntax`)      a byte, or an end, that is not allowed there; the letter of a symbol whose K is too large or
+--               has a name
 --     62 (`Literal`)      a literal above 2M + 1; an M of 2^31 or more; an input, latch or left side that is odd or
 --               below 2; a reset that is not 0, 1 or the latch
 --     63 (`DefinedTwice`)      an input, latch or left side whose variable was defined before
 --     66 (`UnsetLatch`)      a reset that is the latch
 --     67 (`Sections`)      a B, C, J or F that is not 0
--- Each stands at the first digit of its number. The first of these in the text is answered, and of two at one place the
--- smaller number. Where there is none,
+-- Each is at the first digit of its number. The first of these in the text is answered, and at one place the one with
+-- the smaller number. If there is none,
 --     64 (`Undefined`)      the first literal that is read and whose variable is neither defined nor 0, and else
 --     65 (`Cyclic`)      the line of the first gate that depends on itself
 use Rattle.std.specs.Prelude.{◌≡◌, ◌≢◌, ℕ, zero, suc, ◌+◌, ◌*◌, ◌^◌, ◌<◌, ◌≤◌, ◌⊎◌, List, [], ◌∷◌, ◌++◌, Bool, false}
@@ -71,12 +71,12 @@ pub record HeaderData : Type 0 where
   pub outputs : ℕ
   pub gates : ℕ
 
--- at most so many counts of sections, and the end of the line
+-- at most n counts of sections, and the end of the line
 unfoldable pub sections : ℕ → Field (Unit {0})
 sections zero = line_end
 sections (suc n) = then_by more (by_more (then_by (number WrongCount) (λ _. sections n)) (give tt))
 
--- a number behind a gap
+-- a number after a gap
 unfoldable pub field : (ℕ → AigCause → Type 0) → Field Number
 field Wrong = then_by gap (λ _. number Wrong)
 
@@ -90,8 +90,8 @@ header =
 
 -- ## Number lines
 
--- what was read of some lines of one kind: their items, the variables that were defined up to there, and the literals
--- that were read up to there, and of the gates the offset of each line
+-- what was read of some lines of one kind: their items, the variables defined so far, the literals read so far, and,
+-- for gates, the offset of each line
 pub record Lines (A : Type 0) : Type 0 where
   pub items : List A
   pub defined : List ℕ
@@ -137,7 +137,7 @@ add_gate c l first second = record {
 unfoldable pub input_line : ℕ → Lines ℕ → Field (Lines ℕ)
 input_line most c = then_by (number (WrongDefinition most c.defined)) (λ l. mapped (λ _. add_input c l) line_end)
 
--- the reset of a latch, where there is one, and the end of the line; true is 1
+-- the reset of a latch, if there is one, and the end of the line; true is 1
 unfoldable pub reset : ℕ → Field Bool
 reset latch =
     then_by more (by_more (then_by (number (WrongReset latch)) (λ n. mapped (λ _. n.value == 1) line_end)) (give false))
@@ -191,7 +191,7 @@ take_kind s =
     if s.byte == 105 then Some OfInput else if s.byte == 108 then Some OfLatch else if s.byte == 111 then Some
     OfOutput else None
 
--- behind the letter stands a number that is too large, or whose input, latch or output has a name
+-- after the letter comes a number that is too large, or whose input, latch or output has a name
 pub record IsBadSymbol (names : NamesData) (s : Seen) (f : AigCause) : Type 0 where
   pub kind : Kind
   pub letter : take_kind s ≡ Some kind
@@ -288,6 +288,6 @@ pub data ReadsCircuit (text : List ℕ) (answer : Result CircuitData (Found AigC
       All (IsDefined d.defined) d.readings →
       ((i : ℕ) → ¬ Way (ReadsGate d.circuit.gates) i i) → answer ≡ Ok d.circuit → ReadsCircuit text answer
 
--- what the reader answers: this, unless memory runs out
+-- what the reader returns: this, unless memory runs out
 abbrev pub IsCircuitAnswer : List ℕ → Result CircuitData AigFault → Type 0
 IsCircuitAnswer text result = UnlessMemory (ReadsCircuit text) result

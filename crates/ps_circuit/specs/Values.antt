@@ -1,10 +1,10 @@
 -- The values of a circuit, and its traces.
---     bit_of values literal      the bit of a literal, where the list has a bit for each variable
+--     bit_of values literal      the bit of a literal, if the list has a bit for each variable
 --     AreValues c inputs latches values      the list has a bit for each variable of the circuit, and meets its
 --               equations
 --     HasOneValues c      there are values, and any two lists agree on each literal whose variable is 0 or defined
---     Steps c latches inputs outputs next      what a step answers, and the latches behind it
---     IsTrace c moments      latches begin with their resets, and go on by their next literals
+--     Steps c latches inputs outputs next      the outputs of a step, and the latches after it
+--     IsTrace c moments      latches begin with their resets, and are updated by their next literals
 -- A variable that nothing defines may have either bit: no literal of a circuit reads it.
 use Rattle.std.specs.Prelude.{◌≡◌, ℕ, ◌+◌, ◌&&◌, Bool, false, not, if◌then◌else◌, List, [], ◌∷◌, map, length}
 use Rattle.std.specs.Prelude.{slice_index_or, All}

@@ -1,5 +1,5 @@
 -- The bytes of a circuit that is written.
---     line x xs      the number x, then each of xs behind one space, then a newline
+--     line x xs      the number x, then each of xs after one space, then a newline
 --     text_of c      the header, the lines of the inputs, latches, outputs and gates, and a line for each name
 use Rattle.std.specs.Prelude.{ℕ, ◌+◌, List, [], ◌∷◌, ◌++◌, length, codes, decimal, Option, None, Some, if◌then◌else◌}
 use Rattle.ps_circuit.specs.declared.parts.Latch.{Latch}
@@ -13,7 +13,7 @@ fields (x ∷ xs) = 32 ∷ decimal x ++ fields xs
 abbrev pub line : ℕ → List ℕ → List ℕ
 line x xs = decimal x ++ fields xs ++ 10 ∷ []
 
--- the reset stands there only where it is 1
+-- the reset is written only if it is 1
 abbrev pub latch_line : Latch → List ℕ
 latch_line l = if l.reset then line l.literal (l.next ∷ 1 ∷ []) else line l.literal (l.next ∷ [])
 
@@ -33,7 +33,7 @@ abbrev pub symbol_line : ℕ → ℕ → Option (List ℕ) → List ℕ
 symbol_line letter k None = []
 symbol_line letter k (Some name) = letter ∷ decimal k ++ 32 ∷ name ++ 10 ∷ []
 
--- a line for each name, the first of which is that of number k
+-- a line for each name, the first of which has the number k
 abbrev pub symbol_lines : ℕ → ℕ → List (Option (List ℕ)) → List ℕ
 symbol_lines letter k [] = []
 symbol_lines letter k (n ∷ ns) = symbol_line letter k n ++ symbol_lines letter (k + 1) ns

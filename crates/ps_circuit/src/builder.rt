@@ -13,7 +13,7 @@ use indexmap::IndexSet;
 use std::alloc::Global;
 use std::marker::Model;
 
-/// The greatest number of variables: twice as large a literal and one more is a number of 32 bits.
+/// The greatest number of variables: twice that number plus one is still a number of 32 bits.
 const MOST_VARIABLES: u32 = 2147483647;
 
 /// The two literals that a gate reads, the greater first.
@@ -25,10 +25,10 @@ pub struct Sides {
     pub second: Literal,
 }
 
-/// Makes and-gates over some given variables. A gate that is there is used again, and a new one takes the next
-/// variable.
+/// Makes and-gates over some given variables. An existing gate is used again, and a new one takes the next variable.
 ///
-/// Through each call, refused ones too, the gates that are there stay.
+/// The gates stay through every call, failed ones too. A call fails only if out of memory, or if 2147483647 variables
+/// exist and another gate is needed.
 #[derive(Drop)]
 pub struct Builder {
     given: u32,
@@ -44,7 +44,7 @@ impl Model for Builder {
 }
 
 impl Builder {
-    /// No gates, over the variables from 1 on that are given.
+    /// No gates, over the given variables, which are numbered from 1.
     pub fn new(alloc: Global, given: u32) -> Self
         requires { given < 2 ^ 31 }
         ensures given { result.given ≡ given }
@@ -56,7 +56,7 @@ impl Builder {
         }
     }
 
-    /// How many variables there are, 0 not counted.
+    /// How many variables there are, not counting 0.
     pub fn variables(&self) -> u32
         ensures variables { result ≡ variables_of self.now }
         ensures sound { IsSoundDraft self.now }
@@ -80,11 +80,7 @@ impl Builder {
         self.gates.as_slice()
     }
 
-    /// The literal that is true where both are.
-    ///
-    /// # Errors
-    ///
-    /// Fails where 2147483647 variables are there and one more is needed, or a growth was refused.
+    /// The literal that is true if both are.
     #[tactic(auto, unfolding(crate::specs::Gates::and_of))]
     pub fn and(&mut self, x: Literal, y: Literal) -> Result<Literal, EncodeFault>
         requires first { IsHeld self.old x }
@@ -121,11 +117,7 @@ impl Builder {
         }
     }
 
-    /// The literal that is true where one of them is.
-    ///
-    /// # Errors
-    ///
-    /// As for `and`.
+    /// The literal that is true if at least one of them is.
     #[tactic(auto, unfolding(crate::specs::Gates::or_of))]
     pub fn or(&mut self, x: Literal, y: Literal) -> Result<Literal, EncodeFault>
         requires first { IsHeld self.old x }
@@ -144,11 +136,7 @@ impl Builder {
         Ok(neither.negated())
     }
 
-    /// The literal that is `high` where `s` is true, and `low` where it is false.
-    ///
-    /// # Errors
-    ///
-    /// As for `and`.
+    /// The literal that is `high` if `s` is true, and `low` if it is false.
     #[tactic(auto, unfolding(crate::specs::Gates::mux_of))]
     pub fn mux(&mut self, s: Literal, high: Literal, low: Literal) -> Result<Literal, EncodeFault>
         requires chooses { IsHeld self.old s }
@@ -189,7 +177,7 @@ impl Builder {
         self.chosen(s, high, low)
     }
 
-    /// The same, where neither of the two is constant.
+    /// The same, if neither of the two is constant.
     #[tactic(auto, unfolding(crate::specs::Gates::chosen_of))]
     fn chosen(&mut self, s: Literal, high: Literal, low: Literal) -> Result<Literal, EncodeFault>
         requires chooses { IsHeld self.old s }

@@ -18,13 +18,13 @@ use std::alloc::{AllocError, Global};
 use std::marker::Model;
 use thiserror::Error;
 
-/// Why parts make no circuit.
+/// Why parts do not make a circuit.
 #[derive(Clone, Copy, Debug, PartialEq, Eq, Error)]
 pub enum CircuitFault {
     /// A gate depends on itself.
     #[error("the gate at place {gate} depends on itself")]
     Cyclic {
-        /// The place, from 0, of the first gate that does.
+        /// The place, from 0, of the first such gate.
         gate: usize,
     },
     /// Memory ran out.
@@ -68,7 +68,7 @@ impl From<AllocError> for CircuitFault {
 }
 
 /// A circuit of and-gates and latches. Each variable is defined once, each literal's variable is defined or 0, and no
-/// gate depends on itself. It keeps an order of its gates in which each stands behind those that it reads.
+/// gate depends on itself. The circuit keeps an order of its gates in which each comes after those that it reads.
 #[derive(Drop)]
 pub struct Circuit {
     parts: Parts,
@@ -85,7 +85,7 @@ impl Model for Circuit {
 }
 
 impl Circuit {
-    /// Makes a circuit of its parts, unless a gate depends on itself.
+    /// Makes a circuit from its parts, unless a gate depends on itself.
     pub(crate) fn new(alloc: Global, parts: Parts) -> Result<Self, CircuitFault>
         requires { IsDraft (data_of parts) }
         ensures ok { IfOk result (λ c. c ≡ data_of parts) }
@@ -102,11 +102,7 @@ impl Circuit {
         }
     }
 
-    /// Makes a circuit of its parts, whose gates each stand behind those that they read.
-    ///
-    /// # Errors
-    ///
-    /// Fails where a growth was refused.
+    /// Makes a circuit from its parts, whose gates each come after those that they read. Fails if out of memory.
     pub fn in_order(alloc: Global, parts: Parts) -> Result<Self, AllocError>
         requires draft { IsDraft (data_of parts) }
         requires ordered { (i j : ℕ) → ReadsGate parts.gates.items i j → j < i }
@@ -157,7 +153,7 @@ impl Circuit {
         &self.parts.gates
     }
 
-    /// The places of the gates, each behind those that it reads.
+    /// The places of the gates, each after those that it reads.
     pub fn order(&self) -> &[usize]
         ensures { IsOrder (ReadsGate self.now.gates) (length self.now.gates) result.now }
     {

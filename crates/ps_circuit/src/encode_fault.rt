@@ -7,10 +7,10 @@ use crate::fault::AigFault;
 use std::alloc::{AllocError, AllocFailed};
 use thiserror::Error;
 
-/// Why no circuit is made.
+/// Why no circuit was made.
 #[derive(Debug, Clone, Copy, PartialEq, Eq, Error)]
 pub enum EncodeFault {
-    /// 2147483647 variables are there, and one more is needed.
+    /// 2147483647 variables exist, and one more is needed.
     #[error("the circuit is too large")]
     CircuitTooLarge,
     /// Memory ran out.

@@ -5,12 +5,12 @@ ghost use Rattle.ps_circuit.specs.Causes.{cause_number};
 
 use ps_text::faults::{Cause, Fault};
 
-/// What is wrong with the text of a circuit. In brackets the part of AIGER 1.9 that asks for it.
+/// What is wrong with the text of a circuit. In brackets the part of AIGER 1.9 that requires it.
 #[derive(Clone, Copy, Debug, PartialEq, Eq)]
 pub enum AigCause {
-    /// A byte that can't stand here, or an early end (ASCII format, symbol table, comments).
+    /// A byte that is not allowed here, or an early end (ASCII format, symbol table, comments).
     Syntax,
-    /// A literal that can't stand here: too large, or negated or constant where a variable is defined (literals).
+    /// A literal that is not allowed here: too large, or negated or constant where a variable is defined (literals).
     Literal,
     /// A variable that was defined before (literals).
     DefinedTwice,

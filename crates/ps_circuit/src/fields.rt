@@ -1,4 +1,4 @@
-//! The fields of a line of the text of a circuit, and what stands between them.
+//! The fields of a line of the text of a circuit, and what separates them.
 
 ghost use Rattle.ps_circuit.specs.Signs as parts;
 ghost use Rattle.ps_circuit.specs.Inner.Cursors.{Tells, TellsNumber};
@@ -11,7 +11,7 @@ use ps_text::cursor::{Class, Cursor};
 ///
 /// # Errors
 ///
-/// [`AigCause::Syntax`] where no digit comes.
+/// [`AigCause::Syntax`] if no digit comes next.
 pub fn number(cursor: &mut Cursor) -> Result<Number, AigFault>
     ensures { TellsNumber cursor.old result cursor.new }
 {
@@ -27,11 +27,11 @@ pub fn number(cursor: &mut Cursor) -> Result<Number, AigFault>
     })
 }
 
-/// Goes behind one space or tab or more.
+/// Moves past one or more spaces or tabs.
 ///
 /// # Errors
 ///
-/// [`AigCause::Syntax`] where no space or tab comes.
+/// [`AigCause::Syntax`] if no space or tab comes next.
 pub fn gap(cursor: &mut Cursor) -> Result<(), AigFault>
     ensures { Tells (λ u. u) parts.gap cursor.old result cursor.new }
 {
@@ -42,11 +42,11 @@ pub fn gap(cursor: &mut Cursor) -> Result<(), AigFault>
     Ok(())
 }
 
-/// Reads what stands up to the end of the line, which has to be something.
+/// Reads up to the end of the line, at least one byte.
 ///
 /// # Errors
 ///
-/// [`AigCause::Syntax`] where the line ends here.
+/// [`AigCause::Syntax`] if the line ends here.
 pub fn rest_of_line<'a>(cursor: &mut Cursor<'a>) -> Result<&'a [u8], AigFault>
     ensures { Tells (λ r. r.now) parts.rest_of_line cursor.old result cursor.new }
 {
@@ -58,22 +58,22 @@ pub fn rest_of_line<'a>(cursor: &mut Cursor<'a>) -> Result<&'a [u8], AigFault>
     Ok(bytes)
 }
 
-/// Goes behind a newline.
+/// Moves past a newline.
 ///
 /// # Errors
 ///
-/// [`AigCause::Syntax`] where no newline comes.
+/// [`AigCause::Syntax`] if no newline comes next.
 pub fn newline(cursor: &mut Cursor) -> Result<(), AigFault>
     ensures { Tells (λ u. u) parts.newline cursor.old result cursor.new }
 {
     cursor.byte(b'\n', AigCause::Syntax)
 }
 
-/// Goes behind the end of a line, with spaces or tabs before it or none.
+/// Moves past the end of a line; spaces or tabs may come before it.
 ///
 /// # Errors
 ///
-/// [`AigCause::Syntax`] at the first byte that is no space, no tab and no newline.
+/// [`AigCause::Syntax`] at the first byte that is not a space, a tab or a newline.
 pub fn line_end(cursor: &mut Cursor) -> Result<(), AigFault>
     ensures { Tells (λ u. u) parts.line_end cursor.old result cursor.new }
 {
@@ -81,11 +81,11 @@ pub fn line_end(cursor: &mut Cursor) -> Result<(), AigFault>
     newline(cursor)
 }
 
-/// Goes behind the end of a line, or to the next field, and says whether one comes.
+/// Moves past the end of a line, or to the next field, and returns whether there is one.
 ///
 /// # Errors
 ///
-/// [`AigCause::Syntax`] where neither comes.
+/// [`AigCause::Syntax`] if neither comes next.
 pub fn more(cursor: &mut Cursor) -> Result<bool, AigFault>
     ensures { Tells (λ b. b) parts.more cursor.old result cursor.new }
 {

@@ -6,7 +6,7 @@ ghost use Rattle.ps_circuit.specs.Inner.GateGraphs.{graph_of};
 use crate::links::Links;
 use ps_components::Graph;
 
-/// The gates, each with two places: for the gates that its two sides read, where they read gates.
+/// The gates, each with two places: for the gates that its two sides read, if they read gates.
 #[derive(Drop)]
 pub struct GateGraph {
     /// For each gate the gates that it reads.

@@ -14,7 +14,8 @@ use ps_text::cursor::Cursor;
 /// The greatest number that a text may have as its greatest variable.
 const MOST: u64 = 2_147_483_647;
 
-/// The numbers of the first line. A number of inputs, latches, outputs or gates beyond 64 bits counts as the greatest.
+/// The numbers of the first line. A number of inputs, latches, outputs or gates beyond 64 bits counts as the greatest
+/// of 64 bits.
 #[derive(Clone, Copy)]
 pub struct Header {
     /// The greatest variable: M.
@@ -54,11 +55,11 @@ pub fn read_header(cursor: &mut Cursor) -> Result<Header, AigFault>
     })
 }
 
-/// Reads a number behind a gap.
+/// Reads a number after a gap.
 ///
 /// # Errors
 ///
-/// [`AigCause::Syntax`] where no space, no tab or no digit comes.
+/// [`AigCause::Syntax`] if no space, tab or digit comes next.
 pub fn field(cursor: &mut Cursor) -> Result<Number, AigFault>
     ensures { TellsField cursor.old result cursor.new }
 {
@@ -86,7 +87,7 @@ fn count(cursor: &mut Cursor) -> Result<u64, AigFault>
     Ok(count.value)
 }
 
-/// Reads at most so many counts of sections, which have to be 0, and the end of the line.
+/// Reads at most `left` counts of sections, which must be 0, and the end of the line.
 fn sections(cursor: &mut Cursor, left: u32) -> Result<(), AigFault>
     ensures { Tells (λ u. u) (parts.sections left) cursor.old result cursor.new }
 {

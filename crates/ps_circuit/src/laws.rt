@@ -1,4 +1,4 @@
-//! The laws that the text of a circuit has one answer at most, and that it has an answer.
+//! The laws that the text of a circuit has at most one answer, and that it has an answer.
 
 ghost use Rattle.std.specs.Prelude.{◌≡◌, ℕ, List, Result};
 ghost use Rattle.ps_text.specs.Answers.{Found};
@@ -6,13 +6,13 @@ ghost use Rattle.ps_circuit.specs.Circuits.{CircuitData};
 ghost use Rattle.ps_circuit.specs.Texts.{ReadsCircuit};
 ghost use Rattle.ps_circuit.specs.declared.fault.AigCause.{AigCause};
 
-/// A text has at most one answer: its circuit, or its first cause and where that stands.
+/// A text has at most one answer: its circuit, or its first cause and its place.
 pub fn one_answer()
     ensures { (text : List ℕ) (a b : Result CircuitData (Found AigCause)) → ReadsCircuit text a →
         ReadsCircuit text b → a ≡ b }
 {}
 
-/// A text has an answer. This asks no call, so that want of memory is no answer here.
+/// A text has an answer. No call is made here, so out of memory is not an answer.
 pub fn some_answer()
     ensures { (text : List ℕ) → (answer : Result CircuitData (Found AigCause)) × ReadsCircuit text answer }
 {}

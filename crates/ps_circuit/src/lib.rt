@@ -1,6 +1,6 @@
 //! Circuits of and-gates and latches: made gate by gate, read from the ASCII form of AIGER 1.9 and written to it.
 //!
-//! The number of a literal is twice its variable, and one more where it is negated; 0 is false and 1 is true, as in
+//! The number of a literal is twice its variable, plus one if it is negated. Literal 0 is false and 1 is true, as in
 //! AIGER. There are at most 2,147,483,647 variables.
 //!
 //! | Call | What it gives |
@@ -9,18 +9,21 @@
 //! | `write(circuit)` | a text, which `read` reads as that circuit again |
 //! | `Literal::positive(variable)`, `constant(bit)`, `new(number)` | a literal |
 //! | `Literal::negated`, `variable`, `is_negated`, `number` | its negation; its parts, and its number in a text |
-//! | `Builder::new(given)`, `and`, `or`, `mux` | literals over given variables; a gate that is there is used again |
-//! | `Circuit::in_order(parts)` | a circuit of parts whose gates each stand behind those that they read |
+//! | `Builder::new(given)` | a builder over given variables; existing gates stay through every call, failed ones too |
+//! | `Builder::and`, `or`, `mux` | the literal of a conjunction, disjunction or choice; gates are reused |
+//! | `Circuit::in_order(parts)` | a circuit from parts whose gates each come after those that they read |
 //! | `Circuit::inputs`, `latches`, `outputs`, `gates` | its parts |
-//! | `Circuit::order` | an order of its gates by which they can be worked out |
+//! | `Circuit::order` | an order of its gates in which they can be evaluated |
 //! | `Circuit::input_name`, `latch_name`, `output_name` | the name of a symbol, if there is one |
-//! | `EncodeFault::number`, `name`, `AigCause::number`, `name` | a fault or a cause as psyn's list of faults has it |
-//! | `one_answer` | a law: a text has one circuit or one first cause at most |
-//! | `some_answer` | a law: a text has one of the two |
+//! | `EncodeFault::number`, `name`, `AigCause::number`, `name` | a fault or a cause in psyn's list of faults |
+//! | `one_answer`, `some_answer` | laws: a text has exactly one answer, its circuit or its first cause |
 //!
-//! Reading takes time in proportion to the text, but for the search of variables that do not stand in order, in a tree.
-//! Sections of bad states, constraints, justice and fairness have to be empty, and a latch's own literal as its reset
-//! is refused.
+//! A builder fails only if out of memory, or if 2,147,483,647 variables exist and another gate is needed. In a circuit
+//! each variable is defined once, each literal's variable is defined or 0, and no gate depends on itself.
+//!
+//! Reading takes time proportional to the text, except for looking up variables that are not in order, in a tree.
+//! Sections of bad states, constraints, justice and fairness must be empty, and a latch must not have its own literal
+//! as its reset.
 #![tactic(auto)]
 
 mod builder;

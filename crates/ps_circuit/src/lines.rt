@@ -25,8 +25,7 @@ use ps_ids::Ids;
 use ps_text::cursor::Cursor;
 use std::alloc::Global;
 
-/// The variables that were defined, the literals that were read, and the offset of each gate's line, in the text's
-/// order.
+/// The variables that were defined, the literals that were read, and the offset of each gate's line, in text order.
 #[derive(Drop)]
 pub struct Noted {
     /// The variables that were defined, from 1.
@@ -38,7 +37,7 @@ pub struct Noted {
 }
 
 impl Noted {
-    /// What is noted before the first line.
+    /// What is known before the first line.
     pub fn nothing(alloc: Global) -> Self
         ensures { lines_of [] result ≡ no_lines {A = ℕ} }
     {
@@ -55,7 +54,7 @@ pub trait Line {
     /// What a line of the kind says.
     type Item: Drop;
 
-    /// Such a line, behind others of its kind.
+    /// Such a line, after others of its kind.
     ghost part: { ℕ → Lines Self.Item → Field (Lines Self.Item) };
 
     /// What one more line adds.
@@ -79,7 +78,7 @@ pub trait Line {
 ///
 /// # Errors
 ///
-/// The first cause that stands in the lines. Fails also where a growth was refused.
+/// The first cause in the lines; out of memory.
 pub fn lines<L: Line>(
     alloc: Global,
     cursor: &mut Cursor,
@@ -101,14 +100,14 @@ pub fn lines<L: Line>(
     Ok(items)
 }
 
-/// Whether a literal is not negated, not constant and at most the greatest.
+/// Whether a literal is not negated, not constant, and at most the greatest.
 fn can_define(literal: u64, most: u32) -> bool
     ensures { IsTrue result ↔ IsDefinition most literal }
 {
     literal % 2 == 0 && literal >= 2 && literal <= 2 * u64::from(most) + 1
 }
 
-/// Notes that a variable is defined, and says whether that is new.
+/// Records that a variable is defined, and returns whether that is new.
 fn adds(variables: &mut Ids, variable: u64) -> Result<bool, AigFault>
     ensures new { IfOk result (λ new. OnTrue new (AddsVariable variables.old variable variables.new)) }
     ensures twice { result ≡ Ok false → Contains variables.old variable }
@@ -138,7 +137,7 @@ fn definition(cursor: &mut Cursor, variables: &mut Ids, most: u32) -> Result<Num
     Ok(number)
 }
 
-/// Reads a literal behind a gap.
+/// Reads a literal after a gap.
 fn reading(cursor: &mut Cursor, readings: &mut Vec<Number>, most: u32) -> Result<Number, AigFault>
     requires { most < 2 ^ 31 }
     ensures exact { Tells (λ n. n) (parts.field (WrongLiteral most)) cursor.old result cursor.new }
@@ -176,7 +175,7 @@ impl Line for InputLine {
     }
 }
 
-/// Reads a latch's first value, if it stands there, and the end of its line.
+/// Reads a latch's first value, if there is one, and the end of its line.
 fn reset(cursor: &mut Cursor, literal: u64) -> Result<bool, AigFault>
     requires { literal < 2 ^ 32 }
     ensures { Tells (λ b. b) (parts.reset literal) cursor.old result cursor.new }

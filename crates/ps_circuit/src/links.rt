@@ -18,11 +18,7 @@ pub struct Links {
     pub second: Option<usize>,
 }
 
-/// For each gate, the places of the gates that it reads.
-///
-/// # Errors
-///
-/// Fails where a growth was refused.
+/// For each gate, the places of the gates that it reads. Fails if out of memory.
 pub fn links_of(alloc: Global, gates: &[Gate]) -> Result<Vec<Links>, AllocError>
     requires once { AllPairs (λ g h. variable g.literal ≢ variable h.literal) gates.now }
     ensures { IfOk result (λ links. AreLinksOf gates.now links.items) }

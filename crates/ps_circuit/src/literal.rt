@@ -5,8 +5,8 @@ ghost use Rattle.ps_circuit.specs.Literals.{is_negated, negated, variable};
 
 use std::marker::Model;
 
-/// A variable, negated or not. Variable 0 is false. The number of a literal is twice its variable, and one more where
-/// it is negated; literals are ordered by their numbers.
+/// A variable, negated or not. Variable 0 is false. The number of a literal is twice its variable, plus one if it is
+/// negated; literals are ordered by their numbers.
 #[derive(Debug, Clone, Copy, PartialEq, Eq, PartialOrd, Ord, Hash)]
 pub struct Literal {
     number: u32,
@@ -46,7 +46,7 @@ impl Literal {
         }
     }
 
-    /// The literal that is always that bit.
+    /// The literal that always has that bit.
     pub fn constant(bit: bool) -> Self
         ensures { result ≡ (if bit then 1 else 0) }
     {

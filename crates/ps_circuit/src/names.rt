@@ -30,11 +30,7 @@ pub struct Names {
 }
 
 impl Names {
-    /// No name for any of so many inputs, latches and outputs.
-    ///
-    /// # Errors
-    ///
-    /// Fails where a growth was refused.
+    /// No names, for the given numbers of inputs, latches and outputs. Fails if out of memory.
     pub fn none(
         alloc: Global,
         inputs: usize,
@@ -53,7 +49,7 @@ impl Names {
     }
 }
 
-/// No name, that many times.
+/// A list of `count` missing names.
 fn no_names(alloc: Global, count: usize) -> Result<Vec<Option<Vec<u8>>>, AigFault>
     ensures each { IfOk result (λ names. vec_len names ≡ count) }
     ensures none { IfOk result (λ names. map name_bytes names.items ≡ replicate count None) }
@@ -70,8 +66,8 @@ fn no_names(alloc: Global, count: usize) -> Result<Vec<Option<Vec<u8>>>, AigFaul
 ///
 /// # Errors
 ///
-/// [`AigCause::Syntax`] at the first byte that is no symbol's, or at the letter of a symbol that no place without a
-/// name has; else want of memory.
+/// [`AigCause::Syntax`] at the first byte that does not belong to a symbol, or at the letter of a symbol whose place
+/// does not exist or has a name; out of memory.
 pub fn symbols(alloc: Global, cursor: &mut Cursor, names: &mut Names) -> Result<(), AigFault>
     requires { AreNames names.old (vec_len names.old.inputs) (vec_len names.old.latches) (vec_len names.old.outputs) }
     ensures exact { Tells (λ _. names_data names.new) (many parts.symbol_line (names_data names.old)) cursor.old
@@ -139,7 +135,7 @@ fn name_line(
     Ok(())
 }
 
-/// Whether there is a place of that number, without a name.
+/// Whether the place with that number exists and has no name.
 fn is_free(names: &Vec<Option<Vec<u8>>>, number: u64) -> bool
     ensures free { IsTrue result → slice_get (map name_bytes names.now.items) number ≡ Some None }
     ensures taken { result ≡ false → slice_get (map name_bytes names.now.items) number ≢ Some None }
@@ -149,11 +145,11 @@ fn is_free(names: &Vec<Option<Vec<u8>>>, number: u64) -> bool
     number < names.len() as u64 && names[number as usize].is_none()
 }
 
-/// Passes what stands behind the names: nothing, or a line that begins with `c` and all behind it.
+/// Moves past what follows the names: nothing, or a line that begins with `c` and everything after it.
 ///
 /// # Errors
 ///
-/// [`AigCause::Syntax`] where something else stands there.
+/// [`AigCause::Syntax`] if something else follows.
 pub fn comment(cursor: &mut Cursor) -> Result<(), AigFault>
     ensures { TellsComment cursor.old result cursor.new }
 {

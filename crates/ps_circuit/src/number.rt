@@ -7,7 +7,7 @@ ghost use Rattle.ps_circuit.specs.Literals.{variable};
 use crate::fault::{AigCause, AigFault};
 use crate::literal::Literal;
 
-/// A number of the text, and the offset of its first digit. A number beyond 64 bits counts as the greatest of 64 bits.
+/// A number in the text, and the offset of its first digit. A number beyond 64 bits counts as the greatest of 64 bits.
 #[derive(Clone, Copy)]
 pub struct Number {
     /// Its value.

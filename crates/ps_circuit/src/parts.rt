@@ -24,7 +24,7 @@ pub struct Gate {
     pub second: Literal,
 }
 
-/// What a circuit is made of: the greatest variable, the literals, and for each input, latch and output a name or none.
+/// The parts of a circuit: the greatest variable, the literals, and for each input, latch and output a name or none.
 #[derive(Drop)]
 pub struct Parts {
     /// The greatest variable that the circuit may use: M of the header.

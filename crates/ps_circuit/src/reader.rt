@@ -1,4 +1,4 @@
-//! Circuits read from AIGER texts.
+//! Reading circuits from AIGER texts.
 
 ghost use Rattle.std.specs.Prelude.{◌≡◌, ◌≢◌, ℕ, ◌<◌, ◌≤◌, ◌+◌, ◌*◌, ◌^◌, List, [], ◌∷◌, ◌++◌, length, map, vec_len};
 ghost use Rattle.std.specs.Prelude.{IfOk, Result, Err, All, Contains, IsTrue, ◌⊎◌, false, slice_index};
@@ -33,7 +33,7 @@ pub(crate) struct Draft {
 ///
 /// # Errors
 ///
-/// The first cause in the text's order for which it is no circuit's, or want of memory.
+/// The first cause in the text's order for which it is not a circuit; out of memory.
 pub fn read(alloc: Global, text: &[u8]) -> Result<Circuit, AigFault>
     // The text's circuit, or the first cause for which it has none.
     ensures exact { IsCircuitAnswer text.now result }

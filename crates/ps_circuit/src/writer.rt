@@ -1,4 +1,4 @@
-//! Circuits written as AIGER texts.
+//! Writing circuits as AIGER texts.
 
 ghost use Rattle.std.specs.Prelude.{◌≡◌, ◌++◌, ◌∷◌, [], length, map, codes, OnOk, IfOk, Ok};
 ghost use Rattle.ps_circuit.specs.Texts.{ReadsCircuit};
@@ -13,11 +13,7 @@ use ps_text::numbers::write_number;
 use std::alloc::{AllocError, Global};
 
 /// Writes a circuit as an AIGER text (AIGER 1.9, ASCII format): the header, the lines of its inputs, latches, outputs
-/// and gates, and its names as a symbol table.
-///
-/// # Errors
-///
-/// Fails where a growth was refused.
+/// and gates, and its names as a symbol table. Fails if out of memory.
 pub fn write(alloc: Global, circuit: &Circuit) -> Result<Vec<u8>, AllocError>
     ensures bytes { IfOk result (λ bytes. bytes.items ≡ text_of circuit.now) }
     ensures read_again { IfOk result (λ bytes. ReadsCircuit bytes.items (Ok circuit.now)) }
@@ -122,7 +118,7 @@ fn write_symbol(
     Ok(())
 }
 
-/// Writes a line of numbers, with one space between two of them.
+/// Writes a line of numbers, separated by single spaces.
 fn write_line(out: &mut Vec<u8>, first: Literal, others: &[u64]) -> Result<(), AllocError>
     ensures { OnOk result (out.new.items ≡ out.old.items ++ line first others.now) }
 {
@@ -132,7 +128,7 @@ fn write_line(out: &mut Vec<u8>, first: Literal, others: &[u64]) -> Result<(), A
     Ok(())
 }
 
-/// Writes numbers, each behind a space.
+/// Writes numbers, each after a space.
 fn write_fields(out: &mut Vec<u8>, numbers: &[u64]) -> Result<(), AllocError>
     ensures { OnOk result (out.new.items ≡ out.old.items ++ fields numbers.now) }
 {

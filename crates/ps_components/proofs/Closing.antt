@@ -19,7 +19,7 @@ length-close_all : (marks : List Mark) (vs : List ℕ) (k : ℕ) → length (clo
 length-close_all marks [] k = refl
 length-close_all marks (v ∷ vs) k = length-close_all (set marks v (Closed k)) vs k ∙ length-set marks v (Closed k)
 
--- an item of the list is closed, any other one keeps its mark
+-- an item of the list is closed, any other keeps its mark
 pub close_all_cases : (marks : List Mark) (vs : List ℕ) (k v : ℕ) →
     ((j : ℕ) × (slice_get vs j ≡ Some v) × (v < length marks → slice_get (close_all marks vs k) v ≡ Some (Closed k)))
     ⊎ (((j : ℕ) → slice_get vs j ≢ Some v) × (slice_get (close_all marks vs k) v ≡ slice_get marks v))
@@ -88,7 +88,7 @@ module _ {g : Digraph} {marks : List Mark} {active bounds : List ℕ} {pending :
 
   -- ---- marks
 
-  -- an item of the segment is closed now, any other one keeps its mark
+  -- an item of the segment is closed now, any other keeps its mark
   mark_cases : (v : ℕ) →
       ((p : ℕ) × (bound ≤ p) × (slice_get active p ≡ Some v) × (slice_get marks' v ≡ Some (Closed number)))
       ⊎ (((p : ℕ) → bound ≤ p → slice_get active p ≢ Some v) × (slice_get marks' v ≡ slice_get marks v))
@@ -109,14 +109,14 @@ module _ {g : Digraph} {marks : List Mark} {active bounds : List ℕ} {pending :
       (slice_get marks v ≡ Some (Closed k)) ⊎ ((k ≡ number) × ((p : ℕ) × (bound ≤ p) × (slice_get active p ≡ Some v)))
   closed_cases v k h = grind (arith, mark_cases v)
 
-  -- nothing active is closed, and it stands at one place
+  -- nothing active is closed, and each active item has only one place
   apart : (p v k : ℕ) → slice_get active p ≡ Some v → slice_get marks v ≡ Some (Closed k) → ⊥
   apart p v k h c = cc (s.active_marked p v h)
 
   one_place : (p q v : ℕ) → slice_get active p ≡ Some v → slice_get active q ≡ Some v → p ≡ q
   one_place p q v hp hq = cc (s.active_marked p v hp, s.active_marked q v hq)
 
-  -- a place of the new order is one of the old order, or stands for one of the segment
+  -- a place of the new order is one of the old order, or one of the segment
   place_cases : (i v : ℕ) → slice_get order' i ≡ Some v → (slice_get order i ≡ Some v) ⊎
       ((j : ℕ) × (i ≡ number + j) × (slice_get active (bound + j) ≡ Some v))
   place_cases i v h = search (rules, slice_get-append_cases, from_segment)

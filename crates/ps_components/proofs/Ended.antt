@@ -43,7 +43,7 @@ module _ {g : Digraph} {marks : List Mark} {active bounds : List ℕ} {pending :
       let start = s.bounds_start (omega (arith, slice_get_within active p v (s.marked_active p v at))) in
       omega (arith, none, slice_get_within bounds 0 0 start)
 
-  -- and what was seen stands in order
+  -- and what was seen is in the order
   pub all_listed : length bounds ≡ 0 → AreListed marks order
   all_listed none = grind (arith, slice_get_within, which)
     where

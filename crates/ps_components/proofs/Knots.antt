@@ -40,7 +40,7 @@ module _ {g : Digraph} {c : ComponentsData} (a : AreComponents g c) (met : AreAl
   pub no_cycle : ((i : ℕ) → i < g.count → IsKnot g c i → ⊥) → (i : ℕ) → Way (Link g) i i → ⊥
   no_cycle none i w = (let k = knot_of_cycle i w in none i k.link.from k)
 
-  -- of two places the one with the lesser number stands first
+  -- of two places the one with the smaller number comes first
   lower_first : (k l i j n m : ℕ) → slice_get c.order k ≡ Some i → slice_get c.order l ≡ Some j → IsIn c i n →
       IsIn c j m → m < n → l < k
   lower_first k l i j n m hk hl hi hj less = grind (arith, a.rises k l i j n m)

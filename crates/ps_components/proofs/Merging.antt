@@ -11,7 +11,7 @@ use Rattle.ps_components.proofs.Ways.{across}
 
 module _ {g : Digraph} {marks : List Mark} {active bounds : List ℕ} {pending : List Pending} {order : List ℕ}
     (s : IsSoundSearch g marks active bounds pending order) where
-  -- the last segment and those behind the place of w are joined, where the last one has a link to w
+  -- the last segment and those after the place of w are joined, if the last one has a link to w
   pub sound-merged : {from place v w : ℕ} {fewer : List ℕ} → slice_get active from ≡ Some v → Link g v w →
       slice_get marks w ≡ Some (Active place) → ((k b : ℕ) → slice_get bounds k ≡ Some b → b ≤ from) →
       IsCut bounds place fewer → IsSoundSearch g marks active fewer pending order

@@ -13,7 +13,7 @@ use Rattle.ps_components.proofs.Knots.{way_falls}
 use Rattle.ps_components.proofs.Places.{slice_get-set_cases, slice_get-drop}
 use Rattle.ps_components.proofs.Closing.{close_all_cases}
 
--- what is closed stood on the path
+-- what is closed was on the path
 pub reached-closed : (g : Digraph) (marks : List Mark) (active : List ℕ) (bound k : ℕ) →
     ChangesReached g active marks (close_all marks (drop bound active) k)
 reached-closed g marks active bound k v = grind (arith, close_all_cases, slice_get-drop)

@@ -6,7 +6,7 @@ use Rattle.ps_components.specs.declared.marks.Mark.{Mark}
 use Rattle.ps_components.specs.declared.marks.Mark.TheVariants.{Unseen}
 use Rattle.ps_components.proofs.Places.{slice_get-set_cases}
 
--- what is marked stands in the order from place n on
+-- what is marked is in the order from place n on
 pub record AreListedFrom (marks : List Mark) (order : List ℕ) (n : ℕ) : Type 0 where
   pub within : (i v : ℕ) → slice_get order i ≡ Some v → v < length marks
   pub listed : (v : ℕ) (m : Mark) → slice_get marks v ≡ Some m →

@@ -114,7 +114,7 @@ trail-more {g} {items} {end} {at} {to} t l new = record {
   once = search (rules, slice_get-push_cases);
 }
 
--- the vertices of a trail are those of steps from a place on; that of a step before it is none of them
+-- the vertices of a trail are those of steps from a place on, so the vertex of an earlier step is not among them
 pub trail-new : (steps : List Step) (items : List ℕ) {at place : ℕ} {r : Step} → AreApart steps →
     ((k v : ℕ) → slice_get items k ≡ Some v → (i : ℕ) × (s : Step) × (at ≤ i) × (slice_get steps i ≡ Some s) ×
     (s.item ≡ v)) → place < at → slice_get steps place ≡ Some r → (k : ℕ) → slice_get items k ≡ Some r.item → ⊥

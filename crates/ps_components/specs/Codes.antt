@@ -3,7 +3,7 @@ use Rattle.std.specs.Prelude.{ℕ, ◌-◌, ◌^◌, ◌==◌, nat_le, if◌then
 use Rattle.ps_components.specs.declared.marks.Mark.{Mark}
 use Rattle.ps_components.specs.declared.marks.Mark.TheVariants.{Unseen, Active, Closed}
 
--- 0 is unseen, the numbers up to 2 ^ 63 are components and one, and the places on the path stand behind them
+-- 0 is unseen, the numbers up to 2 ^ 63 are components plus one, and greater numbers are places on the path
 abbrev pub mark_of : ℕ → Mark
 mark_of code =
     if code == 0 then Unseen else if nat_le code (2 ^ 63) then Closed (code - 1) else Active (code - 2 ^ 63 - 1)

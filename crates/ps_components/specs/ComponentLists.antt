@@ -1,8 +1,8 @@
--- The components of a graph: two vertices are in one component where each is reached from the other.
+-- The components of a graph: two vertices are in one component if each is reached from the other.
 use Rattle.std.specs.Prelude.{◌≡◌, ℕ, ◌<◌, ◌≤◌, ◌↔◌, List, length, slice_get, Option, Some}
 use Rattle.ps_components.specs.Graphs.{Digraph, Link, SameOrWay, IsReached}
 
--- for each vertex the number of its component, or none where it was not met; and the vertices that were met, in order
+-- for each vertex the number of its component, or none if it was not met; and the vertices that were met, in order
 pub record ComponentsData : Type 0 where
   pub numbers : List (Option ℕ)
   pub order : List ℕ
@@ -11,9 +11,9 @@ pub record ComponentsData : Type 0 where
 abbrev pub IsIn : ComponentsData → ℕ → ℕ → Type 0
 IsIn c v k = slice_get c.numbers v ≡ Some (Some k)
 
--- the vertices that were met stand in order, component by component, each once; a component's number is the place where
--- it begins; links lead from what was met to what was met, in the same component or one that stands before; the
--- vertices of a component lead to one another
+-- the vertices that were met are in order, component by component, each once; a component's number is the place where
+-- it begins; links lead from what was met to what was met, in the same component or an earlier one; the vertices of a
+-- component lead to one another
 pub record AreComponents (g : Digraph) (c : ComponentsData) : Type 0 where
   pub counted : length c.numbers ≡ g.count
   pub falls : (v k w : ℕ) → IsIn c v k → Link g v w → (m : ℕ) × IsIn c w m × (m ≤ k)

@@ -1,4 +1,4 @@
--- What the search for components keeps true of its lists.
+-- The invariants of the search for components.
 use Rattle.std.specs.Prelude.{◌≡◌, ℕ, ◌+◌, ◌<◌, ◌≤◌, ◌⊎◌, List, [], ◌∷◌, ◌++◌, length, slice_get, slice_set, Option}
 use Rattle.std.specs.Prelude.{Some, None, zero, suc}
 use Rattle.ps_components.specs.Graphs.{Digraph, Link, IsWithin, SameOrWay, IsReached}
@@ -15,7 +15,7 @@ pub data IsSettled (marks : List Mark) (bounds : List ℕ) (p w : ℕ) : Type 0 
   closed : (k : ℕ) → slice_get marks w ≡ Some (Closed k) → IsSettled marks bounds p w
   active : (q : ℕ) → slice_get marks w ≡ Some (Active q) → NoLater bounds p q → IsSettled marks bounds p w
 
--- the link of the active place p to w waits
+-- the link of the active place p to w is pending
 pub record IsPending (pending : List Pending) (p w : ℕ) : Type 0 where
   pub at : ℕ
   pub step : Pending
@@ -23,8 +23,8 @@ pub record IsPending (pending : List Pending) (p w : ℕ) : Type 0 where
   pub from_is : step.from ≡ p
   pub to_is : step.to ≡ w
 
--- the active places stand in segments, each beginning at a bound; the items of a segment lead to one another and
--- to those of later segments; what is closed stands in order, and leads to what was closed before or with it
+-- the active places form segments, each beginning at a bound; the items of a segment lead to one another and to those
+-- of later segments; closed items are in order, and lead to what was closed before or with them
 pub record IsSoundSearch (g : Digraph) (marks : List Mark) (active bounds : List ℕ) (pending : List Pending)
     (order : List ℕ) : Type 0 where
   pub within : IsWithin g
@@ -55,29 +55,29 @@ pub record IsSoundSearch (g : Digraph) (marks : List Mark) (active bounds : List
       slice_get marks v ≡ Some (Closed k) → slice_get marks w ≡ Some (Closed m) → k ≤ m
   pub once : (i j v : ℕ) → slice_get order i ≡ Some v → slice_get order j ≡ Some v → i ≡ j
 
--- the lists would be sound with links that waited behind the others, and all lead to the item
+-- the lists would be sound if some more links were pending after the others, and all lead to the item
 pub record IsSoundBut (g : Digraph) (item : ℕ) (marks : List Mark) (active bounds : List ℕ) (pending : List Pending)
     (order : List ℕ) : Type 0 where
   pub skipped : List Pending
   pub lead : (i : ℕ) (e : Pending) → slice_get skipped i ≡ Some e → e.to ≡ item
   pub sound : IsSoundSearch g marks active bounds (pending ++ skipped) order
 
--- what is marked stands in the order, of items that have marks
+-- what is marked is in the order, whose items have marks
 pub record AreListed (marks : List Mark) (order : List ℕ) : Type 0 where
   pub within : (i v : ℕ) → slice_get order i ≡ Some v → v < length marks
   pub listed : (v : ℕ) (m : Mark) → slice_get marks v ≡ Some m →
       (m ≡ Unseen) ⊎ ((i : ℕ) × (slice_get order i ≡ Some v))
 
--- the roots were seen, and what is closed is one of them, or reached from them
+-- the roots were seen; each closed item is a root, or is reached from one
 pub record HasMet (g : Digraph) (roots : List ℕ) (marks : List Mark) : Type 0 where
   pub seen : (i v : ℕ) → slice_get roots i ≡ Some v → ¬ (slice_get marks v ≡ Some Unseen)
   pub reached : (v k : ℕ) → slice_get marks v ≡ Some (Closed k) → IsReached g roots v
 
--- only of vertices to which these lead the mark changed
+-- the mark changed only for vertices to which these lists lead
 abbrev pub ChangesReached : Digraph → List ℕ → List Mark → List Mark → Type 0
 ChangesReached g from old new = (v : ℕ) → (slice_get new v ≡ slice_get old v) ⊎ IsReached g from v
 
--- the rising list up to place, and nothing of it behind
+-- the ascending list up to place, and nothing of it after that
 pub record IsCut (bounds : List ℕ) (place : ℕ) (fewer : List ℕ) : Type 0 where
   pub part : (k b : ℕ) → slice_get fewer k ≡ Some b → slice_get bounds k ≡ Some b
   pub kept : (k b : ℕ) → slice_get bounds k ≡ Some b → b ≤ place → slice_get fewer k ≡ Some b
@@ -93,12 +93,12 @@ close_all marks (v ∷ vs) k = close_all (slice_set marks v (Closed k)) vs k
 abbrev pub KeepsMarks : List Mark → List Mark → Type 0
 KeepsMarks old new = (v : ℕ) → slice_get new v ≡ Some Unseen → slice_get old v ≡ Some Unseen
 
--- what waits for one place of an item that was put at place p of the path
+-- what is pending for one place of an item that was put at place p of the path
 abbrev pub wait_of : ℕ → Option ℕ → List Pending
 wait_of p None = []
 wait_of p (Some to) = record { from = p; to = to } ∷ []
 
--- what waits for the first n places of the item
+-- what is pending for the first n places of the item
 abbrev pub waits : Digraph → ℕ → ℕ → ℕ → List Pending
 waits g p item zero = []
 waits g p item (suc n) = waits g p item n ++ wait_of p (g.target item n)
@@ -116,7 +116,7 @@ turns_from g item (m ∷ ms) = turns_of g item m + turns_from g (suc item) ms
 abbrev pub turns : Digraph → List Mark → List ℕ → List Pending → ℕ
 turns g marks bounds pending = turns_from g 0 marks + length bounds + length pending
 
--- the number of the component, of an item that is closed
+-- the number of the component of a closed item
 abbrev pub number_of : Mark → Option ℕ
 number_of Unseen = None
 number_of (Active _) = None

@@ -1,4 +1,4 @@
-//! Orders of vertices in which each stands behind those to which it has a link.
+//! Orders of vertices in which each comes after those to which it has a link.
 
 ghost use Rattle.std.specs.Prelude.{◌≡◌, ℕ, ◌<◌, ◌↔◌, IfOk, IfSome, IfNone, IsTrue};
 ghost use Rattle.ps_components.specs.ComponentLists.{AreComponents, AreAllMet};
@@ -8,7 +8,7 @@ use crate::components::{Components, components_of};
 use crate::graph::Graph;
 use std::alloc::{AllocError, Global};
 
-/// An order in which each vertex stands behind those to which it has a link, or the first vertex that leads back to
+/// An order in which each vertex comes after those to which it has a link, or the first vertex that leads back to
 /// itself.
 #[derive(Drop)]
 pub enum Arrangement {
@@ -18,11 +18,7 @@ pub enum Arrangement {
     Cyclic(usize),
 }
 
-/// Arranges the vertices of a graph by their links.
-///
-/// # Errors
-///
-/// Fails where a growth was refused.
+/// Arranges the vertices of a graph by their links. Fails if out of memory.
 pub fn arrange<G: Graph>(alloc: Global, graph: &G) -> Result<Arrangement, AllocError>
     ensures { IfOk result (IsArrangement (G.graph graph.now)) }
 {

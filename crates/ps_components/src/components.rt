@@ -10,7 +10,7 @@ use std::alloc::{AllocError, Global};
 use std::marker::Model;
 
 /// The components of the vertices of a graph that were met. A component's number is the place where it begins in the
-/// order. One value can serve for one graph after the other: its memory stays.
+/// order. One value can serve one graph after another: its memory stays.
 #[derive(Drop)]
 pub struct Components {
     search: Search,
@@ -42,12 +42,8 @@ impl Components {
         }
     }
 
-    /// Takes the components of the roots, and of all vertices to which they lead, in place of those that it has, which
-    /// are forgotten in the time that it took to list them.
-    ///
-    /// # Errors
-    ///
-    /// Fails where a growth was refused, and then has none.
+    /// Replaces the components by those of the roots, and of all vertices to which they lead. The old ones are
+    /// forgotten in the time that it took to list them. Fails if out of memory; then there are none.
     pub fn renew<G: Graph>(&mut self, graph: &G, roots: &[usize]) -> Result<(), AllocError>
         requires { All (λ v. v < (G.graph graph.now).count) roots.now }
         ensures components { OnOk result (AreComponents (G.graph graph.now) self.new) }
@@ -74,14 +70,14 @@ impl Components {
         }
     }
 
-    /// The vertices that were met, component by component, each behind those to which it leads outside its component.
+    /// The vertices that were met, component by component, each after those to which it leads outside its component.
     pub fn order(&self) -> &[usize]
         ensures { result.now ≡ self.now.order }
     {
         &self.search.order
     }
 
-    /// That order alone.
+    /// Only that order.
     pub fn into_order(self) -> Vec<usize>
         ensures { result.items ≡ self.order }
     {
@@ -89,11 +85,7 @@ impl Components {
     }
 }
 
-/// The components of all vertices.
-///
-/// # Errors
-///
-/// Fails where a growth was refused.
+/// The components of all vertices. Fails if out of memory.
 pub fn components_of<G: Graph>(alloc: Global, graph: &G) -> Result<Components, AllocError>
     ensures components { IfOk result (AreComponents (G.graph graph.now)) }
     ensures met { IfOk result (AreAllMet (G.graph graph.now)) }
@@ -105,11 +97,7 @@ pub fn components_of<G: Graph>(alloc: Global, graph: &G) -> Result<Components, A
     Ok(Components { search })
 }
 
-/// The components of the roots, and of all vertices to which they lead.
-///
-/// # Errors
-///
-/// Fails where a growth was refused.
+/// The components of the roots, and of all vertices to which they lead. Fails if out of memory.
 pub fn components_from<G: Graph>(
     alloc: Global,
     graph: &G,

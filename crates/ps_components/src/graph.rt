@@ -3,7 +3,7 @@
 ghost use Rattle.std.specs.Prelude.{◌≡◌, ◌<◌, IfSome};
 ghost use Rattle.ps_components.specs.Graphs.{Digraph, IsWithin};
 
-/// A directed graph of vertices that are numbered from 0. Each vertex has numbered places, and each place a target or
+/// A directed graph whose vertices are numbered from 0. Each vertex has numbered places, and each place has a target or
 /// none.
 pub trait Graph {
     /// The graph that the value stands for.

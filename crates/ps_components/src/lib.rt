@@ -1,18 +1,20 @@
 //! The strong components of a directed graph of numbered vertices, in an order in which links lead back, and trails
-//! through it.
+//! through the graph.
 //!
-//! A user gives the graph as an `impl Graph`. Components are found along one path, by Gabow's algorithm, with a list of
-//! pending links in place of a recursion: no function calls itself. Time and memory are in proportion to the vertices
-//! and links that are met.
+//! The caller gives the graph as an `impl Graph`. Gabow's algorithm finds the components along one path, with a list of
+//! pending links instead of recursion: no function calls itself. Time and memory are proportional to the vertices and
+//! links that are met.
 //!
 //! | Call | What it gives |
 //! |---|---|
-//! | `components_of(graph)` | the components of all vertices; each stands behind those to which it leads |
-//! | `components_from(graph, roots)` | those of the roots and of all vertices to which they lead |
-//! | `arrange(graph)` | an order in which each stands behind those to which it has a link, or the first on a cycle |
-//! | `way_back(graph, start, end)` | a trail from start to end, listed from its end, or none; breadth first |
-//! | `Components::renew(graph, roots)` | as `components_from`, in the memory of components that are done with |
+//! | `components_of(graph)` | the components of all vertices; each comes after those to which it leads |
+//! | `components_from(graph, roots)` | those of exactly the roots and the vertices to which they lead |
+//! | `Components::renew(graph, roots)` | as `components_from`, in the memory of components that are no longer needed |
 //! | `Components::number`, `order`, `into_order` | a vertex's component, by where it begins in the order; that order |
+//! | `arrange(graph)` | each vertex after those to which it has a link, or the first vertex on a cycle |
+//! | `way_back(graph, start, end)` | a trail from the end of a way back to its start, or none if there is no way |
+//!
+//! The vertices of a component lead to one another. No clause says that a trail is a shortest one.
 #![tactic(auto)]
 
 mod arranging;

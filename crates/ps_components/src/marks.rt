@@ -1,4 +1,4 @@
-//! What a search knows of each item.
+//! What a search knows about each item.
 
 ghost use Rattle.std.specs.Prelude.{◌≡◌, ◌+◌, ◌-◌, ◌<◌, ◌^◌, ◌++◌, [], length, replicate, slice_get, slice_set, take};
 ghost use Rattle.std.specs.Prelude.{Some, IfOk, OnOk, OnErr, map};
@@ -8,14 +8,14 @@ ghost use Rattle.ps_components.specs.Codes.{mark_of, narrow_mark_of};
 use std::alloc::{AllocError, Global};
 use std::marker::Model;
 
-/// What the search knows of an item.
+/// What the search knows about an item.
 #[derive(Clone, Copy)]
 pub enum Mark {
     /// Not met yet.
     Unseen,
     /// On the path, at this place.
     Active(usize),
-    /// Done, in the component of this number.
+    /// Finished, in the component with this number.
     Closed(usize),
 }
 
@@ -25,9 +25,9 @@ const LAST_CLOSED: usize = 1 << 63;
 /// The greatest code of a closed item at 4 bytes.
 const LAST_NARROW: usize = 1 << 31;
 
-/// A mark for each item, as a code: 0 where it is unseen, then the numbers of components and one, and behind them the
-/// places on the path. The codes take 4 bytes each as long as numbers and places are below 2^31 - 1, and 8 from then
-/// on.
+/// A mark for each item, as a code: 0 if it is unseen, then the numbers of components plus one, and after them the
+/// places on the path. The codes take 4 bytes each as long as numbers and places are less than 2^31 - 1, and 8 from
+/// then on. Calls fail if out of memory; then nothing changes.
 #[derive(Drop)]
 pub struct Marks {
     alloc: Global,
@@ -47,7 +47,7 @@ impl Model for Marks {
 }
 
 impl Marks {
-    /// Of no items.
+    /// The marks of no items.
     pub fn new(alloc: Global) -> Self
         ensures { result ≡ [] }
     {
@@ -59,11 +59,7 @@ impl Marks {
         }
     }
 
-    /// So many unseen items.
-    ///
-    /// # Errors
-    ///
-    /// Fails where a growth was refused.
+    /// The marks of `count` unseen items.
     pub fn unseen(alloc: Global, count: usize) -> Result<Self, AllocError>
         ensures { IfOk result (λ marks. marks ≡ replicate count Unseen) }
     {
@@ -89,7 +85,7 @@ impl Marks {
         }
     }
 
-    /// Has an item unseen.
+    /// Makes an item unseen.
     #[inline(always)]
     pub fn clear_at(&mut self, item: usize)
         requires { item < length self.old }
@@ -102,11 +98,7 @@ impl Marks {
         }
     }
 
-    /// Puts an item on the path, at this place. For want of memory nothing changes.
-    ///
-    /// # Errors
-    ///
-    /// Fails where a growth was refused.
+    /// Puts an item on the path, at this place.
     pub fn put(&mut self, item: usize, place: usize) -> Result<(), AllocError>
         requires item { item < length self.old }
         requires place { place + 1 < 2 ^ 63 }
@@ -128,11 +120,7 @@ impl Marks {
         Ok(())
     }
 
-    /// Closes an item, in the component of this number. For want of memory nothing changes.
-    ///
-    /// # Errors
-    ///
-    /// Fails where a growth was refused.
+    /// Closes an item, in the component with this number.
     pub fn close(&mut self, item: usize, number: usize) -> Result<(), AllocError>
         requires item { item < length self.old }
         requires number { number < 2 ^ 63 }
@@ -154,11 +142,7 @@ impl Marks {
         Ok(())
     }
 
-    /// Keeps the marks of so many items, of which those that are new are unseen.
-    ///
-    /// # Errors
-    ///
-    /// Fails where a growth was refused.
+    /// Keeps the marks of the first `count` items; new items are unseen.
     pub fn resize(&mut self, count: usize) -> Result<(), AllocError>
         ensures { OnOk result (self.new ≡ take count self.old ++ replicate (count - length self.old) Unseen) }
     {
@@ -190,7 +174,7 @@ fn widened(alloc: Global, narrow: &[u32]) -> Result<Vec<usize>, AllocError>
     Ok(wide)
 }
 
-/// The code at 8 bytes of what a code of 4 stands for.
+/// The code at 8 bytes of what a code at 4 bytes stands for.
 fn wide_code(code: usize) -> usize
     requires { code < 2 ^ 32 }
     ensures { mark_of result ≡ narrow_mark_of code }

@@ -1,5 +1,5 @@
-//! The search for components along one path, as Gabow does it: items are put at the end of the path, and where a link
-//! leads back into the path, all components from there on become one.
+//! The search for components along one path, as Gabow does it. Items are put at the end of the path. If a link leads
+//! back into the path, all components from there on become one.
 
 ghost use Rattle.std.specs.Prelude.{◌≡◌, ℕ, ◌<◌, ◌≤◌, ◌++◌, ◌∷◌, [], ◌-◌, All, length, slice_get, slice_set, Some};
 ghost use Rattle.std.specs.Prelude.{OnOk, IfOk, ◌^◌};
@@ -12,31 +12,27 @@ use crate::graph::Graph;
 use crate::marks::{Mark, Marks};
 use std::alloc::{AllocError, Global};
 
-/// A link that is still to be looked at, from a place of the path.
+/// A link that is still to be followed, from a place of the path.
 #[derive(Clone, Copy)]
 pub struct Pending {
     from: usize,
     to: usize,
 }
 
-/// A path of components, each of items that lead to one another. Each component's items stand behind its bound.
+/// A path of components, each of items that lead to one another. The items of each component begin at its bound.
 #[derive(Drop)]
 pub struct Search {
-    /// What is known of each item.
+    /// What is known about each item.
     pub marks: Marks,
     active: Vec<usize>,
     bounds: Vec<usize>,
     pending: Vec<Pending>,
-    /// The items that are done, component by component.
+    /// The items that are finished, component by component.
     pub order: Vec<usize>,
 }
 
 impl Search {
-    /// A search that has seen nothing.
-    ///
-    /// # Errors
-    ///
-    /// Fails where a growth was refused.
+    /// A search that has seen nothing. Fails if out of memory.
     pub fn new<G: Graph>(alloc: Global, graph: &G) -> Result<Self, AllocError>
         ensures sound { IfOk result (λ s. IsSoundSearch (G.graph graph.now) s.marks s.active.items s.bounds.items
             s.pending.items s.order.items) }
@@ -75,11 +71,7 @@ impl Search {
         self.order.clear();
     }
 
-    /// Forgets what was seen, and looks at all that the roots lead to.
-    ///
-    /// # Errors
-    ///
-    /// Fails where a growth was refused.
+    /// Forgets what was seen, and visits everything to which the roots lead.
     pub fn again<G: Graph>(&mut self, graph: &G, roots: &[usize]) -> Result<(), AllocError>
         requires listed { AreListed self.old.marks self.old.order.items }
         requires within { All (λ v. v < (G.graph graph.now).count) roots.now }
@@ -92,7 +84,7 @@ impl Search {
         self.visit_each(graph, roots)
     }
 
-    /// Forgets what was seen, of which all is listed, and has seen nothing of a graph.
+    /// Forgets what was seen, all of which is listed, and prepares for a graph.
     fn renew<G: Graph>(&mut self, graph: &G) -> Result<(), AllocError>
         requires { AreListed self.old.marks self.old.order.items }
         ensures sound { OnOk result (IsSoundSearch (G.graph graph.now) self.new.marks self.new.active.items
@@ -109,7 +101,7 @@ impl Search {
         Ok(())
     }
 
-    /// Looks at all that the roots lead to.
+    /// Visits everything to which the roots lead.
     fn visit_each<G: Graph>(&mut self, graph: &G, roots: &[usize]) -> Result<(), AllocError>
         requires within { All (λ v. v < (G.graph graph.now).count) roots.now }
         requires sound { IsSoundSearch (G.graph graph.now) self.old.marks self.old.active.items
@@ -127,11 +119,7 @@ impl Search {
         Ok(())
     }
 
-    /// Looks at all that an item leads to, unless it was seen.
-    ///
-    /// # Errors
-    ///
-    /// Fails where a growth was refused.
+    /// Visits everything to which an item leads, unless it was seen.
     pub fn visit<G: Graph>(&mut self, graph: &G, item: usize) -> Result<(), AllocError>
         requires within { item < (G.graph graph.now).count }
         requires sound { IsSoundSearch (G.graph graph.now) self.old.marks self.old.active.items
@@ -152,7 +140,7 @@ impl Search {
         Ok(())
     }
 
-    /// Looks at all links that the path leads to.
+    /// Follows all links to which the path leads.
     fn run<G: Graph>(&mut self, graph: &G) -> Result<(), AllocError>
         requires { IsSoundSearch (G.graph graph.now) self.old.marks self.old.active.items self.old.bounds.items
             self.old.pending.items self.old.order.items }
@@ -169,7 +157,7 @@ impl Search {
         Ok(())
     }
 
-    /// Looks at the last link that waits, if it is one of the last segment, and else closes that segment.
+    /// Follows the last pending link if it belongs to the last segment; otherwise closes that segment.
     fn step<G: Graph>(&mut self, graph: &G, bound: usize) -> Result<(), AllocError>
         requires last { slice_get self.old.bounds.items (length self.old.bounds.items - 1) ≡ Some bound }
         requires sound { IsSoundSearch (G.graph graph.now) self.old.marks self.old.active.items
@@ -200,7 +188,7 @@ impl Search {
         Ok(())
     }
 
-    /// Takes off the last link that waits, and puts the unseen item to which it leads at the end of the path.
+    /// Takes off the last pending link, and puts the unseen item to which it leads at the end of the path.
     fn follow<G: Graph>(&mut self, graph: &G, pending: Pending) -> Result<(), AllocError>
         requires last { slice_get self.old.pending.items (length self.old.pending.items - 1) ≡ Some pending }
         requires within { pending.to < (G.graph graph.now).count }
@@ -248,7 +236,7 @@ impl Search {
         Ok(())
     }
 
-    /// Joins the last segment with those behind the place of an item to which it has a link.
+    /// Joins the last segment with those after the place of an item to which it has a link.
     fn merge<G: Graph>(&mut self, graph: &G, pending: Pending, place: usize)
         requires within { pending.to < length self.old.marks }
         requires linked { (v : ℕ) × (slice_get self.old.active.items pending.from ≡ Some v) ×
@@ -267,7 +255,7 @@ impl Search {
         cut(&mut self.bounds, place);
     }
 
-    /// Takes off the last link that waits, which leads to what is settled.
+    /// Takes off the last pending link, which leads to a finished item.
     fn take<G: Graph>(&mut self, graph: &G, pending: Pending)
         requires last { slice_get self.old.pending.items (length self.old.pending.items - 1) ≡ Some pending }
         requires settled { IsSettled self.old.marks self.old.bounds.items pending.from pending.to }
@@ -307,7 +295,7 @@ impl Search {
     }
 }
 
-/// Has each link of an item wait, which stands at this place of the path.
+/// Makes each link of an item pending; the item is at this place of the path.
 fn wait<G: Graph>(
     pending: &mut Vec<Pending>,
     graph: &G,
@@ -326,7 +314,7 @@ fn wait<G: Graph>(
     Ok(())
 }
 
-/// Takes the bounds behind this place off the end.
+/// Drops the bounds after this place.
 fn cut(bounds: &mut Vec<usize>, place: usize)
     requires rise { (i j b c : ℕ) → slice_get bounds.old.items i ≡ Some b → slice_get bounds.old.items j ≡ Some c →
         i < j → b < c }
@@ -340,7 +328,7 @@ fn cut(bounds: &mut Vec<usize>, place: usize)
     }
 }
 
-/// Has no item seen, of marks of which all are listed.
+/// Makes all items unseen; these are the items that have marks.
 fn unmark(marks: &mut Marks, items: &[usize])
     requires { AreListed marks.old items.now }
     ensures { All (λ m. m ≡ Mark.Unseen) marks.new }
@@ -350,7 +338,7 @@ fn unmark(marks: &mut Marks, items: &[usize])
     }
 }
 
-/// Closes these items, in the component of this number.
+/// Closes these items, in the component with this number.
 fn close_items(marks: &mut Marks, items: &[usize], number: usize) -> Result<(), AllocError>
     requires within { (k v : ℕ) → slice_get items.now k ≡ Some v → v < length marks.old }
     requires number { number < 2 ^ 63 }

@@ -9,14 +9,14 @@ ghost use Rattle.ps_components.specs.declared.trail.Step.{Step};
 use crate::graph::Graph;
 use std::alloc::{AllocError, Global};
 
-/// A vertex that was reached, and the place of the step from which it was.
+/// A vertex that was reached, and the place of the step from which it was reached.
 #[derive(Clone, Copy)]
 pub struct Step {
     item: usize,
     from: usize,
 }
 
-/// The vertices that were reached so far, in the order in which they were.
+/// The vertices reached so far, in the order in which they were reached.
 #[derive(Drop)]
 struct Spread {
     seen: Vec<bool>,
@@ -24,10 +24,7 @@ struct Spread {
 }
 
 /// A trail from the end of a way back to its start, each vertex once, if there is a way from the start to the end.
-///
-/// # Errors
-///
-/// Fails where a growth was refused.
+/// Fails if out of memory.
 pub fn way_back<G: Graph>(
     alloc: Global,
     graph: &G,
@@ -52,7 +49,7 @@ pub fn way_back<G: Graph>(
 }
 
 impl Spread {
-    /// The start alone.
+    /// Only the start.
     fn new<G: Graph>(alloc: Global, graph: &G, start: usize) -> Result<Self, AllocError>
         requires { start < (G.graph graph.now).count }
         ensures spread { IfOk result (λ s. IsSpread (G.graph graph.now) s.seen.items s.steps.items 0) }
@@ -68,7 +65,7 @@ impl Spread {
         Ok(Spread { seen, steps })
     }
 
-    /// Reaches each vertex to which that at a place has a link.
+    /// Reaches each vertex to which the vertex at a place has a link.
     fn reach_from<G: Graph>(&mut self, graph: &G, place: usize) -> Result<(), AllocError>
         requires place { place < length self.old.steps.items }
         requires spread { IsSpread (G.graph graph.now) self.old.seen.items self.old.steps.items place }

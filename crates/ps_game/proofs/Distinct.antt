@@ -21,14 +21,14 @@ kept_or_not : (e b : Bool) (x y : ℕ) (ys : List ℕ) → y ∷ cond b ys (ys +
     (y ∷ ys) ((y ∷ ys) ++ x ∷ [])
 kept_or_not e b x y ys = search (rules, append-nil)
 
--- a number that stood before is dropped, and another one goes to the end
+-- a number that occurred before is dropped, and a new one goes to the end
 pub distinct-push : (xs : List ℕ) (x : ℕ) → distinct (xs ++ x ∷ []) ≡ cond (list_any (λ y. y == x) xs) (distinct xs)
     (distinct xs ++ x ∷ [])
 distinct-push [] x = refl
 distinct-push (y ∷ ys) x = search (rules, filter-cond, filter-append, kept_or_not, distinct-push ys x)
 
--- the front holds what stood in the places gone through, each number at its first place; the other places are
--- as they were; and the stamps tell which numbers stood in the places gone through
+-- the front holds the numbers of the places visited, each at its first place; the other places are as they were; and
+-- the stamps tell which numbers occurred in the places visited
 pub record IsKept (before numbers seen : List ℕ) (stamp place kept : ℕ) : Type 0 where
   pub few : kept ≤ place
   pub front : take kept numbers ≡ distinct (take place before)

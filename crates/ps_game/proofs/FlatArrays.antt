@@ -15,14 +15,14 @@ use Rattle.ps_game.specs.Flat.{successors_in, vertex_in, game_in, AreFlat, FitsW
 use Rattle.ps_game.specs.Flat.{edge_count}
 use Rattle.ps_game.proofs.SubgameFacts.{edge_at}
 
--- ---- pieces that stand one behind the other
+-- ---- consecutive pieces
 
 -- a piece ends where the next one begins
 pub piece_ends : {X A : Type 0} (f : X → List A) (xs : List X) (i : ℕ) (d : X) → i < length xs →
     length (flat_map f (take (i + 1) xs)) ≡ length (flat_map f (take i xs)) + length (f (get_or xs i d))
 piece_ends f xs i d lt = rw (take_more xs i d lt, flat_map-append f, append-nil (f (get_or xs i d)), length-append)
 
--- what stands from the beginning of a piece up to that of the next one
+-- what lies between the beginning of a piece and that of the next one
 piece_at : {X A : Type 0} (f : X → List A) (xs : List X) (i : ℕ) (d : X) → i < length xs →
     slice_range (flat_map f xs) (length (flat_map f (take i xs))) (length (flat_map f (take (i + 1) xs))) ≡
     f (get_or xs i d)
@@ -34,7 +34,7 @@ piece_at f xs i d lt =
     ∙ flat_map-append f (take i xs) (drop i xs) ∙ ap (λ ys. before ++ flat_map f ys) (drop_more xs i d lt) in
     grind (arith, piece_ends, drop_at, take_at)
 
--- those in front of a vertex are no more than all
+-- those before a vertex are at most all
 pub front_within : (game : ParityGame) (v : ℕ) → length (all_successors (take v game)) ≤ length (all_successors game)
 front_within game v =
     let f : VertexData → List ℕ = λ d. d.successors in

@@ -57,7 +57,7 @@ or_of_clear [] a none clear = none
 or_of_clear (x ∷ xs) a none clear = or_of_clear xs (bit_or a x) (ap₂ bit_or none (clear 0 (omega arith)) ∙ or_zero_l 0)
     (λ k less. clear (suc k) (omega arith))
 
--- a group without a bit, behind those in front of it
+-- a group without a bit, after those before it
 pub group_clear : (words : List ℕ) (group : ℕ) → fold_l bit_or 0 (chunk (group * 8) 8 words) ≡ 0
     → ((k : ℕ) → k < group * 8 → get_or words k 0 ≡ 0) → (k : ℕ) → k < (group + 1) * 8 → get_or words k 0 ≡ 0
 group_clear words group none before k lt = elim (cases_lt k (group * 8)) [

@@ -15,7 +15,7 @@ pub along-push : (R : ℕ → ℕ → ℕ → Type 0) (path : List ℕ) (w : ℕ
     R k (get_or (path ++ w ∷ []) k 0) (get_or (path ++ w ∷ []) (k + 1) 0)
 along-push R path w some so_far last k within = search (rules, length_push, get_or_append_left, cases_lt, get_or_push)
 
--- an edge from the last vertex goes on
+-- an edge from the last vertex extends a path
 pub IsPath-push : (game : ParityGame) (path : List ℕ) (w : ℕ) → IsPath game path → HasEdge game (last_vertex path) w →
     w < vertex_count game → IsPath game (path ++ w ∷ [])
 IsPath-push game path w is_path edge is_vertex =

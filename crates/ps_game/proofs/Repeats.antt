@@ -13,7 +13,7 @@ use Rattle.ps_game.specs.Games.{ParityGame, vertex_count}
 use Rattle.ps_game.specs.Plays.{IsPath}
 use Rattle.ps_game.specs.Strategies.{HasLoop}
 
--- a head that stands in the tail again, or does not
+-- a head that occurs again in the tail, or does not
 head_repeats : (x : ℕ) (xs : List ℕ) → AllPairs (λ x y. x ≢ y) xs → (b : Bool) → list_any (λ y. x == y) xs ≡ b →
     AllPairs (λ x y. x ≢ y) (x ∷ xs) ⊎ HasLoop (x ∷ xs)
 head_repeats x xs differ true there =
@@ -37,7 +37,7 @@ differ_or_repeat (x ∷ xs) = elim (differ_or_repeat xs) [
   | inl differ ↦ head_repeats x xs differ (list_any (λ y. x == y) xs) refl
 ]
 
--- what stands in a list of numbers below n is below n
+-- an item of a list of numbers below n is below n
 below_from_there : (n : ℕ) (xs : List ℕ) → All (λ x. x < n) xs → (q : ℕ) → list_any (λ y. q == y) xs ≡ true → q < n
 below_from_there n xs below q there = search (rules, Any-from_list_any, eqb-true)
 

@@ -7,11 +7,11 @@ use Rattle.std.proofs.lemmas.Bool.Decides.{nat_tests}
 use Rattle.ps_game.specs.Games.{ParityGame}
 use Rattle.ps_game.specs.Drafts.{IsFirstUnknown, NoneUnknown}
 
--- the head is smaller, and nothing is found behind it
+-- the head is smaller, and nothing is found after it
 parts : (n x : ℕ) (found : Option ℕ) → cond (nat_le n x) (Some x) found ≡ None → (x < n) × (found ≡ None)
 parts n x found none = grind (arith, nat_tests)
 
--- what is found behind a head that is smaller
+-- what is found after a head that is smaller
 behind : (n x w : ℕ) (found : Option ℕ) → cond (nat_le n x) (Some x) found ≡ Some w → x < n → found ≡ Some w
 behind n x w found is small = grind (arith, nat_tests)
 
@@ -38,6 +38,6 @@ pub first_unknown_once : {draft : ParityGame} {v w u x : ℕ} → IsFirstUnknown
     (v ≡ u) × (w ≡ x)
 first_unknown_once {v = v} {w = w} {u = u} {x = x} first second = search (rules, not_before)
 
--- there is none where each successor is a vertex
+-- there is none if each successor is a vertex
 pub no_first_unknown : {draft : ParityGame} {v w : ℕ} → NoneUnknown draft → IsFirstUnknown draft v w → ⊥
 no_first_unknown {v = v} known first = none_found _ _ _ first.unknown (known v first.is_vertex)

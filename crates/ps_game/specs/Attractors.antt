@@ -4,8 +4,8 @@ use Rattle.std.specs.Prelude.{◌≡◌, ◌≢◌, ℕ, ◌<◌, Option, IsSome
 use Rattle.ps_game.specs.Games.{ParityGame, owner_of}
 use Rattle.ps_game.specs.Subgames.{IsWithin, LeadsInto}
 
--- the set holds the target, each vertex of the player with an edge within the subgame into the set, and each vertex of
--- the other player from which all edges within the subgame lead into the set
+-- the set contains the target, each vertex of the player with an edge within the subgame into the set, and each vertex
+-- of the other player from which all edges within the subgame lead into the set
 pub record IsClosed (game : ParityGame) (subgame : ℕ → Bool) (player : ℕ) (target set : ℕ → Bool) : Type 0 where
   pub holds : IsWithin target set
   pub own : (v w : ℕ) → IsTrue (subgame v) → owner_of game v ≡ player → LeadsInto game subgame v w →
@@ -28,7 +28,7 @@ pub record Falls (game : ParityGame) (subgame : ℕ → Bool) (player : ℕ) (ta
   pub other : (v w : ℕ) → IsTrue (set v) → ¬ IsTrue (target v) → owner_of game v ≢ player → LeadsInto game subgame v w →
       LeadsDown game subgame set rank v w
 
--- the set is contained in each closed set
+-- each closed set contains the set
 abbrev pub IsLeast : ParityGame → (ℕ → Bool) → ℕ → (ℕ → Bool) → (ℕ → Bool) → Type 0
 IsLeast game subgame player target set =
     (closed : ℕ → Bool) → IsClosed game subgame player target closed → IsWithin set closed

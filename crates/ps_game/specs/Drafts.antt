@@ -40,7 +40,7 @@ pub record IsFirstBare (draft : ParityGame) (v : ℕ) : Type 0 where
   pub bare : successors_of draft v ≡ []
   pub before : (u : ℕ) → u < v → 0 < length (successors_of draft u)
 
--- each vertex has a successor, v is the least with a successor that is no vertex, and w is its first such successor
+-- each vertex has a successor, v is the least with a successor that is not a vertex, and w is its first such successor
 pub record IsFirstUnknown (draft : ParityGame) (v w : ℕ) : Type 0 where
   pub none_bare : NoneBare draft
   pub is_vertex : v < vertex_count draft
@@ -55,6 +55,6 @@ NoneUnknown draft = (v : ℕ) → v < vertex_count draft → All (λ w. w < vert
 abbrev pub HaveNoRepeats : ParityGame → Type 0
 HaveNoRepeats draft = All (λ v. AllPairs (λ x y. x ≢ y) v.successors) draft
 
--- the successors are ids, and the place of each is put where it stands
+-- the successors are ids, and each is replaced by its place
 abbrev pub with_places : List ℕ → VertexData → VertexData
 with_places ids v = record v { successors = map (place_of ids) v.successors }

@@ -1,5 +1,5 @@
--- A game in four arrays: one owner and one priority for each vertex, the successors of all vertices one behind the
--- other, and the offsets where those of each vertex begin, with one more offset at the end.
+-- A game in four arrays: one owner and one priority for each vertex, the successors of all vertices in one list, and
+-- the offsets where those of each vertex begin, with one more offset at the end.
 use Rattle.std.specs.Prelude.{◌≡◌, ℕ, ◌+◌, ◌-◌, ◌^◌, ◌<◌, ◌≤◌, min, List, length, map, take, slice_index, slice_range}
 use Rattle.std.specs.List.{All, flat_map, range_with_len, sum_by}
 use Rattle.ps_game.specs.Games.{VertexData, ParityGame, IsGame, vertex_count}
@@ -8,7 +8,7 @@ use Rattle.ps_game.specs.Games.{VertexData, ParityGame, IsGame, vertex_count}
 abbrev pub successors_in : List ℕ → List ℕ → ℕ → List ℕ
 successors_in offsets successors v = slice_range successors (slice_index offsets v) (slice_index offsets (v + 1))
 
--- a vertex as the arrays tell it
+-- a vertex, as the arrays give it
 abbrev pub vertex_in : List ℕ → List ℕ → List ℕ → List ℕ → ℕ → VertexData
 vertex_in offsets successors owners priorities v =
     record {
@@ -26,16 +26,17 @@ game_in offsets successors owners priorities =
 abbrev pub edge_count : ParityGame → ℕ
 edge_count game = sum_by (λ v. length v.successors) game
 
--- how many vertices and edges a game has is within a limit, as far as 8 bytes count it: a limit of 2 ^ 64 - 1 is none
+-- the numbers of vertices and of edges are within a limit, as far as 8 bytes can count; a limit of 2 ^ 64 - 1 does not
+-- bound them
 pub record FitsWithin (game : ParityGame) (limit : ℕ) : Type 0 where
   pub vertices : min (vertex_count game) (2 ^ 64 - 1) ≤ limit
   pub edges : min (edge_count game) (2 ^ 64 - 1) ≤ limit
 
--- the successors of all vertices, one behind the other
+-- the successors of all vertices, one list after another
 abbrev pub all_successors : ParityGame → List ℕ
 all_successors game = flat_map (λ v. v.successors) game
 
--- how many successors stand in front of those of each vertex, and behind the last one how many there are
+-- how many successors precede those of each vertex, and, at the end, how many there are
 pub record AreOffsets (game : ParityGame) (offsets : List ℕ) : Type 0 where
   pub offset_each : length offsets ≡ length game + 1
   pub in_front : (v : ℕ) → v ≤ length game → slice_index offsets v ≡ length (all_successors (take v game))
@@ -53,8 +54,8 @@ pub record AreVertices (offsets successors owners priorities : List ℕ) : Type 
   pub tell : TellGame (game_in offsets successors owners priorities) offsets successors owners priorities
   pub players : All (λ v. v.owner < 2) (game_in offsets successors owners priorities)
 
--- each array has its place for each vertex, the offsets lie in the array of successors in order, and the whole is a
--- game
+-- each array has its place for each vertex, the offsets are ascending places of the array of successors, and the whole
+-- is a game
 pub record AreFlat (offsets successors owners priorities : List ℕ) : Type 0 where
   pub offset_each : length offsets ≡ length owners + 1
   pub priority_each : length priorities ≡ length owners

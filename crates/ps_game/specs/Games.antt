@@ -12,7 +12,7 @@ pub record VertexData : Type 0 where
 abbrev pub ParityGame : Type 0
 ParityGame = List VertexData
 
--- what is read past the last vertex
+-- what is read after the last vertex
 abbrev pub no_vertex : VertexData
 no_vertex = record { owner = 0; priority = 0; successors = [] }
 
@@ -45,7 +45,7 @@ pub record NamedGameData : Type 0 where
   pub ids : List ℕ
   pub names : List (Option (List ℕ))
 
--- the sign that encloses a name where a game is written
+-- the byte that encloses a name in a text of a game
 abbrev pub quote : ℕ
 quote = 34
 

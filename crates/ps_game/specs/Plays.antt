@@ -29,11 +29,11 @@ loop_priority game path i j = greatest (map (priority_of game) (slice_range path
 abbrev pub WinsLoop : ParityGame → ℕ → List ℕ → ℕ → ℕ → Type 0
 WinsLoop game player path i j = loop_priority game path i j % 2 ≡ player
 
--- the other one of the players 0 and 1
+-- the opponent of player 0 or 1
 abbrev pub other_player : ℕ → ℕ
 other_player player = 1 - player
 
--- at each place but the last at which the player owns the vertex, the table gives the next vertex
+-- at each place but the last where the player owns the vertex, the table gives the next vertex
 abbrev pub Follows : ParityGame → ℕ → (ℕ → Option ℕ) → List ℕ → Type 0
 Follows game player table path =
     (k : ℕ) → k + 1 < length path → owner_of game (slice_index path k) ≡ player →
@@ -47,7 +47,7 @@ pub record KeepsTo (game : ParityGame) (player : ℕ) (set : ℕ → Bool) (tabl
   pub stays : (path : List ℕ) → IsPath game path → IsTrue (set (slice_index path 0)) → Follows game player table path →
       (k : ℕ) → k < length path → IsTrue (set (slice_index path k))
 
--- besides, the player wins each loop of each such path
+-- the player keeps to the set, and wins each loop of each such path
 pub record Holds (game : ParityGame) (player : ℕ) (set : ℕ → Bool) (table : ℕ → Option ℕ) : Type 0 where
   pub keeps : KeepsTo game player set table
   pub wins : (path : List ℕ) (i j : ℕ) → IsPath game path → IsTrue (set (slice_index path 0)) →

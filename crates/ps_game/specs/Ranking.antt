@@ -5,7 +5,7 @@ use Rattle.std.specs.List.{All, Contains}
 use Rattle.std.specs.List.Sorted.{IsStrictlyIncreasing}
 use Rattle.ps_game.specs.Games.{ParityGame, vertex_count, owner_of, priority_of, HasEdge}
 
--- an edge remains for a player with a table when it leaves a vertex of the other player, or is the move that the table
+-- an edge remains for a player with a table if it leaves a vertex of the other player, or is the move that the table
 -- gives
 pub record RemainsFor (game : ParityGame) (player : ℕ) (table : ℕ → Option ℕ) (v w : ℕ) : Type 0 where
   pub edge : HasEdge game v w
@@ -22,16 +22,15 @@ pub record RemainsWithin (game : ParityGame) (player : ℕ) (set : ℕ → Bool)
 abbrev pub HasPriority : ParityGame → ℕ → Type 0
 HasPriority game p = (v : ℕ) × (v < vertex_count game) × (priority_of game v ≡ p)
 
--- the list has just the priorities of one parity that the game has, rising
+-- the list has exactly the priorities of one parity that the game has, ascending
 pub record ListsPriorities (game : ParityGame) (parity : ℕ) (list : List ℕ) : Type 0 where
   pub rising : IsStrictlyIncreasing list
   pub complete : (v : ℕ) → v < vertex_count game → priority_of game v % 2 ≡ parity → Contains list (priority_of game v)
   pub right_parity : All (λ p. p % 2 ≡ parity) list
   pub present : All (HasPriority game) list
 
--- the rule of counts for a priority and an edge between two vertices with priorities and counts of their own: where
--- neither end has a greater priority, the count does not rise, and it falls where the edge leaves a vertex of that
--- priority
+-- the rule of counts for a priority and an edge between two vertices with their priorities and counts: if neither end
+-- has a greater priority, the count does not rise, and it falls if the edge leaves a vertex of that priority
 pub record KeepsRule (priority from_priority to_priority from_count to_count : ℕ) : Type 0 where
   pub never_rises : from_priority ≤ priority → to_priority ≤ priority → to_count ≤ from_count
   pub falls : from_priority ≡ priority → to_priority ≤ priority → to_count < from_count

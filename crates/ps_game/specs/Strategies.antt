@@ -1,16 +1,16 @@
--- Strategies that remember: those of finite memory, and tables over whole histories.
+-- Strategies with memory: those of finite memory, and tables over whole histories.
 use Rattle.std.specs.Prelude.{◌≡◌, ℕ, ◌+◌, ◌-◌, ◌<◌, ◌≤◌, List, length, fold, take, slice_index}
 use Rattle.ps_game.specs.Games.{ParityGame, vertex_count, owner_of, HasEdge}
 use Rattle.ps_game.specs.Plays.{IsPath, IsLoop, WinsLoop, other_player}
 
--- how many memories there are, the first one, the memory after a memory and a vertex, and the vertex to go to
+-- how many memories there are, the first one, the next memory for each memory and vertex, and the vertex to go to
 pub record FiniteMemory : Type 0 where
   pub size : ℕ
   pub first : ℕ
   pub update : ℕ → ℕ → ℕ
   pub choice : ℕ → ℕ → ℕ
 
--- memories are numbers below the size, and the choice is a successor at each vertex of the player
+-- memories are numbers less than the size, and the choice is a successor at each vertex of the player
 pub record IsFiniteMemory (game : ParityGame) (player : ℕ) (strategy : FiniteMemory) : Type 0 where
   pub first_below : strategy.first < strategy.size
   pub update_below : (memory v : ℕ) → memory < strategy.size → v < vertex_count game →
@@ -18,7 +18,7 @@ pub record IsFiniteMemory (game : ParityGame) (player : ℕ) (strategy : FiniteM
   pub moves : (memory v : ℕ) → memory < strategy.size → v < vertex_count game → owner_of game v ≡ player →
       HasEdge game v (strategy.choice memory v)
 
--- the memory at place k of a path, which has met the vertices before it
+-- the memory at place k of a path, which has visited the vertices before it
 abbrev pub memory_at : FiniteMemory → List ℕ → ℕ → ℕ
 memory_at strategy path k = fold strategy.update strategy.first (take k path)
 
@@ -49,13 +49,13 @@ IsHistoryTable game player n table =
     (path : List ℕ) → IsPath game path → length path ≤ n → owner_of game (last_vertex path) ≡ player →
     HasEdge game (last_vertex path) (table path)
 
--- each move of the player is what the table gives the path up to there
+-- each move of the player is what the table gives for the path up to there
 abbrev pub GoesBy : ParityGame → ℕ → (List ℕ → ℕ) → List ℕ → Type 0
 GoesBy game player table path =
     (k : ℕ) → k + 1 < length path → owner_of game (slice_index path k) ≡ player →
     table (take (k + 1) path) ≡ slice_index path (k + 1)
 
--- a path of n + 1 vertices from v goes by the table, and the player loses each loop of it
+-- a path of n + 1 vertices from v follows the table, and the player loses each loop of it
 pub record IsBeaten (game : ParityGame) (player n : ℕ) (table : List ℕ → ℕ) (v : ℕ) : Type 0 where
   pub path : List ℕ
   pub is_path : IsPath game path
@@ -64,11 +64,11 @@ pub record IsBeaten (game : ParityGame) (player n : ℕ) (table : List ℕ → �
   pub goes_by : GoesBy game player table path
   pub loses : (i j : ℕ) → IsLoop path i j → WinsLoop game (other_player player) path i j
 
--- a path comes back to a vertex
+-- a path visits a vertex twice
 abbrev pub HasLoop : List ℕ → Type 0
 HasLoop path = (i : ℕ) × (j : ℕ) × IsLoop path i j
 
--- each history table of the player is beaten from v, and by a path with a loop where it is long enough
+-- each history table of the player is beaten from v; if it is long enough, by a path with a loop
 abbrev pub AllHistoriesBeaten : ParityGame → ℕ → ℕ → Type 0
 AllHistoriesBeaten game player v =
     (n : ℕ) (table : List ℕ → ℕ) → IsHistoryTable game player n table →

@@ -17,7 +17,7 @@ pub record IsSubgame (game : ParityGame) (set : ℕ → Bool) : Type 0 where
   pub vertices : (v : ℕ) → IsTrue (set v) → v < vertex_count game
   pub goes_on : (v : ℕ) → IsTrue (set v) → (w : ℕ) × LeadsInto game set v w
 
--- k > 0 steps through the set that come back to where they began, in which the table gives each move of the player
+-- k > 0 steps through the set that return to their start, in which the table gives each move of the player
 pub record IsRound (game : ParityGame) (player : ℕ) (set : ℕ → Bool) (table : ℕ → Option ℕ) (walk : ℕ → ℕ)
     (k : ℕ) : Type 0 where
   pub some : 0 < k
@@ -32,7 +32,8 @@ pub record IsTop (game : ParityGame) (walk : ℕ → ℕ) (k top : ℕ) : Type 0
   pub stands : (t : ℕ) × (t < k) × (priority_of game (walk t) ≡ top)
 
 -- the set lies in the subgame; the table gives a successor in the set at each vertex of it that the player owns; the
--- other player's edges from the set within the subgame stay in the set; the player wins each round in it by the table
+-- other player's edges from the set within the subgame stay in the set; the player wins each round in the set that
+-- follows the table
 pub record HoldsWithin (game : ParityGame) (subgame : ℕ → Bool) (player : ℕ) (set : ℕ → Bool)
     (table : ℕ → Option ℕ) : Type 0 where
   pub within : IsWithin set subgame

@@ -8,11 +8,11 @@ use Rattle.std.specs.List.{range_with_len}
 abbrev pub bit_in : List ℕ → ℕ → Bool
 bit_in words v = bit_at (slice_index words (v / 64)) (v % 64) == 1
 
--- the bits of the vertices below a number of places
+-- the bits of the vertices less than a number of places
 unfoldable pub members : ℕ → List ℕ → List Bool
 members places words = map (λ v. bit_in words v) (range_with_len 0 places)
 
--- as many words as the places fill, and no bit past the last place
+-- as few words as hold all places, and no bit set past the last place
 pub record ArePacked (places : ℕ) (words : List ℕ) : Type 0 where
   pub few : places < 2 ^ 64
   pub enough : places ≤ 64 * length words

@@ -1,14 +1,14 @@
-//! What every form of a game answers, so that solvers and checkers are written once for all forms.
+//! What every form of a game can tell, so that solvers and checkers are written once for all forms.
 
 ghost use Rattle.std.specs.Prelude.{◌≡◌, ◌<◌, length, slice_index};
 ghost use Rattle.ps_game.specs.Games.{ParityGame, IsGame, vertex_count, owner_of, priority_of, successors_of};
 
-/// A parity game that can be read, however it is kept. None of the calls takes memory.
+/// A parity game that can be read, however it is stored. No call takes memory.
 pub trait Arena {
     /// The game that the value stands for.
     ghost game: { Self → ParityGame };
 
-    /// How many vertices there are; they are numbered from 0.
+    /// How many vertices there are. They are numbered from 0.
     fn count(&self) -> usize
         ensures vertices { result ≡ vertex_count (game self.now) }
         ensures well_formed { IsGame (game self.now) };

@@ -1,5 +1,5 @@
-//! Builds a game of vertices and edges in any order. Repeated successors are dropped at the end, in time in proportion
-//! to vertices and edges, by a stamp at each vertex.
+//! Builds a game of vertices and edges in any order. Repeated successors are dropped at the end by a stamp at each
+//! vertex, in time proportional to the numbers of vertices and edges.
 
 ghost use Rattle.std.specs.Prelude.{◌≡◌, ◌<◌, ◌≤◌, ◌+◌, ◌↔◌, ℕ, [], IfOk, OnOk, OnErr, Err, IfSome, IfNone, Some, None};
 ghost use Rattle.std.specs.Prelude.{length, find, nat_le, take, map};
@@ -15,7 +15,7 @@ use smallvec::SmallVec;
 use std::alloc::{AllocError, Global};
 use std::marker::Model;
 
-/// A vertex of a draft: most vertices have few successors, which then lie in the value.
+/// A vertex of a draft. Most vertices have few successors, which are then stored inside the value.
 #[derive(Drop)]
 pub(crate) struct Vertex {
     owner: u8,
@@ -29,7 +29,8 @@ impl Model for Vertex {
     ghost view = { λ v. record { owner = v.owner; priority = v.priority; successors = v.successors.items } };
 }
 
-/// Builds a game, vertex by vertex and edge by edge, in any order.
+/// Builds a game, vertex by vertex and edge by edge, in any order. Calls fail if out of memory; then the draft is
+/// unchanged.
 #[derive(Drop)]
 pub struct GameBuilder {
     alloc: Global,
@@ -56,11 +57,7 @@ impl GameBuilder {
         }
     }
 
-    /// Adds a vertex of an owner, 0 or 1, and answers its number. For want of memory the draft stays as it was.
-    ///
-    /// # Errors
-    ///
-    /// Fails where a growth was refused.
+    /// Adds a vertex with an owner, 0 or 1, and returns its number.
     pub fn vertex(&mut self, owner: u8, priority: u64) -> Result<usize, AllocError>
         requires { owner < 2 }
         ensures number { IfOk result (λ vertex. vertex ≡ vertex_count self.old) }
@@ -77,12 +74,7 @@ impl GameBuilder {
         Ok(number)
     }
 
-    /// Adds an edge from a vertex that was made to one that may be made later. For want of memory the draft
-    /// stays as it was.
-    ///
-    /// # Errors
-    ///
-    /// Fails where a growth was refused.
+    /// Adds an edge from an existing vertex to one that may be added later.
     pub fn edge(&mut self, vertex: usize, successor: usize) -> Result<(), AllocError>
         requires { vertex < vertex_count self.old }
         ensures ok { OnOk result (self.new ≡ with_edge self.old vertex successor) }
@@ -97,9 +89,9 @@ impl GameBuilder {
     ///
     /// # Errors
     ///
-    /// [`GameFault::NoSuccessor`] at the least vertex without an edge, and if there is none,
-    /// [`GameFault::UnknownSuccessor`] at the least vertex with a successor that was not made, and its first such
-    /// successor; else want of memory.
+    /// [`GameFault::NoSuccessor`] at the least vertex without an edge. If there is none,
+    /// [`GameFault::UnknownSuccessor`] at the least vertex with a successor that was not added, and its first such
+    /// successor. Otherwise out of memory.
     pub fn finish(self) -> Result<Game, GameFault>
         ensures game { IfOk result (λ game. game ≡ without_repeats self) }
         ensures no_successor { (v : ℕ) → (result ≡ Err (GameFault.NoSuccessor v)) ↔ IsFirstBare self v }
@@ -182,7 +174,7 @@ fn first_bare(vertices: &[Vertex]) -> Option<usize>
     None
 }
 
-/// The least vertex with a successor that is no vertex, and its first such successor.
+/// The least vertex with a successor that is not a vertex, and its first such successor.
 #[tactic(auto, unfolding(crate::specs::Games::vertex_count, crate::specs::Games::successors_of))]
 fn first_unknown(vertices: &[Vertex]) -> Option<(usize, usize)>
     requires { NoneBare vertices.now }
@@ -197,7 +189,7 @@ fn first_unknown(vertices: &[Vertex]) -> Option<(usize, usize)>
     None
 }
 
-/// The first successor that is not below a number of vertices.
+/// The first successor that is not less than the number of vertices.
 fn unknown_successor(vertex: &Vertex, count: usize) -> Option<usize>
     ensures { result ≡ find (λ successor. nat_le count successor) vertex.now.successors }
 {
@@ -208,8 +200,8 @@ fn unknown_successor(vertex: &Vertex, count: usize) -> Option<usize>
         .find(|successor| count <= *successor)
 }
 
-/// Drops each repeated successor, in time in proportion to the vertices and edges. `seen` has one place for each
-/// vertex, where the last vertex that led there leaves its stamp, which is its number and one.
+/// Drops each repeated successor, in time proportional to the numbers of vertices and edges. `seen` has one place for
+/// each vertex. There the last vertex that led to it leaves its stamp, which is its number plus one.
 #[tactic(auto, unfolding(crate::specs::Games::vertex_count, crate::specs::Games::successors_of))]
 fn drop_repeats(vertices: &mut [Vertex], seen: &mut [usize])
     requires known { NoneUnknown vertices.old }
@@ -222,7 +214,7 @@ fn drop_repeats(vertices: &mut [Vertex], seen: &mut [usize])
     }
 }
 
-/// Drops each repeated successor of a vertex, whose stamp stands nowhere in `seen` yet.
+/// Drops each repeated successor of a vertex, whose stamp is not yet in `seen`.
 fn drop_repeats_at(vertex: &mut Vertex, seen: &mut [usize], stamp: usize)
     requires known { All (λ successor. successor < length seen.old) vertex.old.successors }
     requires fresh { All (λ earlier. earlier < stamp) seen.old }
@@ -233,8 +225,8 @@ fn drop_repeats_at(vertex: &mut Vertex, seen: &mut [usize], stamp: usize)
     vertex.successors.truncate(kept);
 }
 
-/// Moves each number that stands here for the first time to the front, in order, and answers how many they are.
-/// A number has been seen here when its place in `seen` holds the stamp.
+/// Moves the first occurrence of each number to the front, in order, and returns how many there are. A number has
+/// occurred before if its place in `seen` has the stamp.
 fn keep_first_places(numbers: &mut [usize], seen: &mut [usize], stamp: usize) -> usize
     requires known { All (λ number. number < length seen.old) numbers.old }
     requires fresh { All (λ earlier. earlier < stamp) seen.old }

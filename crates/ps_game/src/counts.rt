@@ -1,7 +1,7 @@
 //! How much work a solver did.
 
-/// How much work a solver did: how many nested calls it made on subgames with a vertex at most at one time, and how
-/// often it raised a measure of progress.
+/// How much work a solver did: the greatest number of nested calls at one time, of those on subgames with a vertex, and
+/// how often it raised a measure of progress.
 #[derive(Clone, Copy, Debug, Default, PartialEq, Eq, Drop)]
 pub struct Counts {
     /// The greatest number of nested calls at one time.

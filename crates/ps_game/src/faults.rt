@@ -1,10 +1,10 @@
-//! Why a draft is no game.
+//! Why a draft is not a game.
 
 ghost use Rattle.std.specs.Prelude.{◌≡◌};
 
 use thiserror::Error;
 
-/// Why a draft is no game.
+/// Why a draft is not a game.
 #[derive(Clone, Copy, Debug, PartialEq, Eq, Error)]
 pub enum GameFault {
     /// The least vertex without an edge.
@@ -14,12 +14,12 @@ pub enum GameFault {
         vertex: usize,
     },
 
-    /// The least vertex with a successor that is no vertex, and its first such successor.
+    /// The least vertex with a successor that is not a vertex, and its first such successor.
     #[error("vertex {vertex} has the unknown successor {successor}")]
     UnknownSuccessor {
         /// The vertex's place, from 0.
         vertex: usize,
-        /// The place to which its edge leads, at least the number of vertices.
+        /// The place to which its edge leads, which is at least the number of vertices.
         successor: usize,
     },
 

@@ -13,9 +13,9 @@ use crate::widths::Width;
 use std::alloc::{AllocError, Global};
 use std::marker::Model;
 
-/// A parity game, kept as four arrays: the owners, the priorities, the successors of all vertices one behind the other,
-/// and where those of each vertex begin. It is read faster than a `Game`, and takes less memory: at a width of 4 bytes,
-/// 13 bytes for each vertex and 4 for each edge.
+/// A parity game in four arrays: the owners, the priorities, the successors of all vertices in one list, and the offset
+/// of each vertex's successors. It is read faster than a `Game`, and takes less memory: at a width of 4 bytes, 13 bytes
+/// for each vertex and 4 for each edge.
 #[derive(Drop)]
 pub struct FlatGame<W: Width> {
     pub(crate) offsets: Numbers<W>,
@@ -36,11 +36,7 @@ impl<W: Width> Model for FlatGame<W> {
 }
 
 impl<W: Width> FlatGame<W> {
-    /// The same game in arrays, in time in proportion to its vertices and edges.
-    ///
-    /// # Errors
-    ///
-    /// Fails where a growth was refused.
+    /// The same game in arrays, in time proportional to the numbers of vertices and edges. Fails if out of memory.
     pub fn of(alloc: Global, game: &Game) -> Result<FlatGame<W>, AllocError>
         requires { FitsWithin game.now W.LIMIT }
         ensures { IfOk result (λ flat. flat ≡ game.now) }
@@ -97,7 +93,7 @@ impl<W: Width> Arena for FlatGame<W> {
     }
 }
 
-/// Whether a game has so few vertices and edges that 4 bytes hold their numbers.
+/// Whether 4 bytes can hold the numbers of a game's vertices and edges.
 pub fn fits_narrow(game: &Game) -> bool
     ensures { IsTrue result ↔ ((vertex_count game.now ≤ 2 ^ 32 - 1) × (edge_count game.now ≤ 2 ^ 32 - 1)) }
 {

@@ -6,7 +6,7 @@ use crate::arenas::Arena;
 use crate::flat::FlatGame;
 use std::marker::Model;
 
-/// A parity game: a list of vertices with a list of successors each. It is kept in arrays, with numbers of 8 bytes.
+/// A parity game: a list of vertices with a list of successors each. It is stored in arrays, with numbers of 8 bytes.
 #[derive(Drop)]
 pub struct Game {
     pub(crate) flat: FlatGame<usize>,

@@ -1,4 +1,4 @@
-//! Games whose vertices have ids and names, as texts and certificates speak of them.
+//! Games whose vertices have ids and names, for texts and certificates.
 
 ghost use Rattle.std.specs.Prelude.{◌≡◌, ◌≢◌, ◌<◌, ◌≤◌, length, map, vec_len, slice_index, slice_index_or, None};
 ghost use Rattle.std.specs.List.{All, AllPairs};
@@ -9,7 +9,7 @@ ghost use Rattle.ps_game.specs.Names.{name_bytes, with_none};
 use crate::games::Game;
 use std::marker::Model;
 
-/// A game with an id and an optional name, bytes without `"`, for each vertex. Names are kept up to the last one.
+/// A game with an id and an optional name for each vertex; a name has no `"`. Names are stored up to the last one.
 #[derive(Drop)]
 pub struct NamedGame {
     game: Game,
@@ -48,7 +48,7 @@ impl NamedGame {
         NamedGame::with_first_names(game, ids, names)
     }
 
-    /// Gives ids to the vertices of a game, in their order, and names to the first of them. The others have none.
+    /// Gives ids to the vertices of a game, in their order, and names to the first vertices. The others have no names.
     pub fn with_first_names(game: Game, ids: Vec<u64>, names: Vec<Option<Vec<u8>>>) -> Self
         requires id_each { vec_len ids ≡ vertex_count game }
         requires names_of_vertices { vec_len names ≤ vertex_count game }

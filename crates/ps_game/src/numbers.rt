@@ -1,4 +1,4 @@
-//! Lists of numbers that are kept at 4 or 8 bytes each.
+//! Lists of numbers that are stored in 4 or 8 bytes each.
 
 ghost use Rattle.std.specs.Prelude.{◌≡◌, ◌<◌, ◌≤◌, ◌∷◌, [], ◌++◌, IfOk, OnOk, OnErr, length, map, replicate, take};
 ghost use Rattle.std.specs.Prelude.{slice_index, slice_range, slice_set};
@@ -8,7 +8,7 @@ use crate::widths::Width;
 use std::alloc::{AllocError, Global};
 use std::marker::Model;
 
-/// A list of numbers, kept at a stated width.
+/// A list of numbers, stored at a stated width.
 #[derive(Drop)]
 pub struct Numbers<W: Width> {
     items: Vec<W>,
@@ -23,11 +23,7 @@ impl<W: Width> Model for Numbers<W> {
 }
 
 impl<W: Width> Numbers<W> {
-    /// One number so many times.
-    ///
-    /// # Errors
-    ///
-    /// Fails where a growth was refused.
+    /// A list of `count` times the same number. Fails if out of memory.
     pub fn filled(alloc: Global, number: usize, count: usize) -> Result<Numbers<W>, AllocError>
         requires { number ≤ W.LIMIT }
         ensures { IfOk result (λ numbers. numbers ≡ replicate count number) }
@@ -36,11 +32,7 @@ impl<W: Width> Numbers<W> {
         Ok(Numbers { items })
     }
 
-    /// No number, with room for so many.
-    ///
-    /// # Errors
-    ///
-    /// Fails where a growth was refused.
+    /// The empty list, with room for `count` numbers.
     pub fn with_capacity(alloc: Global, count: usize) -> Result<Numbers<W>, AllocError>
         ensures { IfOk result (λ numbers. numbers ≡ []) }
     {
@@ -48,7 +40,7 @@ impl<W: Width> Numbers<W> {
         Ok(Numbers { items })
     }
 
-    /// The numbers that a list keeps.
+    /// The list of these stored numbers.
     pub(crate) fn of(items: Vec<W>) -> Numbers<W>
         ensures { result ≡ map W.value items.items }
     {
@@ -82,7 +74,7 @@ impl<W: Width> Numbers<W> {
         self.items[place].number()
     }
 
-    /// The numbers from a place up to another, as they are kept.
+    /// The numbers from a place up to another, as they are stored.
     pub fn part(&self, start: usize, end: usize) -> &[W]
         requires order { start ≤ end }
         requires within { end ≤ length self.now }
@@ -100,11 +92,7 @@ impl<W: Width> Numbers<W> {
         self.items[place] = W::of(number);
     }
 
-    /// Puts a number at the end. For want of memory nothing changes.
-    ///
-    /// # Errors
-    ///
-    /// Fails where a growth was refused.
+    /// Appends a number. If memory runs out, nothing changes.
     pub fn push(&mut self, number: usize) -> Result<(), AllocError>
         requires { number ≤ W.LIMIT }
         ensures ok { OnOk result (self.new ≡ self.old ++ number ∷ []) }
@@ -114,7 +102,7 @@ impl<W: Width> Numbers<W> {
         Ok(())
     }
 
-    /// Keeps so many numbers, and drops the rest.
+    /// Keeps the first `count` numbers, and drops the rest.
     pub fn truncate(&mut self, count: usize)
         ensures { self.new ≡ take count self.old }
     {

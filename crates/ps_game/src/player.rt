@@ -14,7 +14,8 @@ enum Parity {
     Odd,
 }
 
-/// A player, by the parity of the loops that it wins: player 0 wins the even ones, player 1 the odd ones.
+/// A player, by the parity of the loops that it wins: player 0 wins those of even priority, player 1 those of odd
+/// priority.
 #[derive(Clone, Copy)]
 pub struct Player {
     wins: Parity,

@@ -1,4 +1,4 @@
-//! Sets of vertices, a bit for each: union, difference and count take eight words of 64 bits at a time.
+//! Sets of vertices, one bit each. Union, difference and count process eight words of 64 bits at a time.
 
 ghost use Rattle.std.specs.Prelude.{◌≡◌, ◌<◌, ◌↔◌, ◌&&◌, ◌||◌, ℕ, IfOk, IsTrue, true, false, not, length, replicate};
 ghost use Rattle.std.specs.Prelude.{count_by, slice_set};
@@ -8,11 +8,11 @@ use crate::words::{count_set, is_clear, subtract, unite};
 use std::alloc::{AllocError, Global};
 use std::marker::Model;
 
-/// How many vertices a word has room for.
+/// How many vertices fit in a word.
 const WORD: usize = 64;
 
-/// A set of vertices, with a stated number of places: the vertices that it can hold.
-/// Vertex 64·w + b is bit b of word w; the bits past the last place are 0.
+/// A set of vertices with a stated number of places, which are the vertices that it can hold. Vertex 64·w + b is bit b
+/// of word w; the bits past the last place are 0.
 #[derive(Drop)]
 pub struct Region {
     places: usize,
@@ -31,11 +31,7 @@ impl Model for Region {
 }
 
 impl Region {
-    /// No vertex.
-    ///
-    /// # Errors
-    ///
-    /// Fails where a growth was refused.
+    /// No vertex. Fails if out of memory.
     pub fn empty(alloc: Global, places: usize) -> Result<Region, AllocError>
         ensures { IfOk result (λ region. region ≡ replicate places false) }
     {
@@ -43,11 +39,7 @@ impl Region {
         Ok(Region { places, words })
     }
 
-    /// Each vertex below the number of places.
-    ///
-    /// # Errors
-    ///
-    /// Fails where a growth was refused.
+    /// All vertices less than the number of places.
     pub fn full(alloc: Global, places: usize) -> Result<Region, AllocError>
         ensures { IfOk result (λ region. region ≡ replicate places true) }
     {
@@ -74,7 +66,7 @@ impl Region {
         (self.words[vertex / WORD] >> (vertex % WORD)) & 1 == 1
     }
 
-    /// Puts a vertex into the set.
+    /// Inserts a vertex.
     pub fn insert(&mut self, vertex: usize)
         requires { vertex < length self.old }
         ensures { self.new ≡ slice_set self.old vertex true }
@@ -82,7 +74,7 @@ impl Region {
         self.words[vertex / WORD] |= 1 << (vertex % WORD);
     }
 
-    /// Takes a vertex out of the set.
+    /// Removes a vertex.
     pub fn remove(&mut self, vertex: usize)
         requires { vertex < length self.old }
         ensures { self.new ≡ slice_set self.old vertex false }
@@ -90,7 +82,7 @@ impl Region {
         self.words[vertex / WORD] &= !(1 << (vertex % WORD));
     }
 
-    /// Puts each vertex of another set into this one.
+    /// Inserts all vertices of another set.
     pub fn union_with(&mut self, other: &Region)
         requires { length other.now ≡ length self.old }
         ensures places { length self.new ≡ length self.old }
@@ -99,7 +91,7 @@ impl Region {
         unite(&mut self.words, &other.words);
     }
 
-    /// Takes each vertex of another set out of this one.
+    /// Removes all vertices of another set.
     pub fn difference_with(&mut self, other: &Region)
         requires { length other.now ≡ length self.old }
         ensures places { length self.new ≡ length self.old }
@@ -123,11 +115,7 @@ impl Region {
         is_clear(&self.words)
     }
 
-    /// The same set once more.
-    ///
-    /// # Errors
-    ///
-    /// Fails where a growth was refused.
+    /// A copy of the set.
     pub fn copy(&self) -> Result<Region, AllocError>
         ensures { IfOk result (λ region. region ≡ self.now) }
     {

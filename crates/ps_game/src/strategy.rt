@@ -1,4 +1,4 @@
-//! Positional strategies: a move or none for each vertex.
+//! Positional strategies: a move, or none, for each vertex.
 
 ghost use Rattle.std.specs.Prelude.{◌≡◌, ◌<◌, IfOk, Some, None, length, replicate, slice_set};
 ghost use Rattle.ps_game.specs.Regions.{move_at};
@@ -7,8 +7,8 @@ use crate::regions::Region;
 use std::alloc::{AllocError, Global};
 use std::marker::Model;
 
-/// A move, or none, for each vertex: the vertices that have one, and where each of them moves. Any number can be a
-/// move, so none of them stands for no move.
+/// A move, or none, for each vertex: the vertices that have one, and where each of them moves. Any number may be a
+/// move, so no number can stand for the absence of a move.
 #[derive(Drop)]
 pub struct Strategy {
     chosen: Region,
@@ -27,11 +27,7 @@ impl Model for Strategy {
 }
 
 impl Strategy {
-    /// No move at any vertex.
-    ///
-    /// # Errors
-    ///
-    /// Fails where a growth was refused.
+    /// No move at any vertex. Fails if out of memory.
     pub fn empty(alloc: Global, places: usize) -> Result<Strategy, AllocError>
         ensures { IfOk result (λ strategy. strategy ≡ replicate places None) }
     {

@@ -1,4 +1,4 @@
-//! Subgames: regions in which every play can go on.
+//! Subgames: regions in which no play ends.
 
 ghost use Rattle.std.specs.Prelude.{◌≡◌, ◌<◌, ◌↔◌, ℕ, IfOk, IfSome, IsSome, IsTrue, true, length, replicate};
 ghost use Rattle.std.specs.Prelude.{slice_index, slice_index_or};
@@ -27,11 +27,7 @@ impl Model for Subgame {
 }
 
 impl Subgame {
-    /// All of an arena.
-    ///
-    /// # Errors
-    ///
-    /// Fails where a growth was refused.
+    /// The whole arena. Fails if out of memory.
     pub fn whole<A: Arena>(alloc: Global, arena: &A) -> Result<Subgame, AllocError>
         ensures all { IfOk result (λ subgame. subgame ≡ replicate (vertex_count (A.game arena.now)) true) }
         ensures subgame { IfOk result (λ subgame. IsSubgame (A.game arena.now) (has subgame)) }
@@ -54,7 +50,7 @@ impl Subgame {
         Some(Subgame { region })
     }
 
-    /// A region of which it is known that each of its vertices has a successor in it.
+    /// A region whose vertices are known to have a successor in it.
     pub fn known<A: Arena>(arena: &A, region: Region) -> Subgame
         requires places { length region ≡ vertex_count (A.game arena.now) }
         requires subgame { IsSubgame (A.game arena.now) (has region) }

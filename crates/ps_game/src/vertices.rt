@@ -1,4 +1,4 @@
-//! Vertices in arrays, put one behind the other: what a reader of games makes.
+//! Vertices in arrays, one after another: what a reader of games makes.
 
 ghost use Rattle.std.specs.Prelude.{◌≡◌, ◌≢◌, ◌==◌, ◌<◌, ◌≤◌, ◌+◌, ◌++◌, ◌∷◌, [], IfOk, OnOk, OnErr, Contains, length};
 ghost use Rattle.std.specs.Prelude.{map, take, vec_len, vec_capacity};
@@ -17,8 +17,8 @@ use ps_ids::Ids;
 use std::alloc::{AllocError, Global};
 use std::marker::Model;
 
-/// Vertices in order, each with any numbers as successors, kept in four arrays: 17 bytes for each vertex and 8 for each
-/// successor.
+/// Vertices in order, each with any numbers as successors. They are stored in four arrays: 17 bytes for each vertex and
+/// 8 for each successor.
 #[derive(Drop)]
 pub struct Vertices {
     offsets: Vec<usize>,
@@ -37,11 +37,7 @@ impl Model for Vertices {
 
 #[tactic(auto, unfolding(crate::specs::Games::vertex_count, crate::specs::Games::successors_of))]
 impl Vertices {
-    /// No vertices.
-    ///
-    /// # Errors
-    ///
-    /// Fails where a growth was refused.
+    /// No vertices. Fails if out of memory.
     pub fn new(alloc: Global) -> Result<Self, AllocError>
         ensures { IfOk result (λ vertices. vertices ≡ []) }
     {
@@ -62,11 +58,7 @@ impl Vertices {
         self.owners.len()
     }
 
-    /// Puts a vertex of an owner, 0 or 1, behind the others. For want of memory they stay as they were.
-    ///
-    /// # Errors
-    ///
-    /// Fails where a growth was refused.
+    /// Appends a vertex with an owner, 0 or 1. If memory runs out, nothing changes.
     pub fn push(&mut self, owner: u8, priority: u64, successors: &[usize]) -> Result<(), AllocError>
         requires { owner < 2 }
         ensures ok { OnOk result (self.new ≡ self.old ++ record {
@@ -91,7 +83,7 @@ impl Vertices {
         Ok(())
     }
 
-    /// Keeps so many vertices, and drops the rest.
+    /// Keeps the first `count` vertices, and drops the rest.
     pub fn truncate(&mut self, count: usize)
         ensures { self.new ≡ take count self.old }
     {
@@ -112,7 +104,7 @@ impl Vertices {
         are_ids(ids, &self.successors)
     }
 
-    /// Puts the place of each successor, which is an id, where the id stands.
+    /// Replaces each successor, which is an id, by the place of that id.
     pub fn resolve(&mut self, ids: &Ids)
         requires { All (λ v. All (λ w. Contains ids.now w) v.successors) self.old }
         ensures { self.new ≡ map (with_places ids.now) self.old }
@@ -121,10 +113,6 @@ impl Vertices {
     }
 
     /// The game of these vertices, in which a repeated successor counts once, at its first place.
-    ///
-    /// # Errors
-    ///
-    /// Fails where a growth was refused.
     pub fn into_game(self, alloc: Global) -> Result<Game, AllocError>
         requires bare { NoneBare self }
         requires known { NoneUnknown self }
@@ -170,7 +158,7 @@ impl Vertices {
         own
     }
 
-    /// Whether it is seen at once that no vertex has a successor twice.
+    /// Whether it is clear at once that no vertex has a successor twice.
     fn are_distinct(&self) -> bool
         ensures { OnTrue result (HaveNoRepeats self.now) }
     {
@@ -200,7 +188,7 @@ impl Vertices {
     }
 }
 
-/// Makes room for one more vertex of so many successors.
+/// Makes room for one more vertex with a given number of successors.
 fn make_room(
     offsets: &mut Vec<usize>,
     owners: &mut Vec<u8>,
@@ -223,7 +211,7 @@ fn make_room(
     successors.reserve(degree)
 }
 
-/// Puts numbers at the end of others, where there is room.
+/// Appends numbers to others, where there is room.
 fn put_all(numbers: &mut Vec<usize>, more: &[usize])
     requires { vec_len numbers.old + length more.now ≤ vec_capacity numbers.old }
     ensures { numbers.new.items ≡ numbers.old.items ++ more.now }
@@ -240,7 +228,7 @@ fn are_ids(ids: &Ids, list: &[usize]) -> bool
     list.iter().all(|id| ids.has(*id as u64))
 }
 
-/// Puts the place of each id where the id stands.
+/// Replaces each id by its place.
 fn places_in(numbers: &mut [usize], ids: &Ids)
     requires { All (λ id. Contains ids.now id) numbers.old }
     ensures { numbers.new ≡ map (place_of ids.now) numbers.old }
@@ -251,10 +239,11 @@ fn places_in(numbers: &mut [usize], ids: &Ids)
     }
 }
 
-/// So many numbers are compared with one another.
+/// The greatest length at which numbers are compared with one another.
 const FEW: usize = 8;
 
-/// Whether it is seen at once that no number stands in a list twice: few are compared with one another, more must rise.
+/// Whether it is clear at once that no number occurs twice in a list: few are compared with one another, more must
+/// rise.
 fn are_different(numbers: &[usize]) -> bool
     ensures { OnTrue result (AllPairs (λ x y. x ≢ y) numbers.now) }
 {
@@ -265,7 +254,7 @@ fn are_different(numbers: &[usize]) -> bool
     }
 }
 
-/// Whether no number stands in a list twice.
+/// Whether no number occurs twice in a list.
 fn have_no_repeat(numbers: &[usize]) -> bool
     ensures { OnTrue result (AllPairs (λ x y. x ≢ y) numbers.now) }
 {
@@ -277,7 +266,7 @@ fn have_no_repeat(numbers: &[usize]) -> bool
     true
 }
 
-/// Whether each number is below the next one.
+/// Whether each number is less than the next one.
 fn are_rising(numbers: &[usize]) -> bool
     ensures { OnTrue result (AllPairs (λ x y. x ≢ y) numbers.now) }
 {

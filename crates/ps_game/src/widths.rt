@@ -1,8 +1,8 @@
-//! The numbers that large tables are made of: `u32` or `usize`.
+//! The numbers in large tables: `u32` or `usize`.
 
 ghost use Rattle.std.specs.Prelude.{◌≡◌, ◌^◌, ◌-◌, ◌≤◌, ℕ};
 
-/// A type of numbers as large tables keep them: the fewer bytes, the less memory is read.
+/// A type of numbers in large tables. With fewer bytes, less memory is read.
 pub trait Width: Copy {
     /// The number that a value stands for.
     ghost value: { Self → ℕ };
@@ -22,7 +22,7 @@ pub trait Width: Copy {
     fn number(self) -> usize
         ensures { result ≡ value self };
 
-    /// A value that is cloned stays the same.
+    /// A clone of a value equals the value.
     ghost clones_equal: { (x y : Self) → Self.is_clone x y → y ≡ x };
 }
 

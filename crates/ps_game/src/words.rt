@@ -1,4 +1,4 @@
-//! Words of 64 bits, worked on eight at a time.
+//! Words of 64 bits, processed eight at a time.
 
 ghost use Rattle.std.specs.Prelude.{◌≡◌, ◌↔◌, ℕ, ◌*◌, ◌/◌, ◌<◌, ◌≤◌, ◌^◌, IsTrue, length, slice_index, take, drop};
 ghost use Rattle.std.specs.Prelude.{bit_and, bit_or, count_ones};
@@ -7,7 +7,7 @@ ghost use Rattle.std.specs.List.{sum_by};
 
 use std::simd::prelude::*;
 
-/// How many words are worked on at once.
+/// How many words are processed at once.
 const LANES: usize = 8;
 
 /// Sets each bit that is set in other words.
@@ -20,7 +20,7 @@ pub(crate) fn unite(words: &mut [u64], others: &[u64])
     unite_rest(words, others, groups * LANES);
 }
 
-/// As `unite`, for so many groups of eight words.
+/// Like `unite`, for a number of groups of eight words.
 fn unite_groups(words: &mut [u64], others: &[u64], groups: usize)
     requires words { groups * 8 ≤ length words.old }
     requires others { groups * 8 ≤ length others.now }
@@ -35,7 +35,7 @@ fn unite_groups(words: &mut [u64], others: &[u64], groups: usize)
     }
 }
 
-/// As `unite`, for the words from a place on, one by one.
+/// Like `unite`, for the words from a place on, one by one.
 fn unite_rest(words: &mut [u64], others: &[u64], start: usize)
     requires { length others.now ≡ length words.old }
     ensures before { (k : ℕ) → k < start → slice_index words.new k ≡ slice_index words.old k }
@@ -59,7 +59,7 @@ pub(crate) fn subtract(words: &mut [u64], others: &[u64])
     subtract_rest(words, others, groups * LANES);
 }
 
-/// As `subtract`, for so many groups of eight words.
+/// Like `subtract`, for a number of groups of eight words.
 fn subtract_groups(words: &mut [u64], others: &[u64], groups: usize)
     requires words { groups * 8 ≤ length words.old }
     requires others { groups * 8 ≤ length others.now }
@@ -74,7 +74,7 @@ fn subtract_groups(words: &mut [u64], others: &[u64], groups: usize)
     }
 }
 
-/// As `subtract`, for the words from a place on, one by one.
+/// Like `subtract`, for the words from a place on, one by one.
 fn subtract_rest(words: &mut [u64], others: &[u64], start: usize)
     requires { length others.now ≡ length words.old }
     ensures before { (k : ℕ) → k < start → slice_index words.new k ≡ slice_index words.old k }
@@ -96,7 +96,7 @@ pub(crate) fn count_set(words: &[u64]) -> usize
     count_groups(words, groups) + count_rest(words, groups * LANES)
 }
 
-/// How many bits are set in so many groups of eight words.
+/// How many bits are set in a number of groups of eight words.
 fn count_groups(words: &[u64], groups: usize) -> usize
     requires groups { groups * 8 ≤ length words.now }
     requires room { sum_by count_ones words.now < 2 ^ 64 }
@@ -132,7 +132,7 @@ pub(crate) fn is_clear(words: &[u64]) -> bool
     are_groups_clear(words, groups) && is_rest_clear(words, groups * LANES)
 }
 
-/// Whether no bit is set in so many groups of eight words.
+/// Whether no bit is set in a number of groups of eight words.
 fn are_groups_clear(words: &[u64], groups: usize) -> bool
     requires { groups * 8 ≤ length words.now }
     ensures { IsTrue result ↔ ((k : ℕ) → k < groups * 8 → slice_index words.now k ≡ 0) }

@@ -31,7 +31,7 @@ position_none p ids l = search (rules, ltb-true, cases_Bool)
 unlike : (a b : ℕ) → a ≢ b → eqb a b ≡ false
 unlike a b n = search (rules, eqb-true, cases_Bool)
 
--- the place where an id of a list without repeats stands is the only one
+-- an id of a list without repeats has only one place
 pub position_here : (ids : List ℕ) (id place : ℕ) → AreDistinct ids → place < length ids → get_or ids place 0 ≡ id →
     position (is_id id) ids ≡ Some place
 position_here ids id place distinct l e = search (rules, position_at, position_or_len_is, unlike, eq-eqb)
@@ -46,13 +46,13 @@ position_nowhere ids id none = position_none (is_id id) ids
 abbrev pub IsAt : List ℕ → ℕ → ℕ → Type 0
 IsAt ids place id = (place < length ids) × (slice_index ids place ≡ id)
 
--- the place at which an id stands is its place
+-- the place at which an id is found is its place
 pub found_at : (ids : List ℕ) {shown : List ℕ} (id place : ℕ) → AreDistinct ids → ids ≡ shown → IsAt ids place id →
     Some place ≡ position (is_id id) shown
 found_at ids id place distinct same at =
     subst (λ xs. Some place ≡ position (is_id id) xs) same (sym (position_here ids id place distinct at.0 at.1))
 
--- what the tree says of an id that stands neither at its own place nor at the one in the table
+-- what the tree says of an id that is neither at its own place nor at the one in the table
 pub position_by_table : (first : ℕ) (ids near : List ℕ) (far : ℕ → Option ℕ) (id : ℕ) → IsTable first ids near far →
     (IsAt ids (own_place first id) id → ⊥) → (IsAt ids (slice_index near (own_place first id)) id → ⊥) →
     far id ≡ position (is_id id) ids

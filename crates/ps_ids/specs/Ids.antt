@@ -1,4 +1,4 @@
--- Different ids, and the tables in which the places of some are kept.
+-- Distinct ids, and the tables in which the places of some are kept.
 use Rattle.std.specs.Prelude.{◌≡◌, ◌≢◌, ◌==◌, ◌-◌, ◌<◌, ◌≤◌, ◌⊎◌, ℕ, List, length, position, Option, Some, slice_index}
 use Rattle.std.specs.Option.{unwrap_or}
 use Rattle.std.specs.List.{AllPairs}
@@ -6,27 +6,27 @@ use Rattle.std.specs.List.{AllPairs}
 abbrev pub AreDistinct : List ℕ → Type 0
 AreDistinct ids = AllPairs (λ x y. x ≢ y) ids
 
--- the place of an id in the list of all ids; 0 of a number that is none
+-- the place of an id in the list of all ids; 0 for a number that is not an id
 abbrev pub place_of : List ℕ → ℕ → ℕ
 place_of ids id = unwrap_or (position (λ other. id == other) ids) 0
 
--- how far an id is from the first one, where it stands in a list that begins with the first and goes on one by one; 0
+-- how far an id is from the first one, which is its place in a list that begins with the first and counts up by one; 0
 -- for an id before the first
 abbrev pub own_place : ℕ → ℕ → ℕ
 own_place first id = id - first
 
--- the place is the id's own; or it is kept by how far the id is from the first one; or by the id itself
+-- the place is the id's own, or it is kept by the id's distance from the first one, or by the id itself
 abbrev pub IsKept : (first : ℕ) (near : List ℕ) (far : ℕ → Option ℕ) (id place : ℕ) → Type 0
 IsKept first near far id place = (own_place first id ≡ place) ⊎
     (((first ≤ id) × (slice_index near (own_place first id) ≡ place)) ⊎ (far id ≡ Some place))
 
--- the place of each id is kept, and by ids only places of ids are
+-- the place of each id is kept, and only places of ids are kept
 pub record IsTable (first : ℕ) (ids near : List ℕ) (far : ℕ → Option ℕ) : Type 0 where
   pub distinct : AreDistinct ids
   pub sound : (id place : ℕ) → far id ≡ Some place → (place < length ids) × (slice_index ids place ≡ id)
   pub whole : (place : ℕ) → place < length ids → IsKept first near far (slice_index ids place) place
 
--- in the new tables the id has that place, and all else is as it was
+-- in the new tables the id has that place, and everything else is as before
 pub record KeepsPlace (first : ℕ) (old_near new_near : List ℕ) (old new : ℕ → Option ℕ) (id place : ℕ) : Type 0 where
   pub kept : IsKept first new_near new id place
   pub others : (q p : ℕ) → q ≢ id → IsKept first old_near old q p → IsKept first new_near new q p

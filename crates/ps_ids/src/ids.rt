@@ -15,9 +15,9 @@ use std::marker::Model;
 /// How many entries the table may have for each id.
 const MOST_PER_ID: usize = 4;
 
-/// Different ids in order. Where they begin with the first and go on one by one, each is found at its place. Else the
-/// places of ids that are not far from the first stand in a table, by how far they are, with at most four entries for
-/// each id; and all others in a tree. So no choice of ids makes a search long, or takes much memory.
+/// Distinct ids in order. An id at its own place, counted up by one from the first, is found there. The places of other
+/// ids that are near the first are in a table, by their distance, with at most four entries for each id. All others are
+/// in a tree. So no choice of ids makes a search long, or takes much memory.
 #[derive(Drop)]
 pub struct Ids {
     list: Vec<u64>,
@@ -35,14 +35,14 @@ impl Model for Ids {
 }
 
 impl Ids {
-    /// No ids. Those that begin with 0 and go on one by one need no table.
+    /// No ids. Those that count up by one from 0 need no table.
     pub fn new(alloc: Global) -> Self
         ensures { result ≡ [] }
     {
         Ids::starting_at(alloc, 0)
     }
 
-    /// No ids. Those that begin with the first and go on one by one need no table.
+    /// No ids. Those that count up by one from `first` need no table.
     pub fn starting_at(alloc: Global, first: u64) -> Self
         ensures { result ≡ [] }
     {
@@ -95,11 +95,7 @@ impl Ids {
         self.place(id).is_some()
     }
 
-    /// Adds an id that is none of them. For want of memory they stay as they were.
-    ///
-    /// # Errors
-    ///
-    /// Fails where a growth was refused.
+    /// Adds a new id at the end. Fails if out of memory; then nothing changes.
     pub fn push(&mut self, id: u64) -> Result<(), AllocError>
         requires { Contains self.old id → ⊥ }
         ensures ok { OnOk result (self.new ≡ self.old ++ id ∷ []) }
@@ -113,29 +109,28 @@ impl Ids {
     }
 }
 
-/// Whether an id stands at a place of a list.
+/// Whether an id is at a place of a list.
 fn stands_at(list: &[u64], id: u64, place: usize) -> bool
     ensures { IsTrue result ↔ ((place < length list.now) × (slice_index list.now place ≡ id)) }
 {
     place < list.len() && list[place] == id
 }
 
-/// The place that a table has at a distance from the first id; 0 where it has none.
+/// The place that a table has at a distance from the first id; 0 if it has none.
 fn near_place(near: &[u32], distance: usize) -> usize
     ensures { result ≡ slice_index near.now distance }
 {
     near.get(distance).map_or(0, |place| *place as usize)
 }
 
-/// How far an id is from the first: the place that needs no table.
+/// The distance of an id from the first, which is its own place.
 fn own_place(first: u64, id: u64) -> usize
     ensures { result ≡ own_place first id }
 {
     id.saturating_sub(first) as usize
 }
 
-/// Keeps the place of an id that is none of those before: in the table, if the id is not far from the first, and else
-/// in the tree.
+/// Keeps the place of a new id: in the table if the id is near the first, else in the tree.
 fn keep_place(
     near: &mut Vec<u32>,
     far: &mut BTreeMap<u64, usize>,
@@ -160,7 +155,7 @@ fn keep_place(
     }
 }
 
-/// Writes an entry of a table, which is made longer by zeros where it is too short.
+/// Writes an entry of a table, which is extended by zeros if it is too short.
 fn put_near(near: &mut Vec<u32>, distance: usize, place: u32) -> Result<(), AllocError>
     requires { distance < 2 ^ 62 }
     ensures ok { OnOk result ((k : ℕ) → slice_index near.new.items k ≡

@@ -1,15 +1,14 @@
-//! Different numbers in order, and the place of each: ids of vertices, variables of circuits.
+//! Distinct numbers in order, and the place of each: ids of vertices, variables of circuits.
 //!
 //! | Call | What it gives |
 //! |---|---|
-//! | `Ids::new`, `starting_at(first)` | no ids; those that go on one by one from 0, or from the first, need no table |
-//! | `push(id)` | one more id, behind the others |
-//! | `place(id)`, `has(id)` | its place, if it is one of them |
-//! | `list`, `into_list` | the ids, in order |
+//! | `Ids::new`, `starting_at(first)` | no ids; ids that count up by one from 0, or from `first`, will need no table |
+//! | `Ids::push(id)` | one more id at the end, which must be a new one; if memory runs out, nothing changes |
+//! | `Ids::place(id)`, `has(id)` | the place of an id, or none; whether a number is an id |
+//! | `Ids::list`, `into_list` | the ids in order, all distinct |
 //!
-//! An id at its own place is found at once, and so is one that was not far from the first when it came: at most four
-//! times as far as there were ids. Each other one is found in a B-tree, in steps that grow as the logarithm of their
-//! number, whatever ids are chosen.
+//! An id at its own place is found at once. So is one that was near the first when it was added: its distance was at
+//! most four times the number of ids. All others are found in a B-tree, in logarithmic time, whatever ids are chosen.
 #![tactic(auto)]
 
 mod ids;

@@ -9,7 +9,7 @@ use Rattle.ps_label.specs.Expression.{more, IsOver, AreOver, AreOverFrom, AreOrd
 use Rattle.ps_label.specs.declared.label.Label.{Label}
 use Rattle.ps_label.specs.Truth.{expressions, truth, all_true, any_true, truths_behind, alias_truths, AreTruths}
 
--- what stands behind the names that an expression uses changes nothing
+-- what follows the names that an expression uses changes nothing
 mutual
   pub truth-front : (known more_known : List Bool) (letter : ℕ) (e : Expression) → IsOver (length known) 64 e →
       truth (known ++ more_known) letter e ≡ truth known letter e

@@ -30,7 +30,7 @@ abbrev mutual
   operands end_of-Label = last
   operands (more_of-Label l row) = more (expression l) (operands row)
 
--- the operands as a row, and as a list
+-- the operands, from a list
 abbrev pub row_of : List Expression → Operands
 row_of [] = last
 row_of (e ∷ es) = more e (row_of es)
@@ -39,7 +39,7 @@ abbrev pub list_of : Operands → List Expression
 list_of last = []
 list_of (more e es) = e ∷ list_of es
 
--- an expression speaks of that many aliases and of that many propositions alone
+-- an expression uses only the first aliases and propositions, as many as given
 abbrev mutual
   pub IsOver : (aliases propositions : ℕ) → Expression → Type 0
   IsOver aliases propositions (constant b) = Unit {0}
@@ -53,8 +53,7 @@ abbrev mutual
   AreOver aliases propositions last = Unit {0}
   AreOver aliases propositions (more e es) = IsOver aliases propositions e × AreOver aliases propositions es
 
--- each of these aliases, the first of which has the number given, speaks of earlier aliases and of that many
--- propositions alone
+-- each of these aliases, the first of which has the given number, uses only earlier aliases and the first propositions
 abbrev pub AreOverFrom : (number propositions : ℕ) → List Expression → Type 0
 AreOverFrom number propositions [] = Unit {0}
 AreOverFrom number propositions (e ∷ es) =

@@ -9,7 +9,7 @@ use Rattle.ps_label.specs.Expression.{more, expression}
 abbrev pub is_in : ℕ → ℕ → Bool
 is_in p letter = nat_eq (letter / 2 ^ p % 2) 1
 
--- the truth of an expression, where that of each alias is given
+-- the truth of an expression, given that of each alias
 abbrev mutual
   pub truth : List Bool → ℕ → Expression → Bool
   truth known letter (constant b) = b
@@ -33,13 +33,13 @@ pub record AreTruths (aliases : List Expression) (letter : ℕ) (known : List Bo
   pub each : (k : ℕ) → k < length aliases → slice_index_or known k false ≡ truth known letter
       (slice_index_or aliases k (constant false))
 
--- the truths of the aliases, from the first to the last, behind those of earlier ones
+-- the truths of the aliases, from the first to the last, appended to those of earlier ones
 abbrev pub truths_behind : List Bool → ℕ → List Expression → List Bool
 truths_behind known letter [] = known
 truths_behind known letter (e ∷ es) = truths_behind (known ++ truth known letter e ∷ []) letter es
 
--- The truth of a label at a letter, where its names are those of the aliases. (Where each alias speaks of
--- earlier ones alone, there is one table of their truths, and this is the truth by that table.)
+-- The truth of a label at a letter, where its names are those of the aliases. (If each alias uses only earlier ones,
+-- there is one table of their truths, and this is the truth by that table.)
 unfoldable pub alias_truths : List Expression → ℕ → List Bool
 alias_truths aliases letter = truths_behind [] letter aliases
 

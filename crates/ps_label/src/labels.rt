@@ -8,8 +8,7 @@ use crate::label::Label;
 use std::alloc::{AllocError, Global};
 use std::marker::Model;
 
-/// The aliases of a text in the order of their definitions: each speaks of earlier ones alone, and of
-/// propositions below 64.
+/// The aliases of a text in the order of their definitions. Each uses only earlier ones, and propositions less than 64.
 #[derive(Debug, Drop)]
 pub struct Labels {
     aliases: Vec<Label>,
@@ -42,11 +41,7 @@ impl Labels {
         }
     }
 
-    /// One more alias, behind the others.
-    ///
-    /// # Errors
-    ///
-    /// Fails where a growth was refused.
+    /// Adds an alias at the end. Fails if out of memory.
     pub fn push(&mut self, label: Label) -> Result<(), AllocError>
         requires within { IsOver (length self.old) 64 (expression label) }
         ensures ok { OnOk result (self.new ≡ self.old ++ label ∷ []) }
@@ -64,7 +59,7 @@ impl Labels {
         self.aliases.as_slice()
     }
 
-    /// The truth of a label at a letter. Each alias is worked out once; `scratch` has a place for each.
+    /// The truth of a label at a letter. Each alias is evaluated once; `scratch` has a place for each.
     pub fn eval(&self, label: &Label, letter: u64, scratch: &mut [bool]) -> bool
         requires room { length scratch.old ≡ length self.now }
         requires within { IsOver (length self.now) 64 (expression label.now) }
@@ -78,8 +73,8 @@ impl Labels {
     }
 }
 
-/// Where each alias speaks of earlier ones alone, there is one table of their truths at a letter, each being
-/// that of its expression by the same table; and a label's truth is its truth by that table.
+/// If each alias uses only earlier ones, there is exactly one table of their truths at a letter: each entry is the
+/// truth of the alias's expression by the same table. A label's truth is its truth by that table.
 pub fn one_table_of_truths()
     ensures table { (aliases : List Expression) (letter : ℕ) → AreOrdered aliases →
         AreTruths aliases letter (alias_truths aliases letter) }
@@ -89,7 +84,7 @@ pub fn one_table_of_truths()
         AreTruths aliases letter known → label_truth aliases letter e ≡ truth known letter e }
 {}
 
-/// The truth of a label at a letter, where that of each alias is in `known`.
+/// The truth of a label at a letter, given that of each alias in `known`.
 fn truth_by(label: &Label, letter: u64, known: &[bool]) -> bool
     requires { IsOver (length known.now) 64 (expression label.now) }
     ensures { result ≡ truth known.now letter (expression label.now) }

@@ -48,7 +48,7 @@ module _ (cells : List CountCell)
         any_fuel f g (next_of (slice_get cells i)) k (omega (arith, less, a)) (omega (arith, less, b)),
       )
 
-  -- the cell of a number, and those behind it
+  -- the cell with a number, and those after it
   pub from_number : (i k : ℕ) (cell : CountCell) → slice_get cells i ≡ Some cell →
       count_from cells (suc i) (suc i) k ≡ max (count_here (Some cell) k) (count_from cells cell.next cell.next k)
   from_number i k cell at = search (rules, from_cell, any_fuel)
@@ -95,7 +95,7 @@ module _ {width : ℕ} {cells : List CountCell} {n : ℕ} (chained : AreChained 
   here_and_behind : (k : ℕ) → count_from cells n n k ≡ max (count_here (Some cell_here) k) (behind k)
   here_and_behind k = grind (arith, from_number cells chained.falls (n - 1) k cell_here there)
 
-  -- a row with the cell taken into account, where the cells behind are still to be
+  -- a row with the cell taken into account, but not yet the cells after it
   pub row_step : (row new : List ℕ) →
       slice_index new cell_here.place ≡ max (slice_index row cell_here.place) cell_here.count →
       ((k : ℕ) → k ≢ cell_here.place → slice_index new k ≡ slice_index row k) → (k : ℕ) →

@@ -76,7 +76,7 @@ module _ {g : Digraph} {c : ComponentsData} (components : AreComponents g c) whe
   pub item_within : (i v : ℕ) → slice_get c.order i ≡ Some v → v < length c.numbers
   item_within i v at = (let number = components.ordered i v at in slice_get_within c.numbers v (Some number.0) number.1)
 
-  -- what does not stand in the order has no value
+  -- what is not in the order has no value
   no_value : (values : List ℕ) (v : ℕ) → ((j : ℕ) → slice_get c.order j ≡ Some v → ⊥) → value_of c values v ≡ 0
   no_value values v nowhere = search rules
 

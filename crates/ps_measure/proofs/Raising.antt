@@ -37,7 +37,7 @@ Distinct (u ∷ us) = (Contains us u → ⊥) × Distinct us
 fewer : (b c : Bool) → counted (b && c) ≤ counted b
 fewer b c = search rules
 
--- different numbers below n that pass a test are no more than those that do
+-- different numbers below n that pass a test are at most as many as those that do
 fits : (h : ℕ → Bool) (n : ℕ) (us : List ℕ) → Distinct us → ((u : ℕ) → Contains us u → (h u ≡ true) × (u < n)) →
     length us ≤ count_below h n
 fits h n [] d each = omega arith
@@ -98,8 +98,7 @@ module _ (game : ParityGame) (player : ℕ) (set : ℕ → Bool) (table : ℕ �
   reaches_join : (v x u : ℕ) → Reaches v x → Reaches x u → Reaches v u
   reaches_join v x u h k = search (rules, run_join)
 
-  -- vertices of the set of priority p, the first of them reached from v, each later one behind an edge of the one
-  -- before
+  -- vertices of the set of priority p, the first of them reached from v, each later one after an edge of the one before
   abbrev IsChain : ℕ → List ℕ → Type 0
   IsChain v [] = Unit {0}
   IsChain v (u ∷ us) = Reaches v u × (heavy u ≡ true) × ((w : ℕ) × Goes u w × IsChain w us)
@@ -145,7 +144,7 @@ module _ (game : ParityGame) (player : ℕ) (set : ℕ → Bool) (table : ℕ �
     | inl d ↦ inl (fits heavy (vertex_count game) us d (λ u at. chain_heavy v us c at.0 u at.1 at.2))
   ]
 
-  -- each place of a run goes on, and the last one to its end
+  -- each place of a run leads on, and the last one to its end
   run_edges : (v : ℕ) (ws : List ℕ) (u k : ℕ) → IsRun v ws u → suc k < length (v ∷ ws) →
       Goes (get_or (v ∷ ws) k 0) (get_or (v ∷ ws) (suc k) 0)
   run_edges v [] u k r within = absurd (omega (arith, within))
@@ -311,7 +310,7 @@ module _ (game : ParityGame) (player : ℕ) (set : ℕ → Bool) (table : ℕ �
     ])
   ]
 
-  -- where no edge goes there is no count
+  -- without edges there is no count
   none_without : (k v : ℕ) → ((w : ℕ) → Goes v w → ⊥) → counts k v ≡ 0
   unfolding counts
   none_without k v h = search (rules, asked_by)

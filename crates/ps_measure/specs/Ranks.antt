@@ -13,8 +13,8 @@ use Rattle.ps_measure.specs.Sums.{sum_below, count_below}
 abbrev pub count_with : ParityGame → (ℕ → Bool) → ℕ → ℕ
 count_with game set p = count_below (λ v. (priority_of game v == p) && set v) (vertex_count game)
 
--- counts for one priority that keep the rule on each edge that remains within the set, the least that do; 0 outside the
--- set and above the priority; each at most the number of the set's vertices of that priority
+-- counts for one priority that keep the rule on each edge that remains within the set, and the least that do; 0 outside
+-- the set and at greater priorities; each at most the number of the set's vertices of that priority
 pub record AreLeastFor (game : ParityGame) (player : ℕ) (set : ℕ → Bool) (table : ℕ → Option ℕ) (p : ℕ)
     (count : ℕ → ℕ) : Type 0 where
   pub keep : KeepRuleWithin game player set table p count
@@ -39,12 +39,12 @@ width_in (Some row) = length row
 abbrev pub width_of : List (List ℕ) → ℕ → ℕ
 width_of rows v = width_in (slice_get rows v)
 
--- so many rows of one length
+-- `count` rows of length `width`
 pub record AreRows (rows : List (List ℕ)) (count width : ℕ) : Type 0 where
   pub each : length rows ≡ count
   pub wide : (v : ℕ) → v < count → width_of rows v ≡ width
 
--- the opposing priorities of the game, rising, and for each vertex a row with one count for each of them
+-- the opposing priorities of the game, ascending, and for each vertex a row with one count for each of them
 pub record AreRanks (game : ParityGame) (player : ℕ) (set : ℕ → Bool) (table : ℕ → Option ℕ) (priorities : List ℕ)
     (rows : List (List ℕ)) : Type 0 where
   pub listed : ListsPriorities game (other_player player) priorities
@@ -60,7 +60,7 @@ total_of rows count width = sum_below (λ k. sum_below (λ v. count_of rows v k)
 abbrev pub raised_of : List (List ℕ) → ℕ → ℕ → ℕ
 raised_of rows count width = sum_below (λ k. count_below (λ v. nat_lt 0 (count_of rows v k)) count) width
 
--- for each of the priorities, the vertices of the set times those of them that have the priority
+-- summed over the priorities: the vertices of the set times those of them that have the priority
 abbrev pub most_raises : ParityGame → (ℕ → Bool) → List ℕ → ℕ
 most_raises game set priorities =
     sum_below (λ k. count_below set (vertex_count game) * count_with game set (slice_index priorities k))
@@ -77,7 +77,7 @@ pub record IsLostCycle (game : ParityGame) (player : ℕ) (set : ℕ → Bool) (
   pub closes : RemainsWithin game player set table (slice_index cycle (length cycle - 1)) (slice_index cycle 0)
   pub lost : greatest (map (priority_of game) cycle) % 2 ≡ other_player player
 
--- what is said of a refusal: the cycle is one that the player loses; that memory ran out says nothing
+-- what an error says: a cycle is one that the player loses; out of memory says nothing
 abbrev pub IsRefusal : ParityGame → ℕ → (ℕ → Bool) → (ℕ → Option ℕ) → MeasureFault → Type 0
 IsRefusal game player set table (BadCycle cycle) = IsLostCycle game player set table cycle.items
 IsRefusal game player set table OutOfMemory = Unit {0}

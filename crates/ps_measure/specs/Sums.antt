@@ -6,7 +6,7 @@ abbrev pub sum_below : (ℕ → ℕ) → ℕ → ℕ
 sum_below f zero = 0
 sum_below f (suc n) = sum_below f n + f n
 
--- 1 where the test holds
+-- 1 if the test holds, else 0
 abbrev pub counted : Bool → ℕ
 counted b = if b then 1 else 0
 

@@ -1,4 +1,4 @@
--- Rows of counts that are kept as chains of cells: the counts of a vertex lead on from the number of its first one.
+-- Rows of counts that are stored as chains of cells: the counts of a vertex follow from the number of its first cell.
 -- Cell i has the number i + 1, and 0 is the end.
 use Rattle.std.specs.Prelude.{◌≡◌, ℕ, zero, suc, ◌<◌, ◌≤◌, ◌==◌, List, length, map, max, Option, None, Some}
 use Rattle.std.specs.Prelude.{if◌then◌else◌, slice_get, slice_index}
@@ -14,7 +14,7 @@ abbrev pub count_here : Option CountCell → ℕ → ℕ
 count_here None k = 0
 count_here (Some cell) k = if cell.place == k then cell.count else 0
 
--- the greatest count at a place, of the chain that begins with a number, up to so many cells
+-- the greatest count at a place, of the chain that begins with a number, looking at a limited number of cells
 unfoldable pub count_from : List CountCell → ℕ → ℕ → ℕ → ℕ
 count_from cells zero number k = 0
 count_from cells (suc fuel) zero k = 0
@@ -39,7 +39,7 @@ pub record AreHeaded (width : ℕ) (heads : List ℕ) (cells : List CountCell) :
   pub chained : AreChained width cells
   pub first : (v : ℕ) → slice_index heads v ≤ length cells
 
--- so many rows of so many counts, each of them 0
+-- `count` rows of `width` counts, each of them 0
 pub record AreZero (rows : List (List ℕ)) (count width : ℕ) : Type 0 where
   pub shape : AreRows rows count width
   pub none : (v k : ℕ) → count_of rows v k ≡ 0

@@ -1,4 +1,4 @@
-//! The least counts for one priority, by the components of the links against the edges that remain.
+//! The least counts for one priority, by the components of the reversed edges that remain.
 
 ghost use Rattle.std.specs.Prelude.{◌≡◌, ℕ, ◌<◌, length, nat_lt, IfOk, OnOk, IfNone, IfSome};
 ghost use Rattle.std.specs.Bool.{OnFalse, OnTrue};
@@ -17,7 +17,7 @@ use crate::table::CountTable;
 use ps_components::{Components, Graph};
 use std::alloc::{AllocError, Global};
 
-/// A count for each component of the vertices that were met. One value serves for one priority after the other.
+/// A count for each component of the vertices that were met. One value serves one priority after another.
 #[derive(Drop)]
 pub(crate) struct Column {
     components: Components,
@@ -25,7 +25,7 @@ pub(crate) struct Column {
 }
 
 impl Column {
-    /// Of no graph.
+    /// A value for no graph.
     pub(crate) fn new(alloc: Global) -> Self {
         Column {
             components: Components::new(alloc),
@@ -33,8 +33,8 @@ impl Column {
         }
     }
 
-    /// Works out the least counts for the priority of a graph. Where there are none, answers a link that leads back to
-    /// where a way to it began, and to a vertex with the priority.
+    /// Works out the least counts for the priority of a graph. If there are none, returns a link to a vertex with the
+    /// priority, from which a way leads back to where the link begins.
     pub(crate) fn work_out(
         &mut self,
         low: &Low,
@@ -51,7 +51,7 @@ impl Column {
         Ok(self.settle(low))
     }
 
-    /// Takes the components of what the roots lead to, with the values 1 at the roots and 0 else.
+    /// Finds the components of what the roots lead to, with the value 1 at the roots and 0 elsewhere.
     fn begin(&mut self, low: &Low, roots: &[usize]) -> Result<(), AllocError>
         requires { AreRoots (low_graph low.now) (low_weight low.now) roots.now }
         ensures counting { OnOk result (IsCounting (low_graph low.now) (low_weight low.now) self.new.components
@@ -82,8 +82,8 @@ impl Column {
         }
     }
 
-    /// Puts the count of each vertex that was met, and is not 0, into a table, at the place of the priority, and says
-    /// how many these are.
+    /// Puts the count of each vertex that was met into a table, at the place of the priority, unless it is 0. Returns
+    /// how many counts are not 0.
     pub(crate) fn put_into(&self, place: usize, table: &mut CountTable) -> Result<u64, AllocError>
         requires components { (g : Digraph) × AreComponents g self.now.components }
         requires each { length table.old ≡ length self.now.components.numbers }
@@ -106,7 +106,7 @@ impl Column {
         Ok(raised)
     }
 
-    /// Takes a link into account. True where it stays in a component and leads to a vertex with the priority.
+    /// Takes a link into account. Returns true if it stays in a component and leads to a vertex with the priority.
     fn pass(&mut self, low: &Low, from: usize, number: usize, to: usize) -> bool
         requires counting { IsCounting (low_graph low.now) (low_weight low.now) self.old.components
             self.old.values.items }
@@ -134,7 +134,7 @@ impl Column {
         }
     }
 
-    /// Takes each link of a vertex into account, up to one that is lost, whose end is answered.
+    /// Takes each link of a vertex into account, up to a lost one, whose end is returned.
     fn pass_all(&mut self, low: &Low, from: usize, number: usize) -> Option<usize>
         requires counting { IsCounting (low_graph low.now) (low_weight low.now) self.old.components
             self.old.values.items }
@@ -157,7 +157,7 @@ impl Column {
         None
     }
 
-    /// Takes all links into account, from the last vertex in the order to the first, up to one that is lost.
+    /// Takes all links into account, from the last vertex in the order to the first, up to a lost one.
     fn settle(&mut self, low: &Low) -> Option<(usize, usize)>
         requires { IsCounting (low_graph low.now) (low_weight low.now) self.old.components self.old.values.items }
         ensures counting { IsCounting (low_graph low.now) (low_weight low.now) self.new.components

@@ -1,4 +1,4 @@
-//! Cells of chains of counts, at 12 bytes each as long as their numbers are small.
+//! Cells of chains of counts, in 12 bytes each as long as their numbers are small.
 
 ghost use Rattle.std.specs.Prelude.{◌≡◌, ◌<◌, ◌∷◌, [], ◌++◌, IfOk, OnOk, OnErr, length, slice_index_or};
 ghost use Rattle.ps_measure.specs.Inner.Cells.{no_count};
@@ -8,7 +8,7 @@ use crate::table::CountCell;
 use std::alloc::{AllocError, Global};
 use std::marker::Model;
 
-/// A cell of which each number fits into 4 bytes.
+/// A cell whose numbers all fit in 4 bytes.
 #[derive(Clone, Copy, Debug)]
 pub struct NarrowCount {
     place: u32,
@@ -16,7 +16,7 @@ pub struct NarrowCount {
     next: u32,
 }
 
-/// A list of cells, kept at 12 bytes each as long as all numbers of each fit into 4, and at 24 from then on.
+/// A list of cells, stored in 12 bytes each as long as all numbers fit in 4, and in 24 from then on.
 #[derive(Debug, Drop)]
 pub struct CountCells {
     alloc: Global,
@@ -36,7 +36,7 @@ impl Model for CountCells {
 }
 
 impl CountCells {
-    /// No cell.
+    /// The empty list.
     pub fn new(alloc: Global) -> Self
         ensures { result ≡ [] }
     {
@@ -76,7 +76,7 @@ impl CountCells {
         }
     }
 
-    /// Puts a cell at the end. For want of memory nothing changes.
+    /// Appends a cell. If memory runs out, nothing changes.
     #[inline(always)]
     pub fn push(&mut self, cell: CountCell) -> Result<(), AllocError>
         ensures ok { OnOk result (self.new ≡ self.old ++ cell ∷ []) }
@@ -97,7 +97,7 @@ impl CountCells {
         self.push_wide(cell)
     }
 
-    /// The same, where the list is kept at 24 bytes each from now on.
+    /// The same, for a list that is stored in 24 bytes each from now on.
     #[inline(never)]
     fn push_wide(&mut self, cell: CountCell) -> Result<(), AllocError>
         ensures ok { OnOk result (self.new ≡ self.old ++ cell ∷ []) }
@@ -110,7 +110,7 @@ impl CountCells {
         Ok(())
     }
 
-    /// The same cells at 24 bytes each.
+    /// The same cells in 24 bytes each.
     fn widened(&self) -> Result<Vec<CountCell>, AllocError>
         ensures { IfOk result (λ wide. wide.items ≡ self.now) }
     {

@@ -1,4 +1,4 @@
-//! Cells of chains of links, at 8 bytes each as long as their numbers are small.
+//! Cells of chains of links, in 8 bytes each as long as their numbers are small.
 
 ghost use Rattle.std.specs.Prelude.{◌≡◌, ◌<◌, ◌∷◌, [], ◌++◌, IfOk, OnOk, length, slice_index_or};
 ghost use Rattle.ps_measure.specs.Inner.Cells.{no_link};
@@ -8,14 +8,14 @@ use crate::packed::NARROW;
 use std::alloc::{AllocError, Global};
 use std::marker::Model;
 
-/// A cell of which both numbers fit into 4 bytes.
+/// A cell whose two numbers both fit in 4 bytes.
 #[derive(Clone, Copy)]
 pub struct NarrowLink {
     source: u32,
     next: u32,
 }
 
-/// A list of cells, kept at 8 bytes each as long as both numbers of each fit into 4, and at 16 from then on.
+/// A list of cells, stored in 8 bytes each as long as both numbers fit in 4, and in 16 from then on.
 #[derive(Drop)]
 pub(crate) struct LinkCells {
     alloc: Global,
@@ -35,7 +35,7 @@ impl Model for LinkCells {
 }
 
 impl LinkCells {
-    /// No cell.
+    /// The empty list.
     pub(crate) fn new(alloc: Global) -> Self
         ensures { result ≡ [] }
     {
@@ -74,7 +74,7 @@ impl LinkCells {
         }
     }
 
-    /// Puts a cell at the end.
+    /// Appends a cell.
     #[inline(always)]
     pub(crate) fn push(&mut self, cell: Cell) -> Result<(), AllocError>
         ensures { OnOk result (self.new ≡ self.old ++ cell ∷ []) }
@@ -93,7 +93,7 @@ impl LinkCells {
         self.push_wide(cell)
     }
 
-    /// The same, where the list is kept at 16 bytes each from now on.
+    /// The same, for a list that is stored in 16 bytes each from now on.
     #[inline(never)]
     fn push_wide(&mut self, cell: Cell) -> Result<(), AllocError>
         ensures { OnOk result (self.new ≡ self.old ++ cell ∷ []) }
@@ -105,7 +105,7 @@ impl LinkCells {
         Ok(())
     }
 
-    /// The same cells at 16 bytes each.
+    /// The same cells in 16 bytes each.
     fn widened(&self) -> Result<Vec<Cell>, AllocError>
         ensures { IfOk result (λ wide. wide.items ≡ self.now) }
     {

@@ -10,7 +10,8 @@ use std::marker::Model;
 /// The greatest number that 4 bytes hold.
 pub(crate) const NARROW: usize = 4_294_967_295;
 
-/// A list of numbers, kept at 4 bytes each as long as all of them fit, and at 8 from then on.
+/// A list of numbers, stored in 4 bytes each as long as all of them fit, and in 8 from then on. Calls that add or write
+/// a number fail if out of memory.
 #[derive(Debug, Drop)]
 pub(crate) struct Packed {
     alloc: Global,
@@ -28,7 +29,7 @@ impl Model for Packed {
 }
 
 impl Packed {
-    /// No number.
+    /// The empty list.
     pub(crate) fn new(alloc: Global) -> Self
         ensures { result ≡ [] }
     {
@@ -40,7 +41,7 @@ impl Packed {
         }
     }
 
-    /// No number, with room for so many that fit into 4 bytes.
+    /// The empty list, with room for `count` numbers that fit in 4 bytes.
     pub(crate) fn with_capacity(alloc: Global, count: usize) -> Result<Self, AllocError>
         ensures { IfOk result (λ list. list ≡ []) }
     {
@@ -53,7 +54,7 @@ impl Packed {
         })
     }
 
-    /// So many numbers, each of them 0.
+    /// A list of zeros.
     pub(crate) fn zeros(alloc: Global, count: usize) -> Result<Self, AllocError>
         ensures { IfOk result (λ list. list ≡ replicate count 0) }
     {
@@ -90,7 +91,7 @@ impl Packed {
         }
     }
 
-    /// Puts a number at the end.
+    /// Appends a number.
     #[inline(always)]
     pub(crate) fn push(&mut self, number: usize) -> Result<(), AllocError>
         ensures { OnOk result (self.new ≡ self.old ++ number ∷ []) }
@@ -106,7 +107,7 @@ impl Packed {
         self.push_wide(number)
     }
 
-    /// The same, where the list is kept at 8 bytes each from now on.
+    /// The same, for a list that is stored in 8 bytes each from now on.
     #[inline(never)]
     fn push_wide(&mut self, number: usize) -> Result<(), AllocError>
         ensures { OnOk result (self.new ≡ self.old ++ number ∷ []) }
@@ -136,7 +137,7 @@ impl Packed {
         self.set_wide(place, number)
     }
 
-    /// The same, where the list is kept at 8 bytes each from now on.
+    /// The same, for a list that is stored in 8 bytes each from now on.
     #[inline(never)]
     fn set_wide(&mut self, place: usize, number: usize) -> Result<(), AllocError>
         requires { place < length self.old }
@@ -150,7 +151,7 @@ impl Packed {
         Ok(())
     }
 
-    /// The same numbers at 8 bytes each.
+    /// The same numbers in 8 bytes each.
     fn widened(&self) -> Result<Vec<usize>, AllocError>
         ensures { IfOk result (λ wide. wide.items ≡ self.now) }
     {

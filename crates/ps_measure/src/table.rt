@@ -9,8 +9,8 @@ use crate::packed::Packed;
 use std::alloc::{AllocError, Global};
 use std::marker::Model;
 
-/// A count of a vertex at the place of its priority, and the number of the next one of the same vertex: cells are
-/// numbered from 1, and 0 is none.
+/// A count of a vertex, the place of its priority, and the number of the next cell of the same vertex. Cells are
+/// numbered from 1; 0 means none.
 #[derive(Clone, Copy, Debug)]
 pub struct CountCell {
     pub(crate) place: usize,
@@ -18,8 +18,8 @@ pub struct CountCell {
     pub(crate) next: usize,
 }
 
-/// A row of counts for each vertex. Only counts that are not 0 take memory: those of a vertex are a chain of cells, by
-/// the number of its first one.
+/// A row of counts for each vertex. Only counts that are not 0 take memory: those of a vertex are a chain of cells,
+/// which begins at the number of its first cell.
 #[derive(Debug, Drop)]
 pub struct CountTable {
     width: usize,
@@ -39,7 +39,7 @@ impl Model for CountTable {
 }
 
 impl CountTable {
-    /// So many rows of so many counts, each of them 0.
+    /// A table of `count` rows with `width` counts each, all 0.
     pub(crate) fn new(alloc: Global, count: usize, width: usize) -> Result<Self, AllocError>
         ensures { IfOk result (λ table. AreZero table count width) }
     {
@@ -57,7 +57,7 @@ impl CountTable {
         self.heads.len()
     }
 
-    /// Raises a count of a vertex, if it is below.
+    /// Raises a count of a vertex to a value, if it is less.
     pub(crate) fn put(&mut self, vertex: usize, place: usize, count: u64) -> Result<(), AllocError>
         requires vertex { vertex < length self.old }
         requires place { place < width_of self.old vertex }
@@ -68,11 +68,7 @@ impl CountTable {
         self.heads.set(vertex, self.cells.len())
     }
 
-    /// Puts the counts of a vertex, one for each priority, into a list, in the place of what was in it.
-    ///
-    /// # Errors
-    ///
-    /// Fails where a growth was refused.
+    /// Replaces the contents of a list by the counts of a vertex, one for each priority. Fails if out of memory.
     pub fn row_into(&self, vertex: usize, row: &mut Vec<u64>) -> Result<(), AllocError>
         requires { vertex < length self.now }
         ensures { OnOk result (slice_get self.now vertex ≡ Some row.new.items) }
@@ -105,7 +101,7 @@ fn raise_by(cells: &CountCells, head: usize, row: &mut Vec<u64>)
 /// The counts of each vertex for the priorities by which a player loses.
 #[derive(Debug, Drop)]
 pub struct Ranks {
-    /// These priorities of the game, rising.
+    /// These priorities of the game, ascending.
     pub priorities: Vec<u64>,
     /// For each vertex a row with one count for each priority, in their order.
     pub counts: CountTable,

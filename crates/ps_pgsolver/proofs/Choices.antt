@@ -1,4 +1,4 @@
--- The parts that may be missing: a setting and a name. And where a loop goes on.
+-- The parts that may be missing: a setting and a name. And where a loop continues.
 use Rattle.std.proofs.Common.{◌≡◌, ℕ, ◌<◌, true, false, List, length, Option, None, Some, Ok, Err, refl}
 use Rattle.std.proofs.Common.{sym, ap, subst, inl, ◌∙◌, rules}
 use Rattle.ps_text.specs.Answers.{Stream, next_of}

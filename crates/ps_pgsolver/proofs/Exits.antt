@@ -1,6 +1,6 @@
 -- The exits of the reading functions: a part that was read, and a part that stops.
 --     Done part old v new      the part was read from old, of that value, and new is left
---     done_then, stops_left, stops_right      parts one behind the other
+--     done_then, stops_left, stops_right      parts one after the other
 --     done_mapped, stops_mapped
 --     exit      the exit of a `?`
 use Rattle.std.proofs.Common.{◌≡◌, Result, Ok, Err, IsErrAnd, refl, subst}

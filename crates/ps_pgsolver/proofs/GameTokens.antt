@@ -214,7 +214,7 @@ all_blank w e = subst (AllOf is_blank) (grind (arith, take-append-drop))
 abbrev IsLexed : List ℕ → List ℕ → Type 0
 IsLexed before w = TokensFrom (λ b. is_blank b ≡ true) IsToken before w (lex 0 before w)
 
--- one token, and what is found behind it
+-- one token, and what is found after it
 step : (before w : List ℕ) → ((before' w' : List ℕ) → length w' < length w → IsLexed before' w') → IsLexed before w
 step before w ih = go (drop n w) refl
   where

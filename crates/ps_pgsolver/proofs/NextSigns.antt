@@ -1,4 +1,4 @@
--- The sign that comes next, by the first byte that is no blank.
+-- The sign that comes next, by the first byte that is not a blank.
 use Rattle.std.proofs.Common.{◌≡◌, ℕ, ◌+◌, Bool, true, false, eqb, List, [], ◌∷◌, take, drop, Option, Some, None, refl}
 use Rattle.std.proofs.Common.{cond, sym, ap, ◌∙◌, rules}
 use Rattle.std.proofs.lemmas.List.{drop-drop}

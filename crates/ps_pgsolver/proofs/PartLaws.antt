@@ -48,7 +48,7 @@ kinds_apart i j d t h k = d (sym h ∙ k)
 pub same : (A : Sign → Type 0) → Within A A
 same A t h = h
 
--- one sign, where each that may stand there, or is bad, is one of these
+-- one sign, if each that is allowed there, or is bad, is one of these
 pub laws_sign : {V : Type 0} (take : Sign → Option V) (Bad : Sign → PgCause → Type 0) (t : Sign) (v : V) (First : Sign →
     Type 0) → take t ≡ Some v → Within (Or (Taken take) (BadSign Bad)) First → Laws Odd (one take Bad) First Nothing ⊥
 laws_sign take Bad t v First e first = weaker (search (rules, laws_one, no_odd)) first (same Nothing) (λ h. h)

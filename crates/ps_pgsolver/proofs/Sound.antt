@@ -1,5 +1,4 @@
--- What is true of the value of a text in which no cause of the part stands; and that the ids that are known change no
--- text.
+-- What is true of the value of a text in which the part has no cause; and that the ids that are known change no text.
 use Rattle.std.proofs.Common.{◌≡◌, ℕ, zero, suc, true, false, ltb, List, [], ◌∷◌, ◌++◌, Option, None, Some, refl, sym}
 use Rattle.std.proofs.Common.{rules, ap, subst, inl, inr, ⊎_elim, ◌∙◌, append_assoc, arith}
 use Rattle.std.proofs.lemmas.Bool.{cases_Bool, ltb-true, ltb-false}

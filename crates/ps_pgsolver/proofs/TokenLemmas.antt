@@ -76,7 +76,7 @@ lex-blanks before (b ∷ bs) = ⊎_elim (λ yes.
     search (rules, lex-blank, append_assoc, lex-blanks (before ++ b ∷ []) bs)) (λ no.
     grind (arith, append-nil)) (cases_Bool (is_blank b))
 
--- behind the longest front that passes, none passes
+-- after the longest front that passes, none passes
 pub prefix_len-behind : (p : ℕ → Bool) (xs : List ℕ) → prefix_len p (drop (prefix_len p xs) xs) ≡ 0
 prefix_len-behind p xs = run_len p [] (drop (prefix_len p xs) xs) tt (run_ends p xs)
 
@@ -109,7 +109,7 @@ pub lex-end : (before : List ℕ) → lex 0 before [] ≡ []
 unfolding lex
 lex-end before = refl
 
--- a token of the code is the next one, and reading goes on behind it
+-- a token of the code is the next one, and reading continues after it
 pub record Reads (text : List ℕ) (start size : ℕ) (kind : Kind) (stream : Stream Sign) : Type 0 where
   pub head : IsHead (record { kind = kind; start = start }) stream
   pub rest : stream_from text (start + size) ≡ tail stream

@@ -1,6 +1,6 @@
 -- A game that is written is read again.
 --     game_kept      the nodes that the lines write make the same game
---     readable      nodes of different ids can be read, one behind the other
+--     readable      nodes of different ids can be read, one after the other
 --     reads_again      the whole text
 use Rattle.std.proofs.Common.{◌≡◌, ℕ, suc, ◌+◌, ◌<◌, ◌≤◌, Bool, true, cond, eqb, List, [], ◌∷◌, ◌++◌, length, rules}
 use Rattle.std.proofs.Common.{get_or, map, drop, Option, Some, None, Ok, refl, sym, ap, ap₂, subst, ◌∙◌, arith}

@@ -1,6 +1,6 @@
--- The grammar reads the signs of a game that is written, and no cause stands in them.
---     IsReadable known ids node      the node can be read behind nodes of these ids
---     AreReadable known before nodes      so can each of these nodes, one behind the other
+-- The grammar reads the signs of a game that is written, and finds no cause in them.
+--     IsReadable known ids node      the node can be read after nodes of these ids
+--     AreReadable known before nodes      so can each of these nodes, one after the other
 --     written_answers      the answer to the signs of a whole text
 use Rattle.std.proofs.Common.{◌≡◌, ℕ, ◌<◌, List, [], ◌∷◌, ◌++◌, length, Option, Some, None, Ok, refl, sym, ap, subst}
 use Rattle.std.proofs.Common.{rules, ◌∙◌, arith, append_assoc, append-nil}

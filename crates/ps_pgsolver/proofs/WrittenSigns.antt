@@ -1,7 +1,7 @@
 -- The tokens of a game that is written.
---     Lexed before bytes ss      the tokens of bytes, behind the bytes before, are these signs
+--     Lexed before bytes ss      the tokens of bytes, after the bytes before, are these signs
 --     comma_signs, list_signs, name_signs, node_signs, nodes_signs      the signs of each part of the text, with more
---               behind it
+--               after it
 --     node_made, nodes_made      the nodes that the lines write
 --     written_tokens      the tokens of the whole text
 use Rattle.std.proofs.Common.{◌≡◌, ℕ, suc, ◌+◌, ◌^◌, ◌<◌, Bool, true, false, List, [], ◌∷◌, ◌++◌, length, get_or, map}
@@ -32,7 +32,7 @@ record Lexed (before bytes : List ℕ) (ss : List Sign) : Type 0 where
   are : signs pieces ≡ ss
   tokens : TokensFrom Blank IsToken before bytes pieces
 
--- the same, whatever stands before
+-- the same, whatever comes before
 abbrev Lexes : List ℕ → List Sign → Type 0
 Lexes bytes ss = (before : List ℕ) → Lexed before bytes ss
 

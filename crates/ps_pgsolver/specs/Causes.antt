@@ -25,7 +25,7 @@ cause_name causes.NodeTwice = codes "NodeTwice"
 cause_name causes.Number = codes "Number"
 cause_name causes.Limit = codes "Limit"
 
--- a refusal stands within a text of this length, or at its end
+-- the place of a refusal is within a text of this length, or at its end
 abbrev pub StandsWithin : ℕ → PgFault → Type 0
 StandsWithin length (faults.Text cause offset) = offset ≤ length
 StandsWithin length faults.OutOfMemory = Unit {0}

@@ -2,7 +2,7 @@
 --     game ::= ("parity" N ";")? ("start" N ";")? node+
 --     node ::= N N N N ("," N)* name? ";"
 -- The fields of a node are its id, priority, owner and successors. The value of a text is the list of its nodes.
--- `known` are the ids of the text's nodes, where they are known: then each successor must be one of them.
+-- `known` are the ids of the text's nodes, if they are known: then each successor must be one of them.
 use Rattle.std.specs.Prelude.{◌≡◌, ℕ, ◌<◌, ◌≤◌, ◌⊎◌, List, [], ◌∷◌, ◌++◌, Option, None, Some, codes, if◌then◌else◌}
 use Rattle.std.specs.Str.{bytes_eq}
 use Rattle.std.specs.List.{Contains}
@@ -42,7 +42,7 @@ abbrev pub BadOwner : Sign → PgCause → Type 0
 BadOwner (Number n) cause = (2 ≤ n) × (cause ≡ causes.Number)
 BadOwner _ cause = ⊥
 
--- a successor that is no id
+-- a successor that is not an id
 abbrev pub IsUnknown : Option (List ℕ) → ℕ → Type 0
 IsUnknown None n = ⊥
 IsUnknown (Some ids) n = ¬ Contains ids n
@@ -53,7 +53,7 @@ BadSuccessor known (Number n) cause =
     (cause ≡ causes.UnknownSuccessor))
 BadSuccessor known _ cause = ⊥
 
--- where the first successor is wanted: the end of the node, or its name, closed or not
+-- where the first successor is expected: the end of the node, or its name, closed or not
 abbrev pub BadFirst : Option (List ℕ) → Sign → PgCause → Type 0
 BadFirst known Semicolon cause = cause ≡ causes.NoSuccessor
 BadFirst known (Name inner) cause = cause ≡ causes.NoSuccessor
@@ -119,7 +119,7 @@ node known ids =
     mapped (λ _. record { id = id; priority = priority; owner = owner'; successors = list; name = name' })
     semicolon)))))
 
--- one more node behind the nodes that were read
+-- one more node after the nodes that were read
 unfoldable pub entry : Option (List ℕ) → List NodeData → Part Sign (List NodeData) PgCause
 entry known nodes = mapped (λ n. nodes ++ n ∷ []) (node known (ids_of nodes))
 

@@ -1,9 +1,9 @@
 -- The tokens of a game text, as a relation between its bytes and its pieces.
---     IsRun p text rest      text is a run of bytes that pass p, the longest where rest stands behind it
---     IsToken before sign text rest      behind the bytes `before`, text is that token and rest stands behind it
+--     IsRun p text rest      text is a run of bytes that pass p, the longest if rest follows it
+--     IsToken before sign text rest      after the bytes `before`, text is that token and rest follows it
 --     AreGameTokens text stream      the tokens of a whole text, with blanks between them
--- A number is a longest run of digits, a word a longest run of letters, a name stands between quotes. What can't stand
--- is a word directly behind a number, a number directly behind a word, a name that is not closed, and any other byte.
+-- A number is a longest run of digits, a word a longest run of letters, a name is between quotes. Never allowed are a
+-- word directly after a number, a number directly after a word, a name without its closing quote, and any other byte.
 use Rattle.std.specs.Prelude.{◌≡◌, ◌≢◌, ℕ, ◌<◌, Bool, true, false, List, [], ◌∷◌, ◌++◌, length}
 use Rattle.ps_text.specs.Answers.{Stream}
 use Rattle.ps_text.specs.Digits.{decimal_value}
@@ -18,7 +18,7 @@ pub record IsRun (p : ℕ → Bool) (text rest : List ℕ) : Type 0 where
   pub all : AllOf p text
   pub longest : StopsBefore p rest
 
--- a byte that begins no token and is no blank
+-- a byte that begins no token and is not a blank
 pub record IsStray (b : ℕ) : Type 0 where
   pub no_digit : is_digit b ≡ false
   pub no_letter : is_letter b ≡ false

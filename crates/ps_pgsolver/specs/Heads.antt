@@ -41,25 +41,25 @@ abbrev pub name_of : Option Sign → Option (List ℕ)
 name_of (Some (Name inner)) = Some inner
 name_of _ = None
 
--- a number is held by a word, or too large, and a name has no quote
+-- a number fits in 64 bits or is marked as too large, and a name has no quote
 abbrev pub IsPlain : Kind → Type 0
 IsPlain (kinds.Number value) = value < too_large
 IsPlain (kinds.LargeNumber digits) = too_large ≤ decimal_value digits.now
 IsPlain (kinds.Name inner) = AllPass is_unquoted inner.now
 IsPlain _ = Unit {0}
 
--- a number that a word holds was the next sign, and was read
+-- a number that fits in 64 bits was the next sign, and was read
 pub record IsNumberTaken (number : ℕ) (old new : Stream Sign) : Type 0 where
   pub sign : next_of old ≡ Some (Number number)
   pub small : number < too_large
   pub rest : new ≡ tail old
 
--- the sign was the next one and was read, or it was not and nothing was
+-- the sign was the next one and was read, or it was not and nothing was read
 abbrev pub IsTaken : Sign → Stream Sign → Bool → Stream Sign → Type 0
 IsTaken sign old true new = (next_of old ≡ Some sign) × (new ≡ tail old)
 IsTaken sign old false new = new ≡ old
 
--- the token was read from a text, and the tokens behind it begin at that offset
+-- the token was read from a text, and the tokens after it begin at that offset
 pub record IsAhead (text : List ℕ) (token : Token) (behind : ℕ) : Type 0 where
   pub head : IsHead token (stream_from text token.start)
   pub plain : IsPlain token.kind

@@ -1,4 +1,4 @@
--- A node of a game text, as it stands there.
+-- A node of a game text.
 use Rattle.std.specs.Prelude.{ℕ, Bool, ◌==◌, ◌<◌, ◌≢◌, List, map, length, Option}
 use Rattle.std.specs.List.{All, AllPairs, Contains, list_any, list_all}
 use Rattle.ps_game.specs.Games.{HasNoQuote}
@@ -34,7 +34,7 @@ pub record AreNodes (nodes : List NodeData) : Type 0 where
   pub distinct : IsDistinct (ids_of nodes)
   pub each : All IsNode nodes
 
--- a node of an id that is none of these
+-- a node whose id is not one of these
 pub record IsNewNode (ids : List ℕ) (node : NodeData) : Type 0 where
   pub new : ¬ Contains ids node.id
   pub is_node : IsNode node

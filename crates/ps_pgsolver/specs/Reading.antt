@@ -1,4 +1,4 @@
--- What the reading of a game text answers: the text's game, or its first cause and where it stands.
+-- The answer of reading a game text: the text's game, or its first cause and its place.
 use Rattle.std.specs.Prelude.{◌≡◌, ℕ, ◌<◌, ◌≤◌, List, length, None, Some, Result, Ok, Err}
 use Rattle.ps_text.specs.Answers.{Stream, Found}
 use Rattle.ps_text.specs.Parts.{PartAnswers}
@@ -24,13 +24,13 @@ pub record HasTokens (text : List ℕ) (stream : Stream Sign) : Type 0 where
 
 -- the answer to a text
 pub data Answer (text : List ℕ) (answer : Result NamedGameData (Found PgCause)) : Type 0 where
-  -- before all: the text is too long
+  -- before everything else: the text is too long
   too_long : text_limit < length text → answer ≡ Err (record { cause = causes.Limit; offset = text_limit }) →
       Answer text answer
   -- the first cause in text order
   refused : (stream : Stream Sign) (found : Found PgCause) → HasTokens text stream →
       PartAnswers pg_causes (game None) stream (Err found) → answer ≡ Err found → Answer text answer
-  -- behind the end, where there is none: the first successor that is no id
+  -- after the end, if there is none: the first successor that is not an id
   unknown : (stream : Stream Sign) (nodes : List NodeData) (found : Found PgCause) → HasTokens text stream →
       PartAnswers pg_causes (game None) stream (Ok nodes) →
       PartAnswers pg_causes (game (Some (ids_of nodes))) stream (Err found) → answer ≡ Err found → Answer text answer
@@ -40,6 +40,6 @@ pub data Answer (text : List ℕ) (answer : Result NamedGameData (Found PgCause)
       PartAnswers pg_causes (game (Some (ids_of nodes))) stream (Ok nodes) → answer ≡ Ok (named_game_of nodes) →
       Answer text answer
 
--- what a call answers is that, unless memory ran out
+-- what a call returns is that, unless memory ran out
 abbrev pub IsGameAnswer : List ℕ → Result NamedGameData PgFault → Type 0
 IsGameAnswer text result = UnlessMemory (Answer text) result

@@ -9,5 +9,5 @@ pub data Sign : Type 0 where
   Semicolon : Sign
   -- a name that is not closed
   OpenName : Sign
-  -- any other token that can't stand
+  -- any other token that is never allowed
   Wrong : Sign

@@ -1,17 +1,17 @@
 -- The bytes of a game that is written, in PGSolver's format.
---     commas ids ws      the id of each of these vertices behind a comma
+--     commas ids ws      the id of each of these vertices after a comma
 --     list_text ids ws      the same, the first one without its comma
---     name_text name      a name behind a space, if there is one
+--     name_text name      a name after a space, if there is one
 --     vertex_line ids id vertex name      the line of a vertex: its id, priority, owner, successors, and its name
 --     vertex_lines ids names v vertices      the lines of the vertices from v on
 --     game_text game      the greatest id, and a line for each vertex
---     IsWord n      a number that the code holds in a word
+--     IsWord n      a number that the code can hold in a word
 use Rattle.std.specs.Prelude.{ℕ, ◌+◌, ◌^◌, ◌<◌, List, [], ◌∷◌, ◌++◌, decimal, codes, Option, Some, None, slice_index}
 use Rattle.std.specs.Prelude.{slice_index_or}
 use Rattle.ps_game.specs.Games.{VertexData, ParityGame, NamedGameData, quote}
 use Rattle.ps_game.specs.Plays.{greatest}
 
--- a word of 64 bits holds the number
+-- the number fits in 64 bits
 abbrev pub IsWord : ℕ → Type 0
 IsWord n = n < 2 ^ 64
 
@@ -37,7 +37,7 @@ vertex_lines ids names v [] = []
 vertex_lines ids names v (vertex ∷ vertices) =
     vertex_line ids (slice_index ids v) vertex (slice_index_or names v None) ++ vertex_lines ids names (v + 1) vertices
 
--- `parity K;`, of the greatest id
+-- `parity K;`, where K is the greatest id
 abbrev pub head_text : ℕ → List ℕ
 head_text id = codes "parity " ++ decimal id ++ codes ";\n"
 

@@ -7,15 +7,15 @@ use ps_text::faults::{Cause, Fault};
 /// Why a game text is refused (PGSolver's format; the limit of bytes is psyn's own).
 #[derive(Clone, Copy, Debug, PartialEq, Eq)]
 pub enum PgCause {
-    /// A token that can't stand here, or an early end.
+    /// A token that is not allowed here, or an early end.
     Syntax,
     /// A node without a successor.
     NoSuccessor,
-    /// A successor that is no node's id.
+    /// A successor that is not the id of a node.
     UnknownSuccessor,
     /// An id that an earlier node has.
     NodeTwice,
-    /// A number above 2 to the 64 less 1, or an owner other than 0 and 1.
+    /// A number of 2^64 or more, or an owner other than 0 and 1.
     Number,
     /// A text of more than 16,777,216 bytes.
     Limit,

@@ -8,18 +8,18 @@ ghost use Rattle.ps_pgsolver.specs.declared.fault.PgCause.{PgCause};
 ghost use Rattle.ps_pgsolver.specs.GameTokens.{AreGameTokens};
 ghost use Rattle.ps_pgsolver.specs.Signs.{Sign};
 
-/// A text has tokens, and no others.
+/// A text has exactly one list of tokens.
 pub fn one_list_of_tokens()
     ensures { (text : List ℕ) → (tokens : Stream Sign) × AreGameTokens text tokens ×
         ((others : Stream Sign) → AreGameTokens text others → others ≡ tokens) }
 {}
 
-/// A text has one answer at most: its game, or its first cause and where that stands.
+/// A text has at most one answer: its game, or its first cause and its place.
 pub fn one_answer()
     ensures { (text : List ℕ) (a b : Result NamedGameData (Found PgCause)) → Answer text a → Answer text b → a ≡ b }
 {}
 
-/// A text has an answer. This asks no call, so that want of memory is no answer here.
+/// A text has an answer. No call is made here, so out of memory is not an answer.
 pub fn some_answer()
     ensures { (text : List ℕ) → (answer : Result NamedGameData (Found PgCause)) × Answer text answer }
 {}

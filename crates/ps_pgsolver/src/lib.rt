@@ -1,19 +1,20 @@
-//! Game texts in PGSolver's format: an optional `parity N;` and `start N;`, and for each vertex its id, its priority,
-//! its owner, its successors, a name if it has one, and a semicolon.
+//! Game texts in PGSolver's format: optionally `parity N;` and `start N;`, and for each vertex its id, its priority,
+//! its owner, its successors, optionally a name, and a semicolon.
 //!
 //! | Call | What it gives |
 //! |---|---|
 //! | `read(text)` | the game with its ids and names, or the first `PgFault` in the text; at most 16,777,216 bytes |
+//! | `write(game)` | a text, which `read` reads as that game again if it is not longer than that |
 //! | `Tokens::new(text)`, `peek`, `next`, `start` | the tokens of a text, also of a solution (`ps_solution`) |
-//! | `Tokens::take_number`, `take_comma`, `take_semicolon` | the next token, if it is that |
+//! | `Tokens::take_number`, `take_comma`, `take_semicolon` | the next token, if it is of that kind |
 //! | `Tokens::is_at_number`, `is_at_comma`, `is_at_word`, `next_name` | whether that comes next |
-//! | `write(game)` | a text, which `read` reads as that game again |
-//! | `PgCause::number`, `name` | a cause as psyn's list of faults has it |
+//! | `PgCause::number`, `name` | a cause in psyn's list of faults |
+//! | `one_list_of_tokens` | a law: a text has exactly one list of tokens |
+//! | `one_answer`, `some_answer` | laws: a text has exactly one answer, its game or its first cause |
 //!
-//! Three laws say that a text has tokens and no others (`one_list_of_tokens`), one answer at most (`one_answer`), and
-//! an answer (`some_answer`). Reading takes time in proportion to the text, but for a search of each id that is not
-//! the next one in order, in a tree; where a successor is no node's id, the text is read a second time, to find the
-//! first such.
+//! Vertices have the order of the text, and ids and names are kept. Reading takes time proportional to the text, except
+//! for looking up each id that is not the next one in order, in a tree. If a successor is not the id of a node, the
+//! text is read a second time, to find the first such successor.
 #![tactic(auto)]
 
 mod fault;

@@ -12,7 +12,7 @@ use ps_ids::Ids;
 use std::alloc::{AllocError, Global};
 use std::marker::Model;
 
-/// A node as it stands in the text, without its successors.
+/// A node of the text, without its successors.
 #[derive(Drop)]
 pub struct Node {
     /// The id, which no other node has.
@@ -43,11 +43,7 @@ impl Model for Nodes {
 }
 
 impl Nodes {
-    /// No nodes.
-    ///
-    /// # Errors
-    ///
-    /// Fails where a growth was refused.
+    /// No nodes. Fails if out of memory.
     pub fn new(alloc: Global) -> Result<Self, AllocError>
         ensures { IfOk result (λ nodes. nodes ≡ []) }
     {
@@ -81,11 +77,7 @@ impl Nodes {
         self.vertices.know_successors(&self.ids)
     }
 
-    /// Adds a node of a new id with these successors.
-    ///
-    /// # Errors
-    ///
-    /// Fails where a growth was refused.
+    /// Adds a node with a new id and these successors.
     pub fn push(&mut self, node: Node, successors: &[usize]) -> Result<(), AllocError>
         requires new { ¬ Contains (ids_of self.old) node.id }
         requires node { IsNode (node_with node successors.now) }
@@ -103,10 +95,6 @@ impl Nodes {
     }
 
     /// The game of the nodes, with their ids and names.
-    ///
-    /// # Errors
-    ///
-    /// Fails where a growth was refused.
     pub fn into_game(self, alloc: Global) -> Result<NamedGame, AllocError>
         requires { KnowsAll (ids_of self) self }
         ensures { IfOk result (λ named. named ≡ named_game_of self) }
@@ -122,7 +110,7 @@ impl Nodes {
     }
 }
 
-/// Makes room for the name of the node behind so many others, if it has one: those without a name get a place.
+/// Makes room for the name of the next node, if it has one; earlier nodes without a name get a place.
 fn make_room(
     names: &mut Vec<Option<Vec<u8>>>,
     count: usize,

@@ -1,4 +1,4 @@
-//! The reading of a game text.
+//! Reading a game text.
 
 ghost use Rattle.std.specs.Prelude.{◌≡◌, ◌≤◌, ◌<◌, Some, None, Ok, IfOk, OnOk, option_copied, IfErr, length, vec_len};
 ghost use Rattle.ps_text.specs.declared.faults.Fault.TheVariants as faults;
@@ -31,13 +31,12 @@ use std::alloc::Global;
 /// The greatest length of a text, in bytes.
 const TEXT_LIMIT: usize = 16_777_216;
 
-/// Reads a game text. Vertices are numbered in the order of the nodes.
-///
-/// A successor may stand before its node, so all ids are known only behind the text.
+/// Reads a game text. Vertices are numbered in the order of the nodes. A successor may come before its node, so all ids
+/// are known only at the end of the text.
 ///
 /// # Errors
 ///
-/// [`PgFault::Text`] with the first cause in the text's order, at the byte of its token; else want of memory.
+/// [`PgFault::Text`] with the first cause in the text's order, at the byte of its token; out of memory.
 pub fn read(alloc: Global, text: &[u8]) -> Result<NamedGame, PgFault>
     ensures answer { IsGameAnswer text.now result }
     ensures within { IfErr result (StandsWithin (length text.now)) }
@@ -55,7 +54,7 @@ pub fn read(alloc: Global, text: &[u8]) -> Result<NamedGame, PgFault>
     named_game(alloc, nodes)
 }
 
-/// What is wrong at the first successor that is no node's id, which a second reading finds.
+/// The fault at the first successor that is not the id of a node, which a second reading finds.
 fn unknown_successor(alloc: Global, text: &[u8], nodes: &Nodes) -> PgFault
     requires read { TextAnswers None (stream_of text.now) (Ok nodes.now) }
     requires some { KnowsAll (ids_of nodes.now) nodes.now → ⊥ }
@@ -67,7 +66,7 @@ fn unknown_successor(alloc: Global, text: &[u8], nodes: &Nodes) -> PgFault
     }
 }
 
-/// What is wrong at a token.
+/// The fault at a token.
 fn fault(cause: PgCause, token: Token) -> PgFault
     ensures { result ≡ faults.Text cause token.entry.start }
 {
@@ -77,7 +76,7 @@ fn fault(cause: PgCause, token: Token) -> PgFault
     }
 }
 
-/// Reads a whole text. Where the ids of its nodes are known, each successor must be one of them.
+/// Reads a whole text. If the ids of its nodes are known, each successor must be one of them.
 fn game_text(alloc: Global, text: &[u8], known: Option<&Ids>) -> Result<Nodes, PgFault>
     ensures answer { TextAnswers (option_copied known.entry) (stream_of text.now) result }
     ensures later { KnownAnswers (stream_of text.now) result }
@@ -90,7 +89,7 @@ fn game_text(alloc: Global, text: &[u8], known: Option<&Ids>) -> Result<Nodes, P
     Ok(nodes)
 }
 
-/// Reads a line such as `parity 7;`, if it stands here.
+/// Reads a line such as `parity 7;`, if it comes next.
 fn setting(tokens: &mut Tokens, word: &[u8]) -> Result<(), PgFault>
     ensures { ReadsAs (λ u. u) (parts.setting word.now) tokens.old result tokens.new }
 {
@@ -109,7 +108,7 @@ fn value_line(tokens: &mut Tokens) -> Result<(), PgFault>
     semicolon(tokens)
 }
 
-/// Reads the nodes. The successors of each are read into one list, which is used again.
+/// Reads the nodes. The successors of each are read into one list, which is reused.
 fn entries(alloc: Global, tokens: &mut Tokens, known: Option<&Ids>) -> Result<Nodes, PgFault>
     ensures part { ReadsAs (λ nodes. nodes) (parts.entries (option_copied known.entry)) tokens.old result tokens.new }
     ensures later { ReadsKnown KnowsAll (λ nodes. nodes) parts.entries tokens.old result tokens.new }
@@ -123,7 +122,7 @@ fn entries(alloc: Global, tokens: &mut Tokens, known: Option<&Ids>) -> Result<No
     Ok(nodes)
 }
 
-/// Reads a node behind the nodes that were read.
+/// Reads a node after the nodes that were read.
 fn entry(
     alloc: Global,
     tokens: &mut Tokens,
@@ -141,7 +140,7 @@ fn entry(
     Ok(())
 }
 
-/// Reads a node, of which no other has the id, and its successors into the list.
+/// Reads a node with a new id, and its successors into the list.
 fn node(
     alloc: Global,
     tokens: &mut Tokens,
@@ -169,7 +168,7 @@ fn node(
     })
 }
 
-/// Reads an id that no node has.
+/// Reads a new id.
 #[inline(always)]
 fn new_id(tokens: &mut Tokens, nodes: &Nodes) -> Result<u64, PgFault>
     ensures part { ReadsAs (λ id. id) (parts.new_id (ids_of nodes.now)) tokens.old result tokens.new }
@@ -188,7 +187,7 @@ fn number(tokens: &mut Tokens) -> Result<u64, PgFault>
     any_number(tokens)
 }
 
-/// Reads a number, whatever it stands for.
+/// Reads a number, whatever its meaning.
 #[inline(always)]
 fn any_number(tokens: &mut Tokens) -> Result<u64, PgFault>
     ensures answer { result ≡ number_answer (next_of tokens.old) (offset_of tokens.old.pieces tokens.old.end) }
@@ -211,7 +210,7 @@ fn owner(tokens: &mut Tokens) -> Result<u8, PgFault>
     one_of_two(owner, start)
 }
 
-/// Reads the successors of a node in place of those in the list.
+/// Reads the successors of a node, which replace the contents of the list.
 fn successors(
     tokens: &mut Tokens,
     known: Option<&Ids>,
@@ -248,7 +247,7 @@ fn more_successor(
     Ok(())
 }
 
-/// Reads the first successor of a node, which a node can't do without.
+/// Reads the first successor of a node, which must not be missing.
 fn first_successor(tokens: &mut Tokens, known: Option<&Ids>) -> Result<u64, PgFault>
     ensures part { ReadsAs (λ n. n) (parts.first_successor (option_copied known.entry)) tokens.old result tokens.new }
     ensures later { ReadsKnown Contains (λ n. n) parts.first_successor tokens.old result tokens.new }
@@ -271,7 +270,7 @@ fn successor(tokens: &mut Tokens, known: Option<&Ids>) -> Result<u64, PgFault>
     if_known(id, start, known)
 }
 
-/// Reads a name, if one stands here.
+/// Reads a name, if one comes next.
 #[inline(always)]
 fn name(alloc: Global, tokens: &mut Tokens) -> Result<Option<Vec<u8>>, PgFault>
     ensures part { ReadsAs name_bytes parts.name tokens.old result tokens.new }
@@ -306,7 +305,7 @@ fn semicolon(tokens: &mut Tokens) -> Result<(), PgFault>
     semicolon_of(tokens.next())
 }
 
-/// Nothing more stands in the text.
+/// Checks that the text ends here.
 fn finish(tokens: &Tokens) -> Result<(), PgFault>
     ensures { result ≡ end_answer (next_of tokens.now) (offset_of tokens.now.pieces tokens.now.end) }
 {
@@ -373,7 +372,7 @@ fn successor_of(token: Token, known: Option<&Ids>) -> Result<u64, PgFault>
     if_known(id, token.start, known)
 }
 
-/// The successor that a token is, where a node's first one is wanted.
+/// The successor that a token is, if it must be the first one of a node.
 fn first_of(token: Token, known: Option<&Ids>) -> Result<u64, PgFault>
     requires { IsPlain token.kind }
     ensures { result ≡ first_answer (option_copied known.entry) (sign_of token.entry.kind) token.entry.start }

@@ -17,7 +17,7 @@ use ps_text::cursor::{Class, run_length};
 use ps_text::numbers::{LeadingNumber, leading_number};
 use std::marker::Model;
 
-/// From so many digits on, a number may be too large.
+/// From this number of digits on, a number may be too large.
 const FEW: usize = 18;
 
 /// What a token is, with its bytes.
@@ -25,7 +25,7 @@ const FEW: usize = 18;
 pub enum Kind<'a> {
     /// A number, by its value.
     Number(u64),
-    /// The digits of a number that no `u64` holds.
+    /// The digits of a number that does not fit in a `u64`.
     LargeNumber(&'a [u8]),
     /// A run of letters.
     Word(&'a [u8]),
@@ -37,7 +37,7 @@ pub enum Kind<'a> {
     Semicolon,
     /// A name that is not closed.
     OpenName,
-    /// Any other token that can't stand.
+    /// Any other token that is never allowed.
     Wrong,
     /// The end of the text.
     End,
@@ -114,7 +114,7 @@ impl<'a> Tokens<'a> {
         next_start(self.text, self.at)
     }
 
-    /// Reads the next token if it is a number of few digits, which most are: no token is made of it.
+    /// Reads the next token if it is a number of few digits. Most numbers are; no token is made for them.
     #[inline(always)]
     pub fn take_number(&mut self) -> Option<u64>
         ensures some { IfSome result (λ number. IsNumberTaken number self.old self.new) }
@@ -281,7 +281,7 @@ fn digits_at<'a>(rest: &'a [u8]) -> (Kind<'a>, usize)
     }
 }
 
-/// The number that the digits write with which a text begins, if there are less than 18: then no step is too large.
+/// The number that the leading digits of a text write, if there are less than 18 of them: then no step overflows.
 #[inline(always)]
 fn few_digits(text: &[u8]) -> Option<LeadingNumber>
     ensures value { IfSome result (λ number. number.value ≡ decimal_value (take_while is_ascii_digit text.now)) }
@@ -318,7 +318,7 @@ fn word_at<'a>(before: &[u8], rest: &'a [u8]) -> (Kind<'a>, usize)
     (kind, size)
 }
 
-/// A name by what stands behind its first quote, and how many bytes it has with its quotes.
+/// A name, from what follows its first quote, and how many bytes it has with its quotes.
 #[inline(always)]
 fn name_at<'a>(behind: &'a [u8]) -> (Kind<'a>, usize)
     requires { length behind.now + 1 < 2 ^ 64 }
@@ -335,7 +335,7 @@ fn name_at<'a>(behind: &'a [u8]) -> (Kind<'a>, usize)
     }
 }
 
-/// A byte that is a token by itself, or can't stand.
+/// A byte that is a token by itself, or is never allowed.
 fn mark<'a>(byte: u8) -> Kind<'a>
     ensures sign { sign_of result ≡ Some (mark_sign byte) }
     ensures plain { IsPlain result }

@@ -1,4 +1,4 @@
--- Lists of bits that differ are no more than the numbers of as many bits.
+-- There are at most as many different lists of bits as there are numbers of that many bits.
 use Rattle.std.proofs.Common.{◌≡◌, ◌≢◌, ℕ, suc, ◌+◌, ◌*◌, ◌^◌, ◌<◌, ◌≤◌, Bool, true, false, List, [], ◌∷◌, length}
 use Rattle.std.proofs.Common.{get_or, map, refl, arith, rules, cond, ◌++◌, ◌⊎◌, inl, inr, length-append}
 use Rattle.std.proofs.Math.Nat.{pow-suc}
@@ -40,7 +40,7 @@ below n [] all q e = cc
 below n (x ∷ xs) all q e =
     grind (arith, eqb-true q x, all 0 (omega arith), below n xs (λ k lt. all (suc k) (omega arith)) q)
 
--- different numbers below n are no more than n
+-- there are at most n different numbers below n
 pub few_below : (n : ℕ) (xs : List ℕ) → ((k : ℕ) → k < length xs → get_or xs k 0 < n) →
     ((k l d : ℕ) → k < l → l < length xs → get_or xs k d ≢ get_or xs l d) → length xs ≤ n
 few_below n xs all differ = search (rules, length-le_from_distinct_below, IsDistinct-from_apart, ne_eqb, below)

@@ -1,4 +1,4 @@
--- Numbers below n, of which none leads back to itself, stand in an order; so do the gates of a circuit.
+-- Numbers below n, none of which leads back to itself, can be put in an order; so can the gates of a circuit.
 use Rattle.std.proofs.Common.{◌≡◌, ◌≢◌, ℕ, zero, suc, ◌+◌, ◌<◌, inl, inr, List, [], ◌∷◌, ◌++◌, length, get_or, sym}
 use Rattle.std.proofs.Common.{ap, ◌∙◌, arith, Some, length-append, rules}
 use Rattle.std.specs.Prelude.{slice_get}
@@ -25,7 +25,7 @@ stands_or_not xs j = decide_as (λ c. (c.0, c.1, get_or_default xs c.0 0 j c.1 �
 
 module _ (R : ℕ → ℕ → Type 0) (n : ℕ) (to_within : (i j : ℕ) → R i j → j < n) (decide : (i j : ℕ) → Decided (R i j))
     (acyclic : (i : ℕ) → Way R i i → ⊥) where
-  -- numbers below n, each once, and each behind all those to which it leads
+  -- numbers below n, each once, and each after all those to which it leads
   record IsPart (xs : List ℕ) : Type 0 where
     below : (k : ℕ) → k < length xs → get_or xs k 0 < n
     once : (k l : ℕ) → k < l → l < length xs → get_or xs k 0 ≢ get_or xs l 0
@@ -78,7 +78,7 @@ module _ (R : ℕ → ℕ → Type 0) (n : ℕ) (to_within : (i j : ℕ) → R i
       leads zero k_lt = last r
       leads (suc k) k_lt = Way-join (is.leads k (omega (arith, k_lt))) (last r)
 
-  -- a number is put behind all those to which it leads
+  -- a number is put after all those to which it leads
   visit : (fuel : ℕ) {i : ℕ} (path : List ℕ) → IsPath path i → n < fuel + length path → i < n → (xs : List ℕ) →
       IsPart xs → Grown xs (λ k. i ≡ k)
   visit zero path is_path many lt xs is = absurd (omega (arith, many, few_below n path is_path.below is_path.differ))

@@ -102,7 +102,7 @@ pub moved_small : {size front : ℕ} {places : List ℕ} → AreMoved size front
     All (λ p. p < 2 ^ 31) places
 moved_small {places} are few k d lt = search (rules, get_or_default)
 
--- gates that stand one behind another
+-- successive gates
 pub length-rows_from : (place : ℕ) (gates : List Operands) → length (rows_from place gates) ≡ length gates
 length-rows_from place [] = refl
 length-rows_from place (g ∷ gates) = ap suc (length-rows_from (place + 1) gates)
@@ -191,7 +191,7 @@ pub gates_end : (front size : ℕ) (gates : List Operands) (rows : List Row) (pl
     rows_from front gates ≡ map (move_row places) rows → front + length rows ≤ size → front + length gates ≤ size
 gates_end front size gates rows places e fit = search (rules, length-rows_from, length-map)
 
--- behind the last gate
+-- after the last gate
 pub all_done : (front : ℕ) (gates : List Operands) (k : ℕ) → length gates ≤ k → (values initial : List Bool)
     → work_out (drop k (rows_from front gates)) values ≡ work_out (rows_from front gates) initial →
     values ≡ work_out (rows_from front gates) initial

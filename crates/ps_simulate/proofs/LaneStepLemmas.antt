@@ -75,12 +75,12 @@ module _ {c : CircuitData} {p : LanePlan} {values latches : List (List ℕ)} (t 
   pub nexts_many : length p.nexts.items ≡ length c.latches
   nexts_many = search (rules, length-map)
 
-  -- the gates stand in the table
+  -- the gates are in the table
   pub gates_fit : p.front + length p.gates.items ≤ p.size
   gates_fit = gates_end p.front p.size p.gates.items t.plan.rows.items t.places t.is_lane_plan.gates_are
       (grind (arith, few_rows, room))
 
-  -- the constant stands in the table
+  -- the constant is in the table
   pub constant_there : (lane : ℕ) → lane < 256 → get_or (lane_of values lane) 0 false ≡ false
   constant_there lane lt =
       let are = t.is_lane_plan.are_moved in

@@ -104,7 +104,7 @@ seam [] ys d (suc t) le e = absurd (omega arith)
 seam (z ∷ zs) ys d zero le e = refl
 seam (z ∷ zs) {x} {y} ys d (suc t) le e = seam zs ys d t (omega arith) e
 
--- what comes behind a trace leaves the latches before its steps as they are
+-- what follows a trace leaves the latches before its steps as they are
 pub along_more : (c : CircuitData) (trace ms : List Moment) (last to : List Bool) (t : ℕ) → GoesOn c last ms to →
     t ≤ length trace → get_or (latches_along (trace ++ ms) to) t [] ≡ get_or (latches_along trace last) t []
 along_more c trace [] last to t on le = search (rules, append-nil)
@@ -191,7 +191,7 @@ letter_at items i {item} d lt is = search (rules, get_or-map)
 times_more : (i l : ℕ) → suc i * l ≡ i * l + l
 times_more i l = grind arith
 
--- the first of the two laps ends behind its begin, and no later than the second begins
+-- the first of the two laps ends after its beginning, and no later than the second begins
 pub lap_within : {names : List (List ℕ)} {c : CircuitData} {stem lap : List (List Bool)} {i : ℕ} {letters : List ℕ}
     (h : RepeatsBy names c stem lap i letters) → length stem + i * length lap + length lap ≤ length letters
 lap_within {lap} {i} h = grind (

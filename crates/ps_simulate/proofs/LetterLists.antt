@@ -1,4 +1,4 @@
--- Letters whose bits stand one behind another.
+-- Letters whose bits are in one list.
 use Rattle.std.proofs.Common.{◌≡◌, ℕ, zero, suc, ◌+◌, ◌*◌, ◌<◌, ◌≤◌, Bool, List, [], ◌∷◌, ◌++◌, length, take, drop}
 use Rattle.std.proofs.Common.{refl, ap, arith, Some, slice_get, length-drop, length-append, false, inr, Err, rules}
 use Rattle.std.proofs.Math.Nat.{mul-le-mul_right}
@@ -17,7 +17,7 @@ length-letters_in width (suc count) bits = ap suc (length-letters_in width count
 mul_suc : (m n : ℕ) → suc m * n ≡ n + m * n
 mul_suc m n = grind arith
 
--- the bits behind the first letter are those of the others
+-- the bits after the first letter are those of the others
 rest_length : (width count : ℕ) (bits : List Bool) → length bits ≡ suc count * width →
     (length (drop width bits) ≡ count * width) × (width ≤ length bits)
 rest_length width count bits whole = grind (arith, mul_suc, length-drop)
@@ -43,7 +43,7 @@ slice_get-letters_in width (suc count) bits zero lt = search rules
 slice_get-letters_in width (suc count) bits (suc i) lt =
     search (rules, drop-drop, slice_get-letters_in width count (drop width bits) i (omega arith))
 
--- a letter's bits stand within those of all
+-- a letter's bits are within those of all
 pub letter_within : (place count width : ℕ) {size : ℕ} → place < count → size ≡ count * width →
     place * width + width ≤ size
 letter_within place count width lt is = search (rules, mul-le-mul_right)

@@ -44,7 +44,7 @@ some_same x y e = cc
 none_some : {X : Type 0} {x : X} → None ≡ Some x → ⊥
 none_some e = cc
 
--- what is there stands within
+-- what is there is within the list
 pub within : {X : Type 0} (xs : List (Option X)) (k : ℕ) (x : X) → get_or xs k None ≡ Some x → k < length xs
 within xs k x e = search (rules, cases_lt, none_some, get_or_past)
 

@@ -8,7 +8,7 @@ use Rattle.ps_simulate.specs.LaneRuns.{LaneMoment, moment_in, GoOnInLanes, AreLa
 use Rattle.ps_simulate.proofs.Uniqueness.OneTrace.{runs_agree}
 
 module _ {c : CircuitData} (is : IsCircuit c) (one : HasOneValues c) where
-  -- each lane goes on
+  -- each lane continues
   lane_goes_on : (lane : ℕ) → lane < 256 → (latches last : List (List ℕ)) (ms : List LaneMoment) →
       GoOnInLanes c latches ms last → GoesOn c (lane_of latches lane) (map (moment_in lane) ms) (lane_of last lane)
   lane_goes_on lane lt latches last [] on = ap (λ (ws : List (List ℕ)). lane_of ws lane) on

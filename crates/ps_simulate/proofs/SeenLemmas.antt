@@ -35,7 +35,7 @@ seen_before {seen} have key same {place} e =
     let at = have.sound key place e in
     (slice_get_within seen place key.items at, get_or_from_slice_get seen place key.items [] at ∙ same, refl)
 
--- latches that were not seen go behind the others
+-- latches that were not seen are appended to the others
 module _ {seen : List (List Bool)} {old : BTreeMap (Vec Bool Global) ℕ} (new : BTreeMap (Vec Bool Global) ℕ)
     (have : HavePlaces seen old) (key : Vec Bool Global) {place : ℕ} (size : place ≡ length seen)
     (none : get bits_cmp old key ≡ None) (more : btree_map_len new ≡ btree_map_len old + 1)

@@ -36,7 +36,7 @@ reads literal wire table values [] d same = refl
 reads literal wire table values (x ∷ xs) d same =
     ap₂ ◌∷◌ (same 0 (omega arith)) (reads literal wire table values xs d (λ k lt. same (suc k) (omega arith)))
 
--- the rest of a step behind the rows
+-- the rest of a step after the rows
 pub Steps-worked_out : {c : CircuitData} → IsCircuit c → {plan : Plan} → IsPlan c plan →
     {inputs latches values outputs next : List Bool} → length inputs ≡ length c.inputs →
     length latches ≡ length c.latches → IsWorkedOut plan.rows.items inputs latches (length (variables c)) values →

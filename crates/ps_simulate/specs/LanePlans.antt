@@ -1,5 +1,5 @@
--- The table that 256 runs at once work through: a plain run's, whose places are moved so that the gates stand in the
--- order in which they are worked out.
+-- The table that 256 runs evaluate at once: a plain run's, whose places are moved so that the gates are in the order of
+-- evaluation.
 use Rattle.std.specs.Prelude.{◌≡◌, ◌≢◌, ℕ, ◌+◌, ◌<◌, ◌≤◌, Bool, false, List, [], ◌∷◌, map, length, slice_index_or}
 use Rattle.ps_circuit.specs.Circuits.{CircuitData}
 use Rattle.ps_circuit.specs.Literals.{is_negated, variable}
@@ -14,13 +14,13 @@ use Rattle.ps_simulate.specs.Plans.{IsPlan}
 abbrev pub wire_in : ℕ → Wire
 wire_in literal = record { place = variable literal; is_negated = is_negated literal }
 
--- gates that stand one behind another from that place on
+-- successive gates from that place on
 abbrev pub rows_from : ℕ → List Operands → List Row
 rows_from place [] = []
 rows_from place (g ∷ gates) =
     record { target = place; first = wire_in g.first; second = wire_in g.second } ∷ rows_from (place + 1) gates
 
--- ---- places that are moved: the list has for each the one to which it goes
+-- ---- places that are moved: the list has the new place of each
 
 abbrev pub moved : List ℕ → ℕ → ℕ
 moved places p = slice_index_or places p 0
@@ -36,26 +36,26 @@ move_row places r =
 abbrev pub unmoved : List ℕ → List Bool → List Bool
 unmoved places values = map (λ p. slice_index_or values p false) places
 
--- the places in front stay
+-- the first places stay
 abbrev pub AreKept : ℕ → List ℕ → Type 0
 AreKept front places = (p : ℕ) → p < front → moved places p ≡ p
 
--- each row's place goes behind that of the row before it
+-- each row's new place comes after that of the row before it
 abbrev pub AreInOrder : ℕ → List ℕ → List Row → Type 0
 AreInOrder front places rows =
     (k : ℕ) (d : Row) → k < length rows → moved places (slice_index_or rows k d).target ≡ front + k
 
--- the row is of a place behind those in front
+-- the row has a place after the first ones
 pub record IsGateRow (front size : ℕ) (r : Row) : Type 0 where
   pub behind : front ≤ r.target
   pub within : r.target < size
 
--- no two rows are of one place
+-- no two rows have the same place
 abbrev pub AreOnce : List Row → Type 0
 AreOnce rows =
     (k l : ℕ) (d : Row) → k < l → l < length rows → (slice_index_or rows k d).target ≢ (slice_index_or rows l d).target
 
--- each place of a table goes to a place of the table, and no two go to one
+-- each place of a table goes to a place of the table, and no two go to the same
 pub record AreMoved (size front : ℕ) (places : List ℕ) : Type 0 where
   pub each : length places ≡ size
   pub within : (p : ℕ) → p < size → moved places p < size

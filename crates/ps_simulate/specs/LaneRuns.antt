@@ -28,8 +28,8 @@ GoOnInLanes c latches (m ∷ ms) last =
     (next : List (List ℕ)) × (m.latches ≡ latches) × StepsInLanes c latches m.inputs m.outputs next ×
     GoOnInLanes c next ms last
 
--- for every list of steps each lane's moments are a run from that lane's latches, and they are those of each plain run
--- from there on that lane's letters: it has the same outputs, and the same latches before each step and behind the last
+-- for every list of steps each lane's moments are a run from that lane's latches. They are those of each plain run from
+-- there on that lane's letters: it has the same outputs, and the same latches before each step and after the last
 abbrev pub AreLanesPlain : CircuitData → Type 0
 AreLanesPlain c =
     (latches last : List (List ℕ)) (ms : List LaneMoment) → GoOnInLanes c latches ms last →

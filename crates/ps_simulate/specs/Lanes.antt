@@ -1,4 +1,4 @@
--- The bits of 256 lanes, kept in lists of four words: that of lane 64·w + b is bit b of word w.
+-- The bits of 256 lanes, stored in lists of four words: that of lane 64·w + b is bit b of word w.
 use Rattle.std.specs.Prelude.{◌≡◌, ℕ, ◌-◌, ◌<◌, ◌/◌, ◌%◌, ◌^◌, ◌==◌, if◌then◌else◌, Bool, List, length, map}
 use Rattle.std.specs.Prelude.{slice_index}
 use Rattle.std.specs.Int.{bit_at}
@@ -20,7 +20,7 @@ bit_in words lane = bit_at (slice_index words (lane / 64)) (lane % 64) == 1
 abbrev pub lane_of : List (List ℕ) → ℕ → List Bool
 lane_of rows lane = map (λ words. bit_in words lane) rows
 
--- what a contract sees of a simulator: a circuit, and for each latch the words of its values now
+-- what contracts see of a simulator: a circuit, and for each latch the words of its current values
 pub record LaneSimulation : Type 0 where
   pub circuit : CircuitData
   pub latches : List (List ℕ)

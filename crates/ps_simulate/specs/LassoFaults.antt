@@ -1,6 +1,6 @@
 -- Why a lasso has no verdict.
---     Stands fault role names controllable c stem lap      what is said by the fault: of width, then of an empty lap,
---               then of symbols
+--     Stands fault role names controllable c stem lap      what the fault says: of width, then of an empty lap, then of
+--               symbols
 use Rattle.std.specs.Prelude.{◌≡◌, ⊤, ◌<◌, Bool, List, [], length, All}
 use Rattle.ps_circuit.specs.Circuits.{CircuitData}
 use Rattle.ps_automaton.specs.Automata.{AutomatonData}
@@ -14,14 +14,14 @@ pub record AreWide (c : CircuitData) (stem lap : List (List Bool)) : Type 0 wher
   pub stem_is : All (λ letter. length letter ≡ length c.inputs) stem
   pub lap_is : All (λ letter. length letter ≡ length c.inputs) lap
 
--- no fault stands
+-- there is no fault
 pub record HasNoLassoFault (role : Role) (a : AutomatonData) (c : CircuitData) (stem lap : List (List Bool)) : Type 0
   where
     pub wide : AreWide c stem lap
     pub some : 0 < length lap
     pub symbols : HasSymbols role a.names a.controllable c
 
--- the first fault that stands; any growth may have been refused
+-- the first fault that applies; memory may run out at any time
 abbrev pub Stands : Role → AutomatonData → CircuitData → List (List Bool) → List (List Bool) → LassoFault → Type 0
 Stands role a c stem lap Width = ¬ AreWide c stem lap
 Stands role a c stem lap EmptyLap = AreWide c stem lap × (lap ≡ [])

@@ -1,4 +1,4 @@
--- A run of a circuit through letters. (Of private functions.)
+-- A run of a circuit through letters. (For private functions.)
 use Rattle.std.specs.Prelude.{◌≡◌, ◌≢◌, ℕ, ◌<◌, ◌++◌, Bool, List, [], ◌∷◌, Option, None, Some, length, map, slice_get}
 use Rattle.std.specs.Prelude.{slice_index_or, Vec}
 use Rattle.std.specs.BTreeMap.{BTreeMap, btree_map_len, get}
@@ -10,7 +10,7 @@ use Rattle.ps_circuit.specs.Circuits.{CircuitData}
 use Rattle.ps_circuit.specs.Values.{Moment, GoesOn, resets}
 use Rattle.ps_simulate.specs.Lassos.{AreLetters, Repeats, laps_of, latches_before}
 
--- letters are read from these latches to those, and as many letters of an automaton stand behind the earlier ones
+-- letters are read from these latches to those, and as many letters of an automaton are appended to the earlier ones
 pub record ReadsWord (names : List (List ℕ)) (c : CircuitData) (from : List Bool) (word : List (List Bool))
     (old new : List ℕ) (last : List Bool) : Type 0 where
   pub trace : List Moment
@@ -28,7 +28,7 @@ pub record RepeatsBy (names : List (List ℕ)) (c : CircuitData) (stem lap : Lis
   pub repeats : Repeats c stem lap i j trace
   pub are_letters : AreLetters names c trace letters
 
--- laps were read, one for each of the latches seen, which stand before them in turn and differ
+-- laps were read, one for each of the latches seen, which in turn are those before each lap, and all differ
 pub record HasRead (names : List (List ℕ)) (c : CircuitData) (stem lap : List (List Bool)) (seen : List (List Bool))
     (letters : List ℕ) (last : List Bool) : Type 0 where
   pub trace : List Moment
@@ -39,7 +39,7 @@ pub record HasRead (names : List (List ℕ)) (c : CircuitData) (stem lap : List 
   pub wide : (k : ℕ) → k < length seen → length (slice_index_or seen k []) ≡ length c.latches
   pub differ : (k l : ℕ) → k < l → l < length seen → slice_index_or seen k [] ≢ slice_index_or seen l []
 
--- the place of latches that were seen before; new ones go behind the others
+-- the place of latches that were seen before; new ones are appended
 abbrev pub IsSeen : List (List Bool) → List (List Bool) → List Bool → Option ℕ → Type 0
 IsSeen old new latches (Some i) = (i < length old) × (slice_index_or old i [] ≡ latches) × (new ≡ old)
 IsSeen old new latches None =

@@ -1,5 +1,6 @@
--- What a circuit and an automaton make of a stem that is read once and a lap that is read again and again.
---     IsLetterOf names c m letter      a step's letter: a proposition's bit is that of the input or output so named
+-- What a circuit and an automaton make of a stem that is read once and a lap that is repeated.
+--     IsLetterOf names c m letter      a step's letter: a proposition's bit is that of the input or output with its
+--               name
 --     Repeats c stem lap i j trace      the first repetition: before lap j the latches are those before lap i
 --     IsVerdictOf file c stem lap verdict      whether the trace so far is accepted, as a lasso that goes back to lap i
 use Rattle.std.specs.Prelude.{◌≡◌, ◌≢◌, ℕ, zero, suc, ◌+◌, ◌-◌, ◌*◌, ◌^◌, ◌<◌, ◌↔◌, Bool, false, IsTrue, List, [], ◌∷◌}
@@ -27,12 +28,12 @@ AreLetters names c (m ∷ ms) (letter ∷ letters) = IsLetterOf names c m letter
 
 -- ## The first repetition
 
--- so many laps, one after another
+-- a number of laps, one after another
 abbrev pub laps_of : List (List Bool) → ℕ → List (List Bool)
 laps_of lap zero = []
 laps_of lap (suc laps) = laps_of lap laps ++ lap
 
--- the latches before each step of a trace, and then those behind it
+-- the latches before each step of a trace, and then those after it
 abbrev pub latches_along : List Moment → List Bool → List (List Bool)
 latches_along trace last = map (λ m. m.latches) trace ++ last ∷ []
 
@@ -40,8 +41,8 @@ latches_along trace last = map (λ m. m.latches) trace ++ last ∷ []
 abbrev pub latches_before : List (List Bool) → List (List Bool) → List Moment → List Bool → ℕ → List Bool
 latches_before stem lap trace last k = slice_index_or (latches_along trace last) (length stem + k * length lap) []
 
--- A trace reads the stem and then j laps, each with a letter or more. The latches behind it are those before lap i, and
--- those before the laps so far differ.
+-- A trace reads the stem and then j laps, which are not empty. The latches after it are those before lap i, and those
+-- before the laps so far differ.
 pub record Repeats (c : CircuitData) (stem lap : List (List Bool)) (i j : ℕ) (trace : List Moment) : Type 0 where
   pub has_letter : 0 < length lap
   pub last : List Bool
@@ -65,7 +66,7 @@ pub record IsVerdictOf (file : FileData) (c : CircuitData) (stem lap : List (Lis
     pub lap_is : verdict.lap ≡ (j - i) * length lap
     pub accepted : IsTrue verdict.accepted ↔ IsAccepted file (take verdict.stem letters) (drop verdict.stem letters)
 
--- any two verdicts are one
+-- any two verdicts are equal
 abbrev pub HasOneVerdict : FileData → CircuitData → List (List Bool) → List (List Bool) → Type 0
 HasOneVerdict file c stem lap = (verdict other : Verdict) → IsVerdictOf file c stem lap verdict →
     IsVerdictOf file c stem lap other → verdict ≡ other

@@ -1,5 +1,5 @@
--- The table of gates that a simulator works through. A place is that of a variable in a list: 0, and then the variables
--- of the inputs, the latches and the gates.
+-- The table of gates that a simulator evaluates. A place is that of a variable in a list: 0, and then the variables of
+-- the inputs, the latches and the gates.
 use Rattle.std.specs.Prelude.{◌≡◌, ℕ, ◌+◌, ◌<◌, ◌==◌, ◌&&◌, Bool, false, not, if◌then◌else◌, List, [], ◌∷◌, map, length}
 use Rattle.std.specs.Prelude.{slice_index_or, slice_set}
 use Rattle.std.specs.List.{position_or_len}
@@ -31,7 +31,7 @@ no_gate = record { literal = 0; first = 0; second = 0 }
 abbrev pub row_at : CircuitData → ℕ → Row
 row_at c i = row_of c (slice_index_or c.gates i no_gate)
 
--- the rows stand in an order in which each gate comes behind those that it reads
+-- the rows are in an order in which each gate comes after those that it reads
 pub record AreRows (c : CircuitData) (rows : List Row) : Type 0 where
   pub order : List ℕ
   pub is_order : IsOrder (ReadsGate c.gates) (length c.gates) order
@@ -51,7 +51,7 @@ read values w = if w.is_negated then not (slice_index_or values w.place false) e
 abbrev pub work_row : List Bool → Row → List Bool
 work_row values row = slice_set values row.target (read values row.first && read values row.second)
 
--- the rows are worked out, one after another
+-- the rows are evaluated, one after another
 abbrev pub work_out : List Row → List Bool → List Bool
 work_out [] values = values
 work_out (row ∷ rows) values = work_out rows (work_row values row)
@@ -62,14 +62,14 @@ pub record IsWithin (size : ℕ) (row : Row) : Type 0 where
   pub first : row.first.place < size
   pub second : row.second.place < size
 
--- bits by place: the constant, the inputs and the latches stand in front
+-- bits by place: the constant, the inputs and the latches come first
 pub record Holds (inputs latches values : List Bool) : Type 0 where
   pub constant : slice_index_or values 0 false ≡ false
   pub inputs_there : (k : ℕ) → k < length inputs → slice_index_or values (1 + k) false ≡ slice_index_or inputs k false
   pub latches_there : (k : ℕ) → k < length latches → slice_index_or values (1 + length inputs + k) false ≡
       slice_index_or latches k false
 
--- a table of that size that held these bits, with its rows worked out
+-- a table of that size that held these bits, with its rows evaluated
 pub record IsWorkedOut (rows : List Row) (inputs latches : List Bool) (size : ℕ) (values : List Bool) : Type 0 where
   pub table : List Bool
   pub each : length table ≡ size

@@ -1,8 +1,8 @@
--- What a contract sees of a simulator.
+-- What contracts see of a simulator.
 use Rattle.std.specs.Prelude.{Bool, List}
 use Rattle.ps_circuit.specs.Circuits.{CircuitData}
 
--- a circuit, and the latches' values now
+-- a circuit, and the current values of its latches
 pub record Simulation : Type 0 where
   pub circuit : CircuitData
   pub latches : List Bool

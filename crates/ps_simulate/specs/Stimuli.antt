@@ -1,4 +1,4 @@
--- What a contract sees of a stimulus.
+-- What contracts see of a stimulus.
 use Rattle.std.specs.Prelude.{ℕ, zero, suc, Bool, List, [], ◌∷◌, map, take, drop, Vec}
 use Rattle.std.specs.Global.{Global}
 
@@ -10,11 +10,11 @@ pub record StimulusData : Type 0 where
 abbrev pub letters_of : List (Vec Bool Global) → List (List Bool)
 letters_of letters = map (λ letter. letter.items) letters
 
--- letters of that width, so many, whose bits stand one behind another
+-- letters of that width and number, whose bits are in one list
 abbrev pub letters_in : ℕ → ℕ → List Bool → List (List Bool)
 letters_in width zero bits = []
 letters_in width (suc count) bits = take width bits ∷ letters_in width count (drop width bits)
 
--- a stimulus of a stem alone
+-- a stimulus that has only a stem
 abbrev pub stem_of : List (List Bool) → StimulusData
 stem_of letters = record { stem = letters; lap = [] }

@@ -1,9 +1,9 @@
--- The text of a stimulus: a line of digits for each letter, as many as there are inputs. Where stem and lap are split,
--- one line `-` stands between them.
+-- The text of a stimulus: a line of digits for each letter, as many as there are inputs. If stem and lap are separated,
+-- there is one line `-` between them.
 --     lines_of text, start_of lines k      the lines without their newlines; the offset of the first byte of line k
 --     IsStimulus text width split s      the lines spell the letters
---     Stands text width split cause offset      a cause stands there
---     IsFirst S cause offset      of the causes that S has, this one stands first; at one offset `Stimulus` goes before
+--     Stands text width split cause offset      there is a cause at that offset
+--     IsFirst S cause offset      of the causes that S has, this one comes first; at one offset `Stimulus` goes before
 --               `Width`
 --     ReadsStimulus text width split answer      the stimulus of a text without a cause, and else the first cause
 use Rattle.std.specs.Prelude.{◌≡◌, ◌≢◌, ℕ, ◌+◌, ◌<◌, ◌≤◌, ◌⊎◌, ◌==◌, Bool, true, false, if◌then◌else◌, List, [], ◌∷◌}
@@ -18,12 +18,12 @@ use Rattle.ps_simulate.specs.Stimuli.{StimulusData, stem_of}
 
 -- ## Lines
 
--- a byte in front of the first line
+-- a byte put before the first line
 abbrev pub put_byte : ℕ → List (List ℕ) → List (List ℕ)
 put_byte b [] = (b ∷ []) ∷ []
 put_byte b (line ∷ lines) = (b ∷ line) ∷ lines
 
--- a newline ends a line; what stands behind the last one is a line if it is not empty
+-- a newline ends a line; what follows the last one is a line if it is not empty
 abbrev pub lines_of : List ℕ → List (List ℕ)
 lines_of [] = []
 lines_of (b ∷ bytes) = if b == 10 then [] ∷ lines_of bytes else put_byte b (lines_of bytes)
@@ -63,18 +63,19 @@ pub record IsStimulus (text : List ℕ) (width : ℕ) (split : Bool) (s : Stimul
 abbrev pub IsDigit : ℕ → Type 0
 IsDigit byte = (byte ≡ 48) ⊎ (byte ≡ 49)
 
--- line k is the first divider, where one is wanted
+-- line k is the first divider, if one is required
 pub record Divides (split : Bool) (lines : List (List ℕ)) (k : ℕ) : Type 0 where
   pub wanted : split ≡ true
   pub there : slice_get lines k ≡ Some divider
   pub first : (j : ℕ) → j < k → slice_get lines j ≢ Some divider
 
--- line k, which is to be a letter
+-- line k, which must be a letter
 pub record IsLetterLine (split : Bool) (lines : List (List ℕ)) (k : ℕ) (line : List ℕ) : Type 0 where
   pub there : slice_get lines k ≡ Some line
   pub letter : ¬ Divides split lines k
 
--- what is wrong with the line of a letter that begins there: its length, at its first byte, or a byte that is no digit
+-- what is wrong with the line of a letter that begins there: its length, at its first byte, or a byte that is not a
+-- digit
 abbrev pub StandsInLine : List ℕ → ℕ → ℕ → StimulusCause → ℕ → Type 0
 StandsInLine line start width Width offset = (length line ≢ width) × (offset ≡ start)
 StandsInLine line start width Stimulus offset =
@@ -86,7 +87,7 @@ pub record StandsInLetter (text : List ℕ) (width : ℕ) (split : Bool) (cause 
   pub is_letter : IsLetterLine split (lines_of text) k line
   pub in_line : StandsInLine line (start_of (lines_of text) k) width cause offset
 
--- a divider is wanted, and none stands up to the end
+-- a divider is required, and there is none up to the end
 pub record MissesDivider (text : List ℕ) (split : Bool) (cause : StimulusCause) (offset : ℕ) : Type 0 where
   pub wanted : split ≡ true
   pub none : (k : ℕ) → slice_get (lines_of text) k ≢ Some divider
@@ -108,11 +109,11 @@ abbrev pub ReadsStimulus : List ℕ → ℕ → Bool → Result StimulusData (Fo
 ReadsStimulus text width split (Ok s) = IsStimulus text width split s
 ReadsStimulus text width split (Err found) = IsFirst (Stands text width split) found.cause found.offset
 
--- what the reader answers: this, unless memory runs out
+-- what the reader returns: this, unless memory runs out
 abbrev pub IsStimulusAnswer : List ℕ → ℕ → Bool → Result StimulusData StimulusFault → Type 0
 IsStimulusAnswer text width split result = UnlessMemory (ReadsStimulus text width split) result
 
--- the same of a text whose letters are a stem alone
+-- the same for a text that has only a stem
 abbrev pub ReadsLetters : List ℕ → ℕ → Result (List (List Bool)) (Found StimulusCause) → Type 0
 ReadsLetters text width (Ok letters) = ReadsStimulus text width false (Ok (stem_of letters))
 ReadsLetters text width (Err found) = ReadsStimulus text width false (Err found)
@@ -125,7 +126,7 @@ HasOneAnswer text width split =
     (answer other : Result StimulusData (Found StimulusCause)) → ReadsStimulus text width split answer →
     ReadsStimulus text width split other → answer ≡ other
 
--- this asks no call, so that want of memory is no answer here
+-- no call is made here, so out of memory is not an answer
 abbrev pub HasSomeAnswer : List ℕ → ℕ → Bool → Type 0
 HasSomeAnswer text width split =
     (answer : Result StimulusData (Found StimulusCause)) × ReadsStimulus text width split answer

@@ -1,10 +1,10 @@
--- What a simulator keeps true of its table.
+-- The invariant of a simulator's table.
 use Rattle.std.specs.Prelude.{◌≡◌, Bool, false, List, length, slice_index_or}
 use Rattle.ps_circuit.specs.Circuits.{CircuitData, IsCircuit}
 use Rattle.ps_simulate.specs.declared.plan.Plan.{Plan}
 use Rattle.ps_simulate.specs.Plans.{IsPlan, variables}
 
--- a value for each place, the constant's in front, and one for each latch
+-- a value for each place, the constant's first, and one for each latch
 pub record IsTable (c : CircuitData) (plan : Plan) (values latches : List Bool) : Type 0 where
   pub is_circuit : IsCircuit c
   pub is_plan : IsPlan c plan

@@ -9,9 +9,9 @@ use ps_text::faults::{Cause, Fault};
 /// What is wrong with the text of a stimulus.
 #[derive(Clone, Copy, Debug, PartialEq, Eq)]
 pub enum StimulusCause {
-    /// A line of another length than the number of inputs.
+    /// The length of a line is not the number of inputs.
     Width,
-    /// A byte that is no digit 0 or 1, or no line `-` where one is wanted.
+    /// A byte that is not a digit 0 or 1, or a missing line `-`.
     Stimulus,
 }
 

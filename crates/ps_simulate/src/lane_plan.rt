@@ -1,4 +1,4 @@
-//! The table of gates that 256 runs at once work through.
+//! The table of gates that 256 runs evaluate at once.
 
 ghost use Rattle.std.specs.Prelude.{◌≡◌, ℕ, ◌+◌, ◌^◌, ◌<◌, ◌≤◌, length, map, All, IfOk};
 ghost use Rattle.ps_simulate.specs.LanePlans.{AreInOrder, AreKept, AreOnce, IsGateRow, move_row, move_wire, rows_from};
@@ -18,16 +18,16 @@ pub struct Operands {
     pub second: Literal,
 }
 
-/// What a step works out in all lanes. The gates' values stand behind one another in the order in which they are worked
-/// out, so that a gate needs eight bytes and a step writes its table from the front to the back: a table of lanes is
-/// too large to stay near the processor, and what a step reads and writes there decides its time.
+/// What a step evaluates in all lanes. The gates' values follow one another in the order of evaluation, so a gate needs
+/// eight bytes, and a step writes its table from front to back. A table of lanes is too large to stay near the
+/// processor, so what a step reads and writes there decides its time.
 #[derive(Drop)]
 pub struct LanePlan {
     /// The places of the table of values.
     pub size: usize,
-    /// The places in front of the gates: the constant 0, the inputs and the latches.
+    /// The places before the gates: the constant 0, the inputs and the latches.
     pub front: usize,
-    /// The operands of each gate, in the order in which they are worked out.
+    /// The operands of each gate, in the order of evaluation.
     pub gates: Vec<Operands>,
     /// Literals, as in `Operands`.
     pub outputs: Vec<Literal>,
@@ -41,11 +41,7 @@ impl LanePlan {
     ghost use Rattle.ps_simulate.specs.LanePlans.{IsLanePlan};
     ghost use Rattle.ps_simulate.specs.declared.plan.Plan.{Plan};
 
-    /// The plan of a circuit.
-    ///
-    /// # Errors
-    ///
-    /// Fails where a growth was refused.
+    /// The plan of a circuit. Fails if out of memory.
     pub fn new(alloc: Global, circuit: &Circuit) -> Result<Self, AllocError>
         ensures plan { IfOk result (λ p. (plan : Plan) × (places : List ℕ) × IsLanePlan circuit.now plan places p) }
         ensures well_formed { IsCircuit circuit.now }
@@ -64,8 +60,8 @@ impl LanePlan {
     }
 }
 
-/// The place to which each place of a table is moved: those in front stay, and the gates' stand behind them in the
-/// order of their rows.
+/// The new place of each place of a table: those before the gates stay, and the gates' places follow them in the order
+/// of their rows.
 fn moved_places(
     alloc: Global,
     rows: &[Row],
@@ -98,7 +94,7 @@ fn places_up_to(alloc: Global, count: usize) -> Result<Vec<usize>, AllocError>
     Ok(places)
 }
 
-/// The literal of a wire that was moved.
+/// The literal of a wire after the move.
 fn literal(places: &[usize], wire: Wire) -> Literal
     requires places { All (λ p. p < 2 ^ 31) places.now }
     requires within { wire.place < length places.now }
@@ -112,7 +108,7 @@ fn literal(places: &[usize], wire: Wire) -> Literal
     }
 }
 
-/// The literals of wires that were moved.
+/// The literals of wires after the move.
 fn literals(alloc: Global, places: &[usize], wires: &[Wire]) -> Result<Vec<Literal>, AllocError>
     requires places { All (λ p. p < 2 ^ 31) places.now }
     requires within { All (λ w. w.place < length places.now) wires.now }
@@ -125,7 +121,7 @@ fn literals(alloc: Global, places: &[usize], wires: &[Wire]) -> Result<Vec<Liter
     Ok(literals)
 }
 
-/// The gates of rows that were moved.
+/// The gates of rows after the move.
 fn gates_of(alloc: Global, places: &[usize], rows: &[Row]) -> Result<Vec<Operands>, AllocError>
     requires places { All (λ p. p < 2 ^ 31) places.now }
     requires within { All (IsWithin (length places.now)) rows.now }

@@ -1,4 +1,4 @@
-//! A circuit that is run on 256 stimuli at once.
+//! Running a circuit on 256 stimuli at once.
 
 ghost use Rattle.std.specs.Prelude.{◌≡◌, ℕ, ◌+◌, ◌<◌, ◌≤◌, ◌⊎◌, [], length, map, slice_get, slice_index_or, All, IfOk};
 ghost use Rattle.std.specs.Prelude.{Some, false};
@@ -15,7 +15,7 @@ use std::alloc::{AllocError, Global};
 use std::marker::Model;
 use std::simd::prelude::*;
 
-/// A circuit, and the values of its latches now in 256 runs. The bit of run 64·w + b is bit b of word w.
+/// A circuit, and the current values of its latches in 256 runs. The bit of run 64·w + b is bit b of word w.
 #[derive(Drop)]
 pub struct LaneSimulator<'a> {
     circuit: &'a Circuit,
@@ -37,11 +37,7 @@ impl<'a> Model for LaneSimulator<'a> {
 impl<'a> LaneSimulator<'a> {
     ghost use Rattle.ps_simulate.specs.LaneRuns.{StepsInLanes};
 
-    /// Starts a circuit 256 times, the latches at their resets.
-    ///
-    /// # Errors
-    ///
-    /// Fails where a growth was refused.
+    /// Starts a circuit 256 times, the latches at their resets. Fails if out of memory.
     pub fn new(alloc: Global, circuit: &'a Circuit) -> Result<Self, AllocError>
         ensures circuit { IfOk result (λ s. s.circuit ≡ circuit.now) }
         ensures latches { IfOk result (λ s. (lane : ℕ) → lane < 256 → lane_of s.latches lane ≡ resets circuit.now) }
@@ -57,7 +53,7 @@ impl<'a> LaneSimulator<'a> {
         })
     }
 
-    /// Takes a letter in each run: puts the outputs' bits into `outputs`, and moves the latches on. Takes no memory.
+    /// Takes a letter in each run: puts the outputs' bits into `outputs`, and updates the latches. Takes no memory.
     pub fn step_lanes(&mut self, inputs: &[[u64; 4]], outputs: &mut [[u64; 4]])
         requires inputs_fit { length inputs.now ≡ length self.old.circuit.inputs }
         requires outputs_fit { length outputs.old ≡ length self.old.circuit.outputs }
@@ -75,7 +71,7 @@ impl<'a> LaneSimulator<'a> {
         read_words(&self.plan.nexts, &self.values, &mut self.latches);
     }
 
-    /// The value of a latch now in a run. Takes no memory.
+    /// The current value of a latch in a run. Takes no memory.
     pub fn latch(&self, lane: usize, number: usize) -> bool
         requires lane { lane < 256 }
         requires number { number < length self.now.circuit.latches }
@@ -127,7 +123,7 @@ fn bits(values: &[[u64; 4]], literal: Literal) -> u64x4
     words ^ u64x4::splat(mask(literal.is_negated()))
 }
 
-/// Works out the gates, each once. They stand in the table from `front` on.
+/// Evaluates the gates, each once. They are in the table from `front` on.
 fn work_words(gates: &[Operands], front: usize, values: &mut [[u64; 4]])
     requires within { All (IsWithin (length values.old)) (rows_from front gates.now) }
     requires fit { front + length gates.now ≤ length values.old }
@@ -140,7 +136,7 @@ fn work_words(gates: &[Operands], front: usize, values: &mut [[u64; 4]])
     }
 }
 
-/// Fills the table for a step. The constant stands there already.
+/// Fills the table for a step. The constant is already there.
 fn fill_words(
     gates: &[Operands],
     front: usize,

@@ -1,4 +1,4 @@
-//! Lassos: a stem that is read once and a lap that is read again and again, until the latches repeat themselves.
+//! Lassos: a stem that is read once and a lap that is read repeatedly, until the latches repeat.
 
 ghost use Rattle.std.specs.Prelude.{◌≡◌, ◌+◌, ◌*◌, ◌^◌, ◌<◌, ◌≤◌, Bool, List, [], ℕ, false, length, All, IfOk, IfErr};
 ghost use Rattle.std.specs.Prelude.{IsTrue, IsOk, OnOk, vec_len};
@@ -24,7 +24,7 @@ use std::alloc::{AllocError, Global};
 use std::collections::BTreeMap;
 use thiserror::Error;
 
-/// Whether an automaton accepts, and how long the stem and the lap are that it was asked about.
+/// Whether an automaton accepts, and the lengths of the stem and the lap that it was asked about.
 #[derive(Clone, Copy, Debug, PartialEq, Eq)]
 pub struct Verdict {
     /// Whether the trace is accepted.
@@ -88,13 +88,13 @@ impl From<AllocError> for LassoFault {
     }
 }
 
-/// Runs a circuit through a stem and then through a lap again and again, up to the first two laps that begin with the
-/// same latches, and asks the automaton about the trace so far: whether it accepts the lasso that goes on from the
-/// first of them to the second, again and again. Letters have a bit for each input, in the circuit's order.
+/// Runs a circuit through a stem and then through a lap repeatedly, up to the first two laps that begin with the same
+/// latches. Then asks the automaton about the trace so far: whether it accepts the lasso that goes from the first of
+/// them to the second, again and again. Letters have a bit for each input, in the circuit's order.
 ///
 /// # Errors
 ///
-/// In this order: `Width`, `EmptyLap`, `Symbols`. Fails also where a growth was refused.
+/// In this order: `Width`, `EmptyLap`, `Symbols`; out of memory.
 pub fn lasso(
     alloc: Global,
     circuit: &Circuit,
@@ -122,7 +122,7 @@ pub fn lasso(
     Ok(verdict_of(alloc, circuit, automaton, &naming, stem, lap)?)
 }
 
-/// The verdict, where the names of the naming are those of the automaton.
+/// The verdict, if the names of the naming are those of the automaton.
 fn verdict_of(
     alloc: Global,
     circuit: &Circuit,
@@ -150,7 +150,7 @@ fn verdict_of(
     })
 }
 
-/// Whether each letter has so many bits.
+/// Whether each letter has `width` bits.
 fn are_wide(width: usize, letters: &[Vec<bool>]) -> bool
     ensures yes { IsTrue result → All (λ letter. length letter ≡ width) (letters_of letters.now) }
     ensures not { result ≡ false → ¬ All (λ letter. length letter ≡ width) (letters_of letters.now) }
@@ -163,15 +163,15 @@ fn are_wide(width: usize, letters: &[Vec<bool>]) -> bool
     true
 }
 
-/// The letters of a trace up to the first lap that begins with the latches of an earlier one, and the number of that
-/// one.
+/// The letters of a trace up to the first lap that begins with the latches of an earlier lap, and the number of that
+/// lap.
 #[derive(Drop)]
 struct Repetition {
     letters: Vec<u64>,
     first: usize,
 }
 
-/// Reads the stem, and laps until one begins with latches that an earlier one began with.
+/// Reads the stem, and laps until one begins with the latches of an earlier lap.
 fn first_repetition(
     alloc: Global,
     circuit: &Circuit,
@@ -194,7 +194,7 @@ fn first_repetition(
     })
 }
 
-/// A circuit that runs, and the automaton's letters so far.
+/// A running circuit, and the automaton's letters so far.
 #[derive(Drop)]
 struct Run<'a> {
     simulator: Simulator<'a>,
@@ -219,8 +219,7 @@ impl<'a> Run<'a> {
         })
     }
 
-    /// Reads the stem, and laps until one begins with latches that an earlier one began with, and answers the number of
-    /// that one.
+    /// Reads the stem, and laps until one begins with the latches of an earlier lap, whose number is returned.
     fn first_repetition(
         &mut self,
         alloc: Global,
@@ -261,8 +260,8 @@ impl<'a> Run<'a> {
     }
 }
 
-/// Puts latches behind those that were seen, unless they were seen before; then it answers their place. The places
-/// stand in a tree, so that no choice of latches makes a search long.
+/// Adds latches to those that were seen, unless they were seen before; then returns their place. The places are in a
+/// tree, so that no choice of latches makes a search long.
 fn see(
     alloc: Global,
     seen: &mut BTreeMap<Vec<bool>, usize>,
@@ -280,7 +279,7 @@ fn see(
     Ok(None)
 }
 
-/// Runs a circuit through letters, and puts the automaton's letters behind others.
+/// Runs a circuit through letters, and appends the automaton's letters to others.
 fn read_word(
     naming: &Naming,
     simulator: &mut Simulator,

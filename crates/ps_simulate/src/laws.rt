@@ -9,13 +9,13 @@ ghost use Rattle.ps_simulate.specs.Lassos.{HasOneVerdict};
 ghost use Rattle.ps_simulate.specs.Symbols.{HasSymbols};
 ghost use Rattle.ps_simulate.specs.declared.role.Role.{Role};
 
-/// A law: for given inputs and latches a circuit has values, and they agree at each literal whose variable is 0 or
+/// A law: for given inputs and latches a circuit has values, and any two agree at each literal whose variable is 0 or
 /// defined.
 pub fn circuit_has_one_values()
     ensures { (c : CircuitData) → IsCircuit c → HasOneValues c }
 {}
 
-/// A law: a circuit that takes letters in 256 lanes at once goes in each lane as a plain run goes on that lane's
+/// A law: a circuit that takes letters in 256 lanes at once does in each lane what a plain run does on that lane's
 /// letters.
 pub fn lanes_are_plain_runs()
     ensures { (c : CircuitData) → IsCircuit c → AreLanesPlain c }
@@ -23,8 +23,8 @@ pub fn lanes_are_plain_runs()
     circuit_has_one_values();
 }
 
-/// A law: of a circuit with the inputs and the outputs of a role, there is one verdict at most for an automaton, a stem
-/// and a lap.
+/// A law: for a circuit with the inputs and outputs of a role, an automaton, a stem and a lap there is at most one
+/// verdict.
 pub fn verdict_is_one()
     ensures { (role : Role) (file : FileData) (c : CircuitData) (stem lap : List (List Bool)) → IsCircuit c →
         HasSymbols role file.names file.controllable c → HasOneVerdict file c stem lap }

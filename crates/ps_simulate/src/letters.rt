@@ -1,4 +1,4 @@
-//! Letters that stand one behind another, read from their text.
+//! Letters in one list, read from their text.
 
 ghost use Rattle.std.specs.Prelude.{◌≡◌, ◌*◌, ◌<◌, ◌↔◌, IsTrue, Some, [], length, slice_get};
 ghost use Rattle.ps_simulate.specs.StimulusTexts.{IsLettersAnswer};
@@ -8,7 +8,7 @@ use crate::stimulus::{line_end, read_letter};
 use std::alloc::Global;
 use std::marker::Model;
 
-/// Letters, each with a bit for each input of a circuit. Their bits stand in one list.
+/// Letters, each with a bit for each input of a circuit. Their bits are in one list.
 #[derive(Debug, Drop)]
 pub struct Letters {
     bits: Vec<bool>,
@@ -52,11 +52,11 @@ impl Letters {
     }
 }
 
-/// Reads a stimulus of a stem alone: a line of digits for each letter.
+/// Reads a stimulus that has only a stem: a line of digits for each letter.
 ///
 /// # Errors
 ///
-/// [`StimulusFault::Text`] with the first cause in the text's order, at its byte; else want of memory.
+/// [`StimulusFault::Text`] with the first cause in the text's order, at its byte; out of memory.
 pub fn parse_letters(alloc: Global, text: &[u8], width: usize) -> Result<Letters, StimulusFault>
     ensures { IsLettersAnswer text.now width result }
 {

@@ -1,26 +1,28 @@
-//! Circuits are run, letter by letter, once or on 256 stimuli at once, and stimuli are read; and whether an automaton
-//! accepts what a circuit does on a stem and a lap that comes again and again.
+//! Runs circuits, letter by letter, once or on 256 stimuli at once, and reads stimuli. It also tells whether an
+//! automaton accepts what a circuit does on a stem and a repeated lap.
 //!
 //! | Call | What it gives |
 //! |---|---|
 //! | `Simulator::new(circuit)`, `step`, `latches`, `latch` | one run: a step takes a letter and gives the outputs |
 //! | `LaneSimulator::new(circuit)`, `step_lanes`, `latch` | 256 runs at once: bit b of word w is run 64·w + b |
 //! | `parse_stimulus(text, width, split)` | the letters of a text, a line of digits each, or the first fault |
-//! | `parse_letters(text, width)` | the same of a text that has no lap; the bits stand in one list |
-//! | `lasso(circuit, automaton, role, stem, lap)` | the automaton's `Verdict`, or a `LassoFault` |
-//! | `Role` | whether the circuit is a controller's or an environment's |
-//! | `LassoFault::number`, `StimulusCause::number`, `name` | a fault or a cause as psyn's list of faults has it |
+//! | `parse_letters(text, width)` | the same for a text without a lap; the bits are in one list |
+//! | `lasso(circuit, automaton, role, stem, lap)` | the `Verdict` at the first repetition, or a `LassoFault` |
+//! | `LassoFault::number`, `StimulusCause::number`, `name` | a fault or a cause in psyn's list of faults |
+//!
+//! `Role` says whether a circuit is a controller's or an environment's.
 //!
 //! | Law | What it says |
 //! |---|---|
-//! | `circuit_has_one_values` | for given inputs and latches a circuit has values, and one for each literal |
-//! | `lanes_are_plain_runs` | each of the 256 runs goes as a plain run on its letters |
-//! | `verdict_is_one`, `stimulus_text_has_one_answer` | there is one verdict at most, and one answer to a text |
-//! | `stimulus_text_has_some_answer` | there is an answer to each text |
+//! | `circuit_has_one_values` | values of given inputs and latches exist, and agree at each literal that is defined |
+//! | `lanes_are_plain_runs` | what a lane does on its letters is what a plain run does on them |
+//! | `verdict_is_one` | there is at most one verdict on a circuit with the symbols of its role |
+//! | `stimulus_text_has_one_answer`, `stimulus_text_has_some_answer` | a text has exactly one answer |
 //!
-//! Steps take no memory, and time in proportion to the gates. A lasso is run until the latches come back at the
-//! beginning of a lap, which may take as many laps as there are values of the latches; those that came are kept in a
-//! hash table.
+//! A step puts the outputs' bits of the circuit's values, and moves each latch to its next literal's bit; latches begin
+//! with their resets. Steps take no memory, and time proportional to the gates. A lasso is run until the latches repeat
+//! at the beginning of a lap, which may take as many laps as there are values of the latches. Those that were seen are
+//! in a tree.
 #![tactic(auto)]
 
 mod fault;

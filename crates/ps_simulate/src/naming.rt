@@ -1,4 +1,4 @@
-//! Which input and output of a circuit is which proposition of an automaton.
+//! Which input or output of a circuit is which proposition of an automaton.
 
 ghost use Rattle.std.specs.Prelude.{◌≡◌, ◌≢◌, ◌^◌, ◌<◌, ◌≤◌, ◌||◌, ℕ, true, false, None, Some, IfOk, IfSome, IfNone};
 ghost use Rattle.std.specs.Prelude.{length, map, slice_index_or};
@@ -16,7 +16,7 @@ use ps_automaton::Automaton;
 use ps_circuit::Circuit;
 use std::alloc::{AllocError, Global};
 
-/// For each proposition the input or the output that has its name.
+/// For each proposition the input or output that has its name.
 #[derive(Drop)]
 pub(crate) struct Naming<'a> {
     /// The names of the propositions.
@@ -28,11 +28,7 @@ pub(crate) struct Naming<'a> {
 }
 
 impl<'a> Naming<'a> {
-    /// The naming of a circuit of that role, if its symbols are the role's.
-    ///
-    /// # Errors
-    ///
-    /// Fails where a growth was refused.
+    /// The naming of a circuit with that role, if its symbols are the role's. Fails if out of memory.
     pub fn new(
         alloc: Global,
         circuit: &Circuit,
@@ -118,7 +114,7 @@ fn is_controllable(controllable: &[u32], proposition: usize) -> bool
     false
 }
 
-/// The proposition that a symbol names, if it is one of those that are controllable (or of those that are not).
+/// The proposition that a symbol names, if it is a controllable one (or one that is not controllable).
 fn proposition_of(
     names: &[Vec<u8>],
     controllable: &[u32],
@@ -135,8 +131,8 @@ fn proposition_of(
     None
 }
 
-/// For each proposition the place of the symbol that names it, if the symbols are the names of the propositions that
-/// are controllable (or of those that are not), each once.
+/// For each proposition the place of the symbol that names it. There are such places if the symbols name the
+/// propositions that are controllable (or those that are not), each once.
 fn places_of(
     alloc: Global,
     names: &[Vec<u8>],
@@ -158,7 +154,7 @@ fn places_of(
     }
 }
 
-/// Puts each symbol's place at the proposition that it names, if each names one that no other does.
+/// Puts each symbol's place at the proposition that it names, if no two symbols name the same.
 fn put_places(
     alloc: Global,
     names: &[Vec<u8>],

@@ -11,7 +11,7 @@ use std::alloc::{AllocError, Global};
 use std::iter::once;
 use std::marker::Model;
 
-/// The place of each variable of a circuit: 0 has the first, and then come those of the inputs, the latches and the
+/// The place of each variable of a circuit: variable 0 comes first, then those of the inputs, the latches and the
 /// gates.
 #[derive(Drop)]
 pub struct Places<'a> {
@@ -35,11 +35,7 @@ impl<'a> Places<'a> {
     ghost use Rattle.ps_circuit.specs.Circuits.{IsKnown, definitions};
     ghost use Rattle.ps_simulate.specs.Plans.{variables, wire_of};
 
-    /// The places of a circuit.
-    ///
-    /// # Errors
-    ///
-    /// Fails where a growth was refused.
+    /// The places of a circuit. Fails if out of memory.
     pub fn new(alloc: Global, circuit: &'a Circuit) -> Result<Self, AllocError>
         ensures { IfOk result (λ places. places ≡ circuit.now) }
     {

@@ -1,4 +1,4 @@
-//! The table of gates that a simulator works through.
+//! The table of gates that a simulator evaluates.
 
 ghost use Rattle.std.specs.Prelude.{◌≡◌, ◌<◌, length, map, slice_index_or, All, IfOk};
 ghost use Rattle.ps_circuit.specs.Circuits.{IsCircuit};
@@ -8,8 +8,8 @@ use crate::places::Places;
 use ps_circuit::Circuit;
 use std::alloc::{AllocError, Global};
 
-/// A literal of a circuit, by the place of its variable in the table of values. Places have 4 bytes, since a circuit has
-/// fewer than 2^31 variables, and a step reads three of them for each gate.
+/// A literal of a circuit, by the place of its variable in the table of values. Places have 4 bytes, since a circuit
+/// has fewer than 2^31 variables, and a step reads three of them for each gate.
 #[derive(Clone, Copy)]
 pub struct Wire {
     /// The place.
@@ -29,14 +29,14 @@ pub struct Row {
     pub second: Wire,
 }
 
-/// What a step of a circuit works out: the gates, each behind those that it reads, and then the outputs and the next
+/// What a step of a circuit evaluates: the gates, each after those that it reads, and then the outputs and the next
 /// values of the latches. Places are those of a table of `size` values: the constant 0, the inputs, the latches and the
 /// gates.
 #[derive(Drop)]
 pub struct Plan {
     /// How many places there are.
     pub size: usize,
-    /// The gates, each behind those that it reads.
+    /// The gates, each after those that it reads.
     pub rows: Vec<Row>,
     /// The literals of the outputs.
     pub outputs: Vec<Wire>,
@@ -48,11 +48,7 @@ impl Plan {
     ghost use Rattle.ps_circuit.specs.Circuits.{IsCircuit};
     ghost use Rattle.ps_simulate.specs.Plans.{IsPlan};
 
-    /// The plan of a circuit.
-    ///
-    /// # Errors
-    ///
-    /// Fails where a growth was refused.
+    /// The plan of a circuit. Fails if out of memory.
     pub fn new(alloc: Global, circuit: &Circuit) -> Result<Self, AllocError>
         ensures plan { IfOk result (IsPlan circuit.now) }
         ensures well_formed { IfOk result (λ _. IsCircuit circuit.now) }

@@ -1,4 +1,4 @@
-//! A circuit that is run.
+//! Running a circuit.
 
 ghost use Rattle.std.specs.Prelude.{◌≡◌, ℕ, ◌+◌, ◌<◌, ◌≤◌, ◌⊎◌, length, map, slice_get, slice_index_or, All, IfOk};
 ghost use Rattle.std.specs.Prelude.{Some, false};
@@ -11,7 +11,7 @@ use ps_circuit::Circuit;
 use std::alloc::{AllocError, Global};
 use std::marker::Model;
 
-/// A circuit, and the values of its latches now.
+/// A circuit, and the current values of its latches.
 #[derive(Drop)]
 pub struct Simulator<'a> {
     circuit: &'a Circuit,
@@ -39,11 +39,7 @@ impl<'a> Simulator<'a> {
     ghost use Rattle.ps_circuit.specs.Values.{Steps, resets};
     ghost use Rattle.ps_simulate.specs.Plans.{variables};
 
-    /// Starts a circuit, its latches at their resets.
-    ///
-    /// # Errors
-    ///
-    /// Fails where a growth was refused.
+    /// Starts a circuit, its latches at their resets. Fails if out of memory.
     pub fn new(alloc: Global, circuit: &'a Circuit) -> Result<Self, AllocError>
         ensures circuit { IfOk result (λ s. s.circuit ≡ circuit.now) }
         ensures latches { IfOk result (λ s. s.latches ≡ resets circuit.now) }
@@ -59,7 +55,7 @@ impl<'a> Simulator<'a> {
         })
     }
 
-    /// Takes a letter: puts the outputs' bits into `outputs`, and moves the latches on. Takes no memory.
+    /// Takes a letter: puts the outputs' bits into `outputs`, and updates the latches. Takes no memory.
     pub fn step(&mut self, inputs: &[bool], outputs: &mut [bool])
         requires inputs_fit { length inputs.now ≡ length self.old.circuit.inputs }
         requires outputs_fit { length outputs.old ≡ length self.old.circuit.outputs }
@@ -71,14 +67,14 @@ impl<'a> Simulator<'a> {
         read_all(&self.plan.nexts, &self.values, &mut self.latches);
     }
 
-    /// The values of all latches now. Takes no memory.
+    /// The current values of all latches. Takes no memory.
     pub fn latches(&self) -> &[bool]
         ensures { result.now ≡ self.now.latches }
     {
         self.latches.as_slice()
     }
 
-    /// The value of a latch now. Takes no memory.
+    /// The current value of a latch. Takes no memory.
     pub fn latch(&self, number: usize) -> bool
         requires { number < length self.now.circuit.latches }
         ensures { slice_get self.now.latches number ≡ Some result }
@@ -120,7 +116,7 @@ fn bit(values: &[bool], wire: Wire) -> bool
     values[wire.place as usize] ^ wire.is_negated
 }
 
-/// Works out the gates, each once.
+/// Evaluates the gates, each once.
 fn work(rows: &[Row], values: &mut [bool])
     requires { All (IsWithin (length values.old)) rows.now }
     ensures { values.new ≡ work_out rows.now values.old }
@@ -132,7 +128,7 @@ fn work(rows: &[Row], values: &mut [bool])
     }
 }
 
-/// Fills the table for a step. The constant stands there already.
+/// Fills the table for a step. The constant is already there.
 fn fill(rows: &[Row], inputs: &[bool], latches: &[bool], values: &mut [bool])
     requires within { All (IsWithin (length values.old)) rows.now }
     requires room { 1 + length inputs.now + length latches.now ≤ length values.old }

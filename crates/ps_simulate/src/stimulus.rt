@@ -16,7 +16,7 @@ use std::marker::Model;
 pub struct Stimulus {
     /// The letters that come once.
     pub stem: Vec<Vec<bool>>,
-    /// The letters that come again and again.
+    /// The letters that repeat.
     pub lap: Vec<Vec<bool>>,
 }
 
@@ -28,12 +28,12 @@ impl Model for Stimulus {
     ghost view = { λ s. record { stem = letters_of s.stem.items; lap = letters_of s.lap.items } };
 }
 
-/// Reads a stimulus: a line of digits for each letter. With `split` a line `-` stands between stem and lap, and without
-/// it all letters are the stem.
+/// Reads a stimulus: a line of digits for each letter. With `split` a line `-` separates stem and lap; without it all
+/// letters are the stem.
 ///
 /// # Errors
 ///
-/// [`StimulusFault::Text`] with the first cause in the text's order, at its byte; else want of memory.
+/// [`StimulusFault::Text`] with the first cause in the text's order, at its byte; out of memory.
 pub fn parse_stimulus(
     alloc: Global,
     text: &[u8],
@@ -67,12 +67,12 @@ pub fn parse_stimulus(
     Ok(Stimulus { stem, lap })
 }
 
-/// A law: the text of a stimulus has one answer.
+/// A law: the text of a stimulus has at most one answer.
 pub fn stimulus_text_has_one_answer()
     ensures { (text : List ℕ) (width : ℕ) (split : Bool) → HasOneAnswer text width split }
 {}
 
-/// A law: the text of a stimulus has an answer. This asks no call, so that want of memory is no answer here.
+/// A law: the text of a stimulus has an answer. No call is made here, so out of memory is not an answer.
 pub fn stimulus_text_has_some_answer()
     ensures { (text : List ℕ) (width : ℕ) (split : Bool) → HasSomeAnswer text width split }
 {}
@@ -95,7 +95,7 @@ fn is_divider(line: &[u8]) -> bool
     line.len() == 1 && line[0] == b'-'
 }
 
-/// The first byte of a line that is no digit.
+/// The first byte of a line that is not a digit.
 fn first_wrong(line: &[u8]) -> Option<usize>
     ensures digits { IfNone result (All IsDigit line.now) }
     ensures wrong { IfSome result (λ j. (j < length line.now) × ¬ IsDigit (slice_index line.now j)) }

@@ -1,4 +1,4 @@
--- The parts of the grammar, as the code reads them: one behind another, those that may be missing, and the loop over
+-- The parts of the grammar, as the code reads them: one after another, those that may be missing, and the loop over
 -- entries.
 use Rattle.std.proofs.Common.{◌≡◌, ℕ, ◌<◌, true, false, List, length, Option, None, Some, Ok, Err, Result, IsErrAnd}
 use Rattle.std.proofs.Common.{refl, sym, ap, subst, inl, ◌∙◌, rules}

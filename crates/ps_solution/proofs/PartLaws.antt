@@ -27,7 +27,7 @@ Odd = Own solution_causes
 no_odd : (A : Sign → Type 0) → Apart A Odd
 no_odd A t h o = none_is_some o.0 o.1
 
--- one sign, where each that may stand there, or is bad, is one of these
+-- one sign, if each that is allowed there, or is bad, is one of these
 laws_sign : {V : Type 0} (take : Sign → Option V) (Bad : Sign → CertCause → Type 0) (t : Sign) (v : V) (First : Sign →
     Type 0) → take t ≡ Some v → Within (Or (Taken take) (BadSign Bad)) First → Laws Odd (one take Bad) First Nothing ⊥
 laws_sign take Bad t v First e first = weaker (search (rules, laws_one, no_odd)) first (same Nothing) (λ h. h)

@@ -1,4 +1,4 @@
--- What the reading of a solution answers: what the text says of each vertex, or its first cause and where it stands.
+-- The answer of reading a solution: what the text says of each vertex, or its first cause and its place.
 use Rattle.std.specs.Prelude.{◌≡◌, ℕ, List, length, Result, Ok, Err}
 use Rattle.ps_text.specs.Answers.{Stream, Found}
 use Rattle.ps_text.specs.Parts.{PartAnswers}
@@ -16,7 +16,7 @@ pub data ReadsSolution (ids text : List ℕ) (answer : Result SolutionData (Foun
   -- the first cause in text order
   refused : (stream : Stream Sign) (found : Found CertCause) → AreGameTokens text stream →
       PartAnswers solution_causes (solution ids) stream (Err found) → answer ≡ Err found → ReadsSolution ids text answer
-  -- behind the end, where there is none: some vertex was not named
+  -- after the end, if there is none: some vertex was not named
   incomplete : (stream : Stream Sign) (solved : SolvedData) → AreGameTokens text stream →
       PartAnswers solution_causes (solution ids) stream (Ok solved) → ¬ IsWhole solved →
       answer ≡ Err (record { cause = OtherGame; offset = length text }) → ReadsSolution ids text answer
@@ -25,6 +25,6 @@ pub data ReadsSolution (ids text : List ℕ) (answer : Result SolutionData (Foun
       PartAnswers solution_causes (solution ids) stream (Ok solved) → IsWhole solved →
       answer ≡ Ok (solution_of solved) → ReadsSolution ids text answer
 
--- what a call answers is that, unless memory ran out
+-- what a call returns is that, unless memory ran out
 abbrev pub IsSolutionAnswer : List ℕ → List ℕ → Result SolutionData CertFault → Type 0
 IsSolutionAnswer ids text result = UnlessMemory (ReadsSolution ids text) result

@@ -10,7 +10,7 @@ pub record SolvedData : Type 0 where
   pub won : List Bool
   pub moves : List (Option ℕ)
 
--- each move is one of so many vertices
+-- each move is less than the number of vertices
 abbrev pub AreMoves : ℕ → List (Option ℕ) → Type 0
 AreMoves count moves = All (λ choice. IfSome choice (λ v. v < count)) moves
 
@@ -20,7 +20,7 @@ pub record AreTables (s : SolvedData) : Type 0 where
   pub move_each : length s.moves ≡ length s.named
   pub moves : AreMoves (length s.named) s.moves
 
--- nothing is said of so many vertices
+-- nothing is said of the given number of vertices
 abbrev pub none_solved : ℕ → SolvedData
 none_solved n = record { named = replicate n false; won = replicate n false; moves = replicate n None }
 
@@ -31,7 +31,7 @@ abbrev pub with_move : List (Option ℕ) → ℕ → Option ℕ → List (Option
 with_move moves v None = moves
 with_move moves v (Some w) = slice_set moves v (Some w)
 
--- besides, who wins a vertex, by which move
+-- with one more entry: who wins a vertex, by which move
 abbrev pub with_entry : SolvedData → ℕ → ℕ → Option ℕ → SolvedData
 with_entry s v winner choice = record {
   named = slice_set s.named v true;

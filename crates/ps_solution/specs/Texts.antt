@@ -41,7 +41,7 @@ AnyValue n cause = ⊥
 unfoldable pub number : Field ℕ
 number = one (value_in (λ n. n)) (BadValue AnyValue)
 
--- an id that is none of the game's, or that an earlier entry has
+-- an id that is not in the game, or that an earlier entry has
 abbrev pub IsOther : List ℕ → SolvedData → ℕ → CertCause → Type 0
 IsOther ids s n cause = ((¬ Contains ids n) ⊎ (has s.named (place_of ids n) ≡ true)) × (cause ≡ OtherGame)
 
@@ -55,7 +55,7 @@ IsNoPlayer n cause = (2 ≤ n) × (cause ≡ Syntax)
 unfoldable pub winner : Field ℕ
 winner = one (value_in (λ n. n)) (BadValue IsNoPlayer)
 
--- a move that is no id
+-- a move that is not an id
 abbrev pub IsUnknown : List ℕ → ℕ → CertCause → Type 0
 IsUnknown ids n cause = (¬ Contains ids n) × (cause ≡ OtherGame)
 
@@ -74,7 +74,7 @@ keyword word = one (keyword_in word) NoBad
 unfoldable pub choice : List ℕ → Field (Option ℕ)
 choice ids = either (mapped (λ v. Some v) (successor ids)) (give None)
 
--- an entry, behind what was said before it
+-- an entry, after what was said before it
 unfoldable pub entry : List ℕ → SolvedData → Field SolvedData
 entry ids s =
     then_by (vertex ids s) (λ v.

@@ -6,13 +6,13 @@ ghost use Rattle.ps_certificate.specs.declared.fault.CertCause.{CertCause};
 ghost use Rattle.ps_solution.specs.Reading.{ReadsSolution};
 ghost use Rattle.ps_solution.specs.Solved.{SolutionData};
 
-/// A text has one answer at most for the ids of a game: its solution, or its first cause and where that stands.
+/// A text has at most one answer for the ids of a game: its solution, or its first cause and its place.
 pub fn one_answer()
     ensures { (ids text : List ℕ) (a b : Result SolutionData (Found CertCause)) →
         ReadsSolution ids text a → ReadsSolution ids text b → a ≡ b }
 {}
 
-/// A text has an answer for each list of ids. This asks no call, so that want of memory is no answer here.
+/// A text has an answer for each list of ids. No call is made here, so out of memory is not an answer.
 pub fn some_answer()
     ensures { (ids text : List ℕ) → (answer : Result SolutionData (Found CertCause)) ×
         ReadsSolution ids text answer }

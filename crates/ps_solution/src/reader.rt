@@ -1,4 +1,4 @@
-//! The reading of a solution.
+//! Reading a solution.
 
 ghost use Rattle.std.specs.Prelude.{◌≡◌, ◌<◌, length, IfOk, IfSome, codes};
 ghost use Rattle.ps_text.specs.Answers.{next_of, offset_of};
@@ -21,12 +21,12 @@ use ps_ids::Ids;
 use ps_pgsolver::{Kind, Token, Tokens};
 use std::alloc::Global;
 
-/// Reads a solution of a game. Winners are 0 or 1; vertices and moves are read by the game's ids and kept by place.
+/// Reads a solution of a game. Winners are 0 or 1; vertices and moves are read as ids of the game and stored as places.
 ///
 /// # Errors
 ///
-/// [`CertFault::Text`] with the first cause in the text's order, at the byte of its token; where there is none, at the
-/// end with `OtherGame`, if a vertex was not named. Else want of memory.
+/// [`CertFault::Text`] with the first cause in the text's order, at the byte of its token. If there is none and a
+/// vertex was not named, `OtherGame` at the end. Otherwise out of memory.
 pub fn read(alloc: Global, text: &[u8], game: &NamedGame) -> Result<Solution, CertFault>
     ensures answer { IsSolutionAnswer game.now.ids text.now result }
     ensures won { IfOk result (λ solution. length solution.won ≡ vertex_count game.now.game) }
@@ -45,7 +45,7 @@ pub fn read(alloc: Global, text: &[u8], game: &NamedGame) -> Result<Solution, Ce
     Ok(solved.into_solution())
 }
 
-/// What is wrong at an offset.
+/// The fault at an offset.
 fn fault(cause: CertCause, offset: usize) -> CertFault
     ensures { result ≡ faults.Text cause offset }
 {
@@ -64,7 +64,7 @@ fn solution_text(alloc: Global, text: &[u8], ids: &Ids) -> Result<Solved, CertFa
     Ok(solved)
 }
 
-/// Reads `paritysol 7;`, if it stands here.
+/// Reads `paritysol 7;`, if it comes next.
 fn heading(tokens: &mut Tokens) -> Result<(), CertFault>
     ensures { ReadsAs (λ u. u) parts.heading tokens.old result tokens.new }
 {
@@ -96,7 +96,7 @@ fn entries(alloc: Global, tokens: &mut Tokens, ids: &Ids) -> Result<Solved, Cert
     Ok(solved)
 }
 
-/// Reads an entry behind those that were read.
+/// Reads an entry after those that were read.
 fn entry(tokens: &mut Tokens, ids: &Ids, solved: &mut Solved) -> Result<(), CertFault>
     requires { length solved.old.named ≡ length ids.now }
     ensures part { ReadsAs (λ _. solved.new) (parts.entry ids.now solved.old) tokens.old result tokens.new }
@@ -110,7 +110,7 @@ fn entry(tokens: &mut Tokens, ids: &Ids, solved: &mut Solved) -> Result<(), Cert
     Ok(())
 }
 
-/// Reads the id of a vertex that was not named.
+/// Reads the id of a vertex that was not named before.
 fn vertex(tokens: &mut Tokens, ids: &Ids, solved: &Solved) -> Result<usize, CertFault>
     requires { length solved.now.named ≡ length ids.now }
     ensures part { ReadsAs (λ v. v) (parts.vertex ids.now solved.now) tokens.old result tokens.new }
@@ -130,7 +130,7 @@ fn winner(tokens: &mut Tokens) -> Result<u8, CertFault>
     one_of_two(winner, start)
 }
 
-/// Reads a move, if one stands here.
+/// Reads a move, if one comes next.
 fn choice(tokens: &mut Tokens, ids: &Ids) -> Result<Option<usize>, CertFault>
     ensures part { ReadsAs (λ c. c) (parts.choice ids.now) tokens.old result tokens.new }
     ensures within { IfOk result (λ c. IfSome c (λ v. v < length ids.now)) }
@@ -169,7 +169,7 @@ fn semicolon(tokens: &mut Tokens) -> Result<(), CertFault>
     semicolon_of(tokens.next())
 }
 
-/// Reads a number, whatever it stands for.
+/// Reads a number, whatever its meaning.
 fn any_number(tokens: &mut Tokens) -> Result<u64, CertFault>
     ensures answer { result ≡ value_answer any_of_number (next_of tokens.old)
         (offset_of tokens.old.pieces tokens.old.end) }
@@ -181,7 +181,7 @@ fn any_number(tokens: &mut Tokens) -> Result<u64, CertFault>
     }
 }
 
-/// Nothing more stands in the text.
+/// Checks that the text ends here.
 fn finish(tokens: &Tokens) -> Result<(), CertFault>
     ensures { result ≡ end_answer (next_of tokens.now) (offset_of tokens.now.pieces tokens.now.end) }
 {
@@ -192,7 +192,7 @@ fn finish(tokens: &Tokens) -> Result<(), CertFault>
     }
 }
 
-/// A number that was read at a place, as the id of a vertex that was not named.
+/// A number that was read at a place, as the id of a vertex that was not named before.
 fn unless_named(id: u64, start: usize, ids: &Ids, solved: &Solved) -> Result<usize, CertFault>
     requires { length solved.now.named ≡ length ids.now }
     ensures answer { result ≡ vertex_of_number ids.now solved.now start id }

@@ -1,14 +1,14 @@
-//! What was read.
+//! The value of a solution.
 
 use ps_game::{Region, Strategy};
 use std::marker::Model;
 
-/// Who is said to win each vertex of a game, and by which moves.
+/// Who is claimed to win each vertex of a game, and by which moves.
 #[derive(Drop)]
 pub struct Solution {
-    /// The vertices that player 0 is said to win; player 1 wins all others.
+    /// The vertices that player 0 is claimed to win; player 1 wins all others.
     pub won: Region,
-    /// A move, or none, for each vertex; whether its winner owns it was not looked at.
+    /// A move, or none, for each vertex; it was not checked whether its winner owns the vertex.
     pub moves: Strategy,
 }
 

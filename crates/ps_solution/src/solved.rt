@@ -28,7 +28,7 @@ impl Model for Solved {
 }
 
 impl Solved {
-    /// Nothing, of so many vertices.
+    /// Nothing yet, about `vertices` vertices.
     pub(crate) fn new(alloc: Global, vertices: usize) -> Result<Self, AllocError>
         ensures { IfOk result (λ solved. solved ≡ none_solved vertices) }
     {

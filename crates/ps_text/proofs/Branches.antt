@@ -1,15 +1,14 @@
 -- The exits of a reading function at a choice and in a loop. Meeting has the same names for a `Meets` with its view
 -- written out.
 --     Stands there P Q      at the next sign `there`, P is read in place of Q. It is shown by
---               left_entered, right_entered      the next sign begins that form of `either`, or a cause of it stands
---               there
+--               left_entered, right_entered      the next sign begins that form of `either`, or a cause of it is there
 --               left_otherwise, right_otherwise      it does not begin the other form, which is never empty
 --               item_entered      it begins an item of `many`
 --     reads_as, stops_as_well, meets_as w m      what is said of P is said of Q
---     many_ends, many_reads, many_fails      `many` stops where no item begins; behind an item; an item that begins
+--     many_ends, many_reads, many_fails      `many` stops where no item begins; after an item; an item that begins
 --               fails
---     times_reads, times_fails      behind an item; an item fails
---     carries_many, carries_times      the invariant of a loop behind an item
+--     times_reads, times_fails      after an item; an item fails
+--     carries_many, carries_times      the invariant of a loop after an item
 --     reads_shrinks      a part that takes a sign leaves fewer pieces: the measure of a loop
 use Rattle.std.proofs.Common.{◌≡◌, ℕ, zero, suc, ◌-◌, ◌<◌, List, [], ◌∷◌, ◌++◌, length, Option, Some, Result, Ok}
 use Rattle.std.proofs.Common.{Err, subst, arith, length-append, rules}

@@ -1,5 +1,5 @@
 -- Runs of bytes that pass a test.
---     all_left, all_right      two runs, one behind the other
+--     all_left, all_right      two runs, one after the other
 --     run_len, run_all, run_ends      the longest run that a text begins with
 --     run_whole      a text that is one run
 --     same_run      there is only one longest run
@@ -25,7 +25,7 @@ module _ (p : ℕ → Bool) where
   run_len [] (b ∷ bs) a s = rw s refl
   run_len (b ∷ run) rest a s = grind (arith, run_len run rest a.1 s)
 
-  -- the longest run that a text begins with, and what stands behind it
+  -- the longest run that a text begins with, and what follows it
   pub run_all : (text : List ℕ) → AllOf p (take (prefix_len p text) text)
   run_all [] = tt
   run_all (b ∷ bs) = ⊎_elim (λ yes. let size : prefix_len p (b ∷ bs) ≡ suc (prefix_len p bs) = rw yes (omega arith) in

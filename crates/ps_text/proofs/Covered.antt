@@ -1,8 +1,8 @@
--- Where the next sign settles which of several forms stands, the whole is read as that form is (proofs/InPlace.antt):
+-- If the next sign decides which of several forms comes, the whole is read as that form is (proofs/InPlace.antt):
 -- `either` as one of its two.
---     Enters P there      the next sign begins a text of P, or a cause of P stands at it
---     Avoids A there      the next sign is none of these
---     covers_left, covers_right      `either` is read as one of its two, where the other does not begin
+--     Enters P there      the next sign begins a text of P, or a cause of P is at it
+--     Avoids A there      the next sign is not in A
+--     covers_left, covers_right      `either` is read as one of its two, if the other does not begin
 --     laws_either
 use Rattle.std.proofs.Common.{arith, ◌≡◌, ◌⊎◌, List, [], ◌∷◌, ◌++◌, Option, None, Some, refl, subst, inl, inr, ◌∙◌}
 use Rattle.std.proofs.Common.{rules, ⊎_elim}
@@ -46,11 +46,11 @@ enters_one take Bad t (inr h) = inr (h.0, (refl, h.1))
 
 -- ## either
 
--- the next sign is none of these
+-- the next sign is not one of these
 abbrev pub Avoids : {T : Type 0} → (T → Type 0) → Option T → Type 0
 Avoids {T} A there = (t : T) → there ≡ Some t → A t → ⊥
 
--- a cause stands behind a beginning, so its first sign begins the part
+-- a cause comes after a beginning, so its first sign begins the part
 pub first_of_cause : {T V F : Type 0} {odd : T → Type 0} {P : Part T V F} {First More : T → Type 0} {Null : Type 0} →
     Laws odd P First More Null →
     (front rest : List T) (t u : T) (f : F) → P.IsCause front t f → first_of (front ++ t ∷ rest) ≡ Some u → First u
@@ -91,7 +91,7 @@ module _ {T V F : Type 0} {odd : T → Type 0} (P Q : Part T V F) {First More : 
   covers_right l there a = covers_one (either P Q) l there a (λ _ _ h. inr h) (λ _ _ _ c. inr c)
       (λ _ _ h. swapped h) (λ _ _ _ c. swapped c)
 
--- what of Q goes on behind a text of P, which is empty then
+-- what of Q follows a text of P, which is empty then
 module _ {T V F : Type 0} {odd : T → Type 0} {P Q : Part T V F} {F1 M1 F2 M2 : T → Type 0} {N1 N2 : Type 0}
     (l : Laws odd P F1 M1 N1) (r : Laws odd Q F2 M2 N2) (apart : Apart F1 F2) where
   text_across : (text more : List T) (t : T) (v w : V) → P.IsText text v → Q.IsText (text ++ t ∷ more) w → When N1 F2 t

@@ -1,11 +1,11 @@
 -- The exits of a reading function. Its contract is `Meets found causes view part old result new`, which is a `Reads` at
--- an Ok and a `Stops` at an Err; the contracts of its callees are such facts too, `c.call.ensures` and
+-- an Ok and a `Stops` at an Err. The contracts of its callees are such facts too: `c.call.ensures` and
 -- `c.in_err-call.ensures`.
---     reads_then j m n      the first call read its part (m), and the rest read what is left (n): nest these for calls
---               one behind another. j is the `Joint` of the two (proofs/Laws.antt)
---     stops_first causes j old o s      the first call failed: so does the function
+--     reads_then j m n      the first call read its part (m), and the rest read what is left (n): nest these for
+--               successive calls. j is the `Joint` of the two (proofs/Laws.antt)
+--     stops_first causes j old o s      the first call failed, so the function fails
 --     stops_behind causes j m o s      the first call read its part, and the rest failed
---     reads_next, stops_bad, stops_refusal      one sign: the next one is taken; it is bad; it can't stand there, or
+--     reads_next, stops_bad, stops_refusal      one sign: the next one is taken; it is bad; it is not allowed there, or
 --               there is none
 --     reads_give, reads_mapped, stops_mapped      nothing was taken; the value is seen by another function
 --     exits found causes view part old new e r s c      at the exit of a `?`: s is the Stops of the error that was met,
@@ -16,7 +16,7 @@
 --                       (stops_first causes j _ _ c.in_err-n.ensures) c.from_residual.ensures.1
 --                   returns c = reads_then j c.in_ok-n.ensures (reads_mapped _ c.in_ok-semicolon.ensures)
 --     then_meets      a last call whose result is returned as it is
---     carries_start, carries_then, carries_reads, carries_stops      the invariant of a loop: before it, behind a call,
+--     carries_start, carries_then, carries_reads, carries_stops      the invariant of a loop: before it, after a call,
 --               and at its exits
 use Rattle.std.proofs.Common.{arith, ◌≡◌, ◌≤◌, List, [], ◌∷◌, ◌++◌, Option, None, Some, Result, Ok, Err, IsErrAnd, refl}
 use Rattle.std.proofs.Common.{sym, ap, ◌∙◌, append_assoc, rules}
@@ -112,7 +112,7 @@ module _ {T F : Type 0} (causes : Causes T F) where
         o ≡ Some (record { cause = f; offset = offset_of old.pieces old.end }) → Stops causes (one take Bad) old o
     stops_bad t f o n b least k = rw k (stops_there f (bad_one take Bad causes (signs old.pieces) t f n b least))
 
-    -- s is any sign that may stand there
+    -- s is any sign that is allowed there
     pub stops_refusal : (s : T) (w : V) → take s ≡ Some w → ((t : T) → next_of old ≡ Some t → take t ≡ None) →
         ((t : T) (f : F) → next_of old ≡ Some t → Bad t f → ⊥) →
         (o : Option (Found F)) → o ≡ Some (refusal_at causes old) → Stops causes (one take Bad) old o

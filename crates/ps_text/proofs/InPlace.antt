@@ -1,11 +1,11 @@
 -- A part whose reading, or whose first fault, is that of another.
---     stops_by, stops_at, quiet_by, quiet_at      at any next sign: no text goes on with it, no cause stands at it
---     read_quiet      no cause stands at the sign behind what was read
---     fault_begins      what stands before a first fault begins the part
---     fault_from      the first fault of P is one of R, where R has at that place no text and no cause but those of P
---     Covers there P Q      at the next sign `there`, Q has no text and no cause but those of P
+--     stops_by, stops_at, quiet_by, quiet_at      at any next sign: no text continues with it, no cause is at it
+--     read_quiet      there is no cause at the sign after what was read
+--     fault_begins      what precedes a first fault begins the part
+--     fault_from      the first fault of P is one of R, if at that place R has only texts and causes of P
+--     Covers there P Q      at the next sign `there`, Q has only texts and causes of P
 --     read_as, fault_as      what is read or is a fault of P is one of Q
---     after P left      what of P stands behind these signs
+--     after P left      what of P follows these signs
 --     read_after, fault_after      what is read or is a fault there is one of P, which is clean up to there
 use Rattle.std.proofs.Common.{◌≡◌, ℕ, ◌+◌, ◌⊎◌, List, [], ◌∷◌, ◌++◌, length, Option, Some, refl, ap, subst}
 use Rattle.std.proofs.Common.{inl, ◌∙◌, append_assoc, arith, length-append, rules}
@@ -30,12 +30,12 @@ module _ {T V F : Type 0} (P : Part T V F) (front : List T) where
   pub quiet_at : {there : Option T} {t : T} {f : F} → there ≡ Some t → NoCauseAt P front there → P.IsCause front t f → ⊥
   quiet_at {f = f} e n = subst (NoCauseAt P front) e n f
 
--- no cause stands at the sign behind what was read
+-- there is no cause at the sign after what was read
 pub read_quiet : {T V F : Type 0} {P : Part T V F} {all rest : List T} {v : V} → (p : IsRead P all v rest) →
     NoCauseAt P p.text (first_of rest)
 read_quiet {P = P} {rest = rest} p = search (rules, quiet_by, head_of)
 
--- what stands before a first fault begins the part, where its causes do
+-- what precedes a first fault begins the part, if its causes do
 pub fault_begins : {T V F : Type 0} {P : Part T V F} {causes : Causes T F} {all rest : List T} {f : F} →
     ((front : List T) (t : T) (f : F) → P.IsCause front t f → Begins P.IsText front) →
     (p : IsFault causes P all f rest) → Begins P.IsText p.front
@@ -62,7 +62,7 @@ pub record Covers {T V F : Type 0} (there : Option T) (P Q : Part T V F) : Type 
   pub cause_back : (front : List T) (t : T) (f : F) → there ≡ first_of (front ++ t ∷ []) → Q.IsCause front t f →
       P.IsCause front t f
 
--- a sign behind front goes on with the first sign of all
+-- a sign after front continues with the first sign of all
 sign_of : {T : Type 0} {all : List T} {t : T} (front rest : List T) → all ≡ front ++ rest → first_of rest ≡ Some t →
     first_of all ≡ first_of (front ++ t ∷ [])
 sign_of [] rest e x = ap first_of e ∙ x

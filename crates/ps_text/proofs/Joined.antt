@@ -1,7 +1,7 @@
--- `then_by P Q` is read where P is read and then Q, and its first fault is P's, or Q's behind P.
+-- `then_by P Q` is read if P is read and then Q. Its first fault is P's, or Q's after P.
 --     joint      the laws of two parts make them a joint
---     text_behind, cause_behind      behind a text of P, what the two have is of Q, unless P goes on there
---     begins_left, begins_right      what begins P begins the two, and so does what begins Q, behind a text of P
+--     text_behind, cause_behind      after a text of P, what the two have is of Q, unless P continues there
+--     begins_left, begins_right      what begins P begins the two, and so does what begins Q, after a text of P
 --     read_then, fault_left, fault_right      for IsRead and IsFault
 use Rattle.std.proofs.Common.{◌≡◌, ◌⊎◌, List, [], ◌∷◌, ◌++◌, length, Option, Some, refl, ap, subst}
 use Rattle.std.proofs.Common.{inl, inr, append_assoc, append-nil, arith, rules}
@@ -22,7 +22,7 @@ pub begins_on : {T V : Type 0} (IsText : List T → V → Type 0) (front m : Lis
 begins_on IsText front m t b =
     record { more = m ++ b.more; value = b.value; is_text = simp append_assoc (simp append_assoc at b.is_text) }
 
--- P goes on with the next sign behind this front
+-- P continues with the next sign after this front
 abbrev pub GoesOn : {T V F : Type 0} → Part T V F → List T → Option T → Type 0
 GoesOn {T} P front there = (t : T) × (there ≡ Some t) × Begins P.IsText (front ++ t ∷ [])
 
@@ -37,7 +37,7 @@ module _ {T A B F : Type 0} {P : Part T A F} {Q : A → Part T B F} (j : Joint P
       front ≡ left ++ t ∷ m → Begins (Q a).IsText right → right ≡ t ∷ z → ⊥
   not_inside {left = left} {z = z} {t = t} {a = a} m h b e c f = j.text_apart left m z t a h (rw e at b) (rw f at c)
 
-  -- behind a text of P, a text of the two is one of Q, unless P goes on
+  -- after a text of P, a text of the two is one of Q, unless P continues
   pub text_behind : (left y : List T) (a : A) (b : B) → P.IsText left a → (then_by P Q).IsText (left ++ y) b →
       (Q a).IsText y b ⊎ GoesOn P left (first_of y)
   text_behind left y a b h k = go (compared left y k.left k.right k.split)
@@ -47,7 +47,7 @@ module _ {T A B F : Type 0} {P : Part T A F} {Q : A → Part T B F} (j : Joint P
       go (shorter t m e f) = grind (arith, begins_on P.IsText left m t (rw e at (text_begins P.IsText k.is_left)))
       go (longer t m e f) = search (rules, not_inside, text_begins)
 
-  -- and so is a cause, unless P goes on, or it is one of P right there
+  -- and so is a cause, unless P continues, or it is one of P right there
   pub cause_behind : (left y : List T) (t : T) (a : A) (f : F) → P.IsText left a → (then_by P Q).IsCause
       (left ++ y) t f → (Q a).IsCause y t f ⊎ (GoesOn P left (first_of (y ++ t ∷ [])) ⊎ ((y ≡ []) × P.IsCause left t f))
   cause_behind left [] t a f h (inl c) = inr (inr (refl, rw append-nil at c))
@@ -61,7 +61,7 @@ module _ {T A B F : Type 0} {P : Part T A F} {Q : A → Part T B F} (j : Joint P
       go (longer u m e g) = absurd
           (not_inside m k.is_left (text_begins P.IsText h) e (j.behind_right k.value k.right t f k.is_cause) g)
 
-  -- no text of the two goes on where P has begun, has not ended and does not go on
+  -- no text of the two continues where P has begun, has not ended and does not continue
   no_text_on : (front y : List T) (b : B) → Begins P.IsText front → ((a : A) → P.IsText front a → ⊥) →
       StopsAt P front (first_of y) → (then_by P Q).IsText (front ++ y) b → ⊥
   no_text_on front y b begun none s k = go (compared front y k.left k.right k.split)
@@ -72,7 +72,7 @@ module _ {T A B F : Type 0} {P : Part T A F} {Q : A → Part T B F} (j : Joint P
           stops_at P front (ap first_of f) s (begins_on P.IsText front m t (rw e at (text_begins P.IsText k.is_left)))
       go (longer t m e f) = not_inside m k.is_left begun e (text_begins (Q k.value).IsText k.is_right) f
 
-  -- no cause of Q stands where P has begun and has not ended
+  -- there is no cause of Q where P has begun and has not ended
   no_behind : (front : List T) (t : T) (f : F) → Begins P.IsText front →
       ((a : A) → P.IsText front a → (Q a).IsCause [] t f → ⊥) → IsBehind P.IsText (λ a. (Q a).IsCause) front t f → ⊥
   no_behind front t f begun none k = go k.right k.split k.is_cause
@@ -109,7 +109,7 @@ module _ {T A B F : Type 0} {P : Part T A F} {Q : A → Part T B F} (j : Joint P
   clean_left rest e b clean fr r t f x l (inr k) =
       let i = inside_of rest fr r t e x l in no_inner fr i.0 t f k (rw i.1 at b)
 
-  -- behind a text of P that stops there without a cause, the two are read as Q
+  -- after a text of P that stops there without a cause, the two are read as Q
   module _ {all mid : List T} {a : A} (p : IsRead P all a mid) where
     clean_text : CleanUpTo (then_by P Q) all (length p.text)
     clean_text = clean_left mid p.split (text_begins P.IsText p.is_text) (λ front r t f e l. grind arith)

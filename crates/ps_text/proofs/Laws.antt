@@ -1,14 +1,15 @@
--- The laws of a part, as a record, and the laws of two parts that stand one behind the other.
---     Laws odd part First More Null      a list of signs has one value; First holds of a sign that begins a text of the
---               part, or at which a cause stands before any sign of it; More holds of a sign with which a text of the
---               part goes on, or at which a cause stands behind a text of it; Null holds if the empty list is a text.
---               The sets may be larger than that (`weaker`). Causes stand behind a beginning. `odd` are the signs that
---               stand in no text and at which no part's cause stands: those that are a cause by themselves. Some text
---               of the part there is
---     Joint P Q      what `then_by P Q` needs: no sign both goes on with P and begins Q. It follows from the laws, by
+-- The laws of a part, as a record, and the laws of two parts, one after the other.
+--     Laws odd part First More Null      a list of signs has one value. First holds of a sign that begins a text of the
+--               part, or at which there is a cause before any sign of it. More holds of a sign with which a text of the
+--               part continues, or at which there is a cause after a text of it. Null holds if the empty list is a
+--               text. The sets may be larger than that (`weaker`). Causes come after a beginning. `odd` are the signs
+--               that occur in no text and at which no part has a cause: those that are a cause by themselves. The part
+--               has at least one text
+--     Joint P Q      what `then_by P Q` needs: no sign both continues P and begins Q. It follows from the laws, by
 --               `joint`
--- For each production of a grammar state its laws once, `laws_entry : Laws odd entry EntryFirst EntryMore ⊥`, by the
--- lemma of its outermost combinator (proofs/Combined.antt) and `weaker`, with sets of the format's own names.
+-- For each production of a grammar state its laws once, `laws_entry : Laws odd entry EntryFirst EntryMore ⊥`. Prove
+-- them by the lemma of its outermost combinator (proofs/Combined.antt) and `weaker`, with sets of the format's own
+-- names.
 use Rattle.std.proofs.Common.{◌≡◌, ◌⊎◌, List, [], ◌∷◌, ◌++◌, rules}
 use Rattle.ps_text.specs.Answers.{Begins}
 use Rattle.ps_text.specs.Parts.{Part}

@@ -10,7 +10,7 @@ use Rattle.std.specs.Int.Digits.{number_from_digits_after}
 use Rattle.std.specs.List.{prefix_len}
 use Rattle.ps_text.specs.Digits.{decimal_value}
 
--- a number, and behind its digits the others
+-- a number, and after its digits the others
 abbrev pub value_after : ℕ → List ℕ → ℕ
 value_after n digits = number_from_digits_after 10 n (map (λ b. b - 48) digits)
 
@@ -37,7 +37,7 @@ pub read_one : (text : List ℕ) (value digits : ℕ) → digits < length text �
     ≡ true → IsReadTo text value digits → IsReadTo text (value * 10 + (get_or text digits 0 - 48)) (digits + 1)
 read_one text value digits lt digit is = search (rules, drop_more, next_value)
 
--- the value with one digit more is no greater than that of all
+-- the value with one digit more is at most that of all
 pub read_too_much : (text : List ℕ) (value digits : ℕ) → digits < length text →
     is_ascii_digit (get_or text digits 0) ≡ true → IsReadTo text value digits →
     2 ^ 64 ≤ value * 10 + (get_or text digits 0 - 48) → 2 ^ 64 ≤ decimal_value (take_while is_ascii_digit text)

@@ -44,7 +44,7 @@ module _ {T F E : Type 0} (found : E → Option (Found F)) (causes : Causes T F)
         { cause = f; offset = offset_of old.pieces old.end }) → Meets found causes view (one take Bad) old (Err e) new
     meets_bad_next t f e n b least k = stops_bad causes take Bad old t f (found e) n b least k
 
-    -- it can't stand there, or there is none
+    -- it is not allowed there, or there is none
     pub meets_refusal : (s : T) (w : V) → take s ≡ Some w → ((t : T) → next_of old ≡ Some t → take t ≡ None) →
         ((t : T) (f : F) → next_of old ≡ Some t → Bad t f → ⊥) →
         (e : E) → found e ≡ Some (refusal_at causes old) → Meets found causes view (one take Bad) old (Err e) new

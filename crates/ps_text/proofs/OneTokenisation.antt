@@ -12,7 +12,7 @@ all_at P (x ∷ xs) ys b h = all_at P xs ys b h.1
 
 module _ {T : Type 0} (IsBlank : ℕ → Type 0) (IsToken : List ℕ → T → List ℕ → List ℕ → Type 0)
     (d : TokensDiffer IsBlank IsToken) where
-  -- no token begins where a blank stands
+  -- no token begins with a blank
   no_blank : (before text rest ys : List ℕ) (t : T) (b : ℕ) → IsToken before t text rest →
       text ++ rest ≡ b ∷ ys → IsBlank b → ⊥
   no_blank before text rest ys t b h e k = search (rules, same_head)

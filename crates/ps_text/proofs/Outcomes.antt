@@ -41,7 +41,7 @@ module _ {T F : Type 0} (causes : Causes T F) where
   pub has_give : {V : Type 0} (v : V) → HasOutcomes causes (give {T = T} {V = V} {F = F} v)
   has_give v = record { outcome = λ all. was_read v all (read_give all v) }
 
-  -- s is any sign that may stand there
+  -- s is any sign that is allowed there
   pub has_one : {V : Type 0} (take : T → Option V) (Bad : T → F → Type 0) (s : T) (w : V) → take s ≡ Some w →
       ((t : T) → Judged causes.number (Bad t)) → HasOutcomes causes (one take Bad)
   has_one {V} take Bad s w e judge = record { outcome = go }
@@ -68,7 +68,7 @@ module _ {T F : Type 0} (causes : Causes T F) where
       go all (was_read a rest r) = was_read (h a) rest (read_mapped h P r)
       go all (has_fault f rest r) = has_fault f rest (fault_mapped h P r)
 
-  -- what Q comes to behind the texts of P
+  -- the outcome of Q after the texts of P
   outcome_then : {A B : Type 0} {P : Part T A F} {Q : A → Part T B F} → Joint P Q → (all : List T) → ((mid : List T)
       (a : A) → IsRead P all a mid → Outcome causes (Q a) mid) → Outcome causes P all → Outcome causes (then_by P Q) all
   outcome_then {A} {B} {P} {Q} j all q (has_fault f rest r) = has_fault f rest (fault_left j r)

@@ -1,9 +1,9 @@
--- `times` and `many`. Each item takes a sign, and no sign both goes on with an item and begins one.
+-- `times` and `many`. Each item takes a sign, and no sign both continues an item and begins one.
 --     laws_times, laws_many      the laws, with the sets First and More of the items
 --     covers_item      where an item begins, `many` is read as that item and then as many
 --     read_nothing, read_none      where none begins, `many` is read as nothing
 --     joint_many, joint_times      the joint of an item and the rest
---     read_item      `many` is read where an item is read and then as many
+--     read_item      `many` is read if an item is read and then `many`
 -- The laws of `many` are those of `upto n`, n items or fewer: its texts and causes are among those for a large n.
 use Rattle.std.proofs.Common.{rules, ◌≡◌, ℕ, zero, suc, ◌+◌, ◌<◌, ◌≤◌, List, [], ◌∷◌, ◌++◌, length, Option, Some, refl}
 use Rattle.std.proofs.Common.{sym, ap, inl, inr, ⊎_elim, arith}
@@ -82,7 +82,7 @@ module _ {T C F : Type 0} (item : C → Part T C F) where
 
 module _ {T C F : Type 0} {odd : T → Type 0} (item : C → Part T C F) {First More : T → Type 0}
     (l : (c : C) → Laws odd (item c) First More ⊥) (apart : Apart More First) where
-  -- an item, and behind it what begins with an item or is empty
+  -- an item, and after it what begins with an item or is empty
   laws_more : {R : C → Part T C F} → ((d : C) → Laws odd (R d) First (Or More First) (Unit {0})) → (c : C) →
       Laws odd (then_by (item c) R) First (Or More First) ⊥
   laws_more r c = weaker (laws_then (l c) r apart) (λ t. grind arith) (λ t. ⊎_elim (λ h. h) (λ h. inl h.1)) (λ h. h.0)

@@ -1,9 +1,9 @@
 -- `give`, `one` and `mapped`: their laws, and when they are read and stop. And the laws of `then_by`.
 --     laws_give, laws_one, laws_mapped, laws_then
---     refused      a part that is not empty, where no sign comes with which it begins
+--     refused      a part that is not empty, where the next sign does not begin it
 --     read_give      nothing is taken
 --     taken_byte      a sign that is taken for one byte is that byte
---     read_one, bad_one, refused_one      one sign is taken; it is bad; it can't stand there, or there is none
+--     read_one, bad_one, refused_one      one sign is taken; it is bad; it is not allowed there, or there is none
 --     read_mapped, fault_mapped
 use Rattle.std.proofs.Common.{◌≡◌, ◌≤◌, List, [], ◌∷◌, ◌++◌, Option, None, Some, refl, sym, ap, subst, inl, inr}
 use Rattle.std.proofs.Common.{◌⊎◌, ◌∙◌, ℕ, append_assoc, arith, rules}
@@ -33,7 +33,7 @@ append_nil_right : {T : Type 0} (a b : List T) → a ++ b ≡ [] → b ≡ []
 append_nil_right [] b e = e
 append_nil_right (t ∷ a) b e = absurd cc
 
--- a list with something behind it is no single sign, unless it is empty
+-- a list with something after it is not a single sign, unless it is empty
 pub single_split : {T : Type 0} (front rest : List T) (t s : T) → front ++ t ∷ rest ≡ s ∷ [] →
     (front ≡ []) × (t ≡ s) × (rest ≡ [])
 single_split [] rest t s e = (refl, same_head t s rest [] e, same_tail t s rest [] e)
@@ -101,7 +101,7 @@ module _ {T V F : Type 0} (take : T → Option V) (Bad : T → F → Type 0) whe
     fault = is_cause t e (refl, b) (λ g c. least g c.1);
   }
 
-  -- s is any sign that may stand there
+  -- s is any sign that is allowed there
   pub refused_one : (causes : Causes T F) (s : T) (w : V) → take s ≡ Some w → (all : List T) →
       ((t : T) → first_of all ≡ Some t → take t ≡ None) → ((t : T) (f : F) → first_of all ≡ Some t → Bad t f → ⊥) →
       IsFault causes (one take Bad) all (refusal_of causes (first_of all)) all
@@ -158,7 +158,7 @@ module _ {T A B F : Type 0} {odd : T → Type 0} {P : Part T A F} {Q : A → Par
   first_cause_then : (t : T) (f : F) → (then_by P Q).IsCause [] t f → Or F1 (When N1 F2) t
   first_cause_then t f cases = search (rules, append_nil_left, append_nil_right)
 
-  -- where P goes on behind a text of the two, Q is empty
+  -- where P continues after a text of the two, Q is empty
   goes_then : (left right more : List T) (t : T) (a : A) (x : B) → P.IsText left a → (Q a).IsText right x →
       GoesOn P left (first_of (right ++ t ∷ more)) → When N2 M1 t
   goes_then left [] more t a x h k g = ((r a).null x k, goes left t a h g)

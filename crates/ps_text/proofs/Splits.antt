@@ -1,7 +1,7 @@
--- Two splits of one list, compared: the fronts are the same, or one goes on where the other ends.
+-- Two splits of one list, compared: the fronts are the same, or one continues where the other ends.
 --     Compared, compared      the three cases
---     Placed, placed      where one sign of the list stands: inside the front, or behind it
---     inside_of      a sign that stands before the end of the front stands inside it
+--     Placed, placed      where one sign of the list is: inside the front, or after it
+--     inside_of      a sign that comes before the end of the front is inside it
 --     all_taken_all      a front as long as the list is the list: what holds of each sign of it holds of all
 use Rattle.std.proofs.Common.{◌≡◌, ℕ, suc, ◌+◌, ◌<◌, ◌≤◌, List, [], ◌∷◌, ◌++◌, length, take, drop, refl, sym, ap, subst}
 use Rattle.std.proofs.Common.{◌∙◌, arith, append-nil, length-append, Some, rules}
@@ -38,7 +38,7 @@ length_more a m t = length-append a (t ∷ m)
 pub same_split : {T : Type 0} (a b c d : List T) → a ++ b ≡ c ++ d → length a ≡ length c → (a ≡ c) × (b ≡ d)
 same_split {T} a b c d e l = search (rules, compared, length_more)
 
--- a sign of a list stands inside its front, or behind it
+-- a sign of a list is inside its front, or after it
 pub data Placed {T : Type 0} (left mid front rest : List T) (t : T) : Type 0 where
   inside : (m : List T) → left ≡ front ++ t ∷ m → Placed left mid front rest t
   behind : (y : List T) → front ≡ left ++ y → mid ≡ y ++ t ∷ rest → Placed left mid front rest t

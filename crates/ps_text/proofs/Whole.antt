@@ -1,9 +1,9 @@
 -- From a part to the answer to a whole text that is this part.
 --     no_fault      the part was read up to the end: the value is the answer
 --     first_fault      the part's first fault is the first cause of the text
---     trailing      the part was read, and a sign stands behind it: the refusal of this sign is the first cause
+--     trailing      the part was read, and a sign follows it: the refusal of this sign is the first cause
 --     answers_ok, answers_fault, answers_trailing      the same from `Meets`
--- The laws of the part are wanted with `Own causes` for odd: the signs that are a cause by themselves.
+-- The laws of the part are needed with `Own causes` for odd: the signs that are a cause by themselves.
 use Rattle.std.proofs.Common.{rules, ◌≡◌, ◌<◌, ◌≤◌, ◌⊎◌, List, [], ◌∷◌, ◌++◌, length, Option, None, Some, Ok, Err}
 use Rattle.std.proofs.Common.{refl, sym, ap, subst, inl, inr, ◌∙◌, append_assoc, append-nil, arith, length-append, drop}
 use Rattle.std.proofs.lemmas.List.{append_cancel_right}
@@ -27,7 +27,7 @@ broken_refused front there b = search rules
 
 module _ {T V F : Type 0} {causes : Causes T F} {part : Part T V F} {First More : T → Type 0} {Null : Type 0}
     (l : Laws (Own causes) part First More Null) where
-  -- no cause stands before the end of what begins a text of the part and is clean
+  -- there is no cause before the end of what begins a text of the part and is clean
   later : {all front rest front' rest' : List T} (g : F) → all ≡ front ++ rest → all ≡ front' ++ rest' →
       Begins part.IsText front → CleanUpTo part all (length front) → IsWrong causes part front' (first_of rest') g →
       (length front < length front') ⊎ ((front ≡ front') × (rest ≡ rest'))
@@ -59,7 +59,7 @@ module _ {T V F : Type 0} {causes : Causes T F} {part : Part T V F} {First More 
           go : (length p.text < length front) ⊎ ((p.text ≡ front) × ([] ≡ rest)) → ⊥
           go h = search (rules, length-append, none_wrong)
 
-  -- f is the first cause if it is the least of those behind what begins a text of the part and is clean
+  -- f is the first cause if it is the least of those after what begins a text of the part and is clean
   first_at : {all front rest : List T} {f : F} → all ≡ front ++ rest → Begins part.IsText front → CleanUpTo part all
       (length front) → IsWrong causes part front (first_of rest) f → ((g : F) → IsWrong causes part front
       (first_of rest) g → causes.number f ≤ causes.number g) → IsFirst causes.number (IsWrong causes part) front rest f
@@ -72,7 +72,7 @@ module _ {T V F : Type 0} {causes : Causes T F} {part : Part T V F} {First More 
       go front' rest' g w (inl x) = inl x
       go front' rest' g w (inr x) = inr (x.0, least g (rw (x.0, x.1) w))
 
-  -- the refusal of a sign, or of the end, is no greater than what else is wrong there, where no cause of the part is
+  -- the refusal of a sign, or of the end, is at most what else is wrong there, if the part has no cause there
   refusal_least : (there : Option T) (front : List T) (g : F) → NoCauseAt part front there →
       IsWrong causes part front there g → causes.number (refusal_of causes there) ≤ causes.number g
   refusal_least there front g n cases = search (rules, quiet_at)

@@ -1,16 +1,16 @@
--- The answer of a reader, whatever the format: the meaning of the text, or the first cause that stands in it.
+-- The answer of a reader, whatever the format: the meaning of the text, or its first cause of refusal.
 --     Piece, Stream      a sign of a text with the offset of its first byte; the pieces of a text, and where the text
 --               ends
 --     Begins IsText front      some text of the grammar begins with these signs
---     NoneGoesOn IsText front there      and none goes on with that sign, or, at None, ends there
---     IsRefused IsText front there      both: the grammar does not allow that sign, or that end, behind these signs
---     IsClean IsCause all      no cause stands anywhere
---     IsFirst number IsCause front rest f      f stands between front and rest, and no other stands before it
---     IsFirstAt number IsCause stream found      the same, where the signs have offsets
+--     NoneGoesOn IsText front there      no text continues with that sign, or, at None, ends there
+--     IsRefused IsText front there      both: after these signs the grammar does not allow that sign, or that end
+--     IsClean IsCause all      there is no cause anywhere
+--     IsFirst number IsCause front rest f      f is a cause between front and rest, and no other comes before it
+--     IsFirstAt number IsCause stream found      the same, if the signs have offsets
 --     Answers IsText IsCause number stream answer      the answer is Ok with the meaning, or the first cause
--- A format says what its signs are (a token, a byte or a line, with what a reader sees ahead of it), when a list of
--- signs is a text of its grammar and what the text means, IsText, and when a cause stands behind some signs and at a
--- next sign or at the end, IsCause. Of two causes at one sign the one with the smaller number is answered.
+-- A format says what its signs are: a token, a byte or a line, with what a reader sees ahead of it. IsText says when a
+-- list of signs is a text of its grammar and what the text means. IsCause says when there is a cause after some signs,
+-- at the next sign or at the end. Of two causes at one sign the one with the smaller number is answered.
 use Rattle.std.specs.Prelude.{◌≡◌, ℕ, ◌<◌, ◌≤◌, ◌⊎◌, List, [], ◌∷◌, ◌++◌, map, length, Option, None, Some, Result, Ok}
 use Rattle.std.specs.Prelude.{Err}
 
@@ -24,7 +24,7 @@ pub record Stream (T : Type 0) : Type 0 where
   pub pieces : List (Piece T)
   pub end : ℕ
 
--- a cause, and where it stands
+-- a cause, and its place
 pub record Found (F : Type 0) : Type 0 where
   pub cause : F
   pub offset : ℕ
@@ -53,21 +53,22 @@ pub record Begins {T V : Type 0} (IsText : List T → V → Type 0) (front : Lis
   pub value : V
   pub is_text : IsText (front ++ more) value
 
--- no text of the grammar goes on with that sign, or ends there
+-- no text of the grammar continues with that sign, or ends there
 abbrev pub NoneGoesOn : {T V : Type 0} → (List T → V → Type 0) → List T → Option T → Type 0
 NoneGoesOn {T} {V} IsText front None = (v : V) → IsText front v → ⊥
 NoneGoesOn IsText front (Some t) = Begins IsText (front ++ t ∷ []) → ⊥
 
--- the signs begin a text of the grammar, and the next one, or the end, is the first that can't stand
+-- the signs begin a text of the grammar, and the next one, or the end, is the first that is not allowed
 pub record IsRefused {T V : Type 0} (IsText : List T → V → Type 0) (front : List T) (there : Option T) : Type 0 where
   pub before : Begins IsText front
   pub none : NoneGoesOn IsText front there
 
--- no cause stands at any place of the text
+-- there is no cause at any place of the text
 abbrev pub IsClean : {T F : Type 0} → (List T → Option T → F → Type 0) → List T → Type 0
 IsClean {T} {F} IsCause all = (front rest : List T) (f : F) → all ≡ front ++ rest → IsCause front (first_of rest) f → ⊥
 
--- f stands between front and rest, and each cause that stands in the text stands later, or there with no smaller number
+-- f is a cause between front and rest; each cause of the text comes later, or at the same place and has no smaller
+-- number
 pub record IsFirst {T F : Type 0} (number : F → ℕ) (IsCause : List T → Option T → F → Type 0) (front rest : List T)
     (f : F) : Type 0 where
   pub stands : IsCause front (first_of rest) f
@@ -83,20 +84,20 @@ pub record IsFirstAt {T F : Type 0} (number : F → ℕ) (IsCause : List T → O
   pub first : IsFirst number IsCause (signs front) (signs rest) found.cause
   pub offset : found.offset ≡ offset_of rest stream.end
 
--- Ok with the meaning of a text without a cause, and else the first cause
+-- Ok with the meaning of a text without a cause; else the first cause
 abbrev pub Answers : {T V F : Type 0} → (List T → V → Type 0) → (List T → Option T → F → Type 0) → (F → ℕ) →
     Stream T → Result V (Found F) → Type 0
 Answers IsText IsCause number stream (Ok v) = IsText (signs stream.pieces) v × IsClean IsCause (signs stream.pieces)
 Answers IsText IsCause number stream (Err found) = IsFirstAt number IsCause stream found
 
--- a list of signs has one meaning, and two causes with one number are one
+-- a list of signs has one meaning, and two causes with the same number are equal
 abbrev pub HasOneMeaning : {T V : Type 0} → (List T → V → Type 0) → Type 0
 HasOneMeaning {T} {V} IsText = (text : List T) (v w : V) → IsText text v → IsText text w → v ≡ w
 
 abbrev pub AreNumbered : {F : Type 0} → (F → ℕ) → Type 0
 AreNumbered {F} number = (f g : F) → number f ≡ number g → f ≡ g
 
--- any two answers to one text are one
+-- any two answers to one text are equal
 abbrev pub HasOneAnswer : {T V F : Type 0} → (List T → V → Type 0) → (List T → Option T → F → Type 0) → (F → ℕ) → Type 0
 HasOneAnswer {T} {V} {F} IsText IsCause number = (stream : Stream T) (a b : Result V (Found F)) →
     Answers IsText IsCause number stream a → Answers IsText IsCause number stream b → a ≡ b

@@ -1,18 +1,19 @@
 -- Texts whose signs are single bytes: the signs, and the parts that are made of bytes and of runs of bytes.
 --     stream_at at bytes      the signs of bytes that begin at that offset
---     stream_of text      the signs of a text. Where its last line has no newline, one is read behind it, at the offset
---               of the end
+--     stream_of text      the signs of a text. If its last line has no newline, one is read after it, at the offset of
+--               the end
 --     byte_causes number syntax      the causes of a format in which no byte is a cause by itself
 --     byte b, word bytes      that byte, and those bytes
 --     run p see Bad      the longest run of bytes that pass p, at least one. Its value is see at its offset and its
---               bytes. Bad says what may be wrong with it; it is wrong at its first byte, whatever stands behind it
+--               bytes. Bad says what may be wrong with it; a wrong run is a fault at its first byte, whatever follows
+--               it
 use Rattle.std.specs.Prelude.{◌≡◌, ℕ, ◌+◌, ◌<◌, Bool, false, List, [], ◌∷◌, ◌++◌, length, map, Option, None, Some, ◌==◌}
 use Rattle.std.specs.Prelude.{◌&&◌, ◌||◌, nat_le, not, if◌then◌else◌}
 use Rattle.ps_text.specs.Answers.{Piece, Stream}
 use Rattle.ps_text.specs.Parts.{Part, Causes, NoBad, give, one, then_by}
 use Rattle.ps_text.specs.Runs.{AllOf, StopsBefore}
 
--- a sign of the text: a byte, its offset, and what a reader sees behind it
+-- a sign of the text: a byte, its offset, and what a reader sees after it
 pub record Seen : Type 0 where
   pub byte : ℕ
   pub at : ℕ
@@ -32,7 +33,7 @@ ends_line [] = false
 ends_line (b ∷ []) = b == 10
 ends_line (b ∷ c ∷ bytes) = ends_line (c ∷ bytes)
 
--- the text, its last line ended
+-- the text, with a newline at the end
 abbrev pub closed : List ℕ → List ℕ
 closed text = if ends_line text then text else text ++ 10 ∷ []
 
@@ -63,7 +64,7 @@ word (b ∷ bytes) = then_by (byte b) (λ _. word bytes)
 
 -- ## Runs
 
--- the bytes begin with this run, and it goes no further
+-- the bytes begin with this run, and the run ends there
 pub record BeginsRun (p : ℕ → Bool) (run bytes : List ℕ) : Type 0 where
   pub rest : List ℕ
   pub split : bytes ≡ run ++ rest
@@ -104,10 +105,10 @@ is_blank b = (nat_le 9 b && nat_le b 13) || (b == 32)
 abbrev pub is_space : ℕ → Bool
 is_space b = (b == 32) || (b == 9)
 
--- anything but a newline
+-- any byte but a newline
 abbrev pub is_inner : ℕ → Bool
 is_inner b = not (b == 10)
 
--- anything but a quote
+-- any byte but a quote
 abbrev pub is_unquoted : ℕ → Bool
 is_unquoted b = not (b == 34)

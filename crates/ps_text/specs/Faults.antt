@@ -1,5 +1,5 @@
--- What a fault says of a text: where it is a cause, the cause and the place; nothing, where memory ran out. And its
--- number and its name in psyn's list of faults: those of the cause, or of want of memory.
+-- What a fault says of a text: the cause and its place, or nothing if memory ran out. And its number and name in psyn's
+-- list of faults: those of the cause, or of out of memory.
 use Rattle.std.specs.Prelude.{ℕ, List, Option, None, Some, Result, Ok, Err, codes}
 use Rattle.ps_text.specs.declared.faults.Fault.{Fault}
 use Rattle.ps_text.specs.declared.faults.Fault.TheVariants.{Text, OutOfMemory}
@@ -9,13 +9,13 @@ abbrev pub found_of : {C : Type 0} → Fault C → Option (Found C)
 found_of (Text cause offset) = Some (record { cause = cause; offset = offset })
 found_of OutOfMemory = None
 
--- what a call answers: an answer that the text has, unless memory ran out
+-- what a call returns: an answer that the text has, unless memory ran out
 abbrev pub UnlessMemory : {V C : Type 0} → (Result V (Found C) → Type 0) → Result V (Fault C) → Type 0
 UnlessMemory IsAnswer (Ok value) = IsAnswer (Ok value)
 UnlessMemory IsAnswer (Err (Text cause offset)) = IsAnswer (Err (record { cause = cause; offset = offset }))
 UnlessMemory IsAnswer (Err OutOfMemory) = Unit {0}
 
--- want of memory, whatever the call
+-- out of memory, whatever the call
 abbrev pub memory_number : ℕ
 memory_number = 24
 

@@ -1,10 +1,10 @@
--- What a part comes to from the front of a list of signs; and that each text has an answer.
+-- The outcome of a part at the front of a list of signs; and that each text has an answer.
 --     Outcome causes part all      the part is read from the front of all, or its first fault is found in all
---     HasOutcomes causes part      from each list one of the two
---     IsOrderly causes part      signs that are a cause by themselves stand in no text of the part, no cause of the
---               part stands at them, and its causes stand behind beginnings of its texts
+--     HasOutcomes causes part      one of the two, for each list
+--     IsOrderly causes part      signs that are a cause by themselves occur in no text of the part, and the part has no
+--               cause at them. Its causes come after beginnings of its texts
 --     HasSomeAnswer IsText IsCause number      each text has an answer, its meaning or its first cause
--- That there is an answer says nothing of memory: it is what a reader answers unless memory runs out.
+-- This does not depend on memory: it is what a reader answers unless memory runs out.
 use Rattle.std.specs.Prelude.{◌≡◌, ℕ, List, ◌∷◌, ◌++◌, Option, Some, Result}
 use Rattle.ps_text.specs.Answers.{Begins, Stream, Found, Answers}
 use Rattle.ps_text.specs.Parts.{Part, Causes, IsRead, IsFault}

@@ -1,29 +1,29 @@
--- A grammar by parts. A part is a grammar together with what may be wrong inside it; parts are joined by combinators,
--- so that a grammar written in them reads like the standard's own.
---     Part      IsText: these signs are a text of the part, of that value; IsCause: behind these signs of the part,
---               that cause stands at that sign. What the grammar itself refuses is no cause of a part
+-- A grammar by parts. A part is a grammar together with what may be wrong inside it. Parts are joined by combinators,
+-- so that a grammar written with them reads like the standard's own.
+--     Part      IsText: these signs are a text of the part, with that value. IsCause: after these signs of the part,
+--               there is that cause at that sign. A sign that the grammar itself refuses is not a cause of a part
 --     Causes      what a format says of its causes: their numbers, the cause that a sign is by itself, wherever it
---               stands, and the one for a sign (or an end) that the grammar does not allow
---     IsWrong causes part      what is wrong with a whole text: the IsCause of `Answers`, where the text is one part
---     IsRead part all v rest      the part was read from the front of all: its longest text, with no cause up to the
+--               occurs, and the cause for a sign (or an end) that the grammar does not allow
+--     IsWrong causes part      what is wrong with a whole text: the IsCause of `Answers`, if the text is one part
+--     IsRead part all v rest      the part was read from the front of all: its longest text, without a cause up to the
 --               next sign
---     IsFault causes part all f rest      the part's first fault was found in all, and rest is what stands from it on
+--     IsFault causes part all f rest      the part's first fault was found in all, and rest begins there
 -- The combinators:
 --     give v      no sign, the value v
---     one take Bad      one sign, of which take makes the value; Bad says what may be wrong with a sign at this place,
---               whether take knows it or not
+--     one take Bad      one sign, whose value take gives. Bad says what may be wrong with a sign at this place, whether
+--               take accepts it or not
 --     then_by P (λ a. Q a)      P and then Q, which may depend on the value a; the value is that of Q
 --     either P Q      P or Q
---     times n item c, many item c      n items, or any number of them, one behind another: `item c` is the item behind
---               the context c, its value is the next context, and the last one is the value of the whole
+--     times n item c, many item c      n items, or any number of them, one after another. `item c` is the item after
+--               the context c; its value is the next context, and the last one is the value of the whole
 --     mapped h P      P with the value h v in place of v
---     barred P Bad      P, and a cause at the sign behind it, which Bad says by P's value
--- So a list of numbers as `1, 2, 3;` is
---     number = one number_of IsTooLarge
---     more ns = then_by comma (λ _. mapped (λ n. ns ++ n ∷ []) number)
---     list = then_by number (λ n. then_by (many more (n ∷ [])) (λ ns. mapped (λ _. ns) semicolon))
--- A reader of the code says of each production, in a private clause, that it read its part or stopped at its first
--- fault (specs/Readers.antt); proofs/ has the theorems that join parts, and lead from the whole part to `Answers`.
+--     barred P Bad      P, and a cause at the sign after it, which Bad gives from P's value
+-- So a list of numbers such as `1, 2, 3;` is
+--         number = one number_of IsTooLarge
+--         more ns = then_by comma (λ _. mapped (λ n. ns ++ n ∷ []) number)
+--         list = then_by number (λ n. then_by (many more (n ∷ [])) (λ ns. mapped (λ _. ns) semicolon))
+-- For each production, a private clause of the reader's code says that it read its part or stopped at its first fault
+-- (specs/Readers.antt). proofs/ has the theorems that join parts, and lead from the whole part to `Answers`.
 use Rattle.std.specs.Prelude.{◌≡◌, ℕ, zero, suc, ◌+◌, ◌<◌, ◌≤◌, ◌⊎◌, List, [], ◌∷◌, ◌++◌, length, Option, None, Some}
 use Rattle.std.specs.Prelude.{Result}
 use Rattle.std.specs.Option.{unwrap_or}
@@ -38,12 +38,12 @@ pub record Causes (T F : Type 0) : Type 0 where
   pub own : T → Option F
   pub syntax : F
 
--- the cause where the grammar does not allow a sign, or the end
+-- the cause if the grammar does not allow a sign, or the end
 abbrev pub refusal_of : {T F : Type 0} → Causes T F → Option T → F
 refusal_of causes None = causes.syntax
 refusal_of causes (Some t) = unwrap_or (causes.own t) causes.syntax
 
--- f is wrong behind front, at that sign or at the end: a cause of the part, or the sign's own, or else the grammar's
+-- f is wrong after front, at that sign or at the end: a cause of the part, or the sign's own, or else the grammar's
 pub data IsWrong {T V F : Type 0} (causes : Causes T F) (part : Part T V F) (front : List T) (there : Option T)
     (f : F) : Type 0 where
   by_part : (t : T) → there ≡ Some t → part.IsCause front t f → IsWrong causes part front there f
@@ -55,12 +55,12 @@ pub data IsWrong {T V F : Type 0} (causes : Causes T F) (part : Part T V F) (fro
 abbrev pub PartAnswers : {T V F : Type 0} → Causes T F → Part T V F → Stream T → Result V (Found F) → Type 0
 PartAnswers causes part = Answers part.IsText (IsWrong causes part) causes.number
 
--- no cause of the part stands behind fewer than n signs
+-- there is no cause of the part after fewer than n signs
 abbrev pub CleanUpTo : {T V F : Type 0} → Part T V F → List T → ℕ → Type 0
 CleanUpTo {T} {V} {F} part all n =
     (front rest : List T) (t : T) (f : F) → all ≡ front ++ t ∷ rest → length front < n → part.IsCause front t f → ⊥
 
--- no text of the part goes on with the next sign
+-- no text of the part continues with the next sign
 abbrev pub StopsAt : {T V F : Type 0} → Part T V F → List T → Option T → Type 0
 StopsAt part front None = Unit {0}
 StopsAt part front (Some t) = Begins part.IsText (front ++ t ∷ []) → ⊥
@@ -69,8 +69,8 @@ abbrev pub NoCauseAt : {T V F : Type 0} → Part T V F → List T → Option T �
 NoCauseAt part front None = Unit {0}
 NoCauseAt {T} {V} {F} part front (Some t) = (f : F) → part.IsCause front t f → ⊥
 
--- all begins with a text of the part, of that value, and rest stands behind it. No text of the part goes on with the
--- next sign, and no cause of the part stands in the text or at that sign
+-- all begins with a text of the part, of that value, and rest follows it. No text of the part continues with the next
+-- sign, and the part has no cause in the text or at that sign
 pub record IsRead {T V F : Type 0} (part : Part T V F) (all : List T) (v : V) (rest : List T) : Type 0 where
   pub text : List T
   pub split : all ≡ text ++ rest
@@ -78,7 +78,7 @@ pub record IsRead {T V F : Type 0} (part : Part T V F) (all : List T) (v : V) (r
   pub stops : StopsAt part text (first_of rest)
   pub clean : CleanUpTo part all (length text + 1)
 
--- front begins a text of the part and is none, none goes on with the next sign, and no cause of the part stands there
+-- front begins a text of the part but is not one, none continues with the next sign, and the part has no cause there
 pub record IsBroken {T V F : Type 0} (part : Part T V F) (front : List T) (there : Option T) : Type 0 where
   pub before : Begins part.IsText front
   pub no_text : (v : V) → part.IsText front v → ⊥
@@ -93,7 +93,7 @@ pub data IsFaultAt {T V F : Type 0} (causes : Causes T F) (part : Part T V F) (f
       → IsFaultAt causes part front there f
   is_refusal : IsBroken part front there → f ≡ refusal_of causes there → IsFaultAt causes part front there f
 
--- the first fault of the part in all: no cause of the part stands before it, and rest stands from it on
+-- the first fault of the part in all: there is no cause of the part before it, and rest begins at it
 pub record IsFault {T V F : Type 0} (causes : Causes T F) (part : Part T V F) (all : List T) (f : F)
     (rest : List T) : Type 0 where
   pub front : List T

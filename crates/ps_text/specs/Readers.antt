@@ -1,18 +1,18 @@
 -- What a reading function of the code says of the part that it reads: it was read, or its first fault was found. `old`
--- and `new` are the pieces still to come as the function begins and as it returns, the Model of the code's tokens.
---     Meets found causes view part old result new      the function's contract, where `view` is what the grammar sees
---               of its value and `found` is what an error says of the text: nothing, where memory ran out. At an Ok it
---               is `Reads part old (view x) new`, at an Err `Stops causes part old (found e)`
---     Goes causes part old result new      the same, where the value is the grammar's own and the error is what it says
---     Carries causes whole start rest now      the invariant of a loop: what reading rest from now on gives, reading
+-- and `new` are the pieces still to come when the function begins and when it returns: the Model of the code's tokens.
+--     Meets found causes view part old result new      the function's contract. `view` is what the grammar sees of its
+--               value, and `found` is what an error says of the text: nothing, if memory ran out. At an Ok it is `Reads
+--               part old (view x) new`, at an Err `Stops causes part old (found e)`
+--     Goes causes part old result new      the same, if the value is the grammar's own and the error is what it says
+--     Carries causes whole start rest now      the invariant of a loop: reading rest from now on gives what reading
 --               whole from start gives
---     tail stream      what is left behind the next piece
---     refusal_at causes stream      the cause where the grammar does not allow what comes next, and where that stands
+--     tail stream      what is left after the next piece
+--     refusal_at causes stream      the cause if the grammar does not allow what comes next, and its place
 use Rattle.std.specs.Prelude.{◌≡◌, List, [], ◌∷◌, ◌++◌, Option, None, Some, Result, Ok, Err}
 use Rattle.ps_text.specs.Answers.{Piece, Stream, Found, signs, next_of, offset_of}
 use Rattle.ps_text.specs.Parts.{Part, Causes, IsRead, IsFault, refusal_of}
 
--- what is left behind the next piece
+-- what is left after the next piece
 abbrev pub tail_of : {T : Type 0} → List (Piece T) → List (Piece T)
 tail_of [] = []
 tail_of (p ∷ ps) = ps
@@ -24,13 +24,13 @@ abbrev pub refusal_at : {T F : Type 0} → Causes T F → Stream T → Found F
 refusal_at causes stream =
     record { cause = refusal_of causes (next_of stream); offset = offset_of stream.pieces stream.end }
 
--- new is what is left of old once some pieces were taken
+-- new is what is left of old after some pieces were taken
 pub record IsSuffix {T : Type 0} (old new : Stream T) : Type 0 where
   pub taken : List (Piece T)
   pub split : old.pieces ≡ taken ++ new.pieces
   pub end : new.end ≡ old.end
 
--- the part's first fault in the pieces of old stands at the first of rest, or at the end
+-- the part's first fault in the pieces of old is at the first of rest, or at the end
 pub record StopsWith {T V F : Type 0} (causes : Causes T F) (part : Part T V F) (old : Stream T)
     (found : Found F) : Type 0 where
   pub front : List (Piece T)

@@ -1,18 +1,16 @@
--- The tokens of a text, as a relation between its bytes and its pieces, where the blanks between tokens are single
--- bytes.
---     IsBlank b      a byte that may stand between tokens
---     IsToken before sign text rest      behind the bytes `before`, text is that token and rest stands behind it. A
---               format says here that a token is the longest, what can't stand, and what depends on the bytes around a
+-- The tokens of a text, as a relation between its bytes and its pieces. The blanks between tokens are single bytes.
+--     IsBlank b      a byte that may occur between tokens
+--     IsToken before sign text rest      after the bytes `before`, text is that token and rest follows it. A format
+--               says here that a token is the longest, what is never allowed, and what depends on the bytes around a
 --               token
---     AreTokens IsBlank IsToken bytes stream      these are the tokens of the bytes, in order, with blanks between,
---               before and behind them
---     TokensDiffer IsBlank IsToken      at one place at most one token stands, and none begins with a blank: then a
---               text has one list of tokens at most, which is the law of `one_tokenisation`
+--     AreTokens IsBlank IsToken bytes stream      these are the tokens of the bytes, in order; blanks may surround each
+--     TokensDiffer IsBlank IsToken      at most one token begins at a place, and none begins with a blank. Then a text
+--               has at most one list of tokens, which is the law `one_tokenisation`
 use Rattle.std.specs.Prelude.{◌≡◌, ℕ, List, [], ◌∷◌, ◌++◌, length}
 use Rattle.std.specs.List.{AllByRecursion}
 use Rattle.ps_text.specs.Answers.{Piece, Stream}
 
--- the first token of these bytes, with the blanks before it and what stands behind it
+-- the first token of these bytes, with the blanks before it and what follows it
 pub record NextToken {T : Type 0} (IsBlank : ℕ → Type 0) (IsToken : List ℕ → T → List ℕ → List ℕ → Type 0)
     (before bytes : List ℕ) (piece : Piece T) : Type 0 where
   pub blanks : List ℕ
@@ -42,7 +40,7 @@ pub record TokensDiffer {T : Type 0} (IsBlank : ℕ → Type 0) (IsToken : List 
         IsToken before u text' rest' →
         text ++ rest ≡ text' ++ rest' → (t ≡ u) × (text ≡ text')
 
--- a text has one list of tokens at most
+-- a text has at most one list of tokens
 abbrev pub HasOneTokenisation : {T : Type 0} → (ℕ → Type 0) → (List ℕ → T → List ℕ → List ℕ → Type 0) → Type 0
 HasOneTokenisation {T} IsBlank IsToken =
     (bytes : List ℕ) (a b : Stream T) → AreTokens IsBlank IsToken bytes a → AreTokens IsBlank IsToken bytes b → a ≡ b

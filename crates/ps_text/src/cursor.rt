@@ -28,9 +28,9 @@ pub enum Class {
     Blank,
     /// A space or a tab.
     Space,
-    /// Anything but a newline.
+    /// Any byte but a newline.
     Inner,
-    /// Anything but a quote.
+    /// Any byte but a quote.
     Unquoted,
     /// A quote.
     Quote,
@@ -62,9 +62,9 @@ impl Class {
 /// Digits, and the number that they write.
 #[derive(Clone, Copy)]
 pub struct Digits<'a> {
-    /// The digits, leading zeros and all.
+    /// The digits, leading zeros included.
     pub bytes: &'a [u8],
-    /// The number, which is 0 where there are no digits; none where a `u64` does not hold it.
+    /// The number, 0 if there are no digits; none if a `u64` can't hold it.
     pub value: Option<u64>,
 }
 
@@ -77,7 +77,7 @@ pub fn run_length(text: &[u8], class: Class) -> usize
     text.iter().take_while(|byte| class.has(**byte)).count()
 }
 
-/// How many digits the text begins with, and the number that they write, if a `u64` holds it.
+/// How many digits the text begins with, and the number that they write, if a `u64` can hold it.
 fn digits_of(text: &[u8]) -> (usize, Option<u64>)
     ensures length { result.0 ≡ prefix_len is_digit text.now }
     ensures within { result.0 ≤ length text.now }
@@ -98,12 +98,12 @@ fn is_ended(text: &[u8]) -> bool
     !text.is_empty() && text[text.len() - 1] == b'\n'
 }
 
-/// A place in a text, and what stands from there on.
+/// A place in a text, and what follows it.
 #[derive(Drop)]
 pub struct Cursor<'a> {
     at: usize,
     rest: &'a [u8],
-    /// Whether the last line has no newline, and one is read behind the rest.
+    /// Whether the last line lacks its newline, so that one is read at the end.
     unended: bool,
 }
 
@@ -135,7 +135,7 @@ impl<'a> Cursor<'a> {
         }
     }
 
-    /// The beginning of a text of lines. A last line without a newline is read with one.
+    /// The beginning of a text of lines. A last line without a newline is read as if it had one.
     pub fn of_lines(text: &'a [u8]) -> Self
         ensures stream { result ≡ stream_of text.now }
         ensures small { length result.pieces ≤ 2 ^ 63 }
@@ -178,7 +178,7 @@ impl<'a> Cursor<'a> {
         self.at
     }
 
-    /// The refusal for that cause, at the next byte or at the end.
+    /// The refusal with that cause, at the next byte or at the end.
     pub fn refusal<C>(&self, cause: C) -> Fault<C>
         ensures { result ≡ faults.Text cause (place_of self.now) }
     {
@@ -188,7 +188,7 @@ impl<'a> Cursor<'a> {
         }
     }
 
-    /// Goes behind the next byte.
+    /// Moves past the next byte.
     pub fn step(&mut self)
         ensures next { self.new ≡ tail self.old }
         ensures ahead { IsAhead self.old }
@@ -202,11 +202,11 @@ impl<'a> Cursor<'a> {
         }
     }
 
-    /// Goes behind that byte, which has to come next.
+    /// Moves past that byte, which must come next.
     ///
     /// # Errors
     ///
-    /// That cause, where another byte comes, or the end.
+    /// That cause, if another byte or the end comes next.
     pub fn byte<C: Cause>(&mut self, byte: u8, cause: C) -> Result<(), Fault<C>>
         ensures { Meets found_of (byte_causes C.number cause) (λ u. u) (parts.byte byte) self.old result self.new }
     {
@@ -217,11 +217,11 @@ impl<'a> Cursor<'a> {
         Err(self.refusal(cause))
     }
 
-    /// Goes behind these bytes, which have to come next.
+    /// Moves past these bytes, which must come next.
     ///
     /// # Errors
     ///
-    /// That cause, at the first byte that is another one, or at the end.
+    /// That cause, at the first byte that differs, or at the end.
     pub fn word<C: Cause>(&mut self, word: &[u8], cause: C) -> Result<(), Fault<C>>
         ensures { Meets found_of (byte_causes C.number cause) (λ u. u) (parts.word word.now) self.old result
             self.new }
@@ -232,7 +232,8 @@ impl<'a> Cursor<'a> {
         Ok(())
     }
 
-    /// The longest run of bytes of the class that comes next, and goes behind it. A newline must not be of the class.
+    /// Moves past the longest run of bytes of the class that comes next, and returns it. The class must not contain the
+    /// newline.
     pub fn run(&mut self, class: Class) -> &'a [u8]
         requires { in_class class 10 ≡ false }
         ensures { Passes (in_class class) self.old self.new result.now }
@@ -244,7 +245,7 @@ impl<'a> Cursor<'a> {
         run
     }
 
-    /// The digits that come next, and goes behind them.
+    /// Moves past the digits that come next, and returns them.
     pub fn digits(&mut self) -> Digits<'a>
         ensures passes { Passes is_digit self.old self.new result.bytes.now }
         ensures value { IfSome result.value (λ value. value ≡ decimal_value result.bytes.now) }
@@ -258,7 +259,7 @@ impl<'a> Cursor<'a> {
         Digits { bytes, value }
     }
 
-    /// Goes to the end of the text.
+    /// Moves to the end of the text.
     pub fn finish(&mut self)
         ensures pieces { self.new.pieces ≡ [] }
         ensures end { self.new.end ≡ self.old.end }

@@ -33,7 +33,7 @@ pub enum Fault<C> {
     Text {
         /// What is wrong.
         cause: C,
-        /// The byte at which it stands, from 0; at the end of the text it is the text's length.
+        /// The offset of the byte, from 0; at the end of the text it is the text's length.
         offset: usize,
     },
     /// Memory ran out.

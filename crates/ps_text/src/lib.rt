@@ -1,23 +1,23 @@
-//! What every reader of texts is made of, whatever the format: the answer of a reader (the meaning of a text, or
-//! the first cause that stands in it), grammars by parts, digits and blanks, a cursor over bytes; and the writing of
+//! What every reader of texts is made of, whatever the format: the answer of a reader (the meaning of a text, or its
+//! first cause of refusal), grammars made of parts, digits and blanks, and a cursor over bytes. The crate also writes
 //! numbers.
 //!
 //! | Call | What it gives |
 //! |---|---|
-//! | `numbers::write_number(out, number)` | writes a number in decimal behind what was written |
-//! | `numbers::leading_number(text)` | the number that a text begins with, and how many digits it has |
+//! | `numbers::write_number(out, number)` | appends a number in decimal |
+//! | `numbers::leading_number(text)` | the number with which a text begins, if 64 bits hold it |
 //! | `cursor::Cursor::new(text)`, `of_lines(text)` | a cursor over the bytes of a text, or of a text of lines |
 //! | `Cursor::peek`, `comes`, `offset`, `is_at_end`, `refusal` | what comes next and where, and a refusal there |
-//! | `Cursor::step`, `byte`, `word`, `run`, `digits`, `finish` | goes behind a byte, a run of a class, digits, or all |
+//! | `Cursor::step`, `byte`, `word`, `run`, `digits`, `finish` | moves past a byte, a word, a run, digits, or all |
 //! | `cursor::run_length(text, class)` | how many bytes of a class a text begins with |
-//! | `faults::Cause::number`, `name` | what each format says of a cause: its number and name in psyn's list of faults |
-//! | `faults::Fault::number`, `name` | those of a fault: of its cause, or of want of memory |
-//! | `answers::one_answer` | a law: a text of a `Format` has one answer at most |
-//! | `answers::some_answer` | a law: a text of a `Grammar` has an answer, where its part always has an outcome |
-//! | `tokens::one_tokenisation` | a law: a text of a `Lexicon` has one list of tokens at most |
+//! | `faults::Cause::number`, `name` | the number and name of a cause in psyn's list of faults |
+//! | `faults::Fault::number`, `name` | those of a fault: of its cause, or of out of memory (24) |
+//! | `answers::one_answer` | a law: a text of a `Format` has at most one answer |
+//! | `answers::some_answer` | a law: a text of a `Grammar` has an answer, if its part always has an outcome |
+//! | `tokens::one_tokenisation` | a law: a text of a `Lexicon` has at most one list of tokens |
 //!
-//! Grammars stand in the specs: `Parts` has what a part of a text means and what is wrong with it, `Readers` what a
-//! reading function answers for a part.
+//! Grammars are in the specs: `Parts` says what a part of a text means and what may be wrong with it, `Readers` what a
+//! reading function returns for a part.
 #![tactic(auto)]
 
 pub mod answers;

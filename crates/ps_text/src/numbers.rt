@@ -8,11 +8,7 @@ ghost use Rattle.ps_text.specs.Digits.{decimal_value};
 use itoa::Buffer;
 use std::alloc::AllocError;
 
-/// Writes a number behind what was written.
-///
-/// # Errors
-///
-/// Fails where a growth was refused.
+/// Appends a number in decimal. Fails if out of memory.
 pub fn write_number(out: &mut Vec<u8>, number: u64) -> Result<(), AllocError>
     ensures { OnOk result (out.new.items ≡ out.old.items ++ decimal number) }
 {
@@ -24,17 +20,16 @@ pub fn write_number(out: &mut Vec<u8>, number: u64) -> Result<(), AllocError>
     out.extend_from_slice(buffer.format(number).as_bytes())
 }
 
-/// The number that the first digits of a text write.
+/// The number with which a text begins.
 #[derive(Clone, Copy)]
 pub struct LeadingNumber {
-    /// The number, which is 0 where there are no digits.
+    /// The number; 0 if there are no digits.
     pub value: u64,
     /// How many digits there are.
     pub digits: usize,
 }
 
-/// The number that the digits write with which a text begins, leading zeros and all; none where a `u64` does not hold
-/// it.
+/// The number that the leading digits of a text write, leading zeros included; none if a `u64` can't hold it.
 pub fn leading_number(text: &[u8]) -> Option<LeadingNumber>
     ensures value { IfSome result (λ number. number.value ≡ decimal_value (take_while is_ascii_digit text.now)) }
     ensures digits { IfSome result (λ number. number.digits ≡ prefix_len is_ascii_digit text.now) }

@@ -60,7 +60,7 @@ tops b v = undecided b v && not (level_of b.mid v == UNPLACED)
 abbrev pub pulled : Begun → ℕ → Bool
 pulled b v = undecided b v && not (level_of b.new v == UNPLACED)
 
--- an undecided vertex stands in the order behind the cursor
+-- an undecided vertex is in the order after the cursor
 pub record InOrder (b : Begun) (v : ℕ) : Type 0 where
   pub place : ℕ
   pub after : b.cursor ≤ place
@@ -77,7 +77,7 @@ module _ (b : Begun) where
   pub grown_all : IsGrown b.aim b.old b.new
   grown_all = IsGrown-both differ b.placed.grown b.grown
 
-  -- what stands behind the old trail was placed
+  -- what comes after the old trail was placed
   placed_there : {v : ℕ} → StandsFrom b.new b.aim.begin v → IsPlaced b.aim b.old b.new v
   placed_there stands = search (rules, grown_all)
 
@@ -148,7 +148,7 @@ module _ (b : Begun) where
         b.sound.is_order.falls b.cursor there.place there.after there.before,
       )
 
-  -- a free vertex that stands in the order before the place where the tops end was placed
+  -- a free vertex in the order before the place where the tops end was placed
   placed_before : {v : ℕ} (inside : IsTrue (undecided b v)) (there : InOrder b v) → there.place < b.behind →
       IsPlaced b.aim b.old b.mid v
   placed_before {v} inside there before =
@@ -176,7 +176,7 @@ module _ (b : Begun) where
   pub tops_parity : {v : ℕ} → IsPlaced b.aim b.old b.mid v → priority_of b.game v % 2 ≡ b.aim.player
   tops_parity {v} placed = let top = b.placed.tops v placed in top.parity ∙ sym b.player
 
-  -- a top has a greater priority than an undecided vertex of the other parity, which stands behind it in the order
+  -- a top has a greater priority than an undecided vertex of the other parity, which comes after it in the order
   pub tops_above : (v w : ℕ) → IsTrue (tops b v) → IsTrue (undecided b w) →
       priority_of b.game w % 2 ≢ b.aim.player → priority_of b.game w < priority_of b.game v
   tops_above v w top inside other =

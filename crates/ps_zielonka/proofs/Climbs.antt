@@ -1,5 +1,5 @@
--- The last call that waited goes on: what the other player won in the next one, and all from where it can lead there,
--- is decided.
+-- The last call that waited continues: what the opponent won in the next one, and all from where the opponent can lead
+-- there, is decided.
 use Rattle.std.proofs.Common.{◌≡◌, ◌≢◌, ℕ, ◌+◌, ◌-◌, ◌*◌, ◌<◌, ◌≤◌, ◌⊎◌, inl, inr, List, Bool, length, get_or, rules}
 use Rattle.std.proofs.Common.{Some, ap, sym, ◌∙◌, arith}
 use Rattle.std.specs.Prelude.{IsTrue}
@@ -41,7 +41,7 @@ pub record Going (game : ParityGame) (a : ℕ) (frame : Frame) (old mid new : Ta
 
 module _ {game : ParityGame} {a : ℕ} {frame : Frame} {old mid new : TablesData} {winner winner_now order : List ℕ}
     (going : Going game a frame old mid new winner winner_now order) where
-  -- what stood in the trail from the turn on was open, and what was open stood there
+  -- what was in the trail from the turn on was open, and what was open was there
   pub was_open : {v : ℕ} → StandsFrom old frame.turn v → a + 2 ≤ level_of old v
   was_open stands = search rules
 
@@ -52,7 +52,7 @@ module _ {game : ParityGame} {a : ℕ} {frame : Frame} {old mid new : TablesData
   mid_still : (v : ℕ) → level_of old v < a + 2 → level_of mid v ≡ level_of old v
   mid_still v low = search (rules, was_open)
 
-  -- a vertex that stands in the trail from the turn on was open
+  -- a vertex in the trail from the turn on was open
   pub stands_open : {v : ℕ} → StandsFrom new frame.turn v → a + 2 ≤ level_of old v
   stands_open {v} stands = elim (cases_lt stands.place (length mid.trail)) [
     | inl less ↦

@@ -84,7 +84,7 @@ pub depth_solved : {game : ParityGame} {levels : List ℕ} {calls : ℕ} {solved
 depth_solved is_solved so_far = depth_known (λ v is_vertex fresh. false≢true (sym fresh.unsolved ∙ is_solved))
     (λ v second. false≢true (sym second.unsolved ∙ is_solved)) so_far
 
--- the last call that waited has its answer, or goes on
+-- the last call that waited has its answer, or continues
 pub depth_climbs : {game : ParityGame} {levels : List ℕ} (now : List ℕ) {calls : ℕ} (left : ℕ) {solved : Bool}
     (is : Bool) {depth : ℕ} → solved ≡ true → IsDepthSoFar game levels calls solved depth →
     IsDepthSoFar game now left is depth

@@ -10,7 +10,7 @@ use Rattle.ps_zielonka.specs.Inner.Stacks.{IsSolvedBy}
 use Rattle.ps_zielonka.proofs.Turning.{Solved-done}
 use Rattle.ps_zielonka.proofs.Sets.{from_at, to_from}
 
--- where the order has no unplaced vertex behind the cursor, none is left
+-- if the order has no unplaced vertex after the cursor, none is left
 none_left : {game : ParityGame} {tables : TablesData} {winner order : List ℕ} {a cursor : ℕ} →
     IsSoundBoard game tables winner order → Searches game tables winner order a cursor →
     ((j : ℕ) → cursor ≤ j → j < length order → level_of tables (get_or order j 0) ≢ UNPLACED) → (v : ℕ) →

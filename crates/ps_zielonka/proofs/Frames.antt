@@ -72,7 +72,7 @@ last_solved frames frame nest = search (rules, frames_size)
 
 -- ## Segments of the trail
 
--- what changes above a level and behind a place of the trail leaves the segments below
+-- what changes above a level and after a place of the trail leaves the lower segments as they are
 pub segment_below : {b : ℕ} (c m : ℕ) {t : ℕ} {old : TablesData} (new : TablesData) → b ≤ c → t ≤ m →
     m ≤ length old.trail → m ≤ length new.trail → ((j : ℕ) → j < m → get_or new.trail j 0 ≡ get_or old.trail j 0) →
     ((j : ℕ) → m ≤ j → j < length new.trail → c ≤ level_of new (get_or new.trail j 0)) →

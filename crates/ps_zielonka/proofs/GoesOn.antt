@@ -1,4 +1,4 @@
--- The last call that waits goes on: the stack without it, and the steps that are left fall.
+-- The last call that waits continues: the stack without it, and the steps that are left fall.
 use Rattle.std.proofs.Common.{◌≡◌, ℕ, ◌+◌, ◌-◌, ◌*◌, ◌<◌, ◌≤◌, inl, inr, List, [], ◌∷◌, ◌++◌, Bool, true, rules}
 use Rattle.std.proofs.Common.{false, length, get_or, refl, sym, ap, ◌∙◌, arith}
 use Rattle.std.proofs.lemmas.Bool.{cases_lt, false≢true}
@@ -16,7 +16,7 @@ use Rattle.ps_zielonka.proofs.Climbs.{on_aim, Going, was_open, stands_open, goin
 use Rattle.ps_zielonka.proofs.Climbs.{going_searches, going_fewer}
 use Rattle.ps_zielonka.proofs.Frames.{last_waits, last_solved, last_low, segment_below, below_wait, below_rise}
 
--- ## The last call goes on
+-- ## The last call continues
 
 pub on_nest : {game : ParityGame} {old mid new : TablesData} {winner winner_now order : List ℕ} (frames : List Frame)
     {frame : Frame} {cursor : ℕ} → IsNest game old winner order (frames ++ frame ∷ []) cursor true →

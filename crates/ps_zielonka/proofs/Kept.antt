@@ -16,14 +16,14 @@ kept_of rest lost v inside = let split = IsWithout-without rest lost in (split.w
 to_keeps : (rest lost : ℕ → Bool) (v : ℕ) → IsTrue (rest v) → ¬ IsTrue (lost v) → IsTrue (without rest lost v)
 to_keeps rest lost v inside outside = let split = IsWithout-without rest lost in split.all v inside outside
 
--- what the player wins of the rest is what the other one does not
+-- what the player wins of the rest is what the opponent does not win
 pub IsWon-without : (game : ParityGame) {rest lost : ℕ → Bool} {win : ℕ → ℕ} (table : ℕ → Option ℕ) (player : ℕ)
     {other : ℕ} → player < 2 → other < 2 → other ≢ player → IsWon rest nothing win other lost →
     Solved game rest win table → IsWon rest nothing win player (without rest lost)
 IsWon-without game {rest} {lost} {win} table player {other} is_player is_other differ is_won solved =
     search (rules, kept_of, false≢true, to_keeps)
 
--- where no vertex of the other player at the greatest priority leads to what was lost, no other one does
+-- if no vertex of the opponent at the greatest priority leads to what was lost, no other vertex does
 none_to_lost : {game : ParityGame} {open_part rest lost left : ℕ → Bool} {win : ℕ → ℕ} {table : ℕ → Option ℕ}
     {player other : ℕ} → player < 2 → other < 2 → other ≢ player →
     (turned : IsTurned game open_part rest player win table) → IsWon rest nothing win other lost →

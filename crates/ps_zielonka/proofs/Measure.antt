@@ -48,7 +48,7 @@ falls_done levels k = let some = some_step (size_from (2 * k + 2) levels) in ome
 pub falls_kept : (old new : List ℕ) (k n : ℕ) → n ≡ k + 1 → new ≡ old → steps_left new k true < steps_left old n true
 falls_kept old new k n next same = search (rules, some_rest, waiting_steps-suc)
 
--- the last call that waited goes on with fewer vertices
+-- the last call that waited continues with fewer vertices
 pub falls_on : (old new : List ℕ) (k n : ℕ) → n ≡ k + 1 → ((i : ℕ) → i < k →
     size_from (2 * i + 2) new ≡ size_from (2 * i + 2) old) → size_from (2 * k + 2) new < size_from (2 * k + 2) old →
     steps_left new k false < steps_left old n true

@@ -1,4 +1,4 @@
-//! The answer, as regions and strategies, of what the board has decided.
+//! The regions and strategies that the board has decided.
 
 ghost use Rattle.std.specs.Prelude.{◌≡◌, IfOk, length};
 ghost use Rattle.ps_game.specs.Games.{vertex_count};
@@ -8,11 +8,7 @@ use ps_attractor::Tables;
 use ps_game::{Arena, Player, Region, Strategy, Width};
 use std::alloc::{AllocError, Global};
 
-/// The vertices that player 0 wins.
-///
-/// # Errors
-///
-/// Fails where a growth was refused.
+/// The vertices that player 0 wins. Fails if out of memory.
 pub fn region_of(alloc: Global, winner: &[Player]) -> Result<Region, AllocError>
     ensures places { IfOk result (λ region. length region ≡ length winner.now) }
     ensures won { IfOk result (IsRegionTo winner.now (length winner.now)) }
@@ -26,11 +22,7 @@ pub fn region_of(alloc: Global, winner: &[Player]) -> Result<Region, AllocError>
     Ok(region)
 }
 
-/// The moves of a player at its vertices that it wins.
-///
-/// # Errors
-///
-/// Fails where a growth was refused.
+/// The moves of a player at its own vertices that it wins. Fails if out of memory.
 pub fn strategy_of<A: Arena, W: Width>(
     alloc: Global,
     arena: &A,

@@ -7,7 +7,7 @@ use crate::level::Level;
 use ps_attractor::Aim;
 use ps_game::Player;
 
-/// What a player attracts to: the vertices that stand in the trail from a place on.
+/// What a player attracts to: the vertices of the trail from a place on.
 #[derive(Drop)]
 pub struct Attraction {
     /// The player.
@@ -19,7 +19,7 @@ pub struct Attraction {
 }
 
 impl Attraction {
-    /// What the tables are asked for: the vertices that are not placed are free.
+    /// The aim for the tables: the vertices that are not placed are free.
     pub fn aim(&self) -> Aim
         requires { mark_of self.now.level < mark_of Level.Unplaced }
         ensures { result ≡ aim_of self.now }

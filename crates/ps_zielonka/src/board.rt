@@ -1,4 +1,4 @@
-//! What is decided of each vertex, and the steps on it: attract, keep, take back.
+//! What is decided about each vertex, and the steps on it: attract, keep, take back.
 
 ghost use Rattle.std.specs.Prelude.{◌≡◌, ◌≢◌, ◌+◌, ◌-◌, ◌<◌, ◌≤◌, ℕ, Bool, false, IfSome, IfNone, OnOk, IsTrue, length};
 ghost use Rattle.std.specs.Prelude.{take, slice_index, replicate, IfOk, []};
@@ -18,7 +18,7 @@ use ps_attractor::{Sources, Tables};
 use ps_game::{Arena, Numbers, Player, Width};
 use std::alloc::{AllocError, Global};
 
-/// What is decided of each vertex.
+/// What is decided about each vertex.
 #[derive(Drop)]
 pub struct Board<W: Width> {
     /// The level of each vertex, its move, and the vertices that were placed.
@@ -30,11 +30,7 @@ pub struct Board<W: Width> {
 }
 
 impl<W: Width> Board<W> {
-    /// No vertex of so many is decided.
-    ///
-    /// # Errors
-    ///
-    /// Fails where a growth was refused.
+    /// A board on which none of `count` vertices is decided. Fails if out of memory.
     pub fn undecided(alloc: Global, count: usize) -> Result<Board<W>, AllocError>
         requires { count ≤ W.LIMIT }
         ensures levels { IfOk result (λ board. board.tables.level ≡ replicate count (mark_of Level.Unplaced)) }
@@ -49,12 +45,7 @@ impl<W: Width> Board<W> {
         })
     }
 
-    /// Attracts to the vertices that stand in the trail from a place on, and gives all that then stand there to the
-    /// player.
-    ///
-    /// # Errors
-    ///
-    /// Fails where a growth was refused.
+    /// Attracts to the vertices of the trail from a place on. All vertices that are then there are won by the player.
     pub fn attract<A: Arena>(
         &mut self,
         arena: &A,
@@ -84,7 +75,7 @@ impl<W: Width> Board<W> {
         Ok(())
     }
 
-    /// Gives all that stand in the trail from a place on to the player.
+    /// Makes the player win all vertices of the trail from a place on.
     fn give(&mut self, player: Player, begin: usize)
         requires begin { begin ≤ length self.old.tables.trail }
         requires winners { (j : ℕ) → j < length self.old.tables.trail →
@@ -98,8 +89,8 @@ impl<W: Width> Board<W> {
         }
     }
 
-    /// Whether the player keeps all that the other one did not win, at each vertex of the greatest priority too. Writes
-    /// the moves there.
+    /// Whether the player keeps all that the opponent did not win, in particular each vertex of the greatest priority.
+    /// Writes the moves there.
     pub fn is_kept<A: Arena>(&mut self, arena: &A, frame: &Frame, level: Level) -> bool
         requires game { IsGame (A.game arena.now) }
         requires fits { FitsGame (A.game arena.now) self.old.tables }
@@ -155,7 +146,7 @@ impl<W: Width> Board<W> {
         }
     }
 
-    /// A successor of a vertex above a level that a player won.
+    /// A successor of a vertex that is above a level and won by a player.
     fn won_successor<A: Arena>(
         &self,
         arena: &A,
@@ -182,12 +173,8 @@ impl<W: Width> Board<W> {
         None
     }
 
-    /// Leaves in the trail, of what stands there from the turn on, just what the player did not win, and gives that the
-    /// level.
-    ///
-    /// # Errors
-    ///
-    /// Fails where a growth was refused.
+    /// Of the vertices of the trail from the turn on, keeps exactly those that the player did not win, and gives them
+    /// the level.
     pub fn reopen(&mut self, frame: &Frame, level: Level) -> Result<(), AllocError>
         requires vertices { (j : ℕ) → j < length self.old.tables.trail →
             slice_index self.old.tables.trail j < length self.old.tables.level }
@@ -212,7 +199,7 @@ impl<W: Width> Board<W> {
         Ok(())
     }
 
-    /// Takes off the trail what stands there from a place on.
+    /// Takes the vertices from a place on off the trail.
     fn take_off(&mut self, turn: usize) -> Result<(), AllocError>
         requires turn { turn ≤ length self.old.tables.trail }
         requires vertices { (j : ℕ) → j < length self.old.tables.trail →

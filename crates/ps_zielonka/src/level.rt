@@ -1,4 +1,4 @@
-//! Where a vertex stands among the calls.
+//! What the calls know about a vertex.
 
 ghost use Rattle.std.specs.Prelude.{◌≡◌, ◌≤◌};
 ghost use Rattle.ps_zielonka.specs.Inner.Levels.{mark_of};
@@ -6,7 +6,7 @@ ghost use Rattle.ps_zielonka.specs.Inner.Levels.{mark_of};
 /// The mark of the vertices that are not placed.
 const UNPLACED: usize = usize::MAX;
 
-/// Where a vertex stands among the calls. The depth of a call is how many others wait for it.
+/// What the calls know about a vertex. The depth of a call is how many others wait for it.
 #[derive(Clone, Copy)]
 pub enum Level {
     /// Decided for good in a call.
@@ -24,7 +24,7 @@ pub enum Level {
 }
 
 impl Level {
-    /// The number by which the tables keep the level.
+    /// The number by which the tables store the level.
     pub fn mark(self) -> usize
         requires { mark_of self ≤ usize.MAX }
         ensures { result ≡ mark_of self }

@@ -1,20 +1,23 @@
 //! Which player wins from which vertices of a parity game, and by which moves.
 //!
-//! That is the recursive algorithm of McNaughton and Zielonka, with a list of frames in place of the recursion. A call
-//! takes the greatest priority of its subgame, and the player who wins it attracts to the tops: the vertices of that
-//! priority, and in all calls but the first those of lower ones too, down to the first of the other parity. What is
-//! left is solved first. Where the player then keeps each top, the player wins all that the other one did not win in
-//! what was left. Else the other player attracts to what it won there, and the call goes on with the rest.
+//! This is the recursive algorithm of McNaughton and Zielonka, with a list of frames instead of recursion: no function
+//! calls itself. A call takes the greatest priority of its subgame. The player who wins it attracts to the tops, which
+//! are the vertices of that priority. In all calls but the first, the tops also include those of lower priorities, down
+//! to the first of the other parity. What is left is solved first. If the player then keeps each top, the player wins
+//! all that the opponent did not win in what was left. Otherwise the opponent attracts to what it won there, and the
+//! call continues with the rest.
 //!
 //! | Call | What it gives |
 //! |---|---|
-//! | `regions` | the region of player 0, the moves of both players in their regions, and in `Counts` the depth |
-//! | `regions_in` | the same by tables with numbers of a stated width |
-//! | `regions_within` | what `regions` gives, or nothing where a budget of vertices to be placed is spent before |
+//! | `regions` | on every game: player 0 holds the region by the first strategy, player 1 all others by the second |
+//! | `regions_in` | the same, by tables with numbers of a stated width |
+//! | `regions_within` | what `regions` gives, or nothing if a budget of vertices to place is used up first |
 //!
-//! Calls wait for one another at most as deep as there are different priorities. The number of calls can grow
-//! exponentially with the number of priorities; a turn takes time in proportion to the edges that its attractor looks
-//! at. The memory is in proportion to vertices and edges.
+//! A strategy has moves only at its player's own vertices that the player wins. `Counts` has the depth of nested calls,
+//! which is at most the number of different priorities, at least 1 if there is a vertex, and 2 if a vertex is left out.
+//!
+//! The number of calls can grow exponentially with the number of priorities. A turn takes time proportional to the
+//! edges that its attractor looks at. The memory is proportional to vertices and edges.
 #![tactic(auto)]
 
 mod answer;

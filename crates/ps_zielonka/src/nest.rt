@@ -1,4 +1,4 @@
-//! The calls that wait, one in the other, and the steps down into a subgame and back up.
+//! The calls that wait, one inside another, and the steps down into a subgame and back up.
 
 ghost use Rattle.std.specs.Prelude.{◌≡◌, ◌≢◌, ◌+◌, ◌-◌, ◌*◌, ◌<◌, ◌≤◌, ℕ, Bool, true, false, [], ◌∷◌, ◌++◌, IfOk, OnOk};
 ghost use Rattle.std.specs.Prelude.{IsTrue, None, length, slice_index};
@@ -20,12 +20,12 @@ use ps_attractor::{Sources, Tables};
 use ps_game::{Arena, Numbers, Player, Width};
 use std::alloc::{AllocError, Global};
 
-/// The calls that wait, what is decided, and where the search for the next turn stands.
+/// The calls that wait, what is decided, and where the search for the next turn is.
 #[derive(Drop)]
 pub struct Nest<W: Width> {
-    /// What is decided of each vertex.
+    /// What is decided about each vertex.
     pub board: Board<W>,
-    /// The vertices by falling priority.
+    /// The vertices by descending priority.
     pub order: Numbers<W>,
     /// The calls that wait.
     pub frames: Vec<Frame>,
@@ -35,16 +35,12 @@ pub struct Nest<W: Width> {
     pub solved: bool,
     /// The greatest number of calls that waited at one time.
     pub depth: usize,
-    /// How many vertices were placed, each as often as it was, or the greatest number of 64 bits where they were more.
+    /// How many vertices were placed, counted each time, or the greatest number of 64 bits if there were more.
     pub work: u64,
 }
 
 impl<W: Width> Nest<W> {
-    /// No vertex is decided, and no call waits.
-    ///
-    /// # Errors
-    ///
-    /// Fails where a growth was refused.
+    /// No vertex is decided, and no call waits. Fails if out of memory.
     pub fn new<A: Arena>(alloc: Global, arena: &A) -> Result<Nest<W>, AllocError>
         requires { HasRoom (A.game arena.now) W.LIMIT }
         ensures stack { IfOk result (IsStack (A.game arena.now)) }
@@ -61,11 +57,7 @@ impl<W: Width> Nest<W> {
         })
     }
 
-    /// Decides each vertex, and answers whether it did: not where a budget of vertices to be placed is spent before.
-    ///
-    /// # Errors
-    ///
-    /// Fails where a growth was refused.
+    /// Decides each vertex, and returns whether it did. It does not if a budget of vertices to place is used up first.
     pub fn decide<A: Arena>(
         &mut self,
         alloc: Global,
@@ -84,11 +76,7 @@ impl<W: Width> Nest<W> {
         self.solve(arena, &sources, budget)
     }
 
-    /// The same, where the edges to each vertex are known.
-    ///
-    /// # Errors
-    ///
-    /// Fails where a growth was refused.
+    /// The same, given the edges to each vertex.
     pub fn solve<A: Arena>(
         &mut self,
         arena: &A,
@@ -117,14 +105,14 @@ impl<W: Width> Nest<W> {
         Ok(true)
     }
 
-    /// Whether a budget is spent, which none is where there is none.
+    /// Whether a budget is used up; without a budget it never is.
     fn has_spent(&self, budget: Option<u64>) -> bool
         ensures { budget ≡ None → result ≡ false }
     {
         budget.is_some_and(|most| self.work >= most)
     }
 
-    /// Begins a turn where a vertex is left, and else has the answer.
+    /// Begins a turn if a vertex is left, and otherwise has the answer.
     fn descend<A: Arena>(&mut self, arena: &A, sources: &Sources<W>) -> Result<(), AllocError>
         requires room { HasRoom (A.game arena.now) W.LIMIT }
         requires sources { IsSourcesOf (A.game arena.now) sources.now }
@@ -143,8 +131,8 @@ impl<W: Width> Nest<W> {
         }
     }
 
-    /// The player of the greatest priority, which stands at a place of the order, attracts to the vertices of that
-    /// priority, and of lower ones down to the first of the other parity, but in the first call.
+    /// The player of the greatest priority, found at a place of the order, attracts to the vertices of that priority.
+    /// Except in the first call, it also attracts to those of lower ones, down to the first of the other parity.
     fn begin_turn<A: Arena>(
         &mut self,
         arena: &A,
@@ -194,7 +182,7 @@ impl<W: Width> Nest<W> {
         Ok(())
     }
 
-    /// Goes back to the last call that waits: it has its answer, or goes on with what is left open.
+    /// Returns to the last call that waits: it has its answer, or continues with what is left open.
     fn climb<A: Arena>(&mut self, arena: &A, sources: &Sources<W>) -> Result<(), AllocError>
         requires room { HasRoom (A.game arena.now) W.LIMIT }
         requires sources { IsSourcesOf (A.game arena.now) sources.now }
@@ -217,7 +205,7 @@ impl<W: Width> Nest<W> {
         }
     }
 
-    /// Decides what the other player won and attracts to, and searches what is left open of the call.
+    /// Decides what the opponent won and attracts to, and searches what the call has left open.
     fn go_on<A: Arena>(
         &mut self,
         arena: &A,
@@ -252,7 +240,7 @@ impl<W: Width> Nest<W> {
     }
 }
 
-/// A number and, in addition, how many vertices stand in the trail from a place on.
+/// A number plus how many vertices are in the trail from a place on.
 fn work_behind<W: Width>(work: u64, tables: &Tables<W>, turn: usize) -> u64 {
     let placed = tables.placed().saturating_sub(turn);
     work.saturating_add(placed as u64)

@@ -15,10 +15,8 @@ use std::alloc::{AllocError, Global};
 
 /// Which vertices player 0 wins, the moves by which it does, and those by which player 1 wins the others.
 ///
-/// # Errors
-///
-/// Fails where a growth was refused, as that of tables for 2^63 - 2 vertices or 2^64 edges is. There is no other fault:
-/// each game has two regions.
+/// Fails if out of memory, always so if tables for 2^63 - 2 vertices or 2^64 edges are needed. There is no other fault:
+/// every game has two regions.
 pub fn regions<A: Arena>(
     alloc: Global,
     arena: &A,
@@ -37,11 +35,7 @@ pub fn regions<A: Arena>(
     }
 }
 
-/// The same, worked out in tables with numbers of a stated width.
-///
-/// # Errors
-///
-/// Fails where a growth was refused.
+/// The same, worked out in tables with numbers of a stated width. Fails if out of memory.
 pub fn regions_in<A: Arena, W: Width>(
     alloc: Global,
     arena: &A,
@@ -56,12 +50,11 @@ pub fn regions_in<A: Arena, W: Width>(
     answer_by(alloc, arena, counts, &nest)
 }
 
-/// The same as `regions` gives, or nothing where as many vertices as the budget says, or more, were placed before each
-/// was decided. How many are placed is left open: a vertex is placed again each time that it was taken back.
+/// The same as `regions`, or nothing if the budget was used up first: as many vertices as it says, or more, were placed
+/// before each was decided. How many are placed is left open: a vertex is placed again each time after it was taken
+/// back.
 ///
-/// # Errors
-///
-/// Fails where a growth was refused, as `regions` does.
+/// Fails if out of memory, like `regions`.
 pub fn regions_within<A: Arena>(
     alloc: Global,
     arena: &A,
@@ -114,7 +107,7 @@ fn solved_nest<A: Arena, W: Width>(alloc: Global, arena: &A) -> Result<Nest<W>, 
     Ok(nest)
 }
 
-/// The answer that a nest has, and its depth in the counts.
+/// The answer of a nest, with its depth in the counts.
 fn answer_by<A: Arena, W: Width>(
     alloc: Global,
     arena: &A,

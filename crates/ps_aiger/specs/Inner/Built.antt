@@ -1,4 +1,4 @@
--- What the circuit of a machine is made of. (Of private functions.)
+-- The parts of which the circuit of a machine is made. (For private functions.)
 --     AreLatches from next latches      the latches from that variable on, with these next literals
 --     IsBuilt b d next outputs c      the circuit of these gates, next literals and outputs
 use Rattle.std.specs.Prelude.{◌≡◌, ℕ, ◌+◌, ◌*◌, ◌<◌, false, List, length, map, slice_get, slice_index, Some, None}

@@ -1,9 +1,9 @@
--- The bits of a machine's step as functions of latches and inputs, and how their literals are made. (Of private
+-- The bits of a machine's step as functions of latches and inputs, and how their literals are made. (For private
 -- functions.)
 --     Wanted, wanted_bit w row      one bit of a row: of the next memory, or of the letter
---     node_made m w node d      the literal of the wanted bit of the row that a node leads to, as it is made
---     IsLiteralOf m w d node literal, KnowsMade m w d known      that literal is there; each one that is known is
---     code_wanted m w latches code d      the same of the memories whose code is `code` with the bits of the first
+--     node_made m w node d      the literal of the wanted bit of the row to which a node leads, as it is made
+--     IsLiteralOf m w d node literal, KnowsMade m w d known      that literal exists; each one that is known exists
+--     code_wanted m w latches code d      the same for the memories whose code is `code` with the bits of the first
 --               latches
 --     bits_wired m latches ws d      the literals of these bits, one after another
 use Rattle.std.specs.Prelude.{◌≡◌, ℕ, Bool, List, length, map, Option, Some}
@@ -40,7 +40,7 @@ node_made m w node d =
     over_variables (range_with_len 1 (length m.inputs)) (λ bits.
     wanted_bit w (row_by m node (letter_over m.inputs bits))) d
 
--- a literal over the gates that are there, which would be made without a further one
+-- a literal over existing gates, which would be made without a further one
 pub record IsLiteralOf (m : MachineData) (w : Wanted) (d : Drafted) (node literal : ℕ) : Type 0 where
   pub held : IsHeld d literal
   pub made : node_made m w node d ≡ record { draft = d; literal = literal }

@@ -59,7 +59,7 @@ use Rattle.ps_text.proofs.Bytes.Single.{At, byte_taken}
 abbrev seen : ℕ → List ℕ → List Seen
 seen at bytes = signs (pieces_at at bytes)
 
--- wherever the bytes stand
+-- wherever the bytes are
 record IsReadFrom {V : Type 0} (P : Field V) (text : List ℕ) (v : V) (rest : List ℕ) : Type 0 where
   read : (at : ℕ) → (to : ℕ) × IsRead P (seen at text) v (seen to rest)
 
@@ -91,11 +91,11 @@ one_byte {take = take} {Bad = Bad} {b = b} {rest = rest} takes good = record {
       (at + 1, read_one take Bad (takes s refl) (λ f x. good s f refl x));
 }
 
--- the next sign is none of these
+-- the next sign is not one of these
 avoids : (A : Seen → Type 0) (s : Seen) → (A s → ⊥) → Avoids A (Some s)
 avoids A s none t e h = none (subst A (sym (same_some s t e)) h)
 
--- items behind spaces: no more of them, or one and then the others
+-- items after spaces: no more of them, or one and then the others
 module _ {C : Type 0} (item : C → Field C) (l : (c : C) → Laws Odd (item c) (At 32) AtDigit ⊥) where
   no_item : (c : C) (rest : List ℕ) → IsReadFrom (many item c) (10 ∷ rest) c (10 ∷ rest)
   no_item c rest = record {
@@ -194,7 +194,7 @@ read_counts (c ∷ cs) {rest} small = rw append_assoc (then (chain_counts (lengt
     (then (chain_count (length cs)) (read_number Never (All-head IsWord c cs small) (fields_end cs rest) (λ w. w))
     (with_value (λ others. c ∷ others) (read_counts cs (All-tail IsWord c cs small)))))
 
--- ## Counts behind their priorities
+-- ## Counts after their priorities
 
 pairs_end : (ps cs rest : List ℕ) → EndsField (pairs ps cs ++ 10 ∷ rest)
 pairs_end [] cs rest = inr (inl refl)

@@ -1,7 +1,7 @@
 -- What the writer of a certificate has written.
---     all_taken, all_taken_all      of each element that was passed
---     head_joined      what stands before the lines of the vertices
---     pair_written, pair_skipped      one count further
+--     all_taken, all_taken_all      of each element so far
+--     head_joined      what precedes the lines of the vertices
+--     pair_written, pair_skipped      one more count
 use Rattle.std.proofs.Common.{◌≡◌, ℕ, ◌+◌, ◌<◌, ◌≤◌, cond, eqb, List, [], ◌∷◌, ◌++◌, length, get_or, drop}
 use Rattle.std.proofs.Common.{take, subst, append_assoc, arith, rules}
 use Rattle.std.specs.Prelude.{decimal}

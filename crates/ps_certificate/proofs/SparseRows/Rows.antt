@@ -37,7 +37,7 @@ module _ (own other : List PlacedCount) (from number : ℕ) where
 
 -- ## Copying
 
--- a list has the counts up to its end, and those before a number stand there
+-- a list has the counts up to its end, and those before a number are in it
 pub record IsFilled (width : ℕ) (placed : List PlacedCount) (list : List ℕ) (number : ℕ) : Type 0 where
   pub list_is : list ≡ row_of (length list) placed
   pub long : length list ≤ width

@@ -58,7 +58,7 @@ same_place p ps {k} h = ap (λ b. cond b p.count (count_at ps k)) (eq-eqb p.plac
 other_place : (p : PlacedCount) (ps : List PlacedCount) (k : ℕ) → p.place ≢ k → count_at (p ∷ ps) k ≡ count_at ps k
 other_place p ps k h = ap (λ b. cond b p.count (count_at ps k)) (ne_eqb p.place k h)
 
--- none stands there
+-- there is none at that place
 pub count_missing : (ps : List PlacedCount) (k : ℕ) → ((i : ℕ) → i < length ps → place_at ps i ≢ k) → count_at ps k ≡ 0
 count_missing [] k h = refl
 count_missing (p ∷ ps) k h =

@@ -13,7 +13,7 @@ abbrev pub StaysInside : ParityGame → CertificateData → ℕ → Type 0
 StaysInside game certificate v =
     (w : ℕ) → Remains game certificate v w → winner_of certificate w ≡ winner_of certificate v
 
--- the move of a vertex is right, and what remains stays with the winner
+-- the move of a vertex is right, and its edges that remain stay with the winner
 pub record IsSoundAt (game : ParityGame) (certificate : CertificateData) (v : ℕ) : Type 0 where
   pub right_move : HasRightMove game certificate v
   pub inside : StaysInside game certificate v
@@ -28,7 +28,7 @@ pub record IsFirstEscape (game : ParityGame) (certificate : CertificateData) (v 
   pub leaves : Leaves game certificate v w
   pub first : (other : ℕ) → Leaves game certificate v other → (w ≡ other) ⊎ StandsBefore (successors_of game v) w other
 
--- moves and escapes are looked for first, ranks behind them
+-- moves and escapes are looked for first, ranks after them
 abbrev pub stage_of : Flaw → ℕ
 stage_of (Move _ _) = 0
 stage_of (Escape _ _) = 0
@@ -52,13 +52,13 @@ abbrev pub IsComplete : ParityGame → ℕ → List ℕ → Type 0
 IsComplete game parity list =
     (v : ℕ) → v < vertex_count game → priority_of game v % 2 ≡ parity → Contains list (priority_of game v)
 
--- the entry of a vertex fits a game of so many vertices
+-- the entry of a vertex fits a game with that number of vertices
 pub record EntryFits (vertices : ℕ) (certificate : CertificateData) (v : ℕ) : Type 0 where
   pub winner : winner_of certificate v < 2
   pub choice : IfSome (choice_of certificate v) (λ w. w < vertices)
   pub count_each : length (counts_of certificate v) ≡ length (opposing certificate (winner_of certificate v))
 
--- a number stands at a place of a list
+-- a number is at a place of a list
 pub record IsAt (list : List ℕ) (number place : ℕ) : Type 0 where
   pub within : place < length list
   pub is : slice_index list place ≡ number
@@ -68,15 +68,15 @@ abbrev pub KeepsCounts : ParityGame → CertificateData → ℕ → ℕ → Type
 KeepsCounts game certificate v w =
     (k : ℕ) → k < length (opposing certificate (winner_of certificate v)) → KeepsCount game certificate v w k
 
--- each edge of a vertex that remains does
+-- each edge of a vertex that remains does so
 abbrev pub KeepsCountsAt : ParityGame → CertificateData → ℕ → Type 0
 KeepsCountsAt game certificate v = (w : ℕ) → Remains game certificate v w → KeepsCounts game certificate v w
 
--- the vertices before a place do
+-- the vertices before a place do so
 abbrev pub KeepCountsBefore : ParityGame → CertificateData → ℕ → Type 0
 KeepCountsBefore game certificate n = (v : ℕ) → v < n → KeepsCountsAt game certificate v
 
--- the first flaw in counts at a vertex, where each earlier one keeps the rule
+-- the first flaw in counts at a vertex, if each earlier one keeps the rule
 pub record IsFirstUnranked (game : ParityGame) (certificate : CertificateData) (flaw : Flaw) : Type 0 where
   pub vertex : ℕ
   pub at_vertex : IsFirstFlawAt game certificate 1 vertex flaw

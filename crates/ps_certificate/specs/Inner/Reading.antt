@@ -1,10 +1,10 @@
 -- What the private functions of the reader say of what they have read: a part of the grammar, or its first fault.
 --     Tells view part old result new      the part was read, or its first fault was found
---     numeral bytes      the longest run of digits without a leading zero that the bytes begin with
---     TellsNumber old result new      this run was passed; or it is empty, or a word of 64 bits does not hold its
---               number
---     TellsPriority, TellsHead, TellsEntries      the priority of a pair; what stands before the lines of the vertices;
---               the text
+--     numeral bytes      the longest run of digits without a leading zero with which the bytes begin
+--     TellsNumber old result new      the function moved past this run; or it is empty, or its number does not fit in
+--               64 bits
+--     TellsPriority, TellsHead, TellsEntries      the priority of a pair; what precedes the lines of the vertices; the
+--               text
 use Rattle.std.specs.Prelude.{◌≡◌, ℕ, ◌+◌, ◌^◌, ◌<◌, ◌≤◌, ◌⊎◌, List, [], ◌∷◌, ◌++◌, length, Option, Some, None, Result}
 use Rattle.std.specs.Prelude.{Ok, Err, Bool, true, false, ◌||◌, nat_lt, ◌==◌, if◌then◌else◌, take_while, slice_index}
 use Rattle.std.specs.Char.{is_ascii_digit}
@@ -42,7 +42,7 @@ comes byte (b ∷ bytes) = b == byte
 abbrev pub numeral : List ℕ → List ℕ
 numeral bytes = if comes 48 bytes then 48 ∷ [] else take_while is_ascii_digit bytes
 
--- the run that comes next was passed, and writes that number
+-- the function moved past the run that came next, which writes that number
 pub record IsNumberRead (old new : Stream Seen) (n : ℕ) : Type 0 where
   pub at : ℕ
   pub digits : List ℕ
@@ -72,8 +72,8 @@ abbrev pub rises : Option ℕ → ℕ → Bool
 rises None n = true
 rises (Some last) n = nat_lt last n
 
--- the priority of a count was read, at that place of the list; or its first fault was found, or no colon can come
--- behind it
+-- the priority of a count was read, at that place of the list; or its first fault was found, or no colon is allowed
+-- after it
 abbrev pub TellsPriority : List ℕ → Pairs → Stream Seen → Result ℕ CertFault → Stream Seen → Type 0
 TellsPriority ps pairs old (Ok place) new = ReadsPart (judged (WrongPriority ps pairs)) old
     (slice_index ps place) new

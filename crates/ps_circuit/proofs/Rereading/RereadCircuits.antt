@@ -28,7 +28,7 @@ use Rattle.ps_circuit.proofs.Rereading.RereadLines.{IsNew, reread_input, reread_
 
 -- ## The literals of a circuit
 
--- own stands in the whole, behind front
+-- own is in the whole, after front
 module _ (front own rest : List ℕ) {whole : List ℕ} (split : whole ≡ front ++ (own ++ rest)) where
   place_within : (k : ℕ) → k < length own → length front + k < length whole
   place_within k lt = omega (arith, ap length split, length-append front (own ++ rest), length-append own rest)
@@ -84,7 +84,7 @@ module _ {c : CircuitData} (draft : IsDraft c) {X : Type 0} (kind : LineKind X) 
     (none : texts [] ≡ []) (some : (x : X) (xs : List X) → texts (x ∷ xs) ≡ text x ++ texts xs)
     (reread : (rest : List ℕ) (Good : Lines X → Type 0) (d : Lines X) (x : X) → IsNew kind c.most d x →
     ((e : Lines X) → AddsItem kind d e x → Good e) → Rereads (line d) Good (text x ++ rest) rest) where
-  -- one item stands in the middle
+  -- one item is in the middle
   middle : (of : List X → List ℕ) → ((xs ys : List X) → of (xs ++ ys) ≡ of xs ++ of ys) →
       (front back whole : List ℕ) → whole ≡ front ++ (of all ++ back) → (a xs : List X) (x : X) → a ++ x ∷ xs ≡ all →
       whole ≡ (front ++ of a) ++ (of (x ∷ []) ++ (of xs ++ back))

@@ -1,10 +1,10 @@
 -- How the fields of a written line are read again.
 --     from e at text      the pieces of text from the offset at on, in a text that ends at e
---     Rereads part Good text rest      the part is read from text, wherever that stands: its value is Good, and rest is
+--     Rereads part Good text rest      the part is read from text, wherever that is: its value is Good, and rest is
 --               left
---     reread_then, reread_mapped      one part behind another; a value seen by another function
+--     reread_then, reread_mapped      one part after another; a value seen by another function
 --     reread_as, reread_branch      another text; one of several forms
---     number_then, field_then      a number, and a number behind a space, and what stands behind it
+--     number_then, field_then      a number, and a number after a space, and what follows it
 --     reread_end, reread_more, reread_no_more      the end of a line; a further field comes, or none
 use Rattle.std.proofs.Common.{◌≡◌, ℕ, ◌+◌, ◌^◌, ◌<◌, Bool, true, false, List, [], ◌∷◌, ◌++◌, length, refl, sym, ap}
 use Rattle.std.proofs.Common.{subst, ◌∙◌, arith, rules}
@@ -106,7 +106,7 @@ reread_run p see Bad text {rest} some all longest clean good = record {
       };
 }
 
--- digits are no spaces
+-- digits are not spaces
 digit_no_space : (b : ℕ) → is_digit b ≡ true → is_space b ≡ false
 digit_no_space b h = search (rules, eqb-true)
 
@@ -158,7 +158,7 @@ pub reread_word : (bytes : List ℕ) {rest : List ℕ} → Rereads (word bytes) 
 reread_word [] = reread_give tt tt
 reread_word (b ∷ bytes) = reread_then (chain_word b bytes) (reread_byte b) (λ _ _. reread_word bytes)
 
--- one space, where a number stands behind it
+-- one space that a number follows
 reread_space : (n : ℕ) (rest : List ℕ) → n < 2 ^ 64 → Rereads gap AnyValue (32 ∷ decimal n ++ rest) (decimal n ++ rest)
 unfolding gap
 reread_space n rest small =
@@ -166,7 +166,7 @@ reread_space n rest small =
     reread_run is_space (λ at bytes. tt) NoBadRun (32 ∷ []) (omega arith) (refl, tt)
     (digits_no_space (decimal n) rest t.some t.pass) (λ f x. x) (λ at. tt)
 
--- the next sign is none of A
+-- the next sign is not in A
 avoids_at : (A : Seen → Type 0) (e at b : ℕ) (rest : List ℕ) → ((t : Seen) → t.byte ≡ b → A t → ⊥) →
     Avoids A (next_of (from e at (b ∷ rest)))
 avoids_at A e at b rest none t x a = none t (ap (λ (s : Seen). s.byte) (sym (same_some _ t x))) a

@@ -1,7 +1,8 @@
 -- How the first line and each number line of a circuit that is written are read again.
 --     IsWritable      the counts can be written
 --     reread_header      the first line
---     IsNew kind most d x      the item defines what may be defined behind d, and what it reads is no wrong literal
+--     IsNew kind most d x      after d it is allowed to define what the item defines, and what the item reads is not a
+--               wrong literal
 --     reread_input, reread_latch, reread_output, reread_gate      a line of each kind
 use Rattle.std.proofs.Common.{◌≡◌, ℕ, ◌^◌, ◌<◌, ◌≤◌, Bool, true, false, if◌then◌else◌, List, [], ◌∷◌, ◌++◌, rules}
 use Rattle.std.proofs.Common.{length, refl, sym, subst, arith, append_assoc}
@@ -77,7 +78,7 @@ reread_header c w rest = reread_as regrouped (reread_then chain_header (reread_w
 
 -- ## The parts of a line
 
--- fields, and what stands behind them
+-- fields, and what follows them
 abbrev pub fields_text : List ℕ → List ℕ → List ℕ
 fields_text [] rest = rest
 fields_text (x ∷ xs) rest = field_text x (fields_text xs rest)
@@ -89,7 +90,7 @@ fields_is (x ∷ xs) rest = search (rules, append_assoc, fields_is xs rest)
 line_is : (x : ℕ) (xs rest : List ℕ) → line x xs ++ rest ≡ decimal x ++ fields_text xs (10 ∷ rest)
 line_is x xs rest = grind (arith, append_assoc, fields_is)
 
--- what stands behind the next literal of a latch
+-- what follows the next literal of a latch
 abbrev reset_text : Bool → List ℕ → List ℕ
 reset_text r rest = if r then 32 ∷ decimal 1 ++ 10 ∷ rest else 10 ∷ rest
 
@@ -120,7 +121,7 @@ reread_reset true latch {rest} two = reread_then (chain_reset latch) (reread_mor
 
 -- ## Lines
 
--- what the item defines may be defined behind d, and what it reads is no wrong literal
+-- after d it is allowed to define what the item defines, and what the item reads is not a wrong literal
 pub record IsNew {X : Type 0} (kind : LineKind X) (most : ℕ) (d : Lines X) (x : X) : Type 0 where
   pub definitions : All (λ l. (2 ≤ l) × IsGood (WrongDefinition most d.defined) l) (kind.defines (x ∷ []))
   pub literals : All (IsGood (WrongLiteral most)) (kind.reads (x ∷ []))

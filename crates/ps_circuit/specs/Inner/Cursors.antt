@@ -1,6 +1,6 @@
--- What the private functions of the reader say of the signs that they pass.
+-- What the private functions of the reader say of the signs that they move past.
 --     Tells view part old result new      a part of the grammar was read, or its first fault was found
---     TellsNumber old result new      a number was passed, or none comes
+--     TellsNumber old result new      the function moved past a number, or none comes
 use Rattle.std.specs.Prelude.{◌≡◌, ℕ, ◌-◌, ◌^◌, ◌<◌, List, [], length, Result, Ok, Err, min}
 use Rattle.ps_text.specs.Answers.{Stream}
 use Rattle.ps_text.specs.Readers.{Meets}
@@ -18,7 +18,7 @@ use Rattle.ps_text.specs.declared.faults.Fault.TheVariants.{Text}
 abbrev pub Tells : {V X : Type 0} → (X → V) → Field V → Stream Seen → Result X AigFault → Stream Seen → Type 0
 Tells view part old result new = Meets found_of aig_causes view part old result new
 
--- a number as a word of 64 bits holds it
+-- a number as a word of 64 bits stores it
 abbrev pub saturated : ℕ → ℕ
 saturated n = min n (2 ^ 64 - 1)
 

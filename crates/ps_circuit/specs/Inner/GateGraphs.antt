@@ -1,4 +1,4 @@
--- The gates of a circuit as a graph: each has a place for either literal that it reads.
+-- The gates of a circuit as a graph: each has a place for each of the two literals that it reads.
 use Rattle.std.specs.Prelude.{◌≡◌, ℕ, List, length, slice_get, Option, Some, None, zero, suc}
 use Rattle.ps_components.specs.Graphs.{Digraph, Link}
 use Rattle.ps_circuit.specs.declared.links.Links.{Links}

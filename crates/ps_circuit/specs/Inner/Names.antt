@@ -1,4 +1,4 @@
--- What the reader keeps true of the names that it has read.
+-- The invariant of the names that the reader has read.
 use Rattle.std.specs.Prelude.{◌≡◌, ℕ, Bool, false, ◌==◌, ◌||◌, [], map, replicate, All, vec_len, Option, None, Some}
 use Rattle.std.specs.Prelude.{Result, Ok, Err}
 use Rattle.ps_text.specs.Answers.{Stream}
@@ -21,7 +21,7 @@ names_data n =
       outputs = map name_bytes n.outputs.items;
     }
 
--- a name or none for each of so many inputs, latches and outputs
+-- a name or none for each input, latch and output, whose numbers are given
 pub record AreNames (n : Names) (inputs latches outputs : ℕ) : Type 0 where
   pub inputs_each : vec_len n.inputs ≡ inputs
   pub latches_each : vec_len n.latches ≡ latches
@@ -41,7 +41,7 @@ abbrev pub is_kind : Option ℕ → Bool
 is_kind None = false
 is_kind (Some b) = (b == 105) || (b == 108) || (b == 111)
 
--- what stands behind the names was passed up to the end, or a sign stands there that begins no comment
+-- the reader moved past what follows the names up to the end, or a sign is there that does not begin a comment
 abbrev pub TellsComment : Stream Seen → Result (Unit {0}) AigFault → Stream Seen → Type 0
 TellsComment old (Ok u) new = Reads comment old tt new × (new.pieces ≡ [])
 TellsComment old (Err e) new = (b : ℕ) × (next_byte old ≡ Some b) × (b ≡ 99 → ⊥) × (e ≡ Text Syntax (place_of old))

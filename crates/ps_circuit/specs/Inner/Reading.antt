@@ -1,9 +1,9 @@
 -- What the private functions of the reader say of what they have read.
 --     lines_of items noted      what was read of the lines of one kind
---     TellsField, TellsCount, TellsHeader, TellsDraft      what reading a number behind a gap, a count, the first line
---               and a text answers
---     AddsInput, AddsLatch, AddsOutput, AddsGate      one line more
---     IsRow, Grown      lines that are read one behind another; any number of lines more
+--     TellsField, TellsCount, TellsHeader, TellsDraft      the answer to reading a number after a gap, a count, the
+--               first line, and a text
+--     AddsInput, AddsLatch, AddsOutput, AddsGate      one more line
+--     IsRow, Grown      lines that are read one after another; any number of further lines
 use Rattle.std.specs.Prelude.{◌≡◌, ◌≢◌, ℕ, ◌-◌, ◌<◌, ◌⊎◌, Bool, List, [], ◌∷◌, ◌++◌, slice_index_or, slice_get, length}
 use Rattle.std.specs.Prelude.{map, All, AllPairs, Contains, Option, None, Some, Result, Ok, Err}
 use Rattle.ps_text.specs.Answers.{Stream, Found}
@@ -30,13 +30,13 @@ use Rattle.ps_circuit.specs.declared.header.Header.{Header}
 use Rattle.ps_circuit.specs.declared.lines.Noted.{Noted}
 use Rattle.ps_circuit.specs.declared.reader.Draft.{Draft}
 
--- the literals defined their variables, one behind another
+-- the literals defined their variables, one after another
 pub record Defines (most : ℕ) (old : List ℕ) (literals : List ℕ) (new : List ℕ) : Type 0 where
   pub variables : new ≡ old ++ map variable literals
   pub each : All (IsDefinition most) literals
   pub apart : AllPairs (λ v w. v ≢ w) old → AllPairs (λ v w. v ≢ w) new
 
--- the variable is a new one, put behind the others
+-- the variable is a new one, appended to the others
 pub record AddsVariable (old : List ℕ) (v : ℕ) (new : List ℕ) : Type 0 where
   pub behind : new ≡ old ++ v ∷ []
   pub fresh : (k d : ℕ) → k < length old → slice_index_or old k d ≢ v
@@ -74,7 +74,7 @@ abbrev pub lines_of : {A : Type 0} → List A → Noted → Lines A
 lines_of items noted =
     record { items = items; defined = noted.variables; readings = noted.readings.items; starts = noted.starts.items }
 
--- a line more of each kind; a literal that defines its variable is new
+-- one more line of each kind; a literal that defines its variable is new
 pub record AddsInput (most : ℕ) (c d : Lines ℕ) : Type 0 where
   pub literal : Number
   pub is : d ≡ add_input c literal
@@ -98,7 +98,7 @@ pub record AddsGate (most : ℕ) (c d : Lines Gate) : Type 0 where
   pub is : d ≡ add_gate c literal first second
   pub new : Defines most c.defined (literal.value ∷ []) d.defined
 
--- lines that are read one behind another: each takes a sign, and behind a line the others are read
+-- lines that are read one after another: each takes a sign, and after a line the others are read
 pub record IsRow {C : Type 0} (line : C → Field C) : Type 0 where
   pub takes : (c d : C) (old new : Stream Seen) → ReadsPart (line c) old d new → length new.pieces < length old.pieces
   pub goes_on : (n : ℕ) (c d : C) (old mid new : Stream Seen) (r : Result C (Option (Found AigCause))) → 0 < n →
@@ -113,8 +113,8 @@ pub data Grown {C : Type 0} (Adds : C → C → Type 0) (c : C) : C → Type 0 w
 
 -- ## The text
 
--- where each literal that is read is defined, the circuit is one but that a gate may depend on itself; and each gate
--- has its line
+-- if each literal that is read is defined, the circuit is a circuit except that a gate may depend on itself; and each
+-- gate has its line
 pub record IsSoundDraft (d : DraftData) : Type 0 where
   pub draft : All (IsDefined d.defined) d.readings → IsDraft d.circuit
   pub starts : length d.starts ≡ length d.circuit.gates

@@ -1,4 +1,4 @@
--- What the search for a trail keeps true of its lists.
+-- The invariants of the search for a trail.
 use Rattle.std.specs.Prelude.{◌≡◌, ℕ, ◌<◌, List, [], ◌∷◌, length, slice_get, Bool, true, false, Some, suc}
 use Rattle.ps_components.specs.Graphs.{Digraph, Link, IsWithin}
 use Rattle.ps_components.specs.declared.trail.Step.{Step}
@@ -13,7 +13,7 @@ abbrev pub AreApart : List Step → Type 0
 AreApart steps =
     (i j : ℕ) (s t : Step) → slice_get steps i ≡ Some s → slice_get steps j ≡ Some t → s.item ≡ t.item → i ≡ j
 
--- the vertices of the steps are those that were seen; where those before a place lead was seen
+-- the vertices of the steps are those that were seen; the targets of those before a place were seen
 pub record IsSpread (g : Digraph) (seen : List Bool) (steps : List Step) (place : ℕ) : Type 0 where
   pub within : IsWithin g
   pub counted : length seen ≡ g.count
@@ -25,7 +25,7 @@ pub record IsSpread (g : Digraph) (seen : List Bool) (steps : List Step) (place 
   pub looked : (i w : ℕ) (s : Step) → i < place → slice_get steps i ≡ Some s → Link g s.item w →
       slice_get seen w ≡ Some true
 
--- the steps stay, and others come behind them
+-- the steps stay, and others follow them
 abbrev pub KeepsSteps : List Step → List Step → Type 0
 KeepsSteps old new = (i : ℕ) (s : Step) → slice_get old i ≡ Some s → slice_get new i ≡ Some s
 

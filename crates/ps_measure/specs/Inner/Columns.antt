@@ -64,7 +64,7 @@ pub record IsLost (g : Digraph) (weight : ℕ → ℕ) (c : ComponentsData) (w v
   pub to : IsIn c v number
   pub heavy : weight v ≡ 1
 
--- the value of a vertex's component, 0 where the vertex was not met
+-- the value of a vertex's component, 0 if the vertex was not met
 abbrev pub value_at : List ℕ → Option (Option ℕ) → ℕ
 value_at values None = 0
 value_at values (Some None) = 0

@@ -12,7 +12,7 @@ use Rattle.ps_measure.specs.Inner.Outcomes.{IsClosing}
 use Rattle.ps_measure.specs.Ranks.{AreLeastFor, AreRows, count_of}
 use Rattle.ps_measure.specs.Tables.{HasColumn}
 
--- the least counts were put at a place, and so many of them are not 0
+-- the least counts were put at a place; the number is how many of them are not 0
 pub record IsFilled (g : Digraph) (weight : ℕ → ℕ) (old new : List (List ℕ)) (place raised : ℕ) : Type 0 where
   pub counts : ℕ → ℕ
   pub least : AreLeast g weight counts
@@ -35,7 +35,8 @@ pub record AreLevels (game : ParityGame) (levels : List ℕ) : Type 0 where
   pub each : length levels ≡ vertex_count game
   pub is : (v : ℕ) → v < vertex_count game → slice_index levels v ≡ priority_of game v
 
--- rows of counts: the least ones for the priorities at the places before one, and 0 for the others; so many are not 0
+-- rows of counts: the least ones for the priorities at the places before one, and 0 for the others; the number is how
+-- many are not 0
 pub record AreRanked (game : ParityGame) (player : ℕ) (set : ℕ → Bool) (table : ℕ → Option ℕ) (priorities : List ℕ)
     (rows : List (List ℕ)) (place raises : ℕ) : Type 0 where
   pub shape : AreRows rows (vertex_count game) (length priorities)

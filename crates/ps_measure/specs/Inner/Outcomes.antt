@@ -1,4 +1,4 @@
--- What is found for one priority where there are no counts: a link back to where a way began.
+-- What is found for one priority if there are no counts: a link back to where a way began.
 use Rattle.std.specs.Prelude.{◌≡◌, ℕ}
 use Rattle.ps_components.specs.Graphs.{Digraph, Link, SameOrWay}
 

@@ -1,4 +1,4 @@
--- The graph of the edges that remain within a region, and the links against them between vertices that do not pass a
+-- The graph of the edges that remain within a region, and its reversed links between vertices that do not exceed a
 -- priority.
 use Rattle.std.specs.Prelude.{◌≡◌, ℕ, ◌+◌, ◌-◌, ◌<◌, ◌≤◌, List, length, Option, None, Some, Bool, not, ◌&&◌, ◌||◌, ◌==◌}
 use Rattle.std.specs.Prelude.{nat_le, false, if◌then◌else◌, slice_index}
@@ -37,7 +37,7 @@ remaining_graph r = record {
   target = λ v k. let w = slice_index (successors_of r.game v) k in if may_remain r v w then Some w else None;
 }
 
--- the targets of all vertices, one vertex behind the other, and where those of each vertex begin; the end stands last
+-- the targets of all vertices, one vertex after another, and where those of each vertex begin; the end comes last
 pub record StarData : Type 0 where
   pub count : ℕ
   pub starts : List ℕ
@@ -50,7 +50,7 @@ pub record IsStar (star : StarData) : Type 0 where
   pub ends : (v : ℕ) → v ≤ star.count → slice_index star.starts v ≤ length star.targets
   pub within : (i : ℕ) → i < length star.targets → slice_index star.targets i < star.count
 
--- the graph that is kept so
+-- the graph that is stored in this way
 abbrev pub star_graph : StarData → Digraph
 star_graph star = record {
   count = star.count;
@@ -58,7 +58,7 @@ star_graph star = record {
   target = λ v k. Some (slice_index star.targets (slice_index star.starts v + k));
 }
 
--- the second graph has the links of the first one, turned round
+-- the second graph has the links of the first one, reversed
 pub record IsReverse (g r : Digraph) : Type 0 where
   pub count : r.count ≡ g.count
   pub there : (v w : ℕ) → Link g v w → Link r w v
@@ -76,7 +76,7 @@ pub record IsLow (low : LowData) : Type 0 where
   pub region_fits : length low.region ≡ low.star.count
   pub levels_fit : length low.levels ≡ low.star.count
 
--- the links between vertices whose levels do not pass the priority
+-- the links between vertices whose levels do not exceed the priority
 abbrev pub low_graph : LowData → Digraph
 low_graph low = record {
   count = low.star.count;

@@ -18,7 +18,7 @@ abbrev pub ReadsAs : {V X : Type 0} → (X → V) → Part Sign V PgCause → St
     Stream Sign → Type 0
 ReadsAs view part old result new = Meets found_of pg_causes view part old result new
 
--- where all ids that the value names are among some ids, the part with these known was read too
+-- if all ids that the value names are among some ids, the part with these as known ids was read too
 abbrev pub ReadsKnown : {V X : Type 0} → (List ℕ → V → Type 0) → (X → V) → (Option (List ℕ) → Part Sign V PgCause) →
     Stream Sign → Result X PgFault → Stream Sign → Type 0
 ReadsKnown Knows view part old result new =
@@ -89,7 +89,7 @@ abbrev pub TextAnswers : Option (List ℕ) → Stream Sign → Result (List Node
 TextAnswers known stream (Ok nodes) = PartAnswers pg_causes (game known) stream (Ok nodes)
 TextAnswers known stream (Err fault) = FaultAnswers known stream (found_of fault)
 
--- what the text answers once ids are known among which are all that its value names
+-- the text's answer when ids are known that include all those that its value names
 abbrev pub KnownAnswers : Stream Sign → Result (List NodeData) PgFault → Type 0
 KnownAnswers stream result =
     IfOk result (λ nodes. (ids : List ℕ) → KnowsAll ids nodes →

@@ -1,4 +1,4 @@
--- How nodes are kept: their ids, their vertices and their names in three lists. The successors of these vertices are
+-- How nodes are stored: their ids, their vertices and their names in three lists. The successors of these vertices are
 -- ids.
 use Rattle.std.specs.Prelude.{◌≡◌, ℕ, List, [], ◌∷◌, ◌++◌, length, Option, Some, None, Vec}
 use Rattle.std.specs.Global.{Global}
@@ -11,12 +11,12 @@ use Rattle.ps_pgsolver.specs.declared.node.Node.{Node}
 abbrev pub node_kept : ℕ → VertexData → Option (List ℕ) → NodeData
 node_kept id v name = record { id = id; priority = v.priority; owner = v.owner; successors = v.successors; name = name }
 
--- the nodes that are kept in these lists
+-- the nodes that are stored in these lists
 unfoldable pub nodes_kept : List ℕ → ParityGame → List (Option (List ℕ)) → List NodeData
 nodes_kept (id ∷ ids) (v ∷ vertices) (name ∷ names) = node_kept id v name ∷ nodes_kept ids vertices names
 nodes_kept _ _ _ = []
 
--- the vertex of a node, before its successors give way to their places
+-- the vertex of a node, before its successors are replaced by their places
 abbrev pub vertex_kept : NodeData → VertexData
 vertex_kept node = vertex_made node.owner node.priority node.successors
 

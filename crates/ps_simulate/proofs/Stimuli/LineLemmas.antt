@@ -57,7 +57,7 @@ digit_is bit = search rules
 pub digit_of-is : (byte : ℕ) → IsDigit byte → digit_of (byte == 49) ≡ byte
 digit_of-is byte h = search rules
 
--- a letter's line is no divider
+-- a letter's line is not a divider
 pub digits_of-divider : (letter : List Bool) → digits_of letter ≢ divider
 digits_of-divider [] e = cc
 digits_of-divider (true ∷ letter) e = omega (arith, ap (λ (l : List ℕ). get_or l 0 0) e)
@@ -68,7 +68,7 @@ pub letter_none : (letter : List Bool) {line : List ℕ} (start : ℕ) {width : 
     → line ≡ digits_of letter → length letter ≡ width → StandsInLine line start width cause offset → ⊥
 letter_none letter start cause offset h k m = search (rules, length-map, slice_get-map, digit_is)
 
--- where the causes of a line stand
+-- the places of the causes of a line
 pub in_line_from : (line : List ℕ) (start width : ℕ) (cause : StimulusCause) (offset : ℕ) →
     StandsInLine line start width cause offset → start ≤ offset
 in_line_from line start width cause offset h = search rules

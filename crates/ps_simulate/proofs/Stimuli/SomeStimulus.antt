@@ -18,7 +18,7 @@ use Rattle.ps_simulate.proofs.Stimuli.StimulusSteps.{IsFirst-in_line, not_divide
 
 -- ## One line
 
--- the first byte that is no digit
+-- the first byte that is not a digit
 record FirstWrong (line : List ℕ) : Type 0 where
   place : ℕ
   byte : ℕ
@@ -119,7 +119,7 @@ module _ (text : List ℕ) (width : ℕ) (split : Bool) where
   at_end false false start s h past e = (Ok s, IsStimulus-end h past (sym e))
   at_end true wanted start s h past e = (Ok s, IsStimulus-end h past (sym (h.wanted refl)))
 
-  -- a line, where there is an answer from what is behind it
+  -- a line, given an answer from what follows it
   module _ (in_lap : Bool) (start size : ℕ) (s : StimulusData) (h : HasRead text width split in_lap start s)
       (some : start < length text) (first : FirstLine (drop start text) size)
       (later : (b : Bool) (t : StimulusData) → HasRead text width split b (start + size + 1) t → Answer) where

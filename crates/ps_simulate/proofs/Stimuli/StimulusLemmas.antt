@@ -43,7 +43,7 @@ no_divider letters k there = (let m = mapped letters k there in digits_of-divide
 
 -- ## Lines that spell letters
 
--- the divider stands behind the stem
+-- the divider comes after the stem
 pub divides_at : {split : Bool} (s : StimulusData) (rest lines : List (List ℕ)) → lines ≡ spelled true s ++ rest →
     split ≡ true → Divides split lines (length s.stem)
 divides_at s rest lines is wanted = record {

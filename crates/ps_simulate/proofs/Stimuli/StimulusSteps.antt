@@ -114,7 +114,7 @@ pub HasRead-divider : {text : List ℕ} {width : ℕ} {split : Bool} {start end 
 HasRead-divider {text} {width} {split} {start} {end} {s} h {line} next length_is is wanted =
     grind (arith, pushed h next length_is, end_is h next length_is)
 
--- a letter's line is no divider that is wanted
+-- a letter's line is not a divider that is required
 pub not_divides : {text : List ℕ} {width : ℕ} {split : Bool} (in_lap : Bool) {start : ℕ} {s : StimulusData} →
     HasRead text width split in_lap start s
     → (in_lap ≡ true) ⊎ (¬ (slice_get (lines_of text) (length (spelled in_lap s)) ≡ Some divider) ⊎ (split ≡ false)) →

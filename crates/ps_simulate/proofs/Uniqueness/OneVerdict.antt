@@ -48,7 +48,7 @@ module _ {c : CircuitData} (is_circuit : IsCircuit c) (one : HasOneValues c) whe
   no_letters (m ∷ ms) e = absurd (cc)
 
   module _ (stem lap : List (List Bool)) where
-    -- the second repetition is none
+    -- there is no second repetition
     not_earlier : (i j i' j' : ℕ) (ms ns : List Moment) → Repeats c stem lap i j ms →
         Repeats c stem lap i' j' ns → j < j' → ⊥
     not_earlier i j i' j' ms ns a b lt =

@@ -1,4 +1,4 @@
--- What the reader of stimuli keeps true.
+-- The invariants of the reader of stimuli.
 use Rattle.std.specs.Prelude.{◌≡◌, ℕ, Bool, true, false, List, [], ◌++◌, length, drop, All, Result, Ok, Err, Vec}
 use Rattle.std.specs.Global.{Global}
 use Rattle.ps_simulate.specs.Faults.{StimulusFault}
@@ -6,7 +6,7 @@ use Rattle.ps_text.specs.declared.faults.Fault.TheVariants.{Text, OutOfMemory}
 use Rattle.ps_simulate.specs.Stimuli.{StimulusData}
 use Rattle.ps_simulate.specs.StimulusTexts.{lines_of, extent, spelled, digits_of, StandsInLine, IsFirst}
 
--- the lines before that place spell these letters, and the divider where the lap has begun
+-- the lines before that place spell these letters, and the divider if the lap has begun
 pub record HasRead (text : List ℕ) (width : ℕ) (split in_lap : Bool) (start : ℕ) (s : StimulusData) : Type 0 where
   pub lines : lines_of text ≡ spelled in_lap s ++ lines_of (drop start text)
   pub start_is : start ≡ extent (spelled in_lap s)

@@ -20,7 +20,7 @@ use Rattle.ps_solution.specs.Texts.{Field, solution_causes, solution}
 abbrev pub ReadsAs : {V X : Type 0} → (X → V) → Field V → Stream Sign → Result X CertFault → Stream Sign → Type 0
 ReadsAs view part old result new = Meets found_of solution_causes view part old result new
 
--- what is answered to a sign, or to the end, at an offset, where the value of a number is judged
+-- the answer to a sign, or to the end, at an offset, if the value of a number is judged
 abbrev pub value_answer : {V : Type 0} → (ℕ → ℕ → Result V CertFault) → Option Sign → ℕ → Result V CertFault
 value_answer judge (Some (Number n)) at = if nat_lt n too_large then judge at n else Err (Text Syntax at)
 value_answer judge _ at = Err (Text Syntax at)

@@ -1,9 +1,9 @@
--- Parts that are lawful, and how they are joined to larger ones.
+-- Lawful parts, and how they are joined to larger ones.
 --     Lawful number syntax part First More Null      the laws of the part with these sets of signs, and its outcome
 --               from each list
---     Chain number syntax P Q First More Null      P and Q behind it: their joint, and that they are lawful as one part
+--     Chain number syntax P Q First More Null      P and Q after it: their joint, and that they are lawful as one part
 --     larger      with larger sets
---     chained, next, tight      a chain: of any two; neither is empty; the first goes on with no sign
+--     chained, next, tight      a chain: of any two; neither is empty; the first continues with no sign
 --     given, mapped_by, either_of, or_nothing, many_by, many_of, one_sign, run_by      for the other combinators
 --     byte_of, word_of, word_from, chain_word      bytes and words
 use Rattle.std.proofs.Common.{◌≡◌, ◌⊎◌, ℕ, Bool, true, List, [], ◌∷◌, Option, Some, rules}
@@ -39,7 +39,7 @@ module _ {C : Type 0} {number : C → ℕ} {syntax : C} where
       Within F First → Within M More → (N → Null) → Lawful number syntax P First More Null
   larger p f m n = record { laws = weaker p.laws f m n; has = p.has }
 
-  -- ## One part behind another
+  -- ## One part after another
 
   module _ {A B : Type 0} {P : Part Seen A C} {Q : A → Part Seen B C} {F M G L : Seen → Type 0} where
     pub chained : {First More : Seen → Type 0} {N K Null : Type 0} → Lawful number syntax P F M N →
@@ -107,7 +107,7 @@ module _ {C : Type 0} {number : C → ℕ} {syntax : C} where
   many_of item l a =
       larger (many_by item l (λ t x y. x) a) (λ t h. h) (or_in (λ t h. absurd h) (λ t h. h)) (λ n. n)
 
-  -- s is any sign that may stand there
+  -- s is any sign that is allowed there
   pub one_sign : {V : Type 0} (take : Seen → Option V) (Bad : Seen → C → Type 0) {First : Seen → Type 0} (s : Seen)
       {v : V} → take s ≡ Some v → ((t : Seen) → Judged number (Bad t)) → Within (Taken take) First →
       Within (BadSign Bad) First → Lawful number syntax (one take Bad) First Nothing ⊥

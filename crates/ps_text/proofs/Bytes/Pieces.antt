@@ -1,6 +1,6 @@
 -- The pieces of bytes.
 --     bytes_append, bytes_at, length_pieces      the bytes of signs, and how many pieces there are
---     pieces_with at bytes rest      the pieces of bytes, where rest stands behind them
+--     pieces_with at bytes rest      the pieces of bytes that are followed by rest
 --     pieces_split      the pieces of bytes, and then those of the rest
 --     next_at, first_sees      what comes next, and what it sees
 use Rattle.std.proofs.Common.{◌≡◌, ℕ, suc, ◌+◌, ◌<◌, List, [], ◌∷◌, ◌++◌, length, refl, ap, ◌∙◌, arith, rules}

@@ -1,8 +1,8 @@
 -- Runs of bytes as parts of a text: their laws, and how they are read and fail.
---     laws_run      a run begins and goes on with the bytes that pass
+--     laws_run      a run begins and continues with the bytes that pass
 --     bad_is      what is wrong with the run that comes is the run's
 --     run_read      a list of signs that is one run is read
---     run_reads, run_bad, run_stops      a run was passed: it is read, unless it is wrong; or none comes
+--     run_reads, run_bad, run_stops      the reader moved past a run: it is read, unless it is wrong; or there is none
 use Rattle.std.proofs.Common.{◌≡◌, ℕ, ◌<◌, ◌≤◌, Bool, true, false, List, [], ◌∷◌, ◌++◌, length, Option, None, Some}
 use Rattle.std.proofs.Common.{refl, sym, ap, ap₂, subst, ◌∙◌, arith, rules}
 use Rattle.ps_text.specs.Answers.{Begins, Stream, signs, first_of}
@@ -43,7 +43,7 @@ module _ {V C : Type 0} (p : ℕ → Bool) (see : ℕ → List ℕ → V) (Bad :
   pub bad_is : {t : Seen} {r : List ℕ} {f : C} → BeginsRun p r (t.byte ∷ t.behind) → IsBadRun p Bad t f → Bad r f
   bad_is {t} {r} {f} x b = search (rules, same_run)
 
-  -- a run that is not wrong, and behind which no byte passes
+  -- a run that is not wrong, and after which no byte passes
   pub run_read : (text rest : List Seen) → 0 < length text → AllOf p (bytes_of text) →
       ((c : Seen) → first_of rest ≡ Some c → p c.byte ≡ false) →
       ((t : Seen) (more : List Seen) (f : C) → text ++ rest ≡ t ∷ more → IsBadRun p Bad t f → ⊥) →

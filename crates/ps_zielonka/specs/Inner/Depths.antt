@@ -10,7 +10,7 @@ pub record IsFresh (game : ParityGame) (levels : List ℕ) (calls : ℕ) (solved
   pub unsolved : solved ≡ false
   pub unplaced : (v : ℕ) → v < vertex_count game → slice_index levels v ≡ UNPLACED
 
--- the first call waits alone, and a vertex is left to the next one
+-- only the first call waits, and a vertex is left to the next one
 pub record IsSecondCall (levels : List ℕ) (calls : ℕ) (solved : Bool) (v : ℕ) : Type 0 where
   pub one : calls ≡ 1
   pub unsolved : solved ≡ false

@@ -1,7 +1,7 @@
--- The calls of the solver that wait, told by one number for each vertex, the mark of its level (`mark_of`). A call of
--- depth k, counted from 0, is about the vertices of mark 2k + 1 or more. Those of mark 2k + 1 are decided in it; those
--- of mark 2k + 2 were attracted in its present turn; the others are left to the next call. Vertices that are not placed
--- have the greatest mark of all.
+-- The waiting calls of the solver, expressed by one number for each vertex, the mark of its level (`mark_of`). A call
+-- of depth k, counted from 0, is about the vertices of mark 2k + 1 or more. Those of mark 2k + 1 are decided in it;
+-- those of mark 2k + 2 were attracted in its present turn; the others are left to the next call. Vertices that are not
+-- placed have the greatest mark of all.
 use Rattle.std.specs.Prelude.{◌≡◌, ◌≢◌, ℕ, zero, suc, ◌+◌, ◌*◌, ◌%◌, ◌^◌, ◌<◌, ◌≤◌, ◌⊎◌, Bool, true, false, IsTrue}
 use Rattle.std.specs.Prelude.{cond}
 use Rattle.std.specs.Prelude.{List, [], ◌∷◌, length, slice_index, slice_index_or, nat_le}
@@ -28,7 +28,7 @@ size_from c (level ∷ levels) = cond (nat_le c level) 1 0 + size_from c levels
 abbrev pub winner_of : List ℕ → ℕ → ℕ
 winner_of winner v = slice_index winner v
 
--- the vertices of a game by falling priority
+-- the vertices of a game by descending priority
 pub record IsOrder (game : ParityGame) (order : List ℕ) : Type 0 where
   pub vertices : (j : ℕ) → j < length order → slice_index order j < vertex_count game
   pub all : (v : ℕ) → v < vertex_count game → (j : ℕ) × (j < length order) × (slice_index order j ≡ v)
@@ -40,13 +40,13 @@ pub record IsCursor (order levels : List ℕ) (cursor c : ℕ) : Type 0 where
   pub within : cursor ≤ length order
   pub below : (j : ℕ) → j < cursor → slice_index levels (slice_index order j) < c
 
--- of a level or a higher one are, among the placed vertices, just those that stand in the trail from a place on
+-- the placed vertices of a level or a higher one are exactly those in the trail from a place on
 pub record IsSegment (tables : TablesData) (m c : ℕ) : Type 0 where
   pub within : m ≤ length tables.trail
   pub above : (j : ℕ) → m ≤ j → j < length tables.trail → c ≤ level_of tables (slice_index tables.trail j)
   pub stands : (v : ℕ) → c ≤ level_of tables v → level_of tables v < UNPLACED → StandsFrom tables m v
 
--- the vertex stands in the trail from a place up to another
+-- the vertex is in the trail from a place up to another
 pub record StandsBetween (tables : TablesData) (from to v : ℕ) : Type 0 where
   pub place : ℕ
   pub after : from ≤ place
@@ -87,7 +87,7 @@ pub record HasAnswer (game : ParityGame) (tables : TablesData) (winner : List �
 abbrev pub frame_at : List Frame → ℕ → Frame
 frame_at frames i = slice_index_or frames i (record { cursor = 0; player = 0; turn = 0; top = 0 })
 
--- what fits a game at all times
+-- what holds of a game at all times
 pub record IsSoundBoard (game : ParityGame) (tables : TablesData) (winner order : List ℕ) : Type 0 where
   pub is_game : IsGame game
   pub fits : FitsGame game tables
@@ -126,20 +126,20 @@ steps_left levels k solved = waiting_steps levels k + cond solved 0 (steps (size
 
 -- ## The parts of a step
 
--- the vertex stands in the list before a place
+-- the vertex is in the list before a place
 pub record StandsBefore (list : List ℕ) (end v : ℕ) : Type 0 where
   pub place : ℕ
   pub before : place < end
   pub is : slice_index list place ≡ v
 
--- a vertex that stands in the order before a place, of a priority with the parity of the greatest one, or just that one
+-- a vertex in the order before a place, of a priority with the parity of the greatest one, or exactly that one
 pub record IsTop (game : ParityGame) (order : List ℕ) (cursor behind : ℕ) (just_greatest : Bool) (v : ℕ) : Type 0 where
   pub stands : StandsBefore order behind v
   pub parity : priority_of game v % 2 ≡ priority_of game (slice_index order cursor) % 2
   pub just : just_greatest ≡ true → priority_of game v ≡ priority_of game (slice_index order cursor)
 
--- the free vertices that stand in the order from a place up to another are placed: those of the greatest priority, and
--- of lower ones down to the first of the other parity, unless just the greatest is asked for
+-- the free vertices in the order from a place up to another are placed: those of the greatest priority, and, unless
+-- only these are asked for, of lower ones down to the first of the other parity
 pub record ArePlaced (game : ParityGame) (aim : Aim) (old new : TablesData) (order : List ℕ) (cursor behind : ℕ)
     (just_greatest : Bool) : Type 0 where
   pub grown : IsGrown aim old new
@@ -148,7 +148,7 @@ pub record ArePlaced (game : ParityGame) (aim : Aim) (old new : TablesData) (ord
   pub tops : (v : ℕ) → IsPlaced aim old new v → IsTop game order cursor behind just_greatest v
   pub all : (j : ℕ) → cursor ≤ j → j < behind → level_of new (slice_index order j) ≢ aim.free
 
--- the player wins all that stand in the trail from a place on, and each other vertex is as it was
+-- the player wins all vertices of the trail from a place on, and every other vertex is as it was
 pub record IsGiven (player begin : ℕ) (tables : TablesData) (old new : List ℕ) : Type 0 where
   pub given : (v : ℕ) → StandsFrom tables begin v → slice_index new v ≡ player
   pub kept : (v : ℕ) → (slice_index new v ≡ slice_index old v) ⊎ StandsFrom tables begin v
@@ -159,35 +159,35 @@ pub record IsWonStep (game : ParityGame) (tables : TablesData) (winner : List �
   pub above : level < level_of tables w
   pub won : slice_index winner w ≡ player
 
--- the player's vertex has a move to what the player won, and no edge of the other player's leads to what the other one
--- won
+-- the player's vertex has a move to what the player won, or, at the opponent's vertex, no edge leads to what the
+-- opponent won
 pub record IsKeptAt (game : ParityGame) (tables : TablesData) (winner : List ℕ) (level player other v : ℕ) : Type 0
   where
     pub own : owner_of game v ≡ player → IsWonStep game tables winner level player v (slice_index tables.moves v)
     pub foreign : owner_of game v ≢ player → (w : ℕ) → HasEdge game v w → level < level_of tables w →
         slice_index winner w ≢ other
 
--- the player's vertex has no edge to what the player won, or the other player's has one to what that one won
+-- the player's vertex has no edge to what the player won, or the opponent's vertex has one to what the opponent won
 pub record IsLostAt (game : ParityGame) (tables : TablesData) (winner : List ℕ) (level player other v : ℕ) : Type 0
   where
     pub own : owner_of game v ≡ player → (w : ℕ) → HasEdge game v w → level < level_of tables w →
         slice_index winner w ≢ player
     pub foreign : owner_of game v ≢ player → (w : ℕ) × IsWonStep game tables winner level other v w
 
--- nothing but the moves of some vertices changes
+-- only the moves of some vertices change
 pub record IsMoved (old new : TablesData) (Some : ℕ → Type 0) : Type 0 where
   pub level : new.level ≡ old.level
   pub trail : new.trail ≡ old.trail
   pub choices : length new.moves ≡ length old.moves
   pub moves : (v : ℕ) → (slice_index new.moves v ≡ slice_index old.moves v) ⊎ Some v
 
--- the spare vertices are those that stood in the trail from a place on
+-- the spare vertices are those that were in the trail from a place on
 pub record IsTakenOff (turn : ℕ) (trail spare : List ℕ) : Type 0 where
   pub all : length spare + turn ≡ length trail
   pub same : (j : ℕ) → j < length spare → slice_index spare j ≡ slice_index trail (turn + j)
 
--- of some vertices those that the player won are not placed any more; the others stand in the trail from the turn on,
--- alone, and have the level
+-- of some vertices, those that the player won are no longer placed; only the others are in the trail from the turn on,
+-- and they have the level
 pub record IsReopened (winner : List ℕ) (player level turn : ℕ) (Off : ℕ → Type 0) (old new : TablesData) : Type 0 where
   pub longer : turn ≤ length new.trail
   pub front : (j : ℕ) → j < turn → slice_index new.trail j ≡ slice_index old.trail j
@@ -199,7 +199,7 @@ pub record IsReopened (winner : List ℕ) (player level turn : ℕ) (Off : ℕ �
   pub moves : new.moves ≡ old.moves
   pub sizes : length new.level ≡ length old.level
 
--- the vertices before n, each behind a number that falls with its priority
+-- the vertices before n, each with a number before it that falls as the priority rises
 pub record AreRanked (game : ParityGame) (n : ℕ) (ranked : List (ℕ × ℕ)) : Type 0 where
   pub each : All (λ pair. (pair.1 < n) × (pair.0 + priority_of game pair.1 + 1 ≡ 2 ^ 64)) ranked
   pub stands : (v : ℕ) → v < n → (rank : ℕ) × Contains ranked (rank, v)

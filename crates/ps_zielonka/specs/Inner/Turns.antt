@@ -15,15 +15,15 @@ pub record IsWithout (whole part rest : ℕ → Bool) : Type 0 where
   pub outside : (v : ℕ) → IsTrue (rest v) → ¬ IsTrue (part v)
   pub all : (v : ℕ) → IsTrue (whole v) → ¬ IsTrue (part v) → IsTrue (rest v)
 
--- the set has just the vertices of the subgame outside the open part that the player wins
+-- the set has exactly the vertices of the subgame outside the open part that the player wins
 pub record IsWon (subgame open_part : ℕ → Bool) (win : ℕ → ℕ) (player : ℕ) (set : ℕ → Bool) : Type 0 where
   pub within : IsWithin set subgame
   pub decided : (v : ℕ) → IsTrue (set v) → ¬ IsTrue (open_part v)
   pub won : (v : ℕ) → IsTrue (set v) → win v ≡ player
   pub all : (v : ℕ) → IsTrue (subgame v) → ¬ IsTrue (open_part v) → win v ≡ player → IsTrue (set v)
 
--- what is decided of a subgame: outside the open part each player holds what it wins, and nobody can step from the open
--- part into what is won by itself
+-- what is decided about a subgame: outside the open part each player holds what it wins, and no player can step from
+-- the open part into what it has won itself
 pub record Progress (game : ParityGame) (subgame open_part : ℕ → Bool) (win : ℕ → ℕ) (table : ℕ → Option ℕ) : Type 0
   where
     pub within : IsWithin open_part subgame
@@ -37,8 +37,9 @@ pub record Progress (game : ParityGame) (subgame open_part : ℕ → Bool) (win 
 abbrev pub Solved : ParityGame → (ℕ → Bool) → (ℕ → ℕ) → (ℕ → Option ℕ) → Type 0
 Solved game subgame win table = Progress game subgame nothing win table
 
--- a turn is prepared: the player of the greatest priority attracts to the tops, all vertices of that priority among
--- them, each of a priority of its parity that is greater than those of the other parity; and the rest is to be solved
+-- a turn is prepared: the player of the greatest priority attracts to the tops. They include all vertices of that
+-- priority, and each top has a priority of its parity that is greater than those of the other parity. The rest is to be
+-- solved
 pub record IsTurned (game : ParityGame) (open_part rest : ℕ → Bool) (player : ℕ) (win : ℕ → ℕ)
     (table : ℕ → Option ℕ) : Type 0 where
   pub greatest : ℕ

@@ -17,7 +17,7 @@ use Rattle.ps_circuit.proofs.reader.read_draft.Goals as goal
 use Rattle.ps_circuit.proofs.reader.read_draft.Goals.{After-lines, After-lines-2, After-lines-3, After-lines-4}
 use Rattle.ps_circuit.proofs.reader.read_draft.Goals.{After-symbols}
 
--- ## What is left behind each section
+-- ## What is left after each section
 
 abbrev one : After-lines-2 → After-lines
 one c = (goal.at.After-lines-2 c).After-lines
