@@ -5,10 +5,7 @@ ghost use Rattle.ps_certificate.specs.Certificates.{Fits, IsValid};
 ghost use Rattle.ps_certificate.specs.Least.{HasLeastCounts};
 ghost use Rattle.ps_game.specs.Flat.{FitsWithin};
 ghost use Rattle.ps_game.specs.Games.{vertex_count};
-ghost use Rattle.ps_game.specs.Plays.{Holds};
-ghost use Rattle.ps_game.specs.Regions.{has, move_at};
 ghost use Rattle.ps_referee.specs.Solutions.{IsSolution};
-ghost use Rattle.ps_zielonka.specs.Answers.{others};
 ghost use Rattle.ps_machine.specs.declared.fault.SolveFault.TheVariants as faults;
 
 use crate::fault::SolveFault;
@@ -16,7 +13,7 @@ use crate::solver::Solver;
 use ps_certificate::Certificate;
 use ps_game::{Arena, Counts, FlatGame, Game, NamedGame, Region, Strategy, Width, fits_narrow};
 use ps_improvement::attempt;
-use ps_referee::{JudgeFault, judge};
+use ps_referee::{JudgeFault, certificate_of_solution, judge};
 use ps_zielonka::{regions, regions_within};
 use std::alloc::{AllocError, Global};
 
@@ -148,7 +145,7 @@ fn solved_within<A: Arena>(
     let Some((won, first, second)) = regions_within(alloc, arena, &mut counts, budget)? else {
         return Ok(None);
     };
-    let certificate = certificate_from(alloc, arena, &won, &first, &second)?;
+    let certificate = certificate_of_solution(alloc, arena, &won, &first, &second)?;
     Ok(Some(certificate))
 }
 
@@ -210,30 +207,6 @@ fn certificate_without_bound<A: Arena>(alloc: Global, arena: &A) -> Result<Certi
 {
     let mut counts = Counts::default();
     let (won, first, second) = regions(alloc, arena, &mut counts)?;
-    certificate_from(alloc, arena, &won, &first, &second)
-}
-
-/// The certificate of a game of which player 0 holds a region by the first table, and player 1 all other vertices by
-/// the second.
-fn certificate_from<A: Arena>(
-    alloc: Global,
-    arena: &A,
-    won: &Region,
-    first: &Strategy,
-    second: &Strategy,
-) -> Result<Certificate, SolveFault>
-    requires region { length won.now ≡ vertex_count (A.game arena.now) }
-    requires first { length first.now ≡ vertex_count (A.game arena.now) }
-    requires second { length second.now ≡ vertex_count (A.game arena.now) }
-    requires holds_first { Holds (A.game arena.now) 0 (has won.now) (move_at first.now) }
-    requires holds_second { Holds (A.game arena.now) 1 (others won.now) (move_at second.now) }
-    ensures fits { IfOk result (Fits (A.game arena.now)) }
-    ensures valid { IfOk result (IsValid (A.game arena.now)) }
-    ensures least { IfOk result (HasLeastCounts (A.game arena.now)) }
-    ensures memory { IfErr result (λ fault. fault ≡ faults.OutOfMemory) }
-{
-    match tried(alloc, arena, won, first, second)? {
-        Some(certificate) => Ok(certificate),
-        None => unreachable!(),
-    }
+    let certificate = certificate_of_solution(alloc, arena, &won, &first, &second)?;
+    Ok(certificate)
 }

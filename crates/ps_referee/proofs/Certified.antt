@@ -1,12 +1,12 @@
 -- Two regions that are held and part the game, with the least counts of both, make a valid certificate with the least
 -- counts.
-use Rattle.std.proofs.Common.{◌≡◌, ◌≢◌, ◌⊎◌, inl, inr, ℕ, zero, suc, ◌+◌, ◌<◌, ◌≤◌, List, [], ◌∷◌, length, get_or}
+use Rattle.std.proofs.Common.{◌≡◌, ◌≢◌, ◌⊎◌, inl, inr, ℕ, ◌<◌, ◌≤◌, List, [], ◌∷◌, length, get_or}
 use Rattle.std.proofs.Common.{Option, Some, None, IfSome, IsSomeAnd, Bool, true, false, IsTrue, refl, sym, subst}
 use Rattle.std.proofs.Common.{◌∙◌, rules, arith, ap, not}
 use Rattle.std.proofs.lemmas.List.FromFn.{get_or-map-range_with_len, length-map-range_with_len}
 use Rattle.std.proofs.lemmas.Bool.{cases_Bool, cases_eq, eqb-true}
 use Rattle.ps_game.specs.Games.{ParityGame, IsGame, HasEdge, owner_of, priority_of, vertex_count}
-use Rattle.ps_game.specs.Plays.{Holds, IsPath, Follows}
+use Rattle.ps_game.specs.Plays.{Holds}
 use Rattle.ps_game.specs.Ranking.{RemainsFor, KeepRuleWithin}
 use Rattle.ps_game.specs.Regions.{has, move_at}
 use Rattle.ps_certificate.specs.Certificates.{CertificateData, EntryData, no_entry, winner_of, choice_of, counts_of}
@@ -14,7 +14,7 @@ use Rattle.ps_certificate.specs.Certificates.{opposing, opposing_at, Fits, Remai
 use Rattle.ps_measure.specs.Ranks.{AreRanks, count_of, count_in, width_in}
 use Rattle.ps_certificate.specs.Least.{DiffersInCounts, HasLeastCounts, SaysTheSame}
 use Rattle.ps_referee.specs.Solutions.{claim_with, claimed}
-use Rattle.ps_referee.specs.Inner.Building.{row_in, row_at, winner_row, claims}
+use Rattle.ps_referee.specs.Inner.Building.{row_in, winner_row, claims}
 use Rattle.ps_referee.proofs.Claims.{winner_is, choice_is}
 use Rattle.ps_referee.proofs.Parts.{two_path, two_follows}
 

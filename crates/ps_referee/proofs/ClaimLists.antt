@@ -1,9 +1,8 @@
 -- Claims of one vertex behind another.
-use Rattle.std.proofs.Common.{◌≡◌, ◌∙◌, ℕ, ◌+◌, List, [], ◌∷◌, ◌++◌, map, Option, Bool, refl, sym, ap, arith}
-use Rattle.std.specs.List.{range_with_len}
+use Rattle.std.proofs.Common.{◌≡◌, ◌∙◌, ℕ, ◌+◌, List, [], ◌∷◌, ◌++◌, Option, Bool, refl, sym, ap, arith}
 use Rattle.std.proofs.lemmas.List.FromFn.{map-range_with_len_more}
 use Rattle.ps_game.specs.Games.{ParityGame, vertex_count}
-use Rattle.ps_certificate.specs.Certificates.{CertificateData, EntryData}
+use Rattle.ps_certificate.specs.Certificates.{EntryData}
 use Rattle.ps_referee.specs.Solutions.{claim_with, claimed}
 use Rattle.ps_referee.specs.Inner.Building.{claims}
 

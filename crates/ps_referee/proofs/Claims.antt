@@ -1,15 +1,10 @@
 -- What a claim says of each vertex.
-use Rattle.std.proofs.Common.{◌≡◌, ◌≢◌, ◌∙◌, ℕ, zero, suc, ◌<◌, List, [], get_or, map, Option, None, Bool, true, false}
-use Rattle.std.proofs.Common.{ap, arith, rules, not, if◌then◌else◌, length}
-use Rattle.std.specs.Prelude.{IsTrue}
-use Rattle.std.specs.List.{range_with_len}
-use Rattle.std.proofs.lemmas.List.FromFn.{get_or-map-range_with_len, length-map-range_with_len, map-range_with_len_more}
-use Rattle.std.proofs.lemmas.Bool.{cases_Bool, eqb-true, eq-eqb}
-use Rattle.ps_game.specs.Games.{ParityGame, vertex_count, owner_of}
-use Rattle.ps_game.specs.Regions.{has, move_at}
-use Rattle.ps_certificate.specs.Certificates.{EntryData, CertificateData, no_entry, winner_of, choice_of}
-use Rattle.ps_referee.specs.Solutions.{winner_by, choice_by, won_by, moves_by, claim_with, claimed}
-use Rattle.ps_referee.specs.Inner.Building.{claims}
+use Rattle.std.proofs.Common.{◌≡◌, ℕ, ◌<◌, List, [], get_or, Option, Bool}
+use Rattle.std.proofs.Common.{ap, arith, length}
+use Rattle.std.proofs.lemmas.List.FromFn.{get_or-map-range_with_len, length-map-range_with_len}
+use Rattle.ps_game.specs.Games.{ParityGame, vertex_count}
+use Rattle.ps_certificate.specs.Certificates.{no_entry, winner_of, choice_of}
+use Rattle.ps_referee.specs.Solutions.{winner_by, choice_by, claim_with, claimed}
 
 module _ (game : ParityGame) (won : List Bool) (first second : List (Option ℕ)) where
   pub entry_each : length (claimed game won first second).entries ≡ vertex_count game

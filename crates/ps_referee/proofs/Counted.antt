@@ -1,9 +1,9 @@
 -- A player who keeps to a set, where least counts are there, holds it.
-use Rattle.std.proofs.Common.{◌≡◌, ◌≢◌, ℕ, ◌+◌, ◌%◌, ◌<◌, ◌≤◌, ◌∙◌, List, length, get_or, inl, inr, sym, ap, arith, rules}
+use Rattle.std.proofs.Common.{◌≡◌, ℕ, ◌+◌, ◌%◌, ◌<◌, ◌≤◌, ◌∙◌, List, length, get_or, inl, inr, sym, ap, arith, rules}
 use Rattle.std.proofs.Common.{Option, Bool}
 use Rattle.std.specs.Prelude.{IsTrue}
 use Rattle.std.proofs.lemmas.Bool.{cases_eq}
-use Rattle.ps_game.specs.Games.{ParityGame, IsGame, vertex_count, priority_of}
+use Rattle.ps_game.specs.Games.{ParityGame, priority_of}
 use Rattle.ps_game.specs.Plays.{IsPath, IsLoop, Follows, WinsLoop, KeepsTo, Holds, loop_priority, other_player}
 use Rattle.ps_game.specs.Ranking.{RemainsWithin, KeepsRule}
 use Rattle.ps_game.proofs.LoopPriorities.{le-loop_priority, loop_priority_stands}

@@ -135,6 +135,10 @@ module _ (game : ParityGame) (won : List Bool) (first second : List (Option ℕ)
           }),
         )
 
+pub only_memory : {X : Type 0} {r : Result X JudgeFault} {fault : JudgeFault} → r ≡ Err fault →
+    IfErr r IsOutOfMemory → IsOutOfMemory fault
+only_memory is h = subst (λ r. IfErr r IsOutOfMemory) is h
+
 -- a fault that is passed on
 pub if_err : {X : Type 0} (r : Result X JudgeFault) (fault : JudgeFault) (P : JudgeFault → Type 0) →
     IsErrAnd r (λ y. y ≡ fault) → P fault → IfErr r P

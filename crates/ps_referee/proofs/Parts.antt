@@ -1,15 +1,14 @@
 -- The part of a certificate that one player wins.
 use Rattle.std.proofs.Common.{◌≡◌, ◌≢◌, ◌∙◌, ℕ, zero, suc, ◌+◌, ◌<◌, List, [], ◌∷◌, get_or, Option, Some, None, Bool}
-use Rattle.std.proofs.Common.{true, false, subst, ap, arith, rules, not, if◌then◌else◌, length, sym}
+use Rattle.std.proofs.Common.{subst, arith, rules, length, sym}
 use Rattle.std.specs.Prelude.{IsTrue, IsSomeAnd}
-use Rattle.std.proofs.lemmas.Bool.{cases_Bool, cases_eq}
+use Rattle.std.proofs.lemmas.Bool.{cases_Bool}
 use Rattle.ps_game.specs.Games.{ParityGame, IsGame, vertex_count, owner_of, HasEdge}
 use Rattle.ps_game.specs.Plays.{IsPath, Follows, KeepsTo, Holds}
 use Rattle.ps_game.specs.Ranking.{RemainsFor, RemainsWithin}
-use Rattle.ps_game.specs.Regions.{has, move_at}
 use Rattle.ps_certificate.specs.Certificates.{CertificateData, HasRightMove, Remains, IsClosed, winner_of, choice_of}
 use Rattle.ps_measure.specs.Ranks.{IsLostCycle}
-use Rattle.ps_referee.specs.Solutions.{winner_by, choice_by, won_by, moves_by, claimed}
+use Rattle.ps_referee.specs.Solutions.{won_by, moves_by, claimed}
 use Rattle.ps_referee.proofs.Claims.{winner_is, choice_is}
 
 -- a play of two vertices

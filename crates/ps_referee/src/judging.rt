@@ -1,4 +1,4 @@
-//! The call that judges a solution.
+//! The call that judges a solution, and the one for a solution that is known to hold.
 
 ghost use Rattle.std.specs.Prelude.{◌≡◌, ℕ, ◌<◌, length, not, IfOk, IfErr, OnOk};
 ghost use Rattle.ps_game.specs.Games.{vertex_count};
@@ -51,6 +51,45 @@ pub fn judge<A: Arena>(
     let _vertices = arena.count();
     closing(alloc, arena, won, first, second)?;
     counting(alloc, arena, won, first, second)
+}
+
+/// The certificate of a game by a solution that is known to hold, and is not judged: its winners and moves are the
+/// solution's, its counts the least ones.
+///
+/// # Errors
+///
+/// Fails for want of memory alone.
+pub fn certificate_of_solution<A: Arena>(
+    alloc: Global,
+    arena: &A,
+    won: &Region,
+    first: &Strategy,
+    second: &Strategy,
+) -> Result<Certificate, AllocError>
+    requires won { length won.now ≡ vertex_count (A.game arena.now) }
+    requires first { length first.now ≡ vertex_count (A.game arena.now) }
+    requires second { length second.now ≡ vertex_count (A.game arena.now) }
+    requires holds { IsSolution (A.game arena.now) won.now first.now second.now }
+
+    // The certificate has the winners and moves of the solution.
+    ensures same { IfOk result
+        (SaysTheSame (A.game arena.now) (claimed (A.game arena.now) won.now first.now second.now)) }
+    ensures fits { IfOk result (Fits (A.game arena.now)) }
+    ensures valid { IfOk result (IsValid (A.game arena.now)) }
+    ensures least { IfOk result (HasLeastCounts (A.game arena.now)) }
+{
+    let _vertices = arena.count();
+    match counting(alloc, arena, won, first, second) {
+        Ok(certificate) => Ok(certificate),
+        Err(JudgeFault::OutOfMemory) => Err(AllocError),
+        Err(JudgeFault::Unclosed(_)) => unreachable!(),
+        Err(
+            JudgeFault::BadCycle {
+                player: _,
+                cycle: _,
+            },
+        ) => unreachable!(),
+    }
 }
 
 /// Whether the moves of a solution are right, and each edge that remains stays with its winner.

@@ -7,12 +7,13 @@
 //! | Call | What it gives |
 //! |---|---|
 //! | `judge(arena, won, first, second)` | the certificate by a solution, or the first `JudgeFault` |
+//! | `certificate_of_solution(arena, won, first, second)` | the certificate by a solution that is known to hold |
 //! | `JudgeFault::number`, `name` | a fault as psyn's list has it |
 //!
 //! Two laws say that nothing but the cycle is open: a solution has one certificate at most (`one_certificate`), and its
 //! refusals are alike, and none where it holds (`one_verdict`).
 //!
-//! It takes the time of `ps_measure::ranks` for both players, and asks no solver.
+//! Both take the time of `ps_measure::ranks` for both players, and ask no solver.
 #![tactic(auto)]
 
 mod building;
@@ -21,5 +22,5 @@ mod judging;
 mod laws;
 
 pub use fault::JudgeFault;
-pub use judging::judge;
+pub use judging::{certificate_of_solution, judge};
 pub use laws::{one_certificate, one_verdict};

@@ -1,5 +1,5 @@
 -- How a certificate is made of what is claimed and of rows of counts.
-use Rattle.std.specs.Prelude.{◌≡◌, ℕ, if◌then◌else◌, List, [], map, Option, Some, None, Bool, slice_get}
+use Rattle.std.specs.Prelude.{ℕ, if◌then◌else◌, List, [], map, Option, Some, None, Bool, slice_get}
 use Rattle.std.specs.List.{range_with_len}
 use Rattle.ps_game.specs.Games.{ParityGame}
 use Rattle.ps_game.specs.Regions.{has}
