@@ -24,8 +24,8 @@
 //!
 //! A store never drops a node, and equal diagrams are one node, which a hash table finds. `guard`, `fill`, `relabel`
 //! and `relabel_from` look at each node below theirs once, `overlay` at each pair of nodes that it comes to once;
-//! `of_letter` makes a node for each proposition, `of_label` joins the diagrams of its operands by halves, `classes`
-//! copies the store first.
+//! `of_letter` makes a node for each proposition, `of_label` one for each literal of a product and else joins the
+//! diagrams of its operands by halves, `classes` copies the store first.
 #![tactic(auto)]
 
 mod classes;
@@ -35,6 +35,7 @@ mod letter;
 mod maps;
 mod overlay;
 mod paths;
+mod products;
 mod rows;
 mod split;
 pub mod store;
