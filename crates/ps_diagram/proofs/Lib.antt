@@ -6,6 +6,7 @@ pub mod Joining
 pub mod KnownLemmas
 pub mod Letters
 pub mod Clashing
+pub mod Literals
 pub mod Seeing
 pub mod Mapping
 pub mod Alone

@@ -66,7 +66,10 @@ impl Store {
             (λ node. (names : List Expression) → AreNodesOf self.old names aliases.now → (letter : ℕ) →
             leaf_of self.new node letter ≡ one_where (label_truth names letter (expression label.now))) }
     {
-        self.truth_by(aliases, label)
+        match self.of_literals(label)? {
+            Some(node) => Ok(node),
+            None => self.truth_by(aliases, label),
+        }
     }
 
     /// The same, whatever the nodes' truths are.

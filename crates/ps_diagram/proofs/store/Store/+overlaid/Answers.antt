@@ -1,4 +1,4 @@
-use Rattle.std.proofs.Common.{sym, ℕ, true, false, rules}
+use Rattle.std.proofs.Common.{sym, ℕ, true, false}
 use Rattle.indexmap.specs.IndexMap.{get}
 use Rattle.ps_diagram.specs.Table.{tree_of}
 use Rattle.ps_diagram.specs.Inner.Known.{IsOverlay, pair_eq}

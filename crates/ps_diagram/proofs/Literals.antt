@@ -1,0 +1,205 @@
+-- Products of literals: with one literal more, and as trees.
+use Rattle.std.proofs.Common.{◌≡◌, ℕ, zero, suc, ◌+◌, ◌-◌, ◌*◌, ◌^◌, ◌%◌, ◌<◌, ◌≤◌, Bool, true, false, cond, None}
+use Rattle.std.proofs.Common.{refl, sym, ap, ◌∙◌, arith, nat_eq, bit_or, ◌⊎◌, inl, inr}
+use Rattle.std.specs.Prelude.{◌&&◌, ◌||◌}
+use Rattle.std.proofs.lemmas.Nat.{one_shl}
+use Rattle.std.proofs.lemmas.Nat.Bits.{bit_at_or, bit_at-lt, bit_at-pow_same, bit_at-pow_other}
+use Rattle.ps_label.specs.Truth.{is_in}
+use Rattle.ps_diagram.specs.Labels.{one_where}
+use Rattle.ps_diagram.specs.Letters.{assignment}
+use Rattle.ps_diagram.specs.Table.{Table, tree_of}
+use Rattle.ps_diagram.specs.Tree.{Tree, leaf_at, IsBlind, IsTestOf}
+use Rattle.ps_diagram.specs.Inner.Products.{allows, all_allowed, meets}
+use Rattle.ps_diagram.specs.declared.products.Product.{Product}
+
+in_or : (p a b : ℕ) → is_in p (bit_or a b) ≡ (is_in p a || is_in p b)
+in_or p a b = grind (arith, bit_at_or a b p, bit_at-lt a p, bit_at-lt b p)
+
+in_power : (p m : ℕ) → is_in p (2 ^ m) ≡ nat_eq p m
+in_power p m = grind (arith, bit_at-pow_same m, bit_at-pow_other m p)
+
+in_more : (q p bits : ℕ) → p < 64 → is_in q (bit_or bits (1 * 2 ^ p % 2 ^ 64)) ≡ (is_in q bits || nat_eq q p)
+in_more q p bits small = rw (one_shl p 64 small, in_or q bits (2 ^ p), in_power q p) refl
+
+-- truths joined in another order
+and_swap : (a rest here : Bool) → ((a && here) && rest) ≡ ((a && rest) && here)
+and_swap false rest here = refl
+and_swap true false false = refl
+and_swap true false true = refl
+and_swap true true false = refl
+and_swap true true true = refl
+
+pub and_in : (a rest here : Bool) → (a && (rest && here)) ≡ ((a && rest) && here)
+and_in false rest here = refl
+and_in true rest here = refl
+
+at_or_above : (level p : ℕ) → level ≤ p → (level ≡ p) ⊎ (level < p)
+at_or_above level p le = grind arith
+
+-- a rule that asks the same of all propositions but an earlier one allows the same
+same_allowed : (may more : ℕ → Bool → Bool) (f : ℕ → Bool) (p level count : ℕ) →
+    ((q : ℕ) (b : Bool) → (q ≡ p → ⊥) → more q b ≡ may q b) → p < level →
+    all_allowed more f level count ≡ all_allowed may f level count
+unfolding all_allowed
+same_allowed may more f p level zero same before = refl
+same_allowed may more f p level (suc count) same before =
+    rw (same level (f level) (omega arith), same_allowed may more f p (level + 1) count same (omega arith)) refl
+
+-- and one that asks more of one of them allows what both allow
+one_more_allowed : (may more : ℕ → Bool → Bool) (f : ℕ → Bool) (p level count : ℕ) (here : Bool) →
+    ((q : ℕ) (b : Bool) → (q ≡ p → ⊥) → more q b ≡ may q b) → more p (f p) ≡ (may p (f p) && here) → level ≤ p →
+    p < level + count → all_allowed more f level count ≡ (all_allowed may f level count && here)
+unfolding all_allowed
+one_more_allowed may more f p level zero here same one le lt = absurd (omega arith)
+one_more_allowed may more f p level (suc count) here same one le lt = elim (at_or_above level p le) [
+  | inl is ↦ rw (is, one, same_allowed may more f p (p + 1) count same (omega arith))
+      (and_swap (may p (f p)) (all_allowed may f (p + 1) count) here)
+  | inr above ↦ rw (
+    same level (f level) (omega arith),
+    one_more_allowed may more f p (level + 1) count here same one (omega arith) (omega arith),
+  ) (and_in (may level (f level)) (all_allowed may f (level + 1) count) here)
+]
+
+or_false : (a : Bool) → (a || false) ≡ a
+or_false false = refl
+or_false true = refl
+
+or_true : (a : Bool) → (a || true) ≡ true
+or_true false = refl
+or_true true = refl
+
+and_true : (a : Bool) → (a && true) ≡ a
+and_true false = refl
+and_true true = refl
+
+and_false : (a : Bool) → (a && false) ≡ false
+and_false false = refl
+and_false true = refl
+
+other_number : (q p : ℕ) → (q ≡ p → ⊥) → nat_eq q p ≡ false
+other_number q p ne = grind arith
+
+same_number : (p : ℕ) → nat_eq p p ≡ true
+same_number p = grind arith
+
+-- a product with one literal more
+abbrev pub with_positive : Product → ℕ → Product
+with_positive product p = record {
+  positive = bit_or product.positive (1 * 2 ^ p % 2 ^ 64);
+  negative = product.negative;
+}
+
+abbrev pub with_negative : Product → ℕ → Product
+with_negative product p = record {
+  positive = product.positive;
+  negative = bit_or product.negative (1 * 2 ^ p % 2 ^ 64);
+}
+
+positive_same : (product : Product) (p : ℕ) → p < 64 → (q : ℕ) (b : Bool) → (q ≡ p → ⊥) →
+    allows (with_positive product p) q b ≡ allows product q b
+positive_same product p small q true ne = refl
+positive_same product p small q false ne =
+    rw (in_more q p product.positive small, other_number q p ne, or_false (is_in q product.positive)) refl
+
+negative_same : (product : Product) (p : ℕ) → p < 64 → (q : ℕ) (b : Bool) → (q ≡ p → ⊥) →
+    allows (with_negative product p) q b ≡ allows product q b
+negative_same product p small q false ne = refl
+negative_same product p small q true ne =
+    rw (in_more q p product.negative small, other_number q p ne, or_false (is_in q product.negative)) refl
+
+positive_here : (product : Product) (p : ℕ) → p < 64 → (b : Bool) →
+    allows (with_positive product p) p b ≡ (allows product p b && b)
+positive_here product p small true = sym (and_true (cond (is_in p product.negative) false true))
+positive_here product p small false =
+    rw (in_more p p product.positive small, same_number p, or_true (is_in p product.positive))
+    (sym (and_false (cond (is_in p product.positive) false true)))
+
+negative_here : (product : Product) (p : ℕ) → p < 64 → (b : Bool) →
+    allows (with_negative product p) p b ≡ (allows product p b && cond b false true)
+negative_here product p small false = sym (and_true (cond (is_in p product.positive) false true))
+negative_here product p small true =
+    rw (in_more p p product.negative small, same_number p, or_true (is_in p product.negative))
+    (sym (and_false (cond (is_in p product.negative) false true)))
+
+pub meets_positive : (product : Product) (p n letter : ℕ) → p < 64 → p < n →
+    meets n (with_positive product p) letter ≡ (meets n product letter && is_in p letter)
+meets_positive product p n letter small lt =
+    one_more_allowed (allows product) (allows (with_positive product p)) (assignment letter) p 0 n (is_in p letter)
+    (positive_same product p small) (positive_here product p small (is_in p letter)) (omega arith) (omega arith)
+
+pub meets_negative : (product : Product) (p n letter : ℕ) → p < 64 → p < n →
+    meets n (with_negative product p) letter ≡ (meets n product letter && cond (is_in p letter) false true)
+meets_negative product p n letter small lt =
+    one_more_allowed (allows product) (allows (with_negative product p)) (assignment letter) p 0 n
+    (cond (is_in p letter) false true) (negative_same product p small)
+    (negative_here product p small (is_in p letter)) (omega arith) (omega arith)
+
+-- the product of no literals is true at each letter
+none_allows : (q : ℕ) (b : Bool) → allows (record { positive = 0; negative = 0 }) q b ≡ true
+none_allows q true = grind arith
+none_allows q false = grind arith
+
+pub meets_none : (f : ℕ → Bool) (level n : ℕ) →
+    all_allowed (allows (record { positive = 0; negative = 0 })) f level n ≡ true
+unfolding all_allowed
+meets_none f level zero = refl
+meets_none f level (suc n) = rw (none_allows level (f level)) (meets_none f (level + 1) n)
+
+-- Of the propositions from the level on and below n, the tree has the leaf 1 where the product lets all be as they are,
+-- and else none.
+pub record IsProduct (n level : ℕ) (product : Product) (t : Tree) : Type 0 where
+  pub leaf : (f : ℕ → Bool) → leaf_at t f ≡ one_where (all_allowed (allows product) f level (n - level))
+
+same_letters : (may : ℕ → Bool → Bool) (f g : ℕ → Bool) (level count : ℕ) → ((q : ℕ) → level ≤ q → f q ≡ g q) →
+    all_allowed may f level count ≡ all_allowed may g level count
+unfolding all_allowed
+same_letters may f g level zero same = refl
+same_letters may f g level (suc count) same =
+    rw (same level (omega arith), same_letters may f g (level + 1) count (λ q le. same q (omega arith))) refl
+
+product_blind : {n level : ℕ} {product : Product} {t : Tree} → IsProduct n level product t → IsBlind level t
+product_blind {n} {level} {product} h f g same = h.leaf f
+    ∙ ap one_where (same_letters (allows product) f g level (n - level) same) ∙ sym (h.leaf g)
+
+pub product_begins : {n level : ℕ} {product : Product} {t : Tree} → level ≡ n →
+    ((f : ℕ → Bool) → leaf_at t f ≡ one_where true) → IsProduct n level product t
+unfolding all_allowed
+product_begins {n} {level} same h = record {
+  leaf = λ f. let none : n - level ≡ 0 = omega arith in rw none (h f);
+}
+
+side_leaf : (t : Table) (b : Bool) (none node side : ℕ) (f : ℕ → Bool) (rest : Bool) → side ≡ cond b none node →
+    leaf_at (tree_of t none) f ≡ None → leaf_at (tree_of t node) f ≡ one_where rest →
+    leaf_at (tree_of t side) f ≡ one_where (cond b false true && rest)
+side_leaf t true none node side f rest e empty h = rw e empty
+side_leaf t false none node side f rest e empty h = rw e h
+
+pub side_blind : (t : Table) {n level : ℕ} {product : Product} (b : Bool) (none node side : ℕ) →
+    side ≡ cond b none node → ((f : ℕ → Bool) → leaf_at (tree_of t none) f ≡ None) →
+    IsProduct n level product (tree_of t node) → IsBlind level (tree_of t side)
+side_blind t true none node side e empty h = rw e (λ f g same. empty f ∙ sym (empty g))
+side_blind t false none node side e empty h = rw e (product_blind h)
+
+-- the leaf of a test whose sides are products
+tested : (b x y rest : Bool) → cond b (one_where (x && rest)) (one_where (y && rest)) ≡ one_where (cond b x y && rest)
+tested true x y rest = refl
+tested false x y rest = refl
+
+-- one step of the loop, which counts down
+pub product_next : {n m i : ℕ} {product : Product} (t : Table) (none node low high : ℕ) {made : Tree} → m ≡ n →
+    0 < i → i ≤ n → ((f : ℕ → Bool) → leaf_at (tree_of t none) f ≡ None) → IsProduct n i product (tree_of t node) →
+    low ≡ cond (is_in (i - 1) product.positive) none node → high ≡ cond (is_in (i - 1) product.negative) none node →
+    IsTestOf (i - 1) (tree_of t low) (tree_of t high) made → IsProduct m (i - 1) product made
+unfolding all_allowed
+product_next {n} {m} {i} {product} t none node low high same some le empty h lo hi is = record {
+  leaf = λ f.
+      let next : i - 1 + 1 ≡ i = omega arith in
+      let count : m - (i - 1) ≡ suc (n - i) = omega arith in
+      let rest = all_allowed (allows product) f i (n - i) in
+      let down : leaf_at (tree_of t low) f ≡ one_where (cond (is_in (i - 1) product.positive) false true && rest) =
+      side_leaf t (is_in (i - 1) product.positive) none node low f rest lo (empty f) (h.leaf f) in
+      let up : leaf_at (tree_of t high) f ≡ one_where (cond (is_in (i - 1) product.negative) false true && rest) =
+      side_leaf t (is_in (i - 1) product.negative) none node high f rest hi (empty f) (h.leaf f) in
+      rw (count, next, is f, down, up) (tested (f (i - 1)) (cond (is_in (i - 1) product.negative) false true)
+      (cond (is_in (i - 1) product.positive) false true) rest);
+}

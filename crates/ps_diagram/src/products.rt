@@ -1,0 +1,129 @@
+//! The diagrams of products: of literals that are true together.
+
+ghost use Rattle.std.specs.Prelude.{◌≡◌, ◌&&◌, ℕ, ◌<◌, Bool, true, false, List, IfOk, IfSome, cond};
+ghost use Rattle.ps_label.specs.Expression.{IsOver, expression, proposition};
+ghost use Rattle.ps_label.specs.Truth.{is_in, truth};
+ghost use Rattle.ps_diagram.specs.Labels.{one_where};
+ghost use Rattle.ps_diagram.specs.Table.{IsNode, Keeps, leaf_of};
+ghost use Rattle.ps_diagram.specs.Inner.Products.{meets};
+
+use crate::store::Store;
+use crate::view::Node;
+use ps_label::Label;
+use std::alloc::AllocError;
+
+/// Literals that are true together, as two sets of propositions: proposition p is bit p.
+#[derive(Clone, Copy)]
+pub(crate) struct Product {
+    /// Those that are to be true.
+    pub positive: u64,
+    /// Those that are to be false.
+    pub negative: u64,
+}
+
+impl Product {
+    /// The product with a proposition that is to be true.
+    fn with(self, proposition: u32) -> Product
+        requires named { proposition < 64 }
+        ensures { (n letter : ℕ) → proposition < n →
+            meets n result letter ≡ (meets n self letter && is_in proposition letter) }
+    {
+        Product {
+            positive: self.positive | 1 << proposition,
+            negative: self.negative,
+        }
+    }
+
+    /// The product with a proposition that is to be false.
+    fn without(self, proposition: u32) -> Product
+        requires named { proposition < 64 }
+        ensures { (n letter : ℕ) → proposition < n →
+            meets n result letter ≡ (meets n self letter && cond (is_in proposition letter) false true) }
+    {
+        Product {
+            positive: self.positive,
+            negative: self.negative | 1 << proposition,
+        }
+    }
+}
+
+impl Store {
+    /// The diagram of a label, if it is a product of literals.
+    pub(crate) fn of_literals(&mut self, label: &Label) -> Result<Option<Node>, AllocError>
+        requires within { (aliases : ℕ) × IsOver aliases self.old.propositions (expression label.now) }
+        ensures keeps { Keeps self.old self.new }
+        ensures held { IfOk result (λ made. IfSome made (λ node. IsNode self.new node)) }
+        ensures leaf { IfOk result (λ made. IfSome made (λ node. (known : List Bool) (letter : ℕ) →
+            leaf_of self.new node letter ≡ one_where (truth known letter (expression label.now)))) }
+    {
+        let none = Product {
+            positive: 0,
+            negative: 0,
+        };
+        let Some(product) = self.with_label(none, label) else {
+            return Ok(None);
+        };
+        let node = self.of_product(product)?;
+        Ok(Some(node))
+    }
+
+    /// A product with the literals of a label, if the label is a product of literals.
+    fn with_label(&self, product: Product, label: &Label) -> Option<Product>
+        requires within { (aliases : ℕ) × IsOver aliases self.now.propositions (expression label.now) }
+        ensures { IfSome result (λ more. (known : List Bool) (letter : ℕ) → meets self.now.propositions more letter ≡
+            (meets self.now.propositions product letter && truth known letter (expression label.now))) }
+    {
+        let _ = self.propositions();
+        match label {
+            Label::Atom(proposition) => Some(product.with(*proposition)),
+            Label::Neg(operand) => Some(product.without(atom_of(operand)?)),
+            Label::Both(operands) => {
+                let mut more = product;
+                for operand in operands {
+                    more = self.with_label(more, operand)?;
+                }
+                Some(more)
+            }
+            _ => None,
+        }
+    }
+
+    /// The diagram with the leaf 1 where a product is true.
+    fn of_product(&mut self, product: Product) -> Result<Node, AllocError>
+        ensures keeps { Keeps self.old self.new }
+        ensures held { IfOk result (λ node. IsNode self.new node) }
+        ensures leaf { IfOk result (λ node. (letter : ℕ) →
+            leaf_of self.new node letter ≡ one_where (meets self.old.propositions product letter)) }
+    {
+        let none = self.constant(None)?;
+        let mut node = self.constant(Some(1))?;
+        for proposition in (0..self.propositions()).rev() {
+            let low = side(product.positive, proposition, none, node);
+            let high = side(product.negative, proposition, none, node);
+            node = self.test(proposition, low, high)?;
+        }
+        Ok(node)
+    }
+}
+
+/// The first node where the proposition is among some, and else the second.
+fn side(some: u64, proposition: u32, first: Node, second: Node) -> Node
+    requires named { proposition < 64 }
+    ensures { result ≡ cond (is_in proposition some) first second }
+{
+    if some >> proposition & 1 == 1 {
+        first
+    } else {
+        second
+    }
+}
+
+/// The proposition that a label is, if it is one.
+fn atom_of(label: &Label) -> Option<u32>
+    ensures { IfSome result (λ p. expression label.now ≡ proposition p) }
+{
+    match label {
+        Label::Atom(proposition) => Some(*proposition),
+        _ => None,
+    }
+}
