@@ -40,6 +40,12 @@ controllable-AP: 1 Acceptance: 1 Inf(0) --BODY--
 State: 0 "</td><b>off</b> & \\"x\\" --> ]]> \\\\N id=\\"a\\"" [!0|1] 0 {0} [0&!1] 1
 State: 1 [1] 0 {0} [!1] 1 --END--
 """.encode()
+FOCUS = """\
+document.querySelector("#choices button").focus(); document.activeElement.click();
+document.title = document.activeElement.textContent + "/";
+document.getElementById("back").focus(); document.activeElement.click(); document.activeElement.click();
+document.title += document.activeElement.textContent;
+"""
 RUNS = []
 
 
@@ -252,7 +258,7 @@ class InChromium(OnFiles):
 
     def document(self, page, address):
         """The document that a page with this address becomes."""
-        command = [self.chromium, "--headless", "--no-sandbox", "--disable-gpu", f"--user-data-dir={self.room}/profile", "--dump-dom"]
+        command = [self.chromium, "--headless", "--no-sandbox", "--disable-gpu", "--disable-dev-shm-usage", f"--user-data-dir={self.room}/profile", "--dump-dom"]
         done = subprocess.run([*command, f"file://{page}{address}"], capture_output=True, check=False, timeout=120)
         self.assertEqual(done.returncode, 0, done.stderr)
         RUNS.append(page)
@@ -308,21 +314,23 @@ class InChromium(OnFiles):
         steps = f'{press("whole")}{press("back") * (len(moves) - 1)}{press("auto") * (len(moves) - 1)}'
         document = self.pressed(page, "", steps)
         self.assertEqual(self.address(document), ",".join(moves))
-        self.assertEqual([row[-1] for row in self.rows(document) if len(row) == 5], [line.split("  ")[-1].strip() for line in said.split("\n") if re.match(r"\d", line)])
+        table = [re.split("  +", line) for line in said.split("\n") if re.match(r"\d|the loop begins", line)]
+        self.assertEqual(self.rows(document), table)
         self.assertIn("step 7 breaks the guarantee register", re.search(r'<p class="end">(.*?)</p>', document, re.S)[1])
         # the address brings a play back; keys are those of `play`; another letter by its propositions
-        keys = "".join(f'document.getElementById("play").dispatchEvent(new KeyboardEvent("keydown", {{ key: "{key}" }}));' for key in "1ab2")
+        keys = "".join(f'document.getElementById("play").dispatchEvent(new KeyboardEvent("keydown", {{ key: "{key}" }}));' for key in "aab2")
         document = self.pressed(page, "#moves=0,0", keys)
         self.assertEqual(self.address(document), "0,0,0,1")
         letter = 'document.querySelector("#boxes input").click(); document.querySelector("#letter button").click();'
         self.assertEqual(self.address(self.pressed(page, "", letter)), "1")
-        # a stimulus of what was played, the focus on a choice, and a name for each button
-        check = 'document.querySelector("#choices button").focus(); document.activeElement.click(); document.title = document.activeElement.textContent;'
-        document = self.pressed(page, "#moves=0", check)
-        self.assertTrue(re.search(r"<title>1[.] !?take", document))
+        # a stimulus of what was played, the focus where the button that had it is gone, and a name for each button
+        document = self.pressed(page, "#moves=0", FOCUS)
+        self.assertTrue(re.search(r"<title>1[.] !take .*/1[.] !take .*</title>", document))
+        self.assertTrue('download="handshake.stim" href="data:text/plain,"' in document)
+        document = self.pressed(page, "#moves=0,0", "")
         self.assertTrue('download="handshake.stim" href="data:text/plain,0%0A0%0A"' in document)
         self.assertEqual(re.findall(r"<button[^>]*></button>", document), [])
-        self.assertTrue("The address has no moves of this board." in self.document(page, "#moves=0,2"))
+        self.assertTrue('<p class="end">The address has no moves of this board.' in self.document(page, "#moves=0,2"))
 
 
 def press(name):

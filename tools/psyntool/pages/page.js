@@ -151,13 +151,13 @@ function drawAround(picture, graph, center) {
 
 // ---- what is pressed
 
-/** Goes to another play; where a choice had the focus, the first one has it then. */
+/** Goes to another play; where the button that had the focus is gone, the first choice has it then. */
 function go(next) {
-  const chose = byId("choices").contains(document.activeElement);
+  const focused = document.activeElement;
   play = next;
   history.replaceState(null, "", `#moves=${movesText(play)}`);
   show();
-  if (chose) (byId("choices").querySelector("button") || byId("back")).focus();
+  if (!focused.isConnected || focused.disabled) (byId("choices").querySelector("button") || byId("back")).focus();
 }
 
 const pressed = {
