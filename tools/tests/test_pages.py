@@ -9,12 +9,16 @@ import re
 import shutil
 import subprocess
 import unittest
+import unittest.mock
 
 from psyntool import program
+from psyntool.command import Request
 from psyntool.commands import play as command
-from psyntool.pages import clauses, contents, drawing
+from psyntool.ends import Refused
+from psyntool.pages import clauses, contents, drawing, writing
 from psyntool.plays import reading, telling
 from psyntool.plays.board import Play
+from psyntool.table import COMMANDS
 from psyntool.texts import report
 from tests.test_gallery import GALLERY
 from tests.test_plays import boards
@@ -203,6 +207,7 @@ class Pages(OnFiles):
             (".aag", b"\nc", b"\nc\nc", b"out.aag is not what psyn prints for this certificate, so nothing is proved of it"),
             (".aag", b"aag", b"agg", b"this is no circuit: its first line is not `aag M I L O A`"),
             (".cert", b"psyncert 1", b"psyncert 3", b"this is no certificate"),
+            (".cert", b"odd 1", b"odd 3", b"out.cert: synth answers to it: fault 54 "),
             (".pg", b'"0/0"', b'"0/9"', b""),
         ):
             name = f"out{ending}"
@@ -216,6 +221,12 @@ class Pages(OnFiles):
         self.assertEqual(self.tool("page", "none", path).stderr, b"psyn: none.aag: No such file or directory\n")
         self.assertEqual(self.tool("page", "out", "out.pg").stderr, b"psyn: out.pg is a game; page wants PREFIX and a specification\n")
         self.assertEqual(self.tool("page", "--parts").stderr.count(b"\n"), 1)
+
+    def test_a_page_that_is_too_large_is_refused(self):
+        path = self.solved("out", AUTOMATON)
+        given = reading.given(Request(COMMANDS["page"], {}, [os.path.join(self.room, "out"), path], COMMANDS))
+        with unittest.mock.patch("psyntool.pages.writing.MOST_BYTES", 10_000), self.assertRaisesRegex(Refused, "more than 10,000 bytes"):
+            writing.page("out", given.board, [])
 
     def test_a_picture_wants_graphviz_and_no_more_than_it_can_show(self):
         graph = {number: {"lines": ("", ""), "to": [(number + 1) % 401]} for number in range(401)}

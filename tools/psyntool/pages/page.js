@@ -5,6 +5,7 @@ const byId = (id) => document.getElementById(id);
 const SVG = byId("wave").namespaceURI;
 const AROUND = 12;
 const LONGEST = 10000;
+const BOX = { wide: 270, tall: 64, width: 222, height: 40, signs: 34 };
 let play = begun(board);
 
 /** An element of a document, or with a namespace of a picture, with attributes and text. */
@@ -118,35 +119,40 @@ function pin(group) {
   const box = group.getBBox();
   group.parentNode.append(group);
   group.append(shape("text", { class: "pin", x: box.x + box.width / 2, y: box.y - 4 }, "\u25bc here"));
-  const frame = group.closest(".picture");
+  const frame = group.closest(".wide");
   const [at, within] = [group.getBoundingClientRect(), frame.getBoundingClientRect()];
   frame.scrollBy(at.left + at.width / 2 - within.left - within.width / 2, at.top + at.height / 2 - within.top - within.height / 2);
 }
 
+/** A curve from the right side of one box to the left side of another; one that leads back bends below them. */
+function curve([x, y], [left, top]) {
+  const [right, from, to] = [x + BOX.width, y + BOX.height / 2, top + BOX.height / 2];
+  const [bend, sink] = left > x ? [25, 0] : [60, 45];
+  return shape("path", { d: `M${right} ${from}C${right + bend} ${from + sink} ${left - bend} ${to + sink} ${left} ${to}` });
+}
+
+function box(lines, [x, y], isCenter) {
+  const group = shape("g", { class: isCenter ? "here" : "other" });
+  const shown = lines.map((line) => (line.length > BOX.signs ? `${line.slice(0, BOX.signs - 1)}\u2026` : line));
+  group.append(shape("title", {}, lines.join("\n")), shape("rect", { x, y, width: BOX.width, height: BOX.height }));
+  group.append(...shown.map((line, place) => shape("text", { x: x + 6, y: y + 16 + place * 17 }, line)));
+  return group;
+}
+
 /** Draws the vertices around one, in columns by their distance, with its edges and those that lead to the next column. */
 function drawAround(picture, graph, center) {
-  const [wide, tall, width, height] = [260, 64, 210, 40];
   const found = center === null ? new Map() : around(graph, center, AROUND);
-  const columns = [...new Set(found.values())].sort((one, other) => one - other);
-  const members = columns.map((distance) => [...found.keys()].filter((id) => found.get(id) === distance));
-  const most = Math.max(1, ...members.map((ids) => ids.length));
-  const corners = new Map(members.flatMap((ids, column) => ids.map((id, row) => [id, [10 + column * wide, 24 + (row + (most - ids.length) / 2) * tall]])));
+  const distances = [...new Set(found.values())].sort((one, other) => one - other);
+  const columns = distances.map((distance) => [...found.keys()].filter((id) => found.get(id) === distance));
+  const most = Math.max(1, ...columns.map((ids) => ids.length));
+  const placed = (ids, column) => ids.map((id, row) => [id, [10 + column * BOX.wide, 24 + (row + (most - ids.length) / 2) * BOX.tall]]);
+  const corners = new Map(columns.flatMap(placed));
   const isDrawn = (id, to) => corners.has(to) && (id === center || to === center || found.get(to) === found.get(id) + 1);
-  const edges = [...corners].flatMap(([id, [x, y]]) => graph[id].to.filter((to) => isDrawn(id, to)).map((to) => {
-    const [right, middle, [left, top]] = [x + width, y + height / 2, corners.get(to)];
-    const bend = left > x ? 25 : 60;
-    return shape("path", { d: `M${right} ${middle}C${right + bend} ${middle + (left > x ? 0 : 45)} ${left - bend} ${top + height / 2 + (left > x ? 0 : 45)} ${left} ${top + height / 2}` });
-  }));
-  const boxes = [...corners].map(([id, [x, y]]) => {
-    const group = shape("g", id === center ? { class: "here" } : {});
-    group.append(shape("title", {}, graph[id].lines.join("\n")), shape("rect", { x, y, width, height, rx: id === center ? 0 : 8 }));
-    graph[id].lines.forEach((line, place) => group.append(shape("text", { x: x + 6, y: y + 16 + place * 17 }, line.length > 34 ? `${line.slice(0, 33)}\u2026` : line)));
-    if (id === center) group.append(shape("text", { class: "pin", x: x + width / 2, y: y - 6 }, "\u25bc here"));
-    return group;
-  });
-  picture.setAttribute("width", Math.max(1, columns.length) * wide);
-  picture.setAttribute("height", most * tall + 40);
-  picture.replaceChildren(...edges, ...boxes);
+  const edges = [...corners.keys()].flatMap((id) => graph[id].to.filter((to) => isDrawn(id, to)).map((to) => curve(corners.get(id), corners.get(to))));
+  picture.setAttribute("width", Math.max(1, columns.length) * BOX.wide);
+  picture.setAttribute("height", most * BOX.tall + 40);
+  picture.replaceChildren(...edges, ...[...corners].map(([id, corner]) => box(graph[id].lines, corner, id === center)));
+  picture.querySelectorAll(".here").forEach(pin);
 }
 
 // ---- what is pressed
