@@ -7,4 +7,5 @@
   texts                          games, certificates, automata, circuits, stimuli, solutions: a type and a reader each
   explaining, faults             what is wrong with a text, by the words of docs/FAULTS.md
   pictures, families             Graphviz DOT; games by name
+  pages                          a play as a page for a browser, in one file
 """

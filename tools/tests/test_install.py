@@ -41,6 +41,11 @@ class Installed(unittest.TestCase):
         self.assertEqual((refused.stdout, refused.returncode), (b"fault 52 Rank 0 0 1\n", 1))
         self.assertIn(b"mend: ", refused.stderr)
 
+    def test_a_page_has_its_parts(self):
+        done = self.psyn("page", "--parts", os.path.join("..", "gallery", "traffic.parts"))
+        self.assertEqual((done.returncode, done.stderr), (0, b""))
+        self.assertTrue(b"<title>traffic: REALIZABLE</title>" in done.stdout and b"function begun(board)" in done.stdout)
+
     def test_the_manual_is_there(self):
         with open(os.path.join(self.prefix, "share", "man", "man1", "psyn.1"), encoding="utf-8") as file:
             self.assertEqual(file.read(), manual.page())

@@ -142,21 +142,27 @@ class Commands(OnFiles):
         self.assertTrue(said.replace(b"\r\n", b"\n").endswith(BROKEN.encode()), said)
 
 
+def boards(draw, count):
+    """Drawn specifications, of both players, in both orders: of each the automaton's text, the circuit's, and the board."""
+    names = ["a", "b", "c"]
+    for number in range(count):
+        sides = [tuple(part.part_of(f"part{place}", "", {}, Table(draw, names).text()) for place in range(draw.randint(1, 3))) for _ in range(2)]
+        whole = Specification(*sides, tuple(names), frozenset(draw.sample(names, 1)), number % 4 == 0)
+        text = Composer(whole).composed().text()
+        flags = " --moore" if number % 3 == 0 else ""
+        said = report.read(program.ask(f"synth --full{flags}\n{text}".encode()).text)
+        texts = circuit.read(said.parts[0]), game.read(said.parts[1]), certificate.read(said.parts[2])
+        yield text, said.parts[0], Board(automaton.read(text), texts[1], texts[2], texts[0], whole)
+
+
 class Drawn(unittest.TestCase):
     """The longest play and a drawn one, of both players, in both orders: the program's verdict is that of the loop, or it raises."""
 
     def test_drawn_specifications(self):
-        draw, names, ends = random.Random(7), ["a", "b", "c"], {}
-        for number in range(40):
-            sides = [tuple(part.part_of(f"part{place}", "", {}, Table(draw, names).text()) for place in range(draw.randint(1, 3))) for _ in range(2)]
-            whole = Specification(*sides, tuple(names), frozenset(draw.sample(names, 1)), number % 4 == 0)
-            text = Composer(whole).composed().text()
-            flags = " --moore" if number % 3 == 0 else ""
-            said = report.read(program.ask(f"synth --full{flags}\n{text}".encode()).text)
-            texts = circuit.read(said.parts[0]), game.read(said.parts[1]), certificate.read(said.parts[2])
-            board = Board(automaton.read(text), texts[1], texts[2], texts[0], whole)
+        draw, ends = random.Random(7), {}
+        for text, printed, board in boards(draw, 40):
             for choose in (board.longest, draw.choice):
-                play = Play(board, said.parts[0].encode())
+                play = Play(board, printed.encode())
                 while not play.is_over:
                     play.take(choose(play.choices()).letter)
                 command.judged(play, text)

@@ -25,6 +25,10 @@ Why does the environment win? Play against it, by names, or see the play that ho
   {name} play out spec.hoa
   {name} play --auto out spec.hoa
 
+The same by buttons, with pictures, on a page for a browser; of a list of parts by one command:
+  {name} page out spec.hoa > page.html
+  {name} page --parts arbiter.parts > page.html
+
 Who wins this game, by which moves?
   {name} solve game.pg > solution.cert
 

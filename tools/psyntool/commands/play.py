@@ -2,17 +2,10 @@
 from psyntool import console, outputs, program
 from psyntool.command import ENV, Command, Flag
 from psyntool.ends import Refused, Unwritten
-from psyntool.files import Reader
-from psyntool.kinds import Kind
-from psyntool.parts import specification
-from psyntool.parts.composing import Composer
-from psyntool.plays import telling
-from psyntool.plays.board import Board, Play
-from psyntool.texts import automaton, certificate, circuit, game
+from psyntool.plays import reading, telling
+from psyntool.plays.board import Play
 
 AUTO = Flag("--auto", "plays for me, what holds out longest, and prints the steps")
-ENDINGS = (".aag", ".pg", ".cert")
-KINDS = (Kind.CIRCUIT, Kind.GAME, Kind.CERTIFICATE)
 LONGEST = 10_000
 HELP = (
     "Type the number of a choice, or the names of your propositions that are to be true, `-` for none;\n"
@@ -21,31 +14,18 @@ HELP = (
 
 
 def run(request):
-    prefix, path = request.words
-    reader = Reader(request)
-    texts = reader.texts((*KINDS, Kind.FILE), (*(prefix + ending for ending in ENDINGS), path))
-    text = specification_of(reader, texts[-1])
-    read = automaton.read(text)
-    given = game.read(texts[1].string), certificate.read(texts[2].string), circuit.read(texts[0].string)
-    play = Play(Board(read, *given, specification.kept(read)), texts[0].bytes)
+    prefix = request.words[0]
+    given = reading.given(request)
+    play = Play(given.board, given.printed[0].bytes)
     paths = outputs.checked([f"{prefix}.stim"], "play", prefix)
     is_whole = automatic(play) if request.has(AUTO) else asked(play)
     if not is_whole:
         console.write_text("the play is left; no stimulus is written\n")
         return 0
     outputs.write_all({paths[0]: play.stimulus()})
-    verdict = judged(play, text)
+    verdict = judged(play, given.automaton)
     console.write_text("\n".join([*telling.table(play), *telling.ended(play), f"{paths[0]} has these letters of the {play.board.me}; lasso: {verdict}", ""]))
     return 0
-
-
-def specification_of(reader, text):
-    """The automaton's text; of a list of parts that of the automaton that they make."""
-    if text.looks_like is Kind.LIST:
-        return Composer(specification.of_list(text, reader)).composed().text()
-    if text.looks_like is not Kind.AUTOMATON:
-        raise Refused(f"{text.name} is {text.looks_like.with_article if text.looks_like else 'no automaton'}; play wants PREFIX and a specification")
-    return text.string
 
 
 def automatic(play):

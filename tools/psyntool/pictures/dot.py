@@ -13,6 +13,8 @@ MOST = 400
 
 
 def quoted(text):
+    """A string as DOT has it; Graphviz would read `&amp;` and the like in it."""
+    text = re.sub(r"&(?=#?\w+;)", "&amp;", text)
     return '"' + text.replace("\\", "\\\\").replace('"', '\\"').replace("\n", "\\n") + '"'
 
 

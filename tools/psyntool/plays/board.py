@@ -93,9 +93,10 @@ class Board:
         entry = self.certificate.entries[vertex]
         return tuple(entry.counts.get(priority, 0) for priority in sorted(self.certificate.opposing(entry.winner), reverse=True))
 
-    def choices(self, vertex, theirs, steps):
-        """What I can choose: a class of my letters where I am first, else what the other's letter leaves; what has no edge last."""
-        found = self.classes(vertex) if self.am_first else self.answers(vertex, theirs, steps)
+    def choices(self, vertex, theirs, states):
+        """What I can choose, where the guarantees are in these states: a class of my letters where I am first, else what the other's
+        letter leaves; what has no edge last."""
+        found = self.classes(vertex) if self.am_first else self.answers(vertex, theirs, states)
         return sorted(found, key=lambda choice: choice.target is None)
 
     def classes(self, vertex):
@@ -103,12 +104,12 @@ class Board:
             letter, after = self.names.keys[one].letter, self.names.keys[self.certificate.entries[one].move]
             yield Choice(one, letter, self.letter_text(letter), after.state, after.priority, self.counts(one))
 
-    def answers(self, vertex, theirs, steps):
+    def answers(self, vertex, theirs, states):
         between = self.certificate.entries[vertex].move
         state = self.names.keys[vertex].state
         if self.names.keys[between].letter != theirs:
             raise Unreadable(OTHER_CIRCUIT)
-        ends, breaking = (self.diagrams.fixed(one, theirs, {}) for one in (self.ends(state), self.breaking(steps)))
+        ends, breaking = (self.diagrams.fixed(one, theirs, {}) for one in (self.ends(state), self.breaking(states)))
         for one in self.game.by_identity[between].successors:
             after = self.names.keys[one]
             there = self.diagrams.mapped(ends, lambda it, after=after: it == (after.state, after.priority), {})
@@ -133,11 +134,10 @@ class Board:
             return "anything"
         return said if len(said) <= LONGEST_SET else f"{self.letter_text(letter)}, or others"
 
-    def breaking(self, steps):
-        """For each letter behind these steps the titles of the guarantees that it breaks, as a diagram."""
+    def breaking(self, states):
+        """For each letter the titles of the guarantees, in these states, that it breaks, as a diagram."""
         whole = self.diagrams.leaf(())
-        for moves in self.guaranteed:
-            state = run(moves, steps).state
+        for moves, state in zip(self.guaranteed, states):
             if state is not None:
                 title = (moves.part.title,)
                 here = self.diagrams.mapped(moves.of[state], lambda move, title=title: title if move is None else (), {})
@@ -235,7 +235,7 @@ class Play:
         return self.loop is not None or bool(self.steps) and self.state is None
 
     def choices(self):
-        return self.board.choices(self.vertex, self.theirs, self.steps)
+        return self.board.choices(self.vertex, self.theirs, [run(moves, self.steps).state for moves in self.board.guaranteed])
 
     def take(self, mine):
         """Plays a letter of mine, and sees what comes of it."""

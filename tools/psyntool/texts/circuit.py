@@ -9,8 +9,11 @@ CAUSE = "this is no circuit: run `sim` to see where it goes wrong"
 
 @dataclass(frozen=True)
 class Latch:
+    """A latch: its literal, what it holds in the next step, and what it begins with."""
+
     literal: int
     next: int
+    reset: int = 0
 
 
 @dataclass(frozen=True)
@@ -69,7 +72,7 @@ def read(text):
     inputs, latches, outputs, gates = parts
     return Circuit(
         tuple(row[0] for row in inputs),
-        tuple(Latch(*row[:2]) for row in latches),
+        tuple(Latch(*row[:3]) for row in latches),
         tuple(row[0] for row in outputs),
         tuple(Gate(row[0], row[1:3]) for row in gates),
         symbols,

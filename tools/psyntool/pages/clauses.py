@@ -1,0 +1,46 @@
+"""What is proved of a circuit that psyn prints, in three sentences, and the clauses that say it: each its record, its file and its words."""
+from dataclasses import dataclass
+
+ANSWERS, PROMISES = "crates/ps_traces/specs/Answers.antt", "crates/ps_synthesis/specs/Promises.antt"
+
+
+@dataclass(frozen=True)
+class Clause:
+    record: str
+    file: str
+    words: str
+
+
+CLAUSES = {
+    "accepted": Clause(
+        "IsWitness",
+        ANSWERS,
+        "The automaton accepts the word of each lasso trace of a controller's circuit. Such a trace is a stem and a lap of steps, behind which "
+        "the latches are the same again.",
+    ),
+    "rejected": Clause("IsWitness", ANSWERS, "The automaton accepts the word of no lasso trace of an environment's circuit."),
+    "goes_on": Clause("IsWitness", ANSWERS, "Each stem and lap of letters for the circuit's inputs goes on in a lasso trace, behind some laps."),
+    "meetings": Clause("IsWitness", ANSWERS, "Each meeting of an environment with a finite-state controller is one lasso trace, which is rejected."),
+    "is_game": Clause("KeepsPromise", PROMISES, "The game that is printed is the game of the automaton's file in this order of moves; there is exactly one."),
+    "both_hold": Clause(
+        "KeepsPromise",
+        PROMISES,
+        "From each vertex that the certificate gives to a player, plays that follow the player's moves stay there, and the player wins each of "
+        "their loops.",
+    ),
+    "none_wins_outside": Clause(
+        "KeepsPromise",
+        PROMISES,
+        "At any other vertex the player wins by no strategy of finite memory, and each table over histories, of any length, is beaten.",
+    ),
+}
+GAME = (
+    "The game is the one that this automaton defines ({is_game}), and each player wins every loop of every play from its own vertices by the "
+    "moves of the certificate ({both_hold}).",
+    "No strategy wins from the other vertices, whatever its memory ({none_wins_outside}).",
+)
+# By the winner: the controller, the environment.
+SENTENCES = (
+    ("The automaton accepts each lasso trace of this circuit ({accepted}), and each input that repeats goes on in such a trace ({goes_on}).", *GAME),
+    ("The automaton accepts no lasso trace of this circuit ({rejected}), and each finite-state controller meets it in such a trace ({meetings}).", *GAME),
+)

@@ -1,0 +1,74 @@
+"""The pictures of a page: as `show` draws them, laid out by Graphviz; a map of many edges; or a graph, of which the page draws a part."""
+import re
+import subprocess
+from dataclasses import dataclass
+
+from psyntool.pictures import automata, games
+from psyntool.pictures.dot import MOST
+from psyntool.plays.board import PLAYERS
+from psyntool.texts import labels
+
+# Above so many pairs of vertices with an edge, labels would lie on one another, and dot would take minutes.
+FEW_EDGES = 100
+SECONDS = 30
+MAP = (
+    "digraph map { layout=sfdp; overlap=prism; outputorder=edgesfirst; node [fontname=Helvetica, shape=circle, fixedsize=true, width=0.55, "
+    "style=filled, fillcolor=white]; edge [color=grey70, arrowsize=0.5];"
+)
+
+
+@dataclass(frozen=True)
+class Picture:
+    """The picture as SVG or nothing, and the graph of which the page draws a part, where there is no picture with labels."""
+
+    svg: str
+    graph: dict | None
+
+
+def of_automaton(board):
+    read = board.automaton
+    graph = {}
+    for state in read.states:
+        targets = dict.fromkeys(edge.target for edge in read.edges.get(state, ()))
+        graph[state] = {"lines": (f"state {state}", read.state_names.get(state, "")), "to": list(targets)}
+    return drawn(graph, "s", lambda: automata.picture(read))
+
+
+def of_game(board):
+    graph = {vertex.identity: {"lines": lines_of(board, vertex), "to": vertex.successors} for vertex in board.game.vertices}
+    return drawn(graph, "v", lambda: games.picture(board.game, board.certificate, board.automaton))
+
+
+def lines_of(board, vertex):
+    """A vertex in words: its state and priority, or the letter that was chosen; and who moves there."""
+    key = board.names.keys[vertex.identity]
+    mover = f"the {PLAYERS[1 - vertex.owner]} moves"
+    if key.letter is None:
+        return f"{board.title(key.state)}", f"priority {key.priority}; {mover}"
+    said = "no edge" if key.state is None else labels.letter_text(key.letter, board.automaton.names) or "no letter"
+    return said, mover
+
+
+def drawn(graph, sign, draw):
+    """The picture of a graph; `sign` begins the names of its vertices in DOT."""
+    if len(graph) > MOST:
+        return Picture("", graph)
+    if sum(len(vertex["to"]) for vertex in graph.values()) <= FEW_EDGES:
+        svg = svg_of(draw())
+        return Picture(svg, None if svg else graph)
+    lines = [MAP, *(f'{sign}{one} [label="{one}"];' for one in graph)]
+    lines += [f"{sign}{one} -> {sign}{target};" for one, vertex in graph.items() for target in vertex["to"]]
+    return Picture(svg_of("\n".join([*lines, "}"])), graph)
+
+
+def svg_of(dot):
+    """The picture as it can stand in a page, without ids that another one has too; nothing where Graphviz is not there, or too slow."""
+    try:
+        done = subprocess.run(["dot", "-Tsvg"], input=dot.encode("utf-8", "replace"), capture_output=True, timeout=SECONDS, check=False)
+    except (OSError, subprocess.TimeoutExpired):
+        return ""
+    found = re.search(r"<svg.*</svg>", done.stdout.decode("utf-8", "replace"), re.S)
+    if done.returncode or not found:
+        return ""
+    svg = re.sub(r"(?s)<!--.*?-->\n?", "", found[0])
+    return re.sub(r' (?:id|xmlns(?::xlink)?)="[^"]*"', "", svg)

@@ -1,0 +1,193 @@
+"use strict";
+// The rules of a play against the circuit that psyn printed, apart from any page: a function gives something new, and changes nothing.
+// A board is what `contents.py` writes. A letter is an array of bits, one for each proposition by its number. A play is
+// { steps, state, latches }: the steps so far, and behind them the state (null where there was no edge) and the latches.
+
+/** What a decision diagram says of a letter: a row is a leaf [value], or a node [proposition, row where it is 0, row where it is 1]. */
+function valueAt(rows, root, letter) {
+  let row = rows[root];
+  while (row.length === 3) row = rows[letter[row[0]] ? row[2] : row[1]];
+  return row[0];
+}
+
+/** What the circuit puts out, and its next latches: a literal is twice a variable, and one more where it is negated. */
+function circuitStep(circuit, latches, inputs) {
+  const bits = new Map([[0, 0]]);
+  const at = (literal) => bits.get(literal >>> 1) ^ (literal & 1);
+  circuit.inputs.forEach((literal, place) => bits.set(literal >>> 1, inputs[place]));
+  circuit.latches.forEach(([literal], place) => bits.set(literal >>> 1, latches[place]));
+  for (const [literal, first, second] of circuit.gates) bits.set(literal >>> 1, at(first) & at(second));
+  return { outputs: circuit.outputs.map(at), latches: circuit.latches.map(([, next]) => at(next)) };
+}
+
+/** The state behind a letter, null where it has no edge, and the priority of that step. */
+function nextState(board, state, letter) {
+  return valueAt(board.moves.rows, board.moves.roots[state], letter);
+}
+
+function begun(board) {
+  return { steps: [], state: board.start, latches: board.circuit.latches.map(([, , reset]) => reset) };
+}
+
+/** The play behind one letter more of mine, in the order of the circuit's inputs. */
+function stepped(board, play, digits) {
+  const inputs = [...digits].map(Number);
+  const { outputs, latches } = circuitStep(board.circuit, play.latches, inputs);
+  const letter = board.names.map(() => 0);
+  board.inputs.forEach((number, place) => (letter[number] = inputs[place]));
+  board.outputs.forEach((number, place) => (letter[number] = outputs[place]));
+  const [target, priority] = nextState(board, play.state, letter);
+  const step = { state: play.state, latches: play.latches, letter, digits, target, priority };
+  return { steps: [...play.steps, step], state: target, latches };
+}
+
+/** What the circuit says where it moves first: then it reads none of my bits. */
+function theirLetter(board, play) {
+  const { outputs } = circuitStep(board.circuit, play.latches, board.inputs.map(() => 0));
+  return board.names.map((_, number) => outputs[board.outputs.indexOf(number)] || 0);
+}
+
+/** The step with the same state and latches as now, from which on all comes again; null where there is none. */
+function loopOf(play) {
+  const now = play.latches.join("");
+  const found = play.steps.findIndex((step) => step.state === play.state && step.latches.join("") === now);
+  return play.state === null || found < 0 ? null : found;
+}
+
+function isOver(play) {
+  return play.state === null || loopOf(play) !== null;
+}
+
+/** The game's vertex where the play stands. */
+function vertexOf(board, play) {
+  return play.steps.length ? board.places[`${play.state}/${play.steps.at(-1).priority}`] : board.begin;
+}
+
+/** What can be chosen: { said, digits, after, broken }; the first of those that hold out longest has `isLongest`. */
+function choicesOf(board, play) {
+  const { longest, choices } = isOver(play) ? { choices: [] } : board.choices[vertexOf(board, play)];
+  return choices.map(([said, digits, after, broken], place) => ({ said, digits, after, broken, isLongest: place === longest }));
+}
+
+/** The play behind the choice that holds out longest. */
+function longestStep(board, play) {
+  return stepped(board, play, choicesOf(board, play).find((choice) => choice.isLongest).digits);
+}
+
+/** The moves of a play as an address has them, and back again: null where they are none of this board. */
+function movesText(play) {
+  return play.steps.map((step) => step.digits || "-").join(",");
+}
+
+function movesOf(board, text) {
+  const words = text ? text.split(",") : [];
+  const count = board.inputs.length;
+  const isMove = (word) => (count ? /^[01]+$/.test(word) && word.length === count : word === "-");
+  return words.every(isMove) ? words.map((word) => word.replace("-", "")) : null;
+}
+
+/** The play of these moves, up to its end. */
+function playOf(board, moves) {
+  return moves.reduce((play, digits) => (isOver(play) ? play : stepped(board, play, digits)), begun(board));
+}
+
+/** My letters as a stem and a lap, which is the loop, or the last letter where there is no edge; a play without an end is a stem. */
+function stimulusOf(play) {
+  const lines = play.steps.map((step) => step.digits);
+  const lap = play.state === null ? lines.length - 1 : (loopOf(play) ?? lines.length);
+  const parts = isOver(play) ? [...lines.slice(0, lap), "-", ...lines.slice(lap)] : lines;
+  return parts.map((line) => `${line}\n`).join("");
+}
+
+// ---- words
+
+function titleOf(board, state) {
+  return state === null ? "no edge" : board.titles[state];
+}
+
+/** The names of the propositions that are true, among these numbers; `-` where none is. */
+function letterText(board, letter, numbers) {
+  return numbers.filter((number) => letter[number]).map((number) => board.names[number]).join(" ") || "-";
+}
+
+function priorityText(step) {
+  return step.target === null ? "no edge" : String(step.priority);
+}
+
+/** Where a choice leads, in words. */
+function whereText(board, choice) {
+  if (choice.after === null) return `no edge${choice.broken.length ? ", since it breaks " : ""}${choice.broken.join(" and ")}`;
+  const [state, priority] = board.vertices[choice.after];
+  return `${titleOf(board, state)} (priority ${priority})`;
+}
+
+/** A row for each step: its number, the state, what both said, and the priority. */
+function rowsOf(board, play) {
+  const said = (step) => board.owned.map((numbers) => letterText(board, step.letter, numbers));
+  return play.steps.map((step, place) => [String(place), titleOf(board, step.state), ...said(step), priorityText(step)]);
+}
+
+/** How the play ended, in lines; none where it goes on. */
+function endOf(board, play) {
+  if (!isOver(play)) return [];
+  const last = play.steps.length - 1;
+  const loop = loopOf(play);
+  let told = `at step ${last} there is no edge: the automaton rejects, whatever follows`;
+  if (loop !== null) {
+    const greatest = Math.max(...play.steps.slice(loop).map((step) => step.priority));
+    const what = loop === last ? `step ${last} comes` : `steps ${loop} to ${last} come`;
+    const parity = greatest % 2 === 0 ? "even: the automaton accepts" : "odd: the automaton rejects";
+    told = `${what} again and again; the greatest priority there is ${greatest}, ${parity}`;
+  }
+  return [told, ...board.parts.flatMap((part) => partText(part, play, loop))];
+}
+
+/** What became of a part of the specification: it broke, or the loop never meets it; with its sentence. */
+function partText(part, play, loop) {
+  const { broke, met } = partRun(part, play);
+  let said = `step ${broke} breaks the ${part.side} ${part.title}`;
+  if (broke === null) {
+    if (loop === null || met.some((place) => place >= loop)) return [];
+    said = `the loop never meets the ${part.side} ${part.title}`;
+  }
+  return part.sentence ? [said, `  ${part.sentence}`] : [said];
+}
+
+/** Runs a part beside a play: the step that broke it or null, and the steps at which it was met. */
+function partRun(part, play) {
+  let state = part.start;
+  const met = [];
+  for (const [place, step] of play.steps.entries()) {
+    const move = state === null ? null : valueAt(part.moves.rows, part.moves.roots[state], step.letter);
+    if (move === null) return { broke: place, met };
+    if (move[1]) met.push(place);
+    state = move[0];
+  }
+  return { broke: null, met };
+}
+
+/** The trace as text, in columns. */
+function traceText(board, play) {
+  const table = [["step", "state", "environment", "controller", "priority"], ...rowsOf(board, play)];
+  const sizes = table[0].map((_, column) => Math.max(...table.map((row) => [...row[column]].length)));
+  const lines = table.map((row) => row.map((word, column) => word + " ".repeat(sizes[column] - [...word].length)).join("  ").trimEnd());
+  if (loopOf(play) !== null) lines.splice(loopOf(play) + 1, 0, "the loop begins");
+  return [...lines, ...endOf(board, play)].join("\n");
+}
+
+/** Of a graph, { id: { to, .. } }, at most so many vertices around one: each with how many steps it lies behind it, or before it (below 0). */
+function around(graph, center, most) {
+  const before = (id) => Object.keys(graph).map(Number).filter((other) => graph[other].to.includes(id));
+  const reached = (way, links, known, count) => {
+    const found = new Map([[center, 0]]);
+    for (const [id, distance] of found) {
+      for (const one of links(id)) if (found.size <= count && !found.has(one) && !known.has(one)) found.set(one, distance + way);
+    }
+    return found;
+  };
+  const behind = reached(1, (id) => graph[id].to, new Map(), Math.ceil((most * 2) / 3));
+  return new Map([...behind, ...reached(-1, before, behind, most + 1 - behind.size)]);
+}
+
+const forNode = { around, begun, choicesOf, isOver, longestStep, loopOf, movesOf, movesText, playOf, stepped, stimulusOf, theirLetter, traceText };
+if (typeof module !== "undefined") module.exports = forNode;

@@ -1,0 +1,100 @@
+"""Writes a page: the template with its style, its scripts and what is known of the board. Whatever a specification says is escaped."""
+import base64
+import hashlib
+import html
+import json
+import re
+
+from psyntool import places, releases
+from psyntool.ends import Refused
+from psyntool.pages import contents, drawing
+from psyntool.pages.clauses import CLAUSES, SENTENCES
+
+MOST_BYTES = 33_554_432
+WORDS = ("REALIZABLE", "UNREALIZABLE")
+VERDICTS = (
+    "there is a controller, and this circuit is one.",
+    "there is no controller, and this circuit is an environment that defeats each one of finite memory.",
+)
+
+
+def page(title, board, texts):
+    """The page of a board; `texts` are saved there: of each its title, its file's name and its bytes."""
+    pictures = {"automaton": drawing.of_automaton(board), "game": drawing.of_game(board)}
+    known = {**contents.of(board), "pictures": {name: picture.graph for name, picture in pictures.items()}}
+    script = f"{asset('rules.js')}{asset('page.js')}"
+    whole = filled(
+        asset("template.html"),
+        title=escaped(title),
+        file=escaped(title),
+        word=WORDS[board.winner],
+        verdict=VERDICTS[board.winner],
+        order=order_of(board),
+        me=board.me,
+        other=board.other,
+        specification=specification_of(board),
+        proved=proved_of(board),
+        clauses="\n".join(clause_entry(name) for name in CLAUSES if f"{{{name}}}" in "".join(SENTENCES[board.winner])),
+        automaton=pictures["automaton"].svg,
+        game=pictures["game"].svg,
+        texts=", ".join(link_of(*text) for text in texts),
+        css=asset("page.css"),
+        board=json.dumps(known, separators=(",", ":")).replace("<", "\\u003c"),
+        script=script,
+        hash="sha256-" + base64.b64encode(hashlib.sha256(script.encode()).digest()).decode(),
+    )
+    if len(whole) > MOST_BYTES:
+        raise Refused(f"the page would have more than {MOST_BYTES:,} bytes, which no browser shows well: `play` shows the same")
+    return whole
+
+
+def asset(name):
+    return places.stored("tools", "psyntool", "pages", name)
+
+
+def filled(template, **parts):
+    """The template with its parts; what stands in a part is no place of another."""
+    return re.sub(r"@([A-Z]+)@", lambda found: parts[found[1].lower()], template)
+
+
+def escaped(text):
+    return html.escape(text, quote=True)
+
+
+def order_of(board):
+    """Whose the propositions are, and who moves first."""
+    environment, controller = (", ".join(name for _, name in these) or "nothing" for these in board.automaton.owners())
+    first = board.me if board.am_first else board.other
+    return f"The environment says {escaped(environment)}; the controller says {escaped(controller)}. In each step the {first} moves first."
+
+
+def specification_of(board):
+    """The sentences of the parts, or the acceptance where there are none."""
+    of = board.specification
+    if of is None:
+        return f"<p>The automaton's acceptance: <code>{escaped(board.automaton.acceptance)}</code>.</p>"
+    rows = [(side, part) for side, parts in (("assumed", of.assumptions), ("guaranteed", of.guarantees)) for part in parts]
+    items = "\n".join(f"<li>{side}: {escaped(part.sentence)} <code>{escaped(part.title)}</code></li>" for side, part in rows)
+    return f"<details open><summary>What is wanted, in {len(rows)} parts</summary>\n<ul>\n{items}\n</ul></details>"
+
+
+def proved_of(board):
+    """What is proved in three sentences, with links to the clauses, and by what."""
+    links = {name: f'<a href="#clause-{name}"><code>{name}</code></a>' for name in CLAUSES}
+    release = releases.here()
+    said = [
+        " ".join(SENTENCES[board.winner]).format(**links),
+        f"This is proved with {escaped(release.kit)} of all that psyn prints. When this page was made, by psyn {escaped(release.version)}, the "
+        "program printed this game and this circuit for this certificate. The page itself is tested, and not proved.",
+    ]
+    return "\n".join(f"<p>{paragraph}</p>" for paragraph in said)
+
+
+def clause_entry(name):
+    clause = CLAUSES[name]
+    return f'<dt id="clause-{name}"><code>{name}</code> of <code>{clause.record}</code>, in <code>{clause.file}</code></dt><dd>{clause.words}</dd>'
+
+
+def link_of(title, name, data):
+    """A link by which a text is saved, byte by byte."""
+    return f'<a download="{escaped(name)}" href="data:text/plain;base64,{base64.b64encode(data).decode()}">the {escaped(title)}</a>'

@@ -1,0 +1,49 @@
+"""Reads the board of a play: the files PREFIX.aag, PREFIX.pg and PREFIX.cert that psyn printed, and the specification behind them."""
+from dataclasses import dataclass
+
+from psyntool.ends import Refused
+from psyntool.files import Reader, Text
+from psyntool.kinds import Kind
+from psyntool.parts import specification
+from psyntool.parts.composing import Composer
+from psyntool.plays.board import Board
+from psyntool.texts import automaton, certificate, circuit, game
+
+ENDINGS = (".aag", ".pg", ".cert")
+KINDS = (Kind.CIRCUIT, Kind.GAME, Kind.CERTIFICATE)
+
+
+@dataclass(frozen=True)
+class Given:
+    """The automaton's text, those of the circuit, the game and the certificate, the specification's as it was given, and the board."""
+
+    automaton: str
+    printed: tuple
+    specification: Text
+    board: Board
+
+
+def given(request):
+    """What the words PREFIX and SPEC of a command line name."""
+    prefix, path = request.words
+    reader = Reader(request)
+    *printed, spec = reader.texts((*KINDS, Kind.FILE), (*(prefix + ending for ending in ENDINGS), path))
+    text = automaton_of(reader, spec, request.command.name)
+    return Given(text, tuple(printed), spec, board_of(text, *(it.string for it in printed)))
+
+
+def board_of(text, *printed):
+    """The board of an automaton's text and of the texts of a circuit, a game and a certificate."""
+    read = automaton.read(text)
+    these = game.read(printed[1]), certificate.read(printed[2]), circuit.read(printed[0])
+    return Board(read, *these, specification.kept(read))
+
+
+def automaton_of(reader, text, command):
+    """The automaton's text; of a list of parts that of the automaton that they make."""
+    if text.looks_like is Kind.LIST:
+        return Composer(specification.of_list(text, reader)).composed().text()
+    if text.looks_like is not Kind.AUTOMATON:
+        what = text.looks_like.with_article if text.looks_like else "no automaton"
+        raise Refused(f"{text.name} is {what}; {command} wants PREFIX and a specification")
+    return text.string

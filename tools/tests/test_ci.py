@@ -1,0 +1,73 @@
+"""What `.ci/run` does around `tools/test-all`: it installs where it can, keeps the status, and says last what was skipped."""
+import os
+import shutil
+import subprocess
+
+from tests.tool import OnFiles
+from upkeep.sweeps import TOP
+
+# All that the script runs; other programs are not there.
+NEEDED = ("bash", "cat", "dirname", "env", "grep", "mktemp", "rm", "sh", "tee", "timeout")
+PACKAGES = ["chromium", "nodejs", "graphviz", "yosys", "berkeley-abc", "iverilog"]
+TESTS = "#!/bin/sh\necho 'skipped: a test: node is not installed'\necho '63 passed, 0 failed'\necho 'tools: 80 passed, 1 failed, 1 skipped'\nexit 3\n"
+# It installs all but one of the packages, whose programs are called as they are or otherwise.
+REGISTRY = """\
+#!/bin/sh
+echo "$*" >> "$ROOM/asked"
+for name; do :; done
+case $name in
+  update) exit $UPDATE ;;
+  yosys) exit 100 ;;
+  nodejs) name=node ;;
+  graphviz) name=dot ;;
+esac
+: > "$ROOM/programs/$name" && "$ROOM/programs/chmod" 755 "$ROOM/programs/$name"
+"""
+
+
+class Script(OnFiles):
+    def setUp(self):
+        super().setUp()
+        self.programs = os.path.join(self.room, "programs")
+        for folder in (".ci", "tools", "programs"):
+            os.mkdir(os.path.join(self.room, folder))
+        shutil.copy(os.path.join(TOP, ".ci", "run"), os.path.join(self.room, ".ci"))
+        for name in (*NEEDED, "chmod"):
+            os.symlink(shutil.which(name), os.path.join(self.programs, name))
+        self.program(os.path.join("tools", "test-all"), TESTS)
+        self.program(os.path.join("programs", "apt-get"), REGISTRY)
+
+    def program(self, name, text):
+        os.chmod(self.file(name, text.encode()), 0o755)
+
+    def ran(self, user, update=0):
+        """The lines that the script prints behind those of the tests, and what the registry was asked."""
+        self.program(os.path.join("programs", "id"), f"#!/bin/sh\necho {user}\n")
+        environment = {"PATH": self.programs, "ROOM": self.room, "UPDATE": str(update)}
+        done = subprocess.run([os.path.join(self.room, ".ci", "run")], env=environment, capture_output=True, text=True, check=False)
+        self.assertEqual((done.returncode, done.stderr), (3, ""))
+        lines = done.stdout.splitlines()
+        self.assertEqual(lines[:3], [line.split("'")[1] for line in TESTS.splitlines()[1:4]])
+        try:
+            with open(os.path.join(self.room, "asked"), encoding="utf-8") as file:
+                return lines[3:], [line.split()[-1] for line in file]
+        except FileNotFoundError:
+            return lines[3:], []
+
+    def test_as_root_it_installs_what_is_missing(self):
+        self.program(os.path.join("programs", "iverilog"), "#!/bin/sh\n")
+        skipped = "skipped: a test: node is not installed"
+        self.assertEqual(self.ran(0), (["not installed: yosys", skipped], ["update", *PACKAGES[:-1]]))
+
+    def test_it_goes_on_without_a_registry_and_as_another_user(self):
+        lines = [f"not installed: {' '.join(PACKAGES)}", "skipped: a test: node is not installed"]
+        self.assertEqual(self.ran(0, update=100), (lines, ["update"]))
+        os.remove(os.path.join(self.room, "asked"))
+        self.assertEqual(self.ran(1000), (lines, []))
+
+    def test_where_nothing_was_skipped_it_says_so(self):
+        self.program(os.path.join("tools", "test-all"), TESTS.replace("skipped: a test", "a test"))
+        for name in ("chromium", "node", "dot", "yosys", "berkeley-abc", "iverilog"):
+            self.program(os.path.join("programs", name), "#!/bin/sh\n")
+        done = subprocess.run([os.path.join(self.room, ".ci", "run")], env={"PATH": self.programs}, capture_output=True, text=True, check=False)
+        self.assertEqual((done.stdout.splitlines()[3:], done.returncode), (["no test was skipped"], 3))

@@ -1,0 +1,352 @@
+"""Pages: their rules under node, beside `sim` and `lasso`; their text; and the pages themselves in Chromium, beside `play`."""
+import base64
+import glob
+import html
+import json
+import os
+import random
+import re
+import shutil
+import subprocess
+import unittest
+import unittest.mock
+
+from psyntool import program
+from psyntool.command import Request
+from psyntool.commands import play as command
+from psyntool.ends import Refused
+from psyntool.pages import clauses, contents, drawing, writing
+from psyntool.plays import reading, telling
+from psyntool.plays.board import Play
+from psyntool.table import COMMANDS
+from psyntool.texts import report
+from tests.test_gallery import GALLERY
+from tests.test_plays import boards
+from tests.tool import AUTOMATON, OnFiles
+from upkeep import counts
+from upkeep.sweeps import TOP
+
+PAGES = os.path.join(TOP, "tools", "psyntool", "pages")
+ASSETS = ("template.html", "page.css", "rules.js", "page.js")
+MOST_LINES = 500
+NODE, CHROMIUM = ("node", "nodejs"), ("chromium", "chromium-browser", "google-chrome")
+SEED, BOARDS, PLAYS, LETTERS = 69, 40, 5, 12
+# Two states in turn, whatever is said; the circuits are written by hand.
+TURNS = (
+    'HOA: v1 Start: 0 AP: 2 "r" "g" controllable-AP: 1 Acceptance: 1 Inf(0) --BODY-- State: 0 "tick" [t] 1 State: 1 "tock" [t] 0 {0} --END--\n'
+)
+NO_LATCH, FROM_ONE = "aag 1 1 0 1 0\n2\n0\ni0 r\no0 g\n", "aag 2 1 1 1 0\n2\n4 3 1\n4\ni0 r\no0 g\n"
+NO_INPUT = 'HOA: v1 Start: 0 AP: 1 "g" controllable-AP: 0 Acceptance: 1 Inf(0) --BODY-- State: 0 [0] 0 {0} [!0] 0 --END--\n'
+# Names that would be parts of a page.
+ODD = """\
+HOA: v1 Start: 0 AP: 2 "r</script><script>document.title='bad'</script>" "<img src=x onerror=\\"document.title='bad'\\">&amp;'g"
+controllable-AP: 1 Acceptance: 1 Inf(0) --BODY--
+State: 0 "</td><b>off</b> & \\"x\\" --> ]]> \\\\N id=\\"a\\"" [!0|1] 0 {0} [0&!1] 1
+State: 1 [1] 0 {0} [!1] 1 --END--
+""".encode()
+FOCUS = """\
+document.querySelector("#choices button").focus(); document.activeElement.click();
+document.title = document.activeElement.textContent + "/";
+document.getElementById("back").focus(); document.activeElement.click(); document.activeElement.click();
+document.title += document.activeElement.textContent;
+"""
+RUNS = []
+
+
+def found(names):
+    """The first of these programs that is there; None where none is."""
+    return next(filter(None, map(shutil.which, names)), None)
+
+
+def bits(values):
+    return "".join(map(str, values))
+
+
+def shown(play):
+    """A play as `play` prints it."""
+    return "\n".join([*telling.table(play), *telling.ended(play)])
+
+
+class Rules(unittest.TestCase):
+    """Next latches and outputs are those of `sim`, states and priorities those of the automaton's edges, verdicts those of `lasso`."""
+
+    def setUp(self):
+        self.node = found(NODE)
+        if not self.node:
+            counts.left_out("pages", "plays by the rules under node")
+            self.skipTest("node is not installed")
+
+    def played(self, cases):
+        given = json.dumps([os.path.join(PAGES, "rules.js"), cases])
+        driver = os.path.join(os.path.dirname(__file__), "rules_at_work.js")
+        done = subprocess.run([self.node, driver], input=given.encode(), capture_output=True, check=False, timeout=60)
+        self.assertEqual((done.returncode, done.stderr.decode()), (0, ""))
+        return json.loads(done.stdout)
+
+    def test_drawn_plays(self):
+        draw = random.Random(SEED)
+        drawn = list(boards(draw, BOARDS))
+        letters = [["".join(draw.choices("01", k=len(board.mine))) for _ in range(LETTERS)] for *_, board in drawn for _ in range(PLAYS)]
+        # of each board one play has no letter of its own: it is what holds out longest
+        plays = [[[], *letters[at + 1 : at + PLAYS]] for at in range(0, len(letters), PLAYS)]
+        said, kinds = self.played([(contents.of(board), moves) for (*_, board), moves in zip(drawn, plays)]), {}
+        for (text, printed, board), these in zip(drawn, said):
+            for play in these:
+                self.look_at(board, play)
+                self.assertEqual(play["steps"], self.simulated(board, printed, play))
+                self.assertRegex(self.verdict(board, text, printed, play), self.wanted(play))
+                kinds[board.winner, board.am_first, play["loop"] is None] = True
+            longest = Play(board, printed.encode())
+            command.automatic(longest)
+            self.assertEqual((these[0]["text"], these[0]["stimulus"]), (shown(longest), longest.stimulus()))
+        self.assertEqual(len(kinds), 6)
+        counts.ran("pages", "plays by the rules under node", sum(map(len, said)))
+
+    def look_at(self, board, play):
+        """Where the steps lead, by the labels of edges; and that the stimulus is made of the letters."""
+        self.assertEqual(play["wrong"], 0)
+        state = board.automaton.start
+        for step in play["steps"]:
+            edge = board.automaton.edge_at(state, {number for number, bit in enumerate(step["letter"]) if bit})
+            ends = (None, 1) if edge is None else (edge.target, board.automaton.chain.priority(edge.marks))
+            self.assertEqual((step["state"], step["target"], step["priority"]), (state, *ends))
+            state = ends[0]
+        lines, lap = [step["digits"] for step in play["steps"]], len(play["steps"]) - 1 if play["loop"] is None else play["loop"]
+        self.assertEqual(play["stimulus"].split("\n"), [*lines[:lap], "-", *lines[lap:], ""])
+
+    def simulated(self, board, printed, play):
+        """The same steps with the latches and the outputs of `sim`; the last of its lines shows the latches behind all of them."""
+        lines = [step["digits"] for step in play["steps"]]
+        given = "\n".join(["sim", f"{printed}%%", *lines, lines[-1], ""])
+        answer = program.ask(given.encode())
+        rows = [row.split("|") for row in answer.text.split("\n")[:-1]]
+        self.assertEqual(rows[-1][0], bits(play["latches"]))
+        numbers = {name: number for number, name in enumerate(board.automaton.names)}
+        order = [numbers[name] for kind in "io" for name in board.circuit.names(kind)]
+        steps = []
+        for step, (latches, inputs, outputs) in zip(play["steps"], rows):
+            letter = dict(zip(order, map(int, inputs + outputs)))
+            steps.append({**step, "latches": list(map(int, latches)), "letter": [letter[number] for number in range(len(numbers))]})
+        return steps
+
+    def test_boards_by_hand(self):
+        """A loop is one of states and latches, a latch may begin with 1, and a letter may have no bit."""
+        made = [report.read(program.ask(f"synth --full\n{text}".encode()).text).parts[1:] for text in (TURNS, NO_INPUT)]
+        own = report.read(program.ask(f"synth --full\n{NO_INPUT}".encode()).text).parts[0]
+        given = [(TURNS, NO_LATCH, *made[0]), (TURNS, FROM_ONE, *made[0]), (NO_INPUT, own, *made[1])]
+        said = [plays[0] for plays in self.played([(contents.of(reading.board_of(*texts)), [["1", "0", "0", "1"]]) for texts in given[:2]])]
+        self.assertEqual([[step["digits"] for step in play["steps"]] for play in said], [["1", "0"]] * 2)
+        self.assertEqual([[bits(step["letter"]) for step in play["steps"]] for play in said], [["10", "00"], ["11", "00"]])
+        (nothing,) = self.played([(contents.of(reading.board_of(*given[2])), [[]])])
+        self.assertEqual((nothing[0]["wrong"], nothing[0]["stimulus"]), (0, "-\n\n"))
+
+    def verdict(self, board, text, printed, play):
+        flag = " --env" if board.winner == 1 else ""
+        return program.ask(f"lasso{flag}\n{text}%%\n{printed}%%\n{play['stimulus']}".encode()).text.rstrip("\n")
+
+    def wanted(self, play):
+        """What `lasso` must say of the play by its loop; where there is no edge, it is rejected whatever follows."""
+        steps, loop = play["steps"], play["loop"]
+        if loop is None:
+            return "^rejected "
+        greatest = max(step["priority"] for step in steps[loop:])
+        return f"^{('accepted', 'rejected')[greatest % 2]} stem {loop} lap {len(steps) - loop}$"
+
+
+class Pages(OnFiles):
+    """What stands in a page."""
+
+    def page(self, *words):
+        done = self.tool("page", *words)
+        self.assertEqual((done.returncode, done.stderr), (0, b""), words)
+        return done.stdout.decode()
+
+    def solved(self, name, text, *flags):
+        path = self.file(f"{name}.hoa", text)
+        self.assertIn(self.tool("synth", *flags, "-o", name, path).returncode, (10, 20))
+        return path
+
+    def test_each_specification_of_the_gallery_has_its_page_by_one_command(self):
+        lists = glob.glob(os.path.join(GALLERY, "*.parts"))
+        for path in lists:
+            page = self.page("--parts", path)
+            name = os.path.basename(path).removesuffix(".parts")
+            self.assertTrue(f"<title>{name}: " in page, name)
+            self.assertTrue(re.search(r"<strong>(UN)?REALIZABLE</strong>: there is (a|no) controller", page), name)
+        self.assertEqual(len(lists), 8)
+
+    def test_files_and_a_list_make_the_same_page(self):
+        path = os.path.join(GALLERY, "traffic.parts")
+        self.tool("synth", "--parts", "-o", "traffic", path)
+        self.assertTrue(self.page("traffic", "traffic.hoa") == self.page("--parts", path))
+        self.assertTrue('download="traffic.parts"' in self.page("traffic", path))
+
+    def test_the_texts_can_be_saved_byte_by_byte(self):
+        page = self.page("out", self.solved("out", AUTOMATON))
+        links = re.findall(r'<a download="([^"]*)" href="data:text/plain;base64,([^"]*)">', page)
+        self.assertEqual([name for name, _ in links], ["out.aag", "out.pg", "out.cert", "out.hoa"])
+        for name, data in links:
+            with open(os.path.join(self.room, name), "rb") as file:
+                self.assertEqual(base64.b64decode(data), file.read())
+
+    def test_it_asks_nothing_of_a_network(self):
+        page = self.page("out", self.solved("out", AUTOMATON, "--moore"))
+        self.assertTrue("the controller moves first" in page)
+        self.assertTrue("default-src 'none'" in page)
+        self.assertEqual([it for it in re.findall(r'(?:href|src|action)="([^"]*)"', page) if not it.startswith(("#", "data:text/plain;base64,"))], [])
+        self.assertEqual(re.findall(r"https?://|@import|url\((?!#)", page), [])
+
+    def test_names_are_escaped(self):
+        page = self.page("odd", self.solved("odd", ODD))
+        self.assertEqual(len(re.findall(r"(?i)<script", page)), 2)
+        self.assertEqual(re.findall(r"(?i)<img|<b>|onerror=[\"']", page), [])
+
+    def test_what_is_not_printed_by_psyn_is_refused(self):
+        path = self.solved("out", AUTOMATON)
+        for ending, old, new, said in (
+            (".aag", b"\nc", b"\nc\nc", b"out.aag is not what psyn prints for this certificate, so nothing is proved of it"),
+            (".aag", b"aag", b"agg", b"this is no circuit: its first line is not `aag M I L O A`"),
+            (".cert", b"psyncert 1", b"psyncert 3", b"this is no certificate"),
+            (".cert", b"odd 1", b"odd 3", b"out.cert: synth answers to it: fault 54 "),
+            (".pg", b'"0/0"', b'"0/9"', b""),
+        ):
+            name = f"out{ending}"
+            with open(os.path.join(self.room, name), "rb") as file:
+                right = file.read()
+            self.file(name, right.replace(old, new) if old in right else right + b"c more\n")
+            done = self.tool("page", "out", path)
+            self.assertEqual((done.returncode, done.stdout, done.stderr.count(b"\n")), (2, b"", 1), done.stderr)
+            self.assertIn(said, done.stderr)
+            self.file(name, right)
+        self.assertEqual(self.tool("page", "none", path).stderr, b"psyn: none.aag: No such file or directory\n")
+        self.assertEqual(self.tool("page", "out", "out.pg").stderr, b"psyn: out.pg is a game; page wants PREFIX and a specification\n")
+        self.assertEqual(self.tool("page", "--parts").stderr.count(b"\n"), 1)
+
+    def test_a_page_that_is_too_large_is_refused(self):
+        path = self.solved("out", AUTOMATON)
+        given = reading.given(Request(COMMANDS["page"], {}, [os.path.join(self.room, "out"), path], COMMANDS))
+        with unittest.mock.patch("psyntool.pages.writing.MOST_BYTES", 10_000), self.assertRaisesRegex(Refused, "more than 10,000 bytes"):
+            writing.page("out", given.board, [])
+
+    def test_a_picture_wants_graphviz_and_no_more_than_it_can_show(self):
+        graph = {number: {"lines": ("", ""), "to": [(number + 1) % 401]} for number in range(401)}
+        self.assertEqual(drawing.drawn(graph, "s", None), drawing.Picture("", graph))
+        few = {0: {"lines": ("", ""), "to": [0]}}
+        self.assertEqual(drawing.drawn(few, "s", lambda: "no dot"), drawing.Picture("", few))
+        if not shutil.which("dot"):
+            self.skipTest("Graphviz is not installed")
+        shown = drawing.drawn(few, "s", lambda: "digraph { s0 -> s0; }")
+        self.assertIn("<title>s0</title>", shown.svg)
+        self.assertEqual((shown.graph, re.findall(r' id="|xmlns', shown.svg)), (None, []))
+        many = {number: {"lines": ("", ""), "to": list(range(20))} for number in range(20)}
+        of_map = drawing.drawn(many, "s", None)
+        self.assertEqual((of_map.svg.count('class="node"'), of_map.graph), (20, many))
+
+    def test_it_is_short_and_its_clauses_are_there(self):
+        lines = 0
+        for name in ASSETS:
+            with open(os.path.join(PAGES, name), encoding="utf-8") as file:
+                lines += len(file.readlines())
+        self.assertLessEqual(lines, MOST_LINES)
+        for name, clause in clauses.CLAUSES.items():
+            with open(os.path.join(TOP, clause.file), encoding="utf-8") as file:
+                record = re.search(rf"(?ms)^pub record {clause.record} .*?(?=^\S|\Z)", file.read())
+            self.assertTrue(re.search(rf"(?m)^ +pub {name} : ", record[0]), name)
+        for sentences in clauses.SENTENCES:
+            self.assertEqual(len(sentences), 3)
+            self.assertLessEqual(set(re.findall(r"{(\w+)}", " ".join(sentences))), set(clauses.CLAUSES))
+
+
+class InChromium(OnFiles):
+    """Pages in a browser without a window: what they show is what `play` prints."""
+
+    def setUp(self):
+        super().setUp()
+        self.chromium = found(CHROMIUM)
+        if not self.chromium:
+            counts.left_out("pages", "pages in Chromium")
+            self.skipTest("Chromium is not installed")
+
+    def document(self, page, address):
+        """The document that a page with this address becomes."""
+        command = [self.chromium, "--headless", "--no-sandbox", "--disable-gpu", "--disable-dev-shm-usage", f"--user-data-dir={self.room}/profile", "--dump-dom"]
+        done = subprocess.run([*command, f"file://{page}{address}"], capture_output=True, check=False, timeout=120)
+        self.assertEqual(done.returncode, 0, done.stderr)
+        RUNS.append(page)
+        counts.ran("pages", "pages in Chromium", len(RUNS))
+        return done.stdout.decode()
+
+    def page(self, name, path):
+        """The page of a specification, and its moves in the play that holds out longest, with what is printed of that."""
+        self.assertIn(self.tool("synth", "-o", name, *(["--parts"] if path.endswith(".parts") else []), path).returncode, (10, 20))
+        specification = path if path.endswith(".hoa") else f"{name}.hoa"
+        said = self.tool("play", "--auto", name, specification).stdout.decode()
+        with open(os.path.join(self.room, f"{name}.stim"), encoding="utf-8") as file:
+            moves = [line for line in file.read().split("\n")[:-1] if line != "-"]
+        page = self.file(f"{name}.html", self.tool("page", name, specification).stdout)
+        return page, moves, said[: said.rindex("\n", 0, -1)]
+
+    def trace(self, document):
+        return html.unescape(re.search(r'<pre id="test">(.*?)</pre>', document, re.S)[1])
+
+    def test_plays_of_the_gallery(self):
+        # of the lift's automaton there is a map, too, beside the part around the present state
+        for name, places in (("lift", 3), ("handshake", 2)):
+            page, moves, said = self.page(name, os.path.join(GALLERY, f"{name}.parts"))
+            document = self.document(page, f"#test={','.join(moves)}")
+            self.assertEqual(self.trace(document), said)
+            if shutil.which("dot"):
+                self.assertEqual(len(re.findall(r'<g class="(?:node )?here">', document)), places)
+
+    def test_names_that_look_like_parts_of_a_page(self):
+        page, moves, said = self.page("odd", self.file("odd.hoa", ODD))
+        document = self.document(page, f"#test={','.join(moves)}")
+        self.assertEqual(self.trace(document), said)
+        self.assertTrue("<title>odd: REALIZABLE</title>" in document)
+        self.assertEqual(len(re.findall("<script|<img|<b>", document)), 2)
+
+    def pressed(self, page, address, script):
+        """The document behind a script that presses buttons, as one who plays does."""
+        with open(page, encoding="utf-8") as file:
+            text = re.sub(r'<meta http-equiv="Content-Security-Policy"[^>]*>', "", file.read())
+        pressing = self.file("pressed.html", text.replace("</html>", f"<script>{script}</script></html>").encode())
+        return self.document(pressing, address)
+
+    def address(self, document):
+        return re.search(r'<a id="address" href="#moves=([^"]*)">', document)[1]
+
+    def rows(self, document):
+        body = re.search(r'<table id="trace">.*?<tbody>(.*?)</tbody>', document, re.S)[1]
+        return [re.findall(r"<t[hd][^>]*>(.*?)</t[hd]>", row) for row in re.findall(r"<tr.*?</tr>", body)]
+
+    def test_what_is_pressed(self):
+        page, moves, said = self.page("handshake", os.path.join(GALLERY, "handshake.parts"))
+        # to the end, back to the first step, and by single steps to the end
+        steps = f'{press("whole")}{press("back") * (len(moves) - 1)}{press("auto") * (len(moves) - 1)}'
+        document = self.pressed(page, "", steps)
+        self.assertEqual(self.address(document), ",".join(moves))
+        table = [re.split("  +", line) for line in said.split("\n") if re.match(r"\d|the loop begins", line)]
+        self.assertEqual(self.rows(document), table)
+        self.assertIn("step 7 breaks the guarantee register", re.search(r'<p class="end">(.*?)</p>', document, re.S)[1])
+        # the address brings a play back; keys are those of `play`; another letter by its propositions
+        keys = "".join(f'document.getElementById("play").dispatchEvent(new KeyboardEvent("keydown", {{ key: "{key}" }}));' for key in "aab2")
+        document = self.pressed(page, "#moves=0,0", keys)
+        self.assertEqual(self.address(document), "0,0,0,1")
+        letter = 'document.querySelector("#boxes input").click(); document.querySelector("#letter button").click();'
+        self.assertEqual(self.address(self.pressed(page, "", letter)), "1")
+        # a stimulus of what was played, the focus where the button that had it is gone, and a name for each button
+        document = self.pressed(page, "#moves=0", FOCUS)
+        self.assertTrue(re.search(r"<title>1[.] !take .*/1[.] !take .*</title>", document))
+        self.assertTrue('download="handshake.stim" href="data:text/plain,"' in document)
+        document = self.pressed(page, "#moves=0,0", "")
+        self.assertTrue('download="handshake.stim" href="data:text/plain,0%0A0%0A"' in document)
+        self.assertEqual(re.findall(r"<button[^>]*></button>", document), [])
+        self.assertTrue('<p class="end">The address has no moves of this board.' in self.document(page, "#moves=0,2"))
+
+
+def press(name):
+    return f'document.getElementById("{name}").click();'
+
+
+if __name__ == "__main__":
+    unittest.main()
