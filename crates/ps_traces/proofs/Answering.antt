@@ -16,6 +16,7 @@ use Rattle.ps_traces.specs.Shapes.{HasShape}
 use Rattle.ps_traces.proofs.Inputs.{each_goes_on}
 use Rattle.ps_traces.proofs.Letters.{has_letters}
 use Rattle.ps_traces.proofs.OneMeeting.{meeting_is_one}
+use Rattle.ps_traces.proofs.Reached.{in_time_where_reached}
 use Rattle.ps_traces.proofs.Rejected.{meeting_is_rejected}
 use Rattle.ps_traces.proofs.ShapeOf.{has_shape}
 use Rattle.ps_traces.proofs.Words.{all_accepted, none_accepted}
@@ -39,8 +40,10 @@ is_answer order file m c one is is_for encodes won =
       meetings = λ player k controller.
           let environment : HasShape order Environment file c =
           subst (λ (role : Role). HasShape order role file c) (other_role m.player player) shape in
+          let in_time = in_time_where_reached order Environment c environment.in_time in
           record {
-            one = λ count. meeting_is_one order c k count encodes.is_circuit one environment.in_time controller;
-            rejected = meeting_is_rejected order file c k names one environment controller (none player);
+            one = λ count. meeting_is_one order c k count encodes.is_circuit one in_time controller;
+            rejected =
+                meeting_is_rejected order file c k names one environment.symbols in_time controller (none player);
           };
     }

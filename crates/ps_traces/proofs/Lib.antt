@@ -1,6 +1,7 @@
 pub mod Returns
 pub mod Runs
 pub mod Inputs
+pub mod Reached
 pub mod Meetings
 pub mod OneMeeting
 pub mod Bits

@@ -9,13 +9,13 @@ use Rattle.ps_circuit.specs.Values.{Moment, HasOneValues, Steps, resets}
 use Rattle.ps_machine.specs.declared.key.Order.{Order}
 use Rattle.ps_machine.specs.declared.key.Order.TheVariants.{Mealy, Moore}
 use Rattle.ps_simulate.specs.declared.role.Role.TheVariants.{Environment}
-use Rattle.ps_traces.specs.Shapes.{IsInTime}
+use Rattle.ps_traces.specs.Shapes.{IsInTimeWhereReached, IsReached}
 use Rattle.ps_traces.specs.Meetings.{FiniteController, IsController, IsRead, AnswersMoments, GoesJointly, IsMeeting}
 use Rattle.ps_traces.specs.Meetings.{MeetsInLasso}
 use Rattle.ps_simulate.proofs.CountLemmas.{code, code_lt, code_same}
 use Rattle.ps_simulate.proofs.LassoLemmas.{GoesOn-append}
 use Rattle.ps_traces.proofs.Returns.{come_back, legs, legs_go}
-use Rattle.ps_traces.proofs.Runs.{step}
+use Rattle.ps_traces.proofs.Runs.{next_reached, resets_reached, step}
 
 -- a step at which the controller's letter is its answer
 pub record JointStep (c : CircuitData) (k : FiniteController) (latches : List Bool) (memory : ℕ) : Type 0 where
@@ -28,15 +28,15 @@ pub record JointStep (c : CircuitData) (k : FiniteController) (latches : List Bo
   pub next_wide : length next ≡ length c.latches
 
 -- inputs before outputs: the circuit's outputs are the same whatever is read
-joint_mealy : (c : CircuitData) (k : FiniteController) → HasOneValues c → IsInTime Mealy Environment c →
+joint_mealy : (c : CircuitData) (k : FiniteController) → HasOneValues c → IsInTimeWhereReached Mealy Environment c →
     IsController Mealy c k → (latches : List Bool) (memory : ℕ)
-    → length latches ≡ length c.latches → memory < k.size → JointStep c k latches memory
-joint_mealy c k one in_time is latches memory held within =
+    → IsReached c latches → length latches ≡ length c.latches → memory < k.size → JointStep c k latches memory
+joint_mealy c k one in_time is latches memory reached held within =
     let before =
     step c one latches (replicate (length c.inputs) false) held (length-replicate (length c.inputs) false) in
     let inputs = k.plays memory before.outputs in
     let now = step c one latches inputs held (is.plays_wide memory before.outputs within before.outputs_wide) in
-    let same : before.outputs ≡ now.outputs = search rules in
+    let same : before.outputs ≡ now.outputs = in_time refl latches _ _ _ _ _ _ reached before.steps now.steps in
     grind arith
 
 -- outputs before inputs: the controller's letter is the same whatever is read
@@ -50,33 +50,38 @@ joint_moore c k one is latches memory held within =
     grind (arith, step c one latches inputs held (is.plays_wide memory any within any_wide))
 
 pub joint_step : (order : Order) (c : CircuitData) (k : FiniteController) → HasOneValues c →
-    IsInTime order Environment c → IsController order c k → (latches : List Bool) (memory : ℕ)
-    → length latches ≡ length c.latches → memory < k.size → JointStep c k latches memory
-joint_step Mealy c k one in_time is latches memory held within = search (rules, joint_mealy)
-joint_step Moore c k one in_time is latches memory held within = joint_moore c k one is latches memory held within
+    IsInTimeWhereReached order Environment c → IsController order c k → (latches : List Bool) (memory : ℕ)
+    → IsReached c latches → length latches ≡ length c.latches → memory < k.size → JointStep c k latches memory
+joint_step Mealy c k one in_time is latches memory reached held within =
+    joint_mealy c k one in_time is latches memory reached held within
+joint_step Moore c k one in_time is latches memory reached held within =
+    joint_moore c k one is latches memory held within
 
 module _ (order : Order) (c : CircuitData) (k : FiniteController) (one : HasOneValues c)
-    (in_time : IsInTime order Environment c) (is : IsController order c k) where
+    (in_time : IsInTimeWhereReached order Environment c) (is : IsController order c k) where
   -- where the meeting stands
   record Place : Type 0 where
     latches : List Bool
     memory : ℕ
+    reached : IsReached c latches
     held : length latches ≡ length c.latches
     within : memory < k.size
 
   step_at : (at : Place) → JointStep c k at.latches at.memory
-  step_at at = joint_step order c k one in_time is at.latches at.memory at.held at.within
+  step_at at = joint_step order c k one in_time is at.latches at.memory at.reached at.held at.within
 
   abbrev place : ℕ → Place
   place zero = record {
     latches = resets c;
     memory = k.first;
+    reached = resets_reached c;
     held = length-map c.latches (λ l. l.reset);
     within = is.first_within;
   }
   place (suc t) = record {
     latches = (step_at (place t)).next;
     memory = k.next (place t).memory (step_at (place t)).outputs;
+    reached = next_reached (place t).reached (step_at (place t)).steps;
     held = (step_at (place t)).next_wide;
     within = is.next_within (place t).memory (step_at (place t)).outputs (place t).within
         (step_at (place t)).outputs_wide;

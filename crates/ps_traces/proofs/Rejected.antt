@@ -5,20 +5,21 @@ use Rattle.ps_hoa.specs.Sound.{AreNames}
 use Rattle.ps_circuit.specs.Circuits.{CircuitData}
 use Rattle.ps_circuit.specs.Values.{HasOneValues}
 use Rattle.ps_machine.specs.declared.key.Order.{Order}
+use Rattle.ps_simulate.specs.Symbols.{HasSymbols}
 use Rattle.ps_simulate.specs.declared.role.Role.TheVariants.{Environment}
 use Rattle.ps_traces.specs.Traces.{NoneAccepted}
-use Rattle.ps_traces.specs.Shapes.{HasShape}
+use Rattle.ps_traces.specs.Shapes.{IsInTimeWhereReached}
 use Rattle.ps_traces.specs.Meetings.{FiniteController, IsController, IsRejected}
 use Rattle.ps_traces.proofs.Letters.{has_letters}
 use Rattle.ps_traces.proofs.Meetings.{in_lasso}
 
 pub meeting_is_rejected : (order : Order) (file : FileData) (c : CircuitData) (k : FiniteController) →
-    AreNames file.names → HasOneValues c → HasShape order Environment file c → IsController order c k
-    → NoneAccepted file c → IsRejected file c k
-meeting_is_rejected order file c k are_names one shape is none =
-    let meeting = in_lasso order c k one shape.in_time is in
-    let stem = has_letters are_names shape.symbols meeting.stem in
-    let lap = has_letters are_names shape.symbols meeting.lap in
+    AreNames file.names → HasOneValues c → HasSymbols Environment file.names file.controllable c →
+    IsInTimeWhereReached order Environment c → IsController order c k → NoneAccepted file c → IsRejected file c k
+meeting_is_rejected order file c k are_names one symbols in_time is none =
+    let meeting = in_lasso order c k one in_time is in
+    let stem = has_letters are_names symbols meeting.stem in
+    let lap = has_letters are_names symbols meeting.lap in
     record {
       meeting = meeting;
       stem_letters = stem.letters;

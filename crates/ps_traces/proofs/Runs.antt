@@ -1,10 +1,12 @@
 -- Runs of a circuit through letters.
-use Rattle.std.proofs.Common.{◌≡◌, Bool, List, [], ◌∷◌, All, map, length, refl, ap}
+use Rattle.std.proofs.Common.{◌≡◌, Bool, List, [], ◌∷◌, ◌++◌, All, map, length, refl, ap}
 use Rattle.std.proofs.lemmas.List.{length-map}
 use Rattle.std.proofs.lemmas.List.Elements.{All-head, All-tail}
 use Rattle.ps_circuit.specs.Circuits.{CircuitData}
-use Rattle.ps_circuit.specs.Values.{Moment, GoesOn, HasOneValues, Steps, bit_of}
+use Rattle.ps_circuit.specs.Values.{Moment, GoesOn, HasOneValues, Steps, bit_of, resets}
+use Rattle.ps_simulate.proofs.LassoLemmas.{GoesOn-append}
 use Rattle.ps_traces.specs.Inputs.{inputs_of}
+use Rattle.ps_traces.specs.Shapes.{IsReached}
 
 -- a step of the circuit at these latches and this input
 pub record Step (c : CircuitData) (latches inputs : List Bool) : Type 0 where
@@ -50,3 +52,14 @@ run c one from (x ∷ xs) held wide =
       reads = ap (λ (ls : List (List Bool)). x ∷ ls) rest.reads;
       wide = rest.wide;
     }
+
+-- ## Latches to which traces lead
+
+pub resets_reached : (c : CircuitData) → IsReached c (resets c)
+resets_reached c = ([], refl)
+
+pub next_reached : {c : CircuitData} {latches inputs outputs next : List Bool} → IsReached c latches →
+    Steps c latches inputs outputs next → IsReached c next
+next_reached {c} {latches} {inputs} {outputs} {next} r s =
+    let last = record { latches = latches; inputs = inputs; outputs = outputs } ∷ [] in
+    (r.0 ++ last, GoesOn-append c (resets c) latches next r.0 last r.1 (next, refl, s, refl))

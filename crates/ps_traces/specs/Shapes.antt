@@ -1,9 +1,11 @@
 -- What the circuit of a player looks like.
 --     HasShape order role file c      its inputs and outputs are those of the role, by name; and if that player moves
 --               first, the outputs are equal for all inputs at equal latches
-use Rattle.std.specs.Prelude.{Bool, true, false, IsTrue}
+--     SeesNoInputWhereReached c      they are equal at latches to which some trace leads
+use Rattle.std.specs.Prelude.{◌≡◌, Bool, true, false, IsTrue, List}
 use Rattle.ps_hoa.specs.Files.{FileData}
 use Rattle.ps_circuit.specs.Circuits.{CircuitData}
+use Rattle.ps_circuit.specs.Values.{Moment, GoesOn, Steps, resets}
 use Rattle.ps_aiger.specs.Timing.{SeesNoInput}
 use Rattle.ps_machine.specs.declared.key.Order.{Order}
 use Rattle.ps_machine.specs.declared.key.Order.TheVariants.{Mealy, Moore}
@@ -25,3 +27,17 @@ IsInTime order role c = IsTrue (moves_first order role) → SeesNoInput c
 pub record HasShape (order : Order) (role : Role) (file : FileData) (c : CircuitData) : Type 0 where
   pub symbols : HasSymbols role file.names file.controllable c
   pub in_time : IsInTime order role c
+
+-- ## Where traces lead alone
+
+-- some trace leads to the latches
+abbrev pub IsReached : CircuitData → List Bool → Type 0
+IsReached c latches = (moments : List Moment) × GoesOn c (resets c) moments latches
+
+abbrev pub SeesNoInputWhereReached : CircuitData → Type 0
+SeesNoInputWhereReached c =
+    (latches inputs others outputs other_outputs next other_next : List Bool) → IsReached c latches →
+    Steps c latches inputs outputs next → Steps c latches others other_outputs other_next → outputs ≡ other_outputs
+
+abbrev pub IsInTimeWhereReached : Order → Role → CircuitData → Type 0
+IsInTimeWhereReached order role c = IsTrue (moves_first order role) → SeesNoInputWhereReached c

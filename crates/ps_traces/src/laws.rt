@@ -28,7 +28,7 @@ ghost use Rattle.ps_simulate.specs.declared.role.Role.TheVariants.{Environment};
 ghost use Rattle.ps_traces.specs.Answers.{IsWitness, role_of};
 ghost use Rattle.ps_traces.specs.Traces.{IsLassoWord, AllAccepted, NoneAccepted};
 ghost use Rattle.ps_traces.specs.Roles.{IsMachineFor};
-ghost use Rattle.ps_traces.specs.Shapes.{HasShape, IsInTime};
+ghost use Rattle.ps_traces.specs.Shapes.{HasShape, IsInTime, IsInTimeWhereReached};
 ghost use Rattle.ps_traces.specs.Inputs.{EachInputGoesOn, HasLetters};
 ghost use Rattle.ps_traces.specs.Meetings.{FiniteController, IsController, IsOneMeeting, IsRejected, MeetsInLasso};
 
@@ -63,18 +63,24 @@ pub fn verdict_is_there()
     circuit_has_one_values();
 }
 
+/// A circuit that is in time at all latches is so at those to which traces lead, which is what meetings ask for.
+pub fn in_time_where_reached()
+    ensures { (order : Order) (role : Role) (c : CircuitData) → IsInTime order role c →
+        IsInTimeWhereReached order role c }
+{}
+
 /// The circuit of an environment and a finite-state controller have one joint trace of each length.
 pub fn meeting_is_one()
     ensures { (order : Order) (c : CircuitData) (k : FiniteController) (count : ℕ) → IsCircuit c →
-        IsInTime order Environment c → IsController order c k → IsOneMeeting c k count }
+        IsInTimeWhereReached order Environment c → IsController order c k → IsOneMeeting c k count }
 {
     circuit_has_one_values();
 }
 
 /// It goes on in a lasso trace, at whose end the controller's memory has come back too.
 pub fn every_meeting_goes_on()
-    ensures { (order : Order) (c : CircuitData) (k : FiniteController) → IsCircuit c → IsInTime order Environment c →
-        IsController order c k → MeetsInLasso c k }
+    ensures { (order : Order) (c : CircuitData) (k : FiniteController) → IsCircuit c →
+        IsInTimeWhereReached order Environment c → IsController order c k → MeetsInLasso c k }
 {
     circuit_has_one_values();
 }
@@ -82,8 +88,8 @@ pub fn every_meeting_goes_on()
 /// So where no lasso trace of the environment's circuit is accepted, the meeting is rejected.
 pub fn every_meeting_is_rejected()
     ensures { (order : Order) (file : FileData) (c : CircuitData) (k : FiniteController) → AreNames file.names →
-        IsCircuit c → HasShape order Environment file c → IsController order c k → NoneAccepted file c →
-        IsRejected file c k }
+        IsCircuit c → HasSymbols Environment file.names file.controllable c → IsInTimeWhereReached order Environment c →
+        IsController order c k → NoneAccepted file c → IsRejected file c k }
 {
     circuit_has_one_values();
 }

@@ -7,6 +7,7 @@
 //! |---|---|
 //! | `every_input_goes_on` | a stem and a lap of inputs go on in a trace that comes back to its latches |
 //! | `every_trace_has_letters` | each moment of a trace has one letter, where symbols are names of propositions |
+//! | `in_time_where_reached` | a player's circuit that is in time at all latches is so where traces lead |
 //! | `meeting_is_one`, `every_meeting_goes_on` | an environment and a finite controller have one joint trace |
 //! | `every_meeting_is_rejected` | where no trace of the environment is accepted, no meeting is |
 //! | `circuit_has_machine_words`, `circuit_is_won` | the circuit of a machine has its words, and is won as they are |
@@ -19,5 +20,5 @@ mod laws;
 pub use laws::{
     certified_circuit_answers, circuit_answers, circuit_has_machine_words, circuit_has_shape,
     circuit_is_won, every_input_goes_on, every_meeting_goes_on, every_meeting_is_rejected,
-    every_trace_has_letters, meeting_is_one, verdict_is_there,
+    every_trace_has_letters, in_time_where_reached, meeting_is_one, verdict_is_there,
 };

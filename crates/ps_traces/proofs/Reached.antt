@@ -1,0 +1,9 @@
+-- What holds at all latches holds at those to which traces lead.
+use Rattle.ps_circuit.specs.Circuits.{CircuitData}
+use Rattle.ps_machine.specs.declared.key.Order.{Order}
+use Rattle.ps_simulate.specs.declared.role.Role.{Role}
+use Rattle.ps_traces.specs.Shapes.{IsInTime, IsInTimeWhereReached}
+
+pub in_time_where_reached : (order : Order) (role : Role) (c : CircuitData) → IsInTime order role c →
+    IsInTimeWhereReached order role c
+in_time_where_reached order role c h = λ first latches x y xo yo xn yn reached a b. h first latches x y xo yo xn yn a b
