@@ -133,7 +133,7 @@ module _ {game : ParityGame} {offsets successors owners priorities : List ℕ}
   pub edges_count : {other : ParityGame} → game ≡ other → length successors ≡ edge_count other
   edges_count is = search (rules, length-flat_map)
 
-  -- a limit that holds the number of edges holds each offset
+  -- if a limit is at least the number of edges, it is at least each offset
   pub offsets_fit : {other : ParityGame} {limit : ℕ} → game ≡ other → FitsWithin other limit →
       All (λ n. n ≤ limit) offsets
   offsets_fit is fits k d lt = search (rules, get_or_default, front_within, edges_count)
