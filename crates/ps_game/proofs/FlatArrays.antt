@@ -1,4 +1,4 @@
--- Games in four arrays: what is read from arrays that tell a game, and that they stand for it.
+-- Games in four arrays: what is read from arrays that represent a game, and that they do represent it.
 use Rattle.std.proofs.Common.{◌≡◌, ℕ, ◌+◌, ◌-◌, ◌^◌, ◌<◌, ◌≤◌, List, [], ◌∷◌, ◌++◌, length, get_or, take, rules}
 use Rattle.std.proofs.Common.{drop, length-append, take-append-drop, append-nil, refl, sym, ap, ◌∙◌, arith}
 use Rattle.std.specs.List.{All, flat_map, slice_range}
