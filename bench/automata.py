@@ -1,5 +1,5 @@
 #!/usr/bin/env python3
-"""Shows that the making of automata takes time in proportion to the edges.
+"""Shows that making automata takes time proportional to the edges.
 
   bench/automata.py [--program PROGRAM]
 
@@ -10,7 +10,7 @@ the fault. --program gives one that was made before. Texts of 4,096 to 65,535 st
     labels     the same edges with labels, each an alias that is one letter
     colours    the same, where each edge is in up to three of 32 sets of a chain
     overlap    as labels, but the last two edges of the last state share a letter (fault 21)
-Prints the time of each run, and its growth against the growth of the states (1.00 is growth in proportion).
+Prints the time of each run, and its growth against the growth of the states (1.00 is proportional).
 """
 import os
 import shutil

@@ -5,7 +5,7 @@
 
 PSYN is the built program. A line for each size, edges doubling up to --most (1000000) from at least --least (10000):
 the family, vertices, edges, bytes of input, the least time of --runs (3) runs, and the growth of the
-time since the size before (2.0 is growth in proportion). With --yardstick each text is also given to
+time since the size before (2.0 is proportional). With --yardstick each text is also given to
 `PROGRAM check GAME CERTIFICATE`, in turn with psyn, and the last column is psyn's time over that one's.
 
 How the games are made. Each player has half of the vertices as a region, in layers. An edge that
@@ -37,7 +37,7 @@ def made(edges, degree, below, layers):
     greatest = (below + below % 2, below + below % 2 + 1)
     layer = [v % half * layers // half for v in range(2 * half)]
     winner = [v // half for v in range(2 * half)]
-    # of each region the vertices stand in the order of their layers: the first of a layer
+    # the vertices of each region are in the order of their layers: the first of a layer
     first = [-(-number * half // layers) for number in range(layers + 1)]
     # the first vertices of layer 1 have each priority once, so that all of them are present
     drawn = [dice.randrange(below) for _ in range(2 * half)]

@@ -1,12 +1,12 @@
 #!/usr/bin/env python3
-"""Shows that the reading of circuits takes time in proportion to their gates.
+"""Shows that reading circuits takes time proportional to their gates.
 
   bench/circuit_texts.py PROGRAM [ARGUMENTS..]
 
 Makes circuits of 10^5, 2 * 10^5, 4 * 10^5 and 10^6 gates, each in two ways, and runs the built psyn on `sim` with each of them
 and an empty stimulus, so that it reads the circuit and has nothing to print. Prints the time of each run, and its growth
-against the growth of the gates (1.00 is growth in proportion).
-    chain      each gate reads the one on the next line, so that the lines stand in falling order of what they depend on
+against the growth of the gates (1.00 is proportional).
+    chain      each gate reads the one on the next line, so that each line comes before the one that it depends on
     drawn      each gate reads two of the inputs, latches and gates before it, drawn at random, and the lines are shuffled
 """
 import random

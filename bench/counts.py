@@ -1,10 +1,10 @@
 #!/usr/bin/env python3
-"""Times the least counts of games beside a plain solver without proofs, or compares those of random games with a plain search.
+"""Times the least counts of games, compared with a plain solver without proofs, or compares those of random games with a plain search.
 
   bench/counts.py GAMES YARDSTICK [--size SIZE] [--only WORD] [--runs N] [--program PROGRAM]
   bench/counts.py --random N [--program PROGRAM]
 
-psyn has no command yet that works out counts alone, so the program bench/counts is made in a temporary folder, over copies of
+psyn has no command that only computes counts, so the program bench/counts is made in a temporary folder, over copies of
 the crates with what earlier checks kept in out/. --program gives one that was made before.
 
 GAMES is a Python file with families of games: FAMILIES, by their names functions to lists of (priority, owner, successors), and
@@ -62,7 +62,7 @@ def task(is_shown, nodes, winners, moves):
 
 
 def answer(program, text):
-    """For each player the words of the first line, and the lines behind it."""
+    """For each player the words of the first line, and the lines after it."""
     run = subprocess.run([program], input=text, capture_output=True, check=False)
     if run.returncode != 0:
         sys.exit(f"status {run.returncode}: {run.stderr[:300]!r}")

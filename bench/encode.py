@@ -64,7 +64,7 @@ def wide(count, dice):
 
 
 def first(count, dice):
-    """In each state one input leads on, by either output, in one of two priorities; behind the other one the controller wins."""
+    """In each state one input leads on, by either output, in one of two priorities; after the other input the controller wins."""
     half = count // 2
     nexts = list(range(half))
     dice.shuffle(nexts)
@@ -79,7 +79,7 @@ def first(count, dice):
 
 def made(folder):
     """Makes the program in a folder."""
-    import lanes  # which crates another one stands on
+    import lanes  # which crates another one uses
 
     crates = os.path.join(folder, "crates")
     below = lanes.lines_below(STANDS_ON)

@@ -8,7 +8,7 @@ PSYN is the built program (crates/psyn/out/psyn). The families are:
     classes    64 states with 16 to 8,192 letters of the inputs, none of which is in the class of another
 Each automaton is twice as large as the one before, up to --edges (1,048,576, the most that psyn reads). A line for each has its states,
 the classes of a state, the vertices and the edges of the game, the bytes of both texts, the least seconds of --runs (3) runs of the whole
-process, and how often those grew for each doubling of the vertices since the line above: 2 is growth in proportion.
+process, and how often those grew for each doubling of the vertices since the line above: 2 is proportional.
 
 Run it on a machine that does nothing else. A small automaton comes before the first line, so that the program is in memory.
 """

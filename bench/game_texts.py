@@ -1,5 +1,5 @@
 #!/usr/bin/env python3
-"""Shows that the reading of game texts takes time in proportion to the text.
+"""Shows that reading game texts takes time proportional to the text.
 
   bench/game_texts.py PROGRAM [ARGUMENTS..]
   bench/game_texts.py --ids PROGRAM [ARGUMENTS..]
@@ -7,8 +7,8 @@
 Makes game texts of 1, 2, 4, 8 and 16 MiB, runs the built psyn on `closed` with each of them and a certificate that is
 refused at its first byte, and prints the time of each run and its growth from one size to the next.
 
-With --ids it makes texts of 100,000 vertices that are alike in length, with ids of four kinds: each its own place, rising from
-10^9 on, all over, and all over but rising. It prints the least time of five runs of each, in turn.
+With --ids it makes texts of 100,000 vertices with the same length, with ids of four kinds: each its own place, rising from
+10^9 on, scattered, and scattered but rising. It prints the least time of five runs of each, in turn.
 """
 import random
 import subprocess

@@ -1,9 +1,9 @@
 #!/usr/bin/env python3
-"""Shows that the reading of HOA texts takes time in proportion to their length.
+"""Shows that reading HOA texts takes time proportional to their length.
 
   bench/hoa_texts.py [--program PROGRAM]
 
-psyn has no command yet that reads HOA texts alone, so a program of a few lines (SOURCE) is made in a temporary folder, over
+psyn has no command that only reads HOA texts, so a program of a few lines (SOURCE) is made in a temporary folder, over
 copies of the crates with what earlier checks kept in out/. It reads one text and prints how many rows it has, or where it is
 refused. --program gives one that was made before. Texts of 1, 2, 4, 8 and 16 MiB are made in these ways:
     edges      states with many edges, each with a short label and a set
@@ -11,10 +11,10 @@ refused. --program gives one that was made before. Texts of 1, 2, 4, 8 and 16 Mi
     implicit   states with implicit labels over 8 propositions
     header     unknown items with many values, strings and comments
     aliases    4,096 aliases of short names, and labels that use them
-    alike      the same with long names that differ in their last bytes alone
-    repeated   `controllable-AP:` with the same numbers again and again
+    alike      the same with long names that differ only in their last bytes
+    repeated   `controllable-AP:` with the same numbers over and over
     numbers    `controllable-AP:` with numbers that all differ
-Prints the time of each run, and its growth against the growth of the text (1.00 is growth in proportion).
+Prints the time of each run, and its growth against the growth of the text (1.00 is proportional).
 """
 import os
 import shutil
@@ -57,7 +57,7 @@ HEADER = f"HOA: v1 Start: 0 AP: 8 {NAMES} controllable-AP: 0 1 Acceptance: 2 Inf
 
 
 def filled(head, size, piece_of, tail="--END--\n"):
-    """Pieces behind the head, as many as there is room for in so many bytes."""
+    """Pieces after the head, as many as fit in the given number of bytes."""
     parts, length, number = [head], len(head) + len(tail), 0
     while True:
         piece = piece_of(number)
@@ -88,7 +88,7 @@ def header(size):
 
 
 def uses(size, name_of):
-    """Aliases of these names, and labels with them as far as the text goes."""
+    """Aliases of these names, and labels with them up to the end of the text."""
     head = HEADER + "\n" + "".join(f"Alias: {name_of(k)} {k % 8}\n" for k in range(4096)) + "--BODY--\n"
     return filled(head, size, lambda k: f"State: {k} [{' & '.join(name_of((k * 61 + e * 997) % 4096) for e in range(16))}] 0\n")
 

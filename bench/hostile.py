@@ -7,14 +7,14 @@ hostile_texts.py says what the kinds are; most texts have 16 MiB, and games by r
 command that takes it, with a stack of 1,024 KiB, with at most 1,024 MiB of memory (more is refused), and for at most 60 seconds of
 processor time, if nothing else is given. A line for each run has its kind and its number within the kind, the command, the seconds
 of processor time and by the clock, the most memory held (MB), the bytes of the answer, the status and the answer's first line.
-Behind it stands, where it is so:
+It ends with one of these words, if it applies:
 
-  LARGER    want of memory is the answer that is due: the answer, or counts that it has by definition, are larger
+  LARGER    out of memory is the right answer: the answer, or counts that it has by definition, are larger
   SLOW      more than 10 seconds of processor time
-  LARGE     more than 1 GiB: want of memory, which is not due
-  ENDED     it ended by a signal, or with a status that psyn does not have: always wrong, but for a run that was ended for its time
+  LARGE     more than 1 GiB: out of memory, which is not the right answer
+  ENDED     it ended by a signal, or with a status that psyn does not have: always wrong, except for a run that was ended for its time
 
-The last line counts them. The status is 1 where a run is ENDED, or where one that is LARGER ends in another answer."""
+The last line counts them. The status is 1 if a run is ENDED, or if one that is LARGER ends in another answer."""
 import argparse
 import collections
 import multiprocessing

@@ -1,7 +1,7 @@
-"""Texts that are made to be hard: each function is a kind, and gives the runs that are made of it.
+"""Texts that are made to be hard: each function is a kind, and gives its runs.
 
-A run is a command line, the texts behind it, and whether its answer, or the counts that it has by definition, are larger than
-any machine holds, so that want of memory is the answer that is due. A text has 16 MiB, as far as its kind has so much to say."""
+A run is a command line, the texts after it, and whether its answer, or the counts that it has by definition, are larger than
+any machine can hold, so that out of memory is the right answer. A text has 16 MiB, if its kind can fill them."""
 import collections
 import os
 import subprocess
@@ -17,7 +17,7 @@ CERTIFICATE_START = "psyncert 1\nvertices 1\n"
 
 
 def filled(head, pieces, tail):
-    """The head, as many of the pieces as there is room for, and the tail; blanks behind it, if the pieces end."""
+    """The head, as many of the pieces as fit, and the tail; blanks after it, if the pieces end."""
     parts, room = [head], SIZE - len(head) - len(tail)
     for piece in pieces:
         room -= len(piece)
@@ -66,7 +66,7 @@ def twined_label():
 
 
 def condition():
-    """One condition that is a chain of two million links, and one that is none."""
+    """One condition that is a chain of two million links, and one that is not a chain."""
     state = " --BODY-- State: 0 0 {0} --END--\n"
     runs = []
     for first, links in (("Fin(0)", "|Inf(0)"), ("Inf(0)", "&Inf(1)|Inf(0)")):
@@ -157,7 +157,7 @@ def vertices():
 
 
 def colliding(count, bits, most, *first):
-    """Numbers that the tables of the toolchain put into one place, alone or behind a first number."""
+    """Numbers that the tables of the toolchain put into one place, alone or after a first number."""
     with tempfile.TemporaryDirectory() as room:
         program = os.path.join(room, "colliding")
         subprocess.run(["cc", "-O2", "-o", program, os.path.join(os.path.dirname(os.path.abspath(__file__)), "colliding.c")], check=True)
@@ -367,7 +367,7 @@ def letters_and_gates():
 
 
 def counting():
-    """A circuit that counts through 40 latches: a lap of it comes again behind 2^40 laps."""
+    """A circuit that counts through 40 latches: a lap of it repeats after 2^40 laps."""
     count, lines, gates_of, carry, top = 40, [], [], 1, 40
     for v in range(1, count + 1):
         if carry == 1:

@@ -31,7 +31,7 @@ LETTERS = 8
 
 
 def lines_below(names):
-    """The lines of crates.txt of these crates and of all that they stand on, by their names."""
+    """The lines of crates.txt of these crates and of all that they use, by their names."""
     with open(os.path.join(TOP, "crates.txt"), encoding="utf-8") as file:
         lines = {line.split(":")[0]: line for line in file if ":" in line and not line.startswith("#")}
     found, pending = {}, list(names)

@@ -113,7 +113,7 @@ def check(game, lines):
 
 def made(folder):
     """Makes the program in a folder."""
-    import lanes  # which crates another one stands on
+    import lanes  # which crates another one uses
 
     crates = os.path.join(folder, "crates")
     below = lanes.lines_below(STANDS_ON)

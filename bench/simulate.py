@@ -5,7 +5,7 @@
 
 Makes circuits of 25000, 50000, 100000 and 200000 gates and a stimulus of 1000 letters, the same in each run, and runs the built
 psyn with the stimulus and without. The difference is the time of the steps. Each gate reads two of those before it, of the
-inputs and of the latches, at random; the gates stand in the text in an order drawn at random.
+inputs and of the latches, at random; the gates are in the text in a random order.
 """
 import random
 import subprocess

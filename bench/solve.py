@@ -1,12 +1,12 @@
 #!/usr/bin/env python3
-"""Times `solve` and `check`, from text to text, beside another solver.
+"""Times `solve` and `check`, from text to text, compared with another solver.
 
   bench/solve.py PSYN GAMES [SOLVER] [--runs N]
   bench/solve.py PSYN --compact
 
 GAMES is a folder of game texts NAME.pg. SOLVER is run on the same text as `SOLVER solve`, and as `SOLVER check GAME CERTIFICATE`
 on what psyn printed. The least processor time of N (3) whole processes, in turn, is taken of each. A row for each game has the
-seconds of psyn and, beside the other one, their ratio; the last row has the ratios of the sums. psyn's `check` has to say that
+seconds of psyn and, compared with the other one, their ratio; the last row has the ratios of the sums. psyn's `check` must say that
 psyn's certificate is valid.
 
 With --compact it makes games of N vertices with N priorities and times `solve --compact`, with the bytes of the certificate and

@@ -1,5 +1,5 @@
 #!/usr/bin/env python3
-"""Times synthesis, from an HOA text to a circuit, and shows that it takes time in proportion to the automaton.
+"""Times synthesis, from an HOA text to a circuit, and shows that it takes time proportional to the automaton.
 
   bench/synth.py PSYN [--most STATES]
 
@@ -10,7 +10,7 @@ Automata of 10 states and more (ten times as many each, at most STATES, which is
     unrealizable   an output must foretell an input, in one state after another
 A line for each has the seconds of `game` (read, build, game, its text), of `cert` (solve, check and the certificate's text in
 the place of the game's), and of `synth` (besides the machine, the circuit and its text); the growth of `synth` against that of
-the states (1.00 is growth in proportion); the first line of the answer, the gates, and the most memory that `synth` held.
+the states (1.00 is proportional); the first line of the answer, the gates, and the most memory that `synth` held.
 """
 import os
 import subprocess
@@ -35,7 +35,7 @@ def states(count):
 
 
 def inputs(count):
-    """1,000 states, each of which reads two of the inputs, and wants the output to be their conjunction."""
+    """1,000 states, each of which reads two of the inputs, and requires the output to be their conjunction."""
     lines = [head(count, 1, "0 t")]
     for q in range(1_000):
         a, b = q % count, (q * 5 + 1) % count

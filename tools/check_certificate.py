@@ -1,7 +1,7 @@
 #!/usr/bin/env python3
 """Checks a certificate of a parity game by docs/CERTIFICATES.md alone: tools/check_certificate.py GAME CERTIFICATE
 
-It prints `valid` (status 0), the first flaw as psyn's `check` does (status 1), or why a text is none (status 2).
+It prints `valid` (status 0), the first flaw as psyn's `check` does (status 1), or why a text is malformed (status 2).
 """
 import re
 import sys
@@ -27,7 +27,7 @@ def game_of(text):
 
 
 def counts_of(said, losing, is_compact):
-    """A count for each priority by which the winner loses: all of them, or those that are not 0 behind their priorities."""
+    """A count for each priority by which the winner loses: all of them, or those that are not 0 after their priorities."""
     if not is_compact:
         return dict(zip(losing, map(int, said), strict=True))
     pairs = [tuple(map(int, word.split(":"))) for word in said]

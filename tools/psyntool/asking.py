@@ -29,5 +29,5 @@ def told(request, texts, answer):
 
 
 def is_had(answer):
-    """Whether there is an answer, and it is no fault."""
+    """Whether there is an answer that is not a fault."""
     return not answer.died and not answer.is_fault

@@ -1,7 +1,7 @@
 """What a command of the tool is, and what a command line asks of it.
 
-A command stands in a file of `commands`, as `COMMAND`, and has a row in `table`. Help, the manual and the completions are
-written from that.
+A command is the `COMMAND` of a file in `commands`, and has a row in `table`. Help, the manual and the completions are
+made from these.
 """
 from collections.abc import Callable
 from dataclasses import dataclass, field
@@ -67,8 +67,8 @@ SHORT = {"-h": "--help", "-V": "--version"}
 class Command:
     """A command: its name, what it answers, what it reads in order (kinds of files, or other words), and what runs it.
 
-    `flags` are handed to the program; `own` are the tool's. `behind` has files that a flag adds, and `instead` what is read in the
-    place of all others with a flag, or not given. `least` is how many words there are at least, where the last ones may be left out.
+    `flags` are passed to the program; `own` are the tool's. `behind` has files that a flag adds, and `instead` what is read in
+    place of all others with a flag, or not given. `least` is the least number of words, if the last ones may be left out.
     """
 
     name: str
@@ -154,7 +154,7 @@ class Request:
         return None if said is None else int(said)
 
     def texts(self):
-        """The files that the command reads. What is no kind that a command of the tool wants is refused; the program says so itself."""
+        """The files that the command reads. A command of the tool refuses a file of a wrong kind; the program says so itself."""
         texts = Reader(self).texts(self.command.kinds(self.given), self.words)
         wrong = wrong_kinds(self.command, texts)
         if wrong and not self.command.is_of_the_program:
@@ -163,6 +163,6 @@ class Request:
 
 
 def wrong_kinds(command, texts):
-    """Which files look like texts of other kinds than the command wants; empty where none does."""
+    """Which files look like texts of other kinds than the command expects; empty if none does."""
     said = ", ".join(f"{text.name} is {text.looks_like.with_article}" for text in texts if text.looks_like not in (None, text.kind))
     return f"{said}; {command.name} wants {' '.join(text.kind.word for text in texts)}" if said else ""

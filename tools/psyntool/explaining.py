@@ -19,7 +19,7 @@ PLAYERS_OF_A_GAME = b"spot-state-player:"
 
 
 def lines(request, texts, answer):
-    """The lines that explain an answer: few, or none, where it is no fault."""
+    """The lines that explain an answer: few, or none if it is not a fault."""
     found = re.fullmatch(r"fault (usage|(\d+) (\w+)(?: at (\d+))?(.*))\n", answer.text)
     if not found:
         return games_of_spot(texts)
@@ -82,7 +82,7 @@ def acceptance_line(_behind, _request, texts):
 
 
 def byte_place(text, place):
-    """The byte at which a character of the string stands."""
+    """The byte at which a character of the string begins."""
     return len(text.string[:place].encode("utf-8", "surrogateescape"))
 
 
@@ -112,7 +112,7 @@ def wrong_symbols(_behind, request, texts):
 
 
 def differing(title, kind, wanted, judged):
-    """How the symbols of the inputs, or of the outputs, differ from the names that are wanted."""
+    """How the symbols of the inputs, or of the outputs, differ from the expected names."""
     there = [judged.symbols.get((kind, number)) for number in range(len(judged.names(kind)))]
     spare = Counter(filter(None, there)) - Counter(wanted)
     parts = [("missing", [name for name in wanted if name not in set(there)]), ("too many", list(spare)), ("without a name", [str(there.count(None))])]

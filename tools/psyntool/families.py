@@ -2,7 +2,7 @@
 from psyntool.texts.game import Game, Vertex
 
 MOST_VERTICES = 1_000_000
-# Of the generator behind `random`: Knuth's MMIX.
+# Of the generator that `random` uses: Knuth's MMIX.
 FACTOR, SUMMAND, WORD = 6364136223846793005, 1442695040888963407, 2**64
 
 

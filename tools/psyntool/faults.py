@@ -28,7 +28,7 @@ def fault_of(heading, body):
 
 
 def examples_of(body):
-    """The inputs of a section with their answers: an indented block behind `Input:` and the code behind `Answer:`."""
+    """The inputs of a section with their answers: an indented block after `Input:` and the code after `Answer:`."""
     found = re.findall(r"(?m)^Input:\n\n((?:    .*\n|\n)+?)\nAnswer: `([^`\n]*)`", body)
     return [("\n".join(line[4:] for line in block.rstrip("\n").split("\n")) + "\n", answer + "\n") for block, answer in found]
 

@@ -12,18 +12,18 @@ OTHER_MARKS = (b"\xff\xfe", b"\xfe\xff")
 
 
 class Text:
-    """One text of the input: its bytes as the program reads them, and where they stand in the file."""
+    """One text of the input: its bytes as the program reads them, and where they are in the file."""
 
     def __init__(self, kind, name, original):
         self.kind, self.name, self.original = kind, name, original
         self.bytes = original
         self.told = []
-        # places of the text from which on it lies further behind in the file, with the distance
+        # places from which on the text is shifted in the file, with the distance
         self.shifts = [(0, 0)]
 
     @property
     def string(self):
-        """The text with the bytes that are no UTF-8 kept as they are."""
+        """The text; bytes that are not UTF-8 are kept as they are."""
         return self.bytes.decode("utf-8", "surrogateescape")
 
     @property
@@ -36,7 +36,7 @@ class Text:
         return min(offset + self.shifts[at][1], len(self.original))
 
     def drop_mark(self):
-        """Drops a byte order mark, which is no part of any format; editors count no column for it."""
+        """Drops a byte order mark, which belongs to no format; editors count no column for it."""
         if self.original.startswith(BYTE_ORDER_MARK):
             self.original = self.bytes = self.original[len(BYTE_ORDER_MARK) :]
             self.told.append(f"{self.name}: a byte order mark is left out")

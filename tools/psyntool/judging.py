@@ -16,7 +16,7 @@ MOST = 24
 
 @dataclass(frozen=True)
 class Case:
-    """A game, and what a text says of it: its entries as far as they can be read, and the text itself."""
+    """A game, and what a text says about it: the entries up to the first that can't be read, and the text itself."""
 
     game: game.Game
     entries: dict

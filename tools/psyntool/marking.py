@@ -9,7 +9,7 @@ def line_and_column(data, offset):
 
 
 def shown(data, offset, width=WIDTH):
-    """The line in which a byte stands, with a mark under the byte."""
+    """The line that contains a byte, with a mark under the byte."""
     start = data.rfind(b"\n", 0, offset) + 1
     stop = data.find(b"\n", offset)
     line = data[start : len(data) if stop < 0 else stop].decode("utf-8", "replace").replace("\t", " ")

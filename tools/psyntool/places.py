@@ -1,4 +1,4 @@
-"""Where the tool stands: in the repository, in an archive that was unpacked, or where it was installed; and its name there."""
+"""Where the tool is: in the repository, in an unpacked archive, or where it was installed; and its name there."""
 import os
 
 TOP = os.path.dirname(os.path.dirname(os.path.dirname(os.path.realpath(__file__))))
@@ -11,7 +11,7 @@ HOW_TO_HAVE_IT = "run `rt run < stdin` in crates/psyn once" if IS_REPOSITORY els
 
 
 def stored(*path):
-    """What stands in a file of the repository, or of the installed tool; empty where it is not there."""
+    """The contents of a file of the repository, or of the installed tool; empty if it does not exist."""
     try:
         with open(os.path.join(TOP, *path), encoding="utf-8") as file:
             return file.read()

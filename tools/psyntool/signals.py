@@ -16,7 +16,7 @@ def stop(number, _frame):
 
 
 def take():
-    """Lets the signals raise `Stopped`, but those that whoever started the tool wants to be ignored."""
+    """Makes the signals raise `Stopped`, except those that the caller of the tool ignores."""
     for number in TAKEN:
         if signal.getsignal(number) != signal.SIG_IGN:
             signal.signal(number, stop)

@@ -1,4 +1,4 @@
-"""Takes a command line apart: flags stand anywhere, and what is unknown is named with the nearest that is known."""
+"""Takes a command line apart: flags may be anywhere, and an unknown word is reported with the nearest known one."""
 import difflib
 import os
 
@@ -16,7 +16,7 @@ def nearest(word, known):
 
 
 def split(words, flags):
-    """The flags with their values, and the other words. Behind `--` no word is a flag; one that names a file is none either.
+    """The flags with their values, and the other words. After `--` no word is a flag, nor is one that names a file.
 
     A flag with many values has them with their places among the words.
     """
@@ -47,7 +47,7 @@ def split(words, flags):
 
 
 def behind(flag, words, at, flags):
-    """The values of a flag that stand behind it, with their places: those up to the next flag, or one."""
+    """The values after a flag, with their places: those up to the next flag, or one."""
     if not flag.many:
         return [(at, words[at])][: bool(flag.value)] if at < len(words) else []
     found = []

@@ -33,7 +33,7 @@ GRANTS = (
 
 
 def certificate_of_game(version):
-    """The count of a vertex is how many vertices of priority 1 come behind it."""
+    """The count of a vertex is how many vertices of priority 1 come after it."""
     lines = [f"psyncert {version}", f"vertices {VERTICES}", "odd 1", "even 2"]
     for place in range(VERTICES):
         move, count = min(place + 1, VERTICES - 1), max(0, VERTICES - 2 - place)

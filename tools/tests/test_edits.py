@@ -1,6 +1,6 @@
-"""Edits that the prover must refuse: each still applies, and stands in the folder that it belongs to.
+"""Edits that the prover must refuse: each still applies, and is in the folder to which it belongs.
 
-The gate tries those of crates/*/must-fail: the named wrong bodies, one edit each. All others stand in crates/*/more-edits,
+The gate tries those of crates/*/must-fail: the named wrong bodies, one edit each. All others are in crates/*/more-edits,
 each with a row in docs/EDITS.tsv, where `tools/try-edits` keeps its verdict.
 """
 import glob

@@ -1,4 +1,4 @@
-"""What psyn answers where a growth of memory is refused, and that tools/refuse-growths sees a program that goes on."""
+"""What psyn answers when an allocation fails, and that tools/refuse-growths notices a program that ignores it."""
 import os
 import subprocess
 import tempfile

@@ -72,7 +72,7 @@ class Table:
 
 
 def is_in(assumptions, guarantees, is_strict, stem, lap):
-    """Whether the word stands in the meaning of the parts."""
+    """Whether the word belongs to the meaning of the parts."""
     assumed, guaranteed = ([table.run(stem, lap) for table in side] for side in (assumptions, guarantees))
     first_assumed, first_guaranteed = (min((step for step, _ in side), default=NEVER) for side in (assumed, guaranteed))
     if is_strict and first_guaranteed < first_assumed:
@@ -122,7 +122,7 @@ class Meaning(unittest.TestCase):
         self.assertGreater(min(wanted.count(True), wanted.count(False)), LASSOS // 5)
 
 
-# Of each stored part words with a verdict: a letter has a digit for each proposition, and the lap stands between parentheses.
+# For each stored part words with a verdict: a letter has a digit for each proposition, and the lap is in parentheses.
 WORDS = {
     "always": {"(1)": True, "1 0 (1)": False},
     "never-together": {"(10 01 00)": True, "00 11 (00)": False},

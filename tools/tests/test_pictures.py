@@ -1,4 +1,4 @@
-"""Pictures: what stands in the DOT text, and that Graphviz takes it where it is installed."""
+"""Pictures: the contents of the DOT text, and that Graphviz accepts it where it is installed."""
 import os
 import shutil
 import subprocess

@@ -134,7 +134,7 @@ class Layout(unittest.TestCase):
         self.assertEqual(layout.text_within_width(WRAPPED, True), WRAPPED)
 
     def test_no_entry_of_a_list_is_cut(self):
-        """Behind an entry of a list what stands further in than its text is an example, and a colon leads to that."""
+        """After an entry of a list, what is indented further than its text is an example, and a colon leads to it."""
         cut, found = [], 0
         folders = [glob.glob(os.path.join(TOP, "crates", "*", it, "**", "*.antt"), recursive=True) for it in ("specs", "proofs")]
         for path in sorted(sum(folders, [])):

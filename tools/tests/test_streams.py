@@ -1,4 +1,4 @@
-"""Where a read or a write of psyn fails, and that tools/refuse-streams sees a program that goes on."""
+"""What psyn does when a read or a write fails, and that tools/refuse-streams notices a program that ignores it."""
 import os
 import subprocess
 import tempfile

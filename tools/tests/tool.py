@@ -32,6 +32,6 @@ class OnFiles(unittest.TestCase):
         return path
 
     def tool(self, *words, given=b"", environment=None):
-        # a word of a resource that is left open, or of a feature that goes, would stand on standard error
+        # a warning of a resource that is left open, or of a feature that will be removed, would appear on standard error
         command = [sys.executable, "-W", "error", "-X", "dev", TOOL, *words]
         return subprocess.run(command, input=given, capture_output=True, check=False, cwd=self.room, env={**os.environ, **(environment or {})})

@@ -16,7 +16,7 @@ def without_comments(text):
 
 
 def tokens_of(text):
-    """The tokens of a text, each with its first place and the one behind it; the point behind a binder is one of its own."""
+    """The tokens of a text, each with its first place and the one after it; the point after a binder is a token of its own."""
     tokens = []
     for found in TOKEN.finditer(without_comments(text)):
         start, end, token = found.start(), found.end(), found[0]
@@ -28,7 +28,7 @@ def tokens_of(text):
 
 
 def cites(name):
-    """Finds a name that stands by itself."""
+    """Finds a name that is a whole token."""
     return re.compile(r"(?<![^\s(){}\[\],;])" + re.escape(name) + r"(?![^\s(){}\[\],;])")
 
 
@@ -47,7 +47,7 @@ def closing(tokens, at):
 
 
 def end_of(tokens, at, stops):
-    """The index behind the expression that begins at an index: where a bracket or a `let` around it ends, or at a stop."""
+    """The index after the expression that begins at an index: where a bracket or a `let` around it ends, or at a stop."""
     depth, lets = 0, 0
     for index in range(at, len(tokens)):
         token = tokens[index][2]
@@ -60,7 +60,7 @@ def end_of(tokens, at, stops):
 
 
 class Definition:
-    """A signature with the clauses behind it: lines `first` to `last` of a file."""
+    """A signature with the clauses after it: lines `first` to `last` of a file."""
 
     def __init__(self, name, indent, first, signature):
         self.name, self.indent, self.first, self.last = name, indent, first, first
@@ -164,7 +164,7 @@ def clauses_of(lines, indent, start=0, outer=None):
 
 
 def places_of(body):
-    """Where in a body an expression stands whose type is known: first place, place behind it, kind."""
+    """Where a body has an expression whose type is known: first place, place after it, kind."""
     tokens, found = tokens_of(body), {}
 
     def put(first, end, kind):
@@ -172,13 +172,13 @@ def places_of(body):
             found.setdefault((tokens[first][0], tokens[end - 1][1]), kind)
 
     def point(at):
-        """The index of the point behind the binders of a `λ`."""
+        """The index of the point after the binders of a `λ`."""
         while at < len(tokens) and tokens[at][2] != ".":
             at = closing(tokens, at) + 1 if tokens[at][2] in ("(", "[", "{") else at + 1
         return at
 
     def put_all(first, end, kind):
-        """An expression, and what is left of it behind each `let` and each `λ`."""
+        """An expression, and what is left of it after each `let` and each `λ`."""
         put(first, end, kind)
         while first < end and tokens[first][2] in ("let", "λ"):
             if tokens[first][2] == "λ":
@@ -210,7 +210,7 @@ def places_of(body):
 
 
 def put_parts(tokens, at, put, put_all):
-    """The parts of a tuple, or what stands in parentheses, with them."""
+    """The parts of a tuple, or what is in parentheses, with them."""
     end, first, parts = closing(tokens, at), at + 1, []
     while first < end:
         behind = end_of(tokens, first, (",",))

@@ -2,7 +2,7 @@
 
 A `[[line]]` has
 
-  name      what it shows; no other one has it
+  name      what it shows; names differ
   defect    which report of a defect it keeps away, if one does
   command   what bash runs in a folder with `slow.pg` and the files of `FILES` and `PROGRAMS`; `psyn` is the tool, `install-psyn` tools/install
   cut       what comes in between: Ctrl-C, TERM, HUP or KILL once the program is at work, or `closed pipe`, an output that
@@ -88,7 +88,7 @@ class Run:
         self.room, self.line = room, line
         environment = {**os.environ, "PATH": f"{os.path.join(room, 'bin')}:{os.environ['PATH']}", "PSYN": program, "REAL": program}
         self.more = {"cwd": room, "env": environment, "stdin": subprocess.DEVNULL}
-        # whoever runs the tests may ignore signals, as a shell does for what it starts behind `&`
+        # whoever runs the tests may ignore signals, as a shell does for what it starts with `&`
         self.words = ["env", "--default-signal=INT,HUP,TERM", "bash", "-c", f"{'exec env ' if line.get('cut') else ''}{line['command']}"]
 
     def wait_until_at_work(self, child):
@@ -107,7 +107,7 @@ class Run:
             return 0
 
     def is_left_at_work(self):
-        """Whether the program goes on a second after the tool has ended."""
+        """Whether the program still runs a second after the tool has ended."""
         number, until = self.number_of_program(), time.monotonic() + 1
         while number and is_at_work(number) and time.monotonic() < until:
             time.sleep(0.02)

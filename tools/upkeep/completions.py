@@ -90,12 +90,12 @@ def filled(template, **parts):
 
 
 def valued():
-    """The flags behind which one value stands."""
+    """The flags that take one value."""
     return {flag.name: flag.value for command in COMMANDS.values() for flag in command.all_flags if flag.value and not flag.many}
 
 
 def many(value=""):
-    """The flags behind which words stand up to the next flag; with a value those that it is called for."""
+    """The flags that take all words up to the next flag; with a value, those whose value has that name."""
     flags = {flag.name: flag for command in COMMANDS.values() for flag in command.all_flags if flag.many}
     return [name for name, flag in flags.items() if value in ("", flag.value)]
 
@@ -108,7 +108,7 @@ def endings(command):
 
 
 def words_of(command):
-    """The words that may stand behind a command in the place of files."""
+    """The words that may follow a command in place of files."""
     return {"help": list(COMMANDS), "games": list(FAMILIES)}.get(command.name, [])
 
 

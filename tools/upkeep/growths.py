@@ -1,4 +1,4 @@
-"""Refuses one growth of memory in a run, and tells which answers are right then. tools/refuse-growths says what is refused."""
+"""Makes one allocation of a run fail, and tells which answers are right then. tools/refuse-growths says what is refused."""
 import os
 import subprocess
 
@@ -7,7 +7,7 @@ SECONDS = 60
 
 
 def run(program, shim, path, number):
-    """What the program writes, with its status, and whether the growth of that number was refused."""
+    """What the program writes, with its status, and whether the allocation with that number failed."""
     asked, tells = os.pipe()
     environment = {**os.environ, "LD_PRELOAD": shim, "REFUSED_GROWTH": str(number), "REFUSED_TELLS": str(tells)}
     with open(path, "rb") as text:
@@ -21,7 +21,7 @@ def run(program, shim, path, number):
 
 
 def sweep(program, shim, path, expected):
-    """How many growths the input asks for, how many of them went without an answer of its own, and the wrong answers."""
+    """How many allocations the input needs, how many failed ones led to fault 24, and the wrong answers."""
     growths, faults, wrong = 0, 0, []
     answer, _ = run(program, shim, path, 0)
     if answer != expected:
@@ -37,7 +37,7 @@ def sweep(program, shim, path, expected):
 
 
 def sweep_test(program, shim, name):
-    """How many growths a test asks for, and those of them without which it fails."""
+    """How many allocations a test needs, and those without which it fails."""
     growths, failed = 0, []
     while True:
         asked, tells = os.pipe()

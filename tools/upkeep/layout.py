@@ -1,10 +1,10 @@
-"""Lines of definitions, proofs and clauses: what may stand on one line does, and a longer one is broken at the best places."""
+"""Lines of definitions, proofs and clauses: what fits on one line is one line, and a longer one is broken at the best places."""
 import re
 
 from upkeep.antt import indent_of
 
 WIDTH = 120
-# How well a line breaks behind a word, or before one: the less, the better; 3 where nothing is said.
+# How well a line breaks after a word, or before one: the less, the better; 3 if nothing is said.
 BEHIND = {"=": 0, "→": 0, "in": 0, ";": 0, ",": 0, "↦": 1, "×": 1, "⊎": 1, "++": 2, "&&": 2}
 BEFORE = {"∙": 0, "|": 0, "where": 0, "[": 2, "→": 1, "⊎": 1, "×": 1, "++": 1}
 ENDS = re.compile(r"(\bin|[;{\[(]|\bwhere)$")
@@ -54,7 +54,7 @@ def spaces_of(line):
 
 
 def broken(line, indent):
-    """A line as the fewest lines of the width, of these those with the best breaks; those behind the first have this indent."""
+    """A line as the fewest lines of the width, of these those with the best breaks; those after the first have this indent."""
     if len(line) <= WIDTH:
         return [line]
     places = [(-1, 0), *spaces_of(line), (len(line), 0)]
@@ -127,7 +127,7 @@ def filled_text(text):
     return "\n".join(out)
 
 
-# A line of a comment, how far in its text stands, and an entry of a list: a name and, behind a gap, what it says.
+# A line of a comment, how far in its text begins, and an entry of a list: a name and, after a gap, what it says.
 COMMENT = re.compile(r"(\s*--)(\s*)(.*)")
 ENTRY = re.compile(r"\S.*?\s{2,}\S")
 # In code these lines are the prover's; `rt fmt` lays out all others.
@@ -191,7 +191,7 @@ def comments_of(lines):
 
 
 def cut_entries(comment):
-    """The lines of a comment at which an entry of a list is cut: it goes on further in, and is no example behind a colon."""
+    """The lines of a comment at which an entry of a list is cut: it continues further in, and is not an example after a colon."""
     kinds, gaps = kinds_of(comment), [len(COMMENT.fullmatch(line)[2]) for line in comment]
     cut, entry = [], 0
     for at in range(len(comment) - 1):
@@ -214,7 +214,7 @@ def imports(line):
 
 
 def within_width(line):
-    """A line of a definition, a proof or a clause as lines of the width. A comment behind it goes above it."""
+    """A line of a definition, a proof or a clause as lines of the width. A comment at its end is put above it."""
     if IMPORT.fullmatch(line):
         return imports(line)
     mark = "//" if " // " in line else "--"
@@ -228,7 +228,7 @@ def text_within_width(text, is_code_file):
     lines, out, opened, behind = text.split("\n"), [], 0, 0
     comments = dict(comments_of(lines))
     for at, line in enumerate(lines):
-        # a clause goes on as long as its braces are open
+        # a clause continues as long as its braces are open
         is_ours = not is_code_file or opened > 0 or CLAUSE.match(line)
         opened = opened + line.count("{") - line.count("}") if is_ours else 0
         if at < behind:

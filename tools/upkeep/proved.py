@@ -1,6 +1,6 @@
 """The tables of calls in docs/PROVED.md, made from the table of each `lib.rt` and from the names of the calls' clauses.
 
-A table stands between the lines `<!-- calls of CRATE -->` and `<!-- end -->`. A row has the calls of a row of `lib.rt`, what
+A table is between the lines `<!-- calls of CRATE -->` and `<!-- end -->`. A row has the calls of a row of `lib.rt`, what
 that row says of them, and the names of their clauses. A clause without a name is not listed.
 """
 import glob

@@ -1,20 +1,20 @@
 """Rows: inputs of the program with what must be answered, as the files of examples/rows hold them.
 
-A file is TOML, and each character of its strings stands for a byte (ISO 8859-1). A `[[row]]` has
+A file is TOML, and each character of its strings is a byte (ISO 8859-1). A `[[row]]` has
 
-  name      what it shows; no other row of the file has it
-  input     what the program reads; or parts: texts that stand one behind the other, of which { text = "..", times = 3 }
-            is one that stands there three times
+  name      what it shows; the names in a file differ
+  input     what the program reads; or parts: texts one after the other, of which { text = "..", times = 3 }
+            is one that is repeated three times
   answer    what it writes, whole, as a text or as parts; or one_of: answers of which each is right; or, where a move is
-            open, begins: the first lines, and contains: texts that stand in the answer
+            open, begins: the first lines, and contains: texts that the answer contains
   status    with which status it ends
 
-A `[[cut]]` stands for a row behind each byte of a text:
+A `[[cut]]` stands for a row after each byte of a text:
 
   name      whose text it is
   before, text, behind    the input is the first bytes of `text` between the other two
   early     the number and the name of a fault, which most beginnings have, where the text ends; `ended` bytes further on
-  whole_from, whole, status    from so many bytes on the answer, and its status, are those to the whole
+  whole_from, whole, status    from this number of bytes on the answer, and its status, are those to the whole
   [[cut.other]] from, to, answer, status    the answer to the beginnings of `from` to `to` bytes
 """
 import os

@@ -10,7 +10,7 @@ fn automaton_of(alloc: Global, text: &str) -> Result<Automaton, Fail> {
     Ok(Automaton::build(alloc, &file)?)
 }
 
-/// Two states: a request has to be granted before the next letter without a mark.
+/// Two states: a request must be granted before the next letter without a mark.
 const TWO_STATES: &str = "HOA: v1
 States: 2
 Start: 0
@@ -50,7 +50,7 @@ fn lassos_are_accepted(rt: HostRuntime) -> Result<(), Fail> {
     Ok(())
 }
 
-/// States with an edge each, whose labels were drawn by lot.
+/// States with one edge each, with random labels.
 const DRAWN: &str =
     "HOA: v1 Start: 0 AP: 4 \"a\" \"b\" \"c\" \"d\" controllable-AP: Acceptance: 0 t --BODY--
     State: 0 [!!0&(1|3|0)|!!1&(1&1&f|!f|3&1&1)&((3&1)&0&3)] 32
@@ -87,7 +87,8 @@ const DRAWN: &str =
     State: 31 [!(!2&3&1&1&1&1)|(!(2|2|2)&(1&!3))|(!3&2&3&1&0&(!3&!3&!0))] 32
     --END--";
 
-/// For each of these states the truths of its label, as another program worked them out: bit k is that at the letter k.
+/// For each of these states the truths of its label, as another program computed them: bit k is the truth at the letter
+/// k.
 const TRUTHS: [u16; 32] = [
     0xAAAA, 0x0202, 0xFFFE, 0x3333, 0x0500, 0xF5FF, 0x5555, 0x0F0F, 0xF0F0, 0x80C0, 0xCC44, 0xE5A0,
     0xCCC0, 0x00FF, 0x77FF, 0xFFBF, 0x0070, 0xCCCC, 0xAA00, 0xCFCF, 0x3330, 0xFBFB, 0x8888, 0xFDFC,

@@ -1,4 +1,4 @@
-//! Each call on diagrams that may want memory, with ample memory.
+//! Each call on diagrams that takes memory, with ample memory.
 
 use ps_diagram::{OverlayError, Store};
 use ps_label::{Label, Labels};
@@ -87,7 +87,7 @@ fn answers_of(alloc: Global, store: &mut Store) -> Result<Answered, AllocError> 
     })
 }
 
-/// The answers of a new one. Where a growth was refused, which `rt try --test --fail-alloc N` does, the same store is
+/// The answers of a new store. If an allocation failed, which `rt try --test --fail-alloc N` does, the same store is
 /// asked once more.
 fn answers(alloc: Global) -> Result<Answered, AllocError> {
     let mut store = Store::new(alloc, 2);

@@ -67,7 +67,7 @@ plain_front [] b l h = absurd (omega arith)
 plain_front (d ∷ a) b l h =
     grind (arith, length-append a b, take-append_seam (d ∷ a) b, All-take IsDigit (length (d ∷ a)) ((d ∷ a) ++ b) h.0.1)
 
--- where a space, a newline or a colon ends such a number, it is the whole run
+-- if a space, a newline or a colon follows such a number, the number is the whole run
 pub numeral_ended : {digits : List ℕ} (more : List ℕ) → IsPlainNumber digits → EndsField more →
     numeral (digits ++ more) ≡ digits
 numeral_ended {digits} more h ends = go long.0 long.1

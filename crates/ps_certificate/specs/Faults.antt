@@ -1,4 +1,5 @@
--- What may be wrong with the text of a certificate, and with a certificate: the number and the name of each.
+-- The causes for which the text of a certificate is refused, and the flaws of a certificate: the number and name of
+-- each.
 use Rattle.std.specs.Prelude.{ℕ, List, codes}
 use Rattle.ps_text.specs.declared.faults.Fault.{Fault}
 use Rattle.ps_certificate.specs.declared.fault.CertCause.{CertCause}

@@ -12,8 +12,8 @@ use crate::fields::{all_counts, ends, number};
 use crate::rising::place_of;
 use ps_text::cursor::Cursor;
 
-/// The counts for these priorities that come next, and the end of the line: all counts, or in a compact text those that
-/// are not 0. They replace the contents of a list.
+/// Reads the counts for these priorities, and the end of the line: all counts, or in a compact text those that are not
+/// 0. They replace the contents of a list.
 pub(crate) fn counts_for(
     cursor: &mut Cursor,
     priorities: &[u64],

@@ -178,7 +178,8 @@ pub fn certificate_text_has_one_answer()
         ReadsCertificate game text answer → ReadsCertificate game text other → answer ≡ other }
 {}
 
-/// The text of a certificate has an answer for a game. No call is made here, so out of memory is not an answer.
+/// The text of a certificate has an answer for a game. The law is about texts, not about calls: out of memory is not
+/// one of the answers.
 pub fn certificate_text_has_some_answer()
     ensures { (game : NamedGameData) (text : List ℕ) → (answer : Result CertificateData (Found CertCause)) ×
         ReadsCertificate game text answer }

@@ -12,7 +12,7 @@ pub fn one_answer()
         ReadsCircuit text b → a ≡ b }
 {}
 
-/// A text has an answer. No call is made here, so out of memory is not an answer.
+/// A text has an answer. The law is about texts, not about calls: out of memory is not one of the answers.
 pub fn some_answer()
     ensures { (text : List ℕ) → (answer : Result CircuitData (Found AigCause)) × ReadsCircuit text answer }
 {}

@@ -3,7 +3,7 @@
 use ps_aiger::{Builder, EncodeFault, Literal};
 use std::alloc::Global;
 
-/// The number of the literal of a choice, where the literals that it is made of are there.
+/// The number of the literal of a choice, if the literals of which it is made exist.
 fn mux(builder: &mut Builder, s: u32, high: u32, low: u32) -> Option<u32> {
     let (s, high, low) = (Literal::new(s), Literal::new(high), Literal::new(low));
     let most = builder.variables();
@@ -14,7 +14,7 @@ fn mux(builder: &mut Builder, s: u32, high: u32, low: u32) -> Option<u32> {
     Some(literal.number())
 }
 
-/// Whether each choice of the table is made of such a literal, with so many variables behind it.
+/// Whether each choice of the table is made of such a literal, with the expected number of variables after it.
 fn choices_are_right(alloc: Global) -> bool {
     let mut builder = Builder::new(alloc, 3);
     for (high, low, literal, variables) in [
@@ -39,7 +39,7 @@ fn each_row_of_the_table_of_choices(rt: HostRuntime) {
     assert!(rt; choices_are_right(rt.alloc()));
 }
 
-/// The number of the literal that is true where both are, where they are there.
+/// The number of the literal that is true if both are, if they exist.
 fn and(builder: &mut Builder, x: u32, y: u32) -> Option<Result<u32, EncodeFault>> {
     let (x, y) = (Literal::new(x), Literal::new(y));
     let most = builder.variables();
@@ -49,7 +49,7 @@ fn and(builder: &mut Builder, x: u32, y: u32) -> Option<Result<u32, EncodeFault>
     Some(builder.and(x, y).map(Literal::number))
 }
 
-/// The number of the literal that is true where one is, where they are there.
+/// The number of the literal that is true if at least one is, if they exist.
 fn or(builder: &mut Builder, x: u32, y: u32) -> Option<Result<u32, EncodeFault>> {
     let (x, y) = (Literal::new(x), Literal::new(y));
     let most = builder.variables();
@@ -69,8 +69,8 @@ fn gates_are_right(builder: &mut Builder) -> bool {
     or(builder, 3, 5) == Some(Ok(7)) && builder.gates().len() == 1
 }
 
-/// The same of a new builder. Where a growth was refused, which `rt try --test --fail-alloc N` does, the same builder
-/// is asked once more.
+/// The same with a new builder. If an allocation failed, which `rt try --test --fail-alloc N` does, the same builder is
+/// asked once more.
 fn new_gates_are_right(alloc: Global) -> bool {
     let mut builder = Builder::new(alloc, 2);
     gates_are_right(&mut builder) || gates_are_right(&mut builder)

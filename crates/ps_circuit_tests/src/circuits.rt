@@ -4,7 +4,7 @@ use ps_aiger::{Circuit, read, write};
 use std::alloc::Global;
 use std::test::Fail;
 
-/// Gates in another order than they are read, and a name for one of each kind.
+/// Gates in another order than that in which they are read, and a name for one symbol of each kind.
 const TWISTED: &str =
     "aag 5 1 1 3 3\n2\n4 10 1\n4\n10\n1\n10 9 7\n8 5 3\n6 4 2\ni0 r\nl0 q\no2 g\n";
 
@@ -27,7 +27,7 @@ fn written_as_it_was_read(rt: HostRuntime) -> Result<(), Fail> {
     Ok(())
 }
 
-/// Whether the gates of a text are worked out in such an order.
+/// Whether the gates of a text are evaluated in such an order.
 fn is_ordered(alloc: Global, text: &str, wanted: &[usize]) -> Result<bool, Fail> {
     let circuit = read(alloc, text.as_bytes())?;
     Ok(circuit.order() == wanted)

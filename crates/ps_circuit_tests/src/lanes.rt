@@ -1,14 +1,14 @@
-//! Lanes beside plain runs.
+//! Lanes compared with plain runs.
 
 use ps_aiger::{Circuit, read};
 use ps_simulate::{LaneSimulator, Simulator};
 use std::alloc::{AllocError, Global};
 use std::test::Fail;
 
-/// One input, one latch whose first value is 1, and three gates, none of which stands behind those that it reads.
+/// One input, one latch whose first value is 1, and three gates, none of which comes after those that it reads.
 const FORWARD: &[u8] = b"aag 5 1 1 3 3\n2\n4 10 1\n4\n10\n1\n10 9 7\n8 5 3\n6 4 2\n";
 
-/// The outputs of a step, and the latch behind it.
+/// The outputs of a step, and the latch after it.
 type Step = ([bool; 3], bool);
 
 /// A step of a plain run.

@@ -1,5 +1,5 @@
 //! Tests of circuits, machines, solvers and simulators: what no clause says, and calls with ample memory that the
-//! program does not make. What the program shows of them stands in `examples/rows/libraries-circuits.toml`.
+//! program does not make. What the program shows of them is in `examples/rows/libraries-circuits.toml`.
 #![tactic(auto)]
 
 #[cfg(test)]

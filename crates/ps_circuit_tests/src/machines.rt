@@ -1,4 +1,4 @@
-//! The machine of a worked automaton's winner, and its circuit.
+//! The machine of the winner of a worked automaton, and its circuit.
 
 ghost use Rattle.std.specs.Prelude.{IfOk};
 ghost use Rattle.ps_machine.specs.Solving.{IsCertified};
@@ -12,8 +12,8 @@ use ps_synthesis::read_automaton;
 use std::alloc::Global;
 use std::test::Fail;
 
-/// A grant has to come exactly where there is a request. The controller moves first, and so the environment wins: it
-/// sees the grant, and asks where there is none.
+/// A grant must come exactly when there is a request. The controller moves first, so the environment wins: it sees the
+/// grant, and makes a request exactly when there is none.
 const EXACT: &[u8] =
     b"HOA: v1 Start: 0 AP: 2 \"r\" \"g\" controllable-AP: 1 Acceptance: 0 t --BODY-- State: 0 [0&1 | !0&!1] 0 --END--";
 
@@ -34,13 +34,13 @@ fn machine_for(alloc: Global, automaton: &Automaton, order: Order) -> Result<Mac
     Ok(extract(alloc, automaton, order, &game, &certificate)?)
 }
 
-/// The machine of the winner where the controller moves first.
+/// The winner's machine if the controller moves first.
 fn machine_of(alloc: Global, text: &[u8]) -> Result<Machine, Fail> {
     let automaton = read_automaton(alloc, text)?;
     machine_for(alloc, &automaton, Order::Moore)
 }
 
-/// The next memory and the letter that is played, where the memory is there.
+/// The next memory and the letter that is played, if the memory exists.
 fn step(machine: &Machine, memory: usize, letter: u64) -> Option<(usize, u64)> {
     if memory >= machine.memories() {
         return None;

@@ -1,11 +1,11 @@
-//! A problem from its text to the winner's circuit, as who uses the library writes it.
+//! A problem, from its text to the winner's circuit, as a user of the library writes it.
 
 use ps_machine::{BuiltIn, Order, Solver};
 use ps_synthesis::{Problem, Report};
 use std::alloc::Global;
 use std::test::Fail;
 
-/// A grant has to come exactly where there is a request.
+/// A grant must come exactly when there is a request.
 const GRANTS: &[u8] =
     b"HOA: v1 Start: 0 AP: 2 \"r\" \"g\" controllable-AP: 1 Acceptance: 0 t --BODY-- State: 0 [0&1 | !0&!1] 0 --END--";
 

@@ -21,7 +21,7 @@ fn answer(solver: &mut Replay, game: &NamedGame) -> Answer {
     }
 }
 
-/// The same. Where a growth was refused, which `rt try --test --fail-alloc N` does, the same solver is asked once more.
+/// The same. If an allocation failed, which `rt try --test --fail-alloc N` does, the same solver is asked once more.
 fn answer_again(solver: &mut Replay, game: &NamedGame) -> Answer {
     match answer(solver, game) {
         Err(None) => answer(solver, game),
@@ -29,7 +29,7 @@ fn answer_again(solver: &mut Replay, game: &NamedGame) -> Answer {
     }
 }
 
-/// Feeds a text, once more where a growth was refused.
+/// Feeds a text, once more if an allocation failed.
 fn feed(solver: &mut Replay, text: &[u8]) -> Result<(), AllocError> {
     match solver.feed(text) {
         Ok(()) => Ok(()),
@@ -53,7 +53,7 @@ fn answers_for(alloc: Global, game: &NamedGame) -> Result<Answers, Fail> {
     Ok([none, early, answer_again(&mut solver, game)])
 }
 
-/// The game of a text, read once more where a growth was refused.
+/// The game of a text, read once more if an allocation failed.
 fn game_of(alloc: Global, text: &[u8]) -> Result<NamedGame, PgFault> {
     match read(alloc, text) {
         Ok(game) => Ok(game),

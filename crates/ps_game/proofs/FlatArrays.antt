@@ -1,4 +1,4 @@
--- Games in four arrays: what is read from arrays that tell a game, and that they stand for it.
+-- Games in four arrays: what is read from arrays that represent a game, and that they do represent it.
 use Rattle.std.proofs.Common.{◌≡◌, ℕ, ◌+◌, ◌-◌, ◌^◌, ◌<◌, ◌≤◌, List, [], ◌∷◌, ◌++◌, length, get_or, take, rules}
 use Rattle.std.proofs.Common.{drop, length-append, take-append-drop, append-nil, refl, sym, ap, ◌∙◌, arith}
 use Rattle.std.specs.List.{All, flat_map, slice_range}
@@ -133,7 +133,7 @@ module _ {game : ParityGame} {offsets successors owners priorities : List ℕ}
   pub edges_count : {other : ParityGame} → game ≡ other → length successors ≡ edge_count other
   edges_count is = search (rules, length-flat_map)
 
-  -- a limit that holds the number of edges holds each offset
+  -- if a limit is at least the number of edges, it is at least each offset
   pub offsets_fit : {other : ParityGame} {limit : ℕ} → game ≡ other → FitsWithin other limit →
       All (λ n. n ≤ limit) offsets
   offsets_fit is fits k d lt = search (rules, get_or_default, front_within, edges_count)

@@ -1,7 +1,7 @@
 //! How much work a solver did.
 
-/// How much work a solver did: the greatest number of nested calls at one time, of those on subgames with a vertex, and
-/// how often it raised a measure of progress.
+/// How much work a solver did: the greatest number of nested calls at one time, not counting calls on subgames without
+/// a vertex, and how often it raised a measure of progress.
 #[derive(Clone, Copy, Debug, Default, PartialEq, Eq, Drop)]
 pub struct Counts {
     /// The greatest number of nested calls at one time.

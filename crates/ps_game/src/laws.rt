@@ -12,14 +12,14 @@ pub fn long_path_has_loop()
         IsPath game path → vertex_count game < length path → HasLoop path }
 {}
 
-/// From a vertex of a set that one player holds, no strategy of finite memory of the other player wins.
+/// If one player holds a set, no strategy of finite memory of the other player wins from a vertex of the set.
 pub fn no_memory_wins_outside()
     ensures { (game : ParityGame) (player : ℕ) (set : ℕ → Bool) (table : ℕ → Option ℕ) →
         IsGame game → player < 2 → Holds game (other_player player) set table →
         (v : ℕ) → v < vertex_count game → IsTrue (set v) → WinsByNoMemory game player v }
 {}
 
-/// From a vertex of a set that one player holds, each history table of the other player is beaten.
+/// If one player holds a set, each history table of the other player is beaten from each vertex of the set.
 pub fn no_history_wins_outside()
     ensures { (game : ParityGame) (player : ℕ) (set : ℕ → Bool) (table : ℕ → Option ℕ) →
         IsGame game → player < 2 → Holds game (other_player player) set table →

@@ -1,4 +1,4 @@
-//! Certificates are read and written where there is memory, and are checked against a game however it is kept.
+//! Certificates are read and written when memory is enough, and are checked against a game in any form.
 
 use ps_certificate::{Certificate, Flaw, check, closed, fits, read, write, write_compact};
 use ps_game::{Arena, FlatGame, Game, NamedGame, fits_narrow};
@@ -13,7 +13,7 @@ const TEXT: &[u8] = b"psyncert 1\nvertices 2\nodd 1\neven 0\n7 1 9 0\n9 1 - 12\n
 /// The same as a compact text.
 const COMPACT: &[u8] = b"psyncert 2\nvertices 2\nodd 1\neven 0\n7 1 9\n9 1 - 0:12\n";
 
-/// What is wanted of a certificate that is read.
+/// What is expected of a certificate that is read.
 #[derive(Clone, Copy)]
 enum Wanted<'a> {
     /// It is written as this text.
@@ -27,7 +27,7 @@ enum Wanted<'a> {
 }
 
 impl Wanted<'_> {
-    /// Whether a certificate of a game is as wanted.
+    /// Whether a certificate of a game is as expected.
     fn is_met(self, alloc: Global, game: &NamedGame, certificate: &Certificate) -> bool {
         if !fits(game.game(), certificate) {
             return false;
@@ -41,7 +41,7 @@ impl Wanted<'_> {
     }
 }
 
-/// Whether there was memory for a text, and it is that one.
+/// Whether memory was enough for a text, and it is that one.
 fn is_text(text: Result<Vec<u8>, AllocError>, wanted: &[u8]) -> bool {
     match text {
         Ok(text) => text.as_slice() == wanted,
@@ -56,7 +56,7 @@ fn has_flaw<A: Arena>(arena: &A, certificate: &Certificate, flaw: Flaw) -> bool 
         && check(arena, certificate) == Err(flaw)
 }
 
-/// The same, of the game in arrays.
+/// The same, for the game in arrays.
 fn has_flaw_in_arrays(alloc: Global, game: &Game, certificate: &Certificate, flaw: Flaw) -> bool {
     if !fits_narrow(game) {
         return false;
@@ -67,7 +67,7 @@ fn has_flaw_in_arrays(alloc: Global, game: &Game, certificate: &Certificate, fla
     }
 }
 
-/// Whether a certificate of a game, both given by their texts, is as wanted.
+/// Whether a certificate of a game, both given by their texts, is as expected.
 fn is_read(alloc: Global, game: &[u8], certificate: &[u8], wanted: Wanted) -> bool {
     let Ok(game) = ps_pgsolver::read(alloc, game) else {
         return false;

@@ -1,10 +1,10 @@
-//! Texts of games are read and written where there is memory, and a fault is told in words.
+//! Texts of games are read and written when memory is enough, and faults have messages.
 
 use ps_game::Arena;
 use ps_pgsolver::{PgCause, PgFault, read, write};
 use std::alloc::Global;
 
-/// The text of the game of a text, where there is memory.
+/// The text of the game of a text, if memory is enough.
 fn written(alloc: Global, text: &[u8]) -> Option<Vec<u8>> {
     let game = read(alloc, text).ok()?;
     if game.game().count() > 0 {
@@ -43,7 +43,7 @@ fn a_game_is_read(rt: HostRuntime) {
     assert!(rt; is_written_as(rt.alloc(), text, wanted));
 }
 
-/// Whether a fault is told in these words.
+/// Whether a fault has this message.
 fn is_told(alloc: Global, fault: PgFault, wanted: &str) -> bool {
     match format!(in alloc; "{fault}") {
         Ok(told) => told.as_str() == wanted,

@@ -40,7 +40,7 @@ fn reads_as<A: Arena>(arena: &A, rows: &[Row]) -> bool {
     true
 }
 
-/// Whether there was memory for arrays, and they are read as these vertices.
+/// Whether memory was enough for arrays, and they are read as these vertices.
 fn flat_reads_as<W: Width>(flat: Result<FlatGame<W>, AllocError>, rows: &[Row]) -> bool {
     match flat {
         Ok(flat) => reads_as(&flat, rows),
@@ -56,8 +56,8 @@ fn all_read_as(alloc: Global, game: &Game, rows: &[Row]) -> bool {
         && flat_reads_as(FlatGame::<usize>::of(alloc, game), rows)
 }
 
-/// One more vertex. Where a growth was refused, which `rt try --test --fail-alloc N` does, the same builder is asked
-/// once more.
+/// One more vertex. If an allocation failed, which `rt try --test --fail-alloc N` does, the same builder is asked once
+/// more.
 #[tactic(auto, unfolding(ps_game::specs::Games::vertex_count))]
 fn vertex(builder: &mut GameBuilder, owner: u8, priority: u64) -> Result<usize, AllocError>
     requires { owner < 2 }
@@ -105,7 +105,7 @@ fn a_bare_vertex(alloc: Global) -> Result<GameBuilder, AllocError> {
     Ok(builder)
 }
 
-/// A vertex with two edges to others that were not made.
+/// A vertex with two edges to vertices that were not added.
 #[tactic(auto, unfolding(ps_game::specs::Games::vertex_count))]
 fn unknown_successors(alloc: Global) -> Result<GameBuilder, AllocError> {
     let mut builder = GameBuilder::new(alloc);

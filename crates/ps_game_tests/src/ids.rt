@@ -15,7 +15,7 @@ fn ids_of(alloc: Global, first: u64, numbers: &[u64]) -> Result<Ids, AllocError>
     Ok(ids)
 }
 
-/// Whether each number stands at its place, and nowhere the number 6.
+/// Whether each number is at its place, and the number 6 nowhere.
 fn are_placed(ids: &Ids, numbers: &[u64]) -> bool {
     for (place, &id) in numbers.iter().enumerate() {
         if ids.place(id) != Some(place) {

@@ -5,7 +5,7 @@ ghost use Rattle.std.specs.Prelude.{◌≡◌, [], ◌∷◌, length};
 use ps_text::answers::{Format, one_answer};
 use ps_text::tokens::{Lexicon, one_tokenisation};
 
-/// Any bytes, which mean how many they are; none is refused.
+/// Any bytes, whose meaning is their number; none is refused.
 struct Bytes;
 
 impl Format for Bytes {
@@ -22,7 +22,7 @@ impl Format for Bytes {
     ghost number = { λ cause. cause };
 }
 
-/// Each byte is a token, but for spaces.
+/// Each byte is a token, except spaces.
 struct Marks;
 
 impl Lexicon for Marks {

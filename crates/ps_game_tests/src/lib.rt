@@ -1,6 +1,5 @@
-//! Tests of the libraries of games, a file for each thing that is tested. A crate with tests is proved once more with
-//! them, so they stand here, apart from the libraries. What a command of psyn shows is a row of `examples/rows` and no
-//! test.
+//! Tests of the libraries of games, one file for each topic. A crate with tests is proved once more with them, so they
+//! are in a crate of their own. What a command of psyn shows is a row of `examples/rows`, not a test.
 #![tactic(auto)]
 
 #[cfg(test)]

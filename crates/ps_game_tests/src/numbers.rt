@@ -6,7 +6,7 @@ use ps_game::{Numbers, Strategy, Width};
 use std::alloc::{AllocError, Global};
 use std::test::Fail;
 
-/// Numbers that were put in, written over and cut.
+/// Numbers that were inserted, overwritten and cut off.
 fn some_numbers<W: Width>(alloc: Global, greatest: usize) -> Result<[usize; 3], AllocError>
     requires { greatest ≤ W.LIMIT }
 {

@@ -1,4 +1,4 @@
-//! Regions are sets: below, at and above the ends of words and of groups of words.
+//! Regions are sets: tested below, at and above the ends of words and of groups of words.
 
 use ps_game::Region;
 use std::alloc::{AllocError, Global};
@@ -34,7 +34,7 @@ impl Set {
         }
     }
 
-    /// Whether a region is that set, as it tells its vertices and as it counts them.
+    /// Whether a region is that set, by its vertices and by its count.
     fn is(self, region: &Region, places: usize) -> bool {
         let mut count: usize = 0;
         for vertex in 0..region.places() {
@@ -46,7 +46,7 @@ impl Set {
         region.places() == places && region.count() == count && region.is_empty() == (count == 0)
     }
 
-    /// Whether there was memory for a region, and it is that set.
+    /// Whether memory was enough for a region, and it is that set.
     fn is_made(self, region: Result<Region, AllocError>, places: usize) -> bool {
         match region {
             Ok(region) => self.is(&region, places),
@@ -86,7 +86,7 @@ fn subtracted(alloc: Global, places: usize) -> Result<Region, AllocError> {
     Ok(rest)
 }
 
-/// All vertices but for the last, which was taken out of all.
+/// All vertices except the last, which was removed.
 fn without_the_last(alloc: Global, places: usize) -> Result<Region, AllocError> {
     let mut region = Region::full(alloc, places)?;
     if places > 0 {

@@ -1,4 +1,4 @@
-//! Attractors, regions that are won and counts of small games, which were found by hand, and how much work they took.
+//! Attractors, winning regions and counts of small games, which were found by hand, and how much work they took.
 
 ghost use Rattle.std.specs.Prelude.{◌≤◌};
 
@@ -20,7 +20,7 @@ const FORK: &[u8] = b"0 0 0 1,2; 1 0 1 0,3; 2 0 1 2; 3 0 0 3;";
 /// Vertex 0 leads to 1, which leads to itself, and 2 leads to itself and to 0.
 const LOOPS: &[u8] = b"0 2 0 1; 1 1 1 1; 2 1 0 2,0;";
 
-/// Whether a region has these vertices and no others.
+/// Whether a region has exactly these vertices.
 fn has_just(region: &Region, vertices: &[usize]) -> bool {
     for &vertex in vertices {
         if vertex >= region.places() || !region.contains(vertex) {
@@ -133,7 +133,7 @@ fn lists_by_number(rt: HostRuntime) -> Result<(), Fail> {
     Ok(())
 }
 
-/// Whether player 0 wins just these vertices of a game, by these moves, and player 1 the others, by those.
+/// Whether player 0 wins exactly these vertices of a game, by these moves, and player 1 the others, by those.
 fn is_won(
     alloc: Global,
     game: &Game,
@@ -217,12 +217,12 @@ fn moving(
     Ok(strategy)
 }
 
-/// What is wanted of the counts of a region.
+/// What the counts of a region should be.
 #[derive(Clone, Copy)]
 enum Wanted<'a> {
     /// One priority, and the count of each of three vertices.
     Counts(u64, [u64; 3]),
-    /// A cycle that is lost.
+    /// A lost cycle.
     Cycle(&'a [usize]),
 }
 

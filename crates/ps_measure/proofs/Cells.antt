@@ -35,7 +35,7 @@ next_falls cells h i o k = search rules
 
 module _ (cells : List CountCell)
     (falls : (i : ℕ) (cell : CountCell) → slice_get cells i ≡ Some cell → cell.next ≤ i) where
-  -- a bound on the cells may be greater
+  -- a greater bound on the number of cells gives the same
   pub any_fuel : (f g n k : ℕ) → n ≤ f → n ≤ g → count_from cells f n k ≡ count_from cells g n k
   any_fuel f g zero k a b = from_none cells f k ∙ sym (from_none cells g k)
   any_fuel zero g (suc i) k a b = absurd (omega arith)

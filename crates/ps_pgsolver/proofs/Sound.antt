@@ -131,7 +131,7 @@ module _ (ids : List ℕ) where
   knows_all text nodes h clean =
       sound_game.good text nodes h (λ front rest t f e c. clean front (t ∷ rest) f e (by_part t refl c))
 
--- ## The ids that are known change no text
+-- ## Knowing the ids changes no text
 
 abbrev Same : {V : Type 0} → Part Sign V PgCause → Part Sign V PgCause → Type 0
 Same {V} P Q = (text : List Sign) (v : V) → P.IsText text v → Q.IsText text v

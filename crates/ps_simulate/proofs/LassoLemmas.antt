@@ -164,7 +164,7 @@ pub HasRead-next : {names : List (List ℕ)} {c d : CircuitData} {stem lap seen 
     length from ≡ length c.latches → HasRead names c stem lap seen' new last
 HasRead-next seen' same at h s r wide = search (rules, HasRead-lap)
 
--- the lists of bits that are left grow fewer
+-- fewer and fewer lists of bits are left
 pub fewer : {names : List (List ℕ)} {c : CircuitData} {stem lap seen' : List (List Bool)} {new : List ℕ}
     {last : List Bool} (seen : List (List Bool)) (latches : List Bool) → HasRead names c stem lap seen' new last →
     IsSeen seen seen' latches None →

@@ -126,7 +126,7 @@ HasOneAnswer text width split =
     (answer other : Result StimulusData (Found StimulusCause)) → ReadsStimulus text width split answer →
     ReadsStimulus text width split other → answer ≡ other
 
--- no call is made here, so out of memory is not an answer
+-- this is about texts, not about calls: out of memory is not one of the answers
 abbrev pub HasSomeAnswer : List ℕ → ℕ → Bool → Type 0
 HasSomeAnswer text width split =
     (answer : Result StimulusData (Found StimulusCause)) × ReadsStimulus text width split answer

@@ -72,7 +72,8 @@ pub fn stimulus_text_has_one_answer()
     ensures { (text : List ℕ) (width : ℕ) (split : Bool) → HasOneAnswer text width split }
 {}
 
-/// A law: the text of a stimulus has an answer. No call is made here, so out of memory is not an answer.
+/// A law: the text of a stimulus has an answer. The law is about texts, not about calls: out of memory is not one of
+/// the answers.
 pub fn stimulus_text_has_some_answer()
     ensures { (text : List ℕ) (width : ℕ) (split : Bool) → HasSomeAnswer text width split }
 {}

@@ -12,7 +12,8 @@ pub fn one_answer()
         ReadsSolution ids text a → ReadsSolution ids text b → a ≡ b }
 {}
 
-/// A text has an answer for each list of ids. No call is made here, so out of memory is not an answer.
+/// A text has an answer for each list of ids. The law is about texts, not about calls: out of memory is not one of the
+/// answers.
 pub fn some_answer()
     ensures { (ids text : List ℕ) → (answer : Result SolutionData (Found CertCause)) ×
         ReadsSolution ids text answer }

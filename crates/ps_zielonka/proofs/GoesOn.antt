@@ -1,4 +1,4 @@
--- The last call that waits continues: the stack without it, and the steps that are left fall.
+-- The last call that waits continues: the stack without it, and fewer steps are left.
 use Rattle.std.proofs.Common.{◌≡◌, ℕ, ◌+◌, ◌-◌, ◌*◌, ◌<◌, ◌≤◌, inl, inr, List, [], ◌∷◌, ◌++◌, Bool, true, rules}
 use Rattle.std.proofs.Common.{false, length, get_or, refl, sym, ap, ◌∙◌, arith}
 use Rattle.std.proofs.lemmas.Bool.{cases_lt, false≢true}
@@ -59,7 +59,7 @@ on_nest {game} {old} {mid} {new} {winner} {winner_now} {order} frames {frame} {c
       done = λ solved_now. absurd (false≢true solved_now);
     }
 
--- what the steps leave, where the level of what is decided is told by its mark
+-- what the steps leave, with the level of what is decided given by its mark
 pub record Reached (game : ParityGame) (level : ℕ) (aim : Aim) (frame : Frame) (old mid new : TablesData)
     (winner winner_now : List ℕ) : Type 0 where
   pub reopened : IsReopened winner frame.player level frame.turn (StandsFrom old frame.turn) old mid

@@ -13,8 +13,9 @@
 //! | `regions_in` | the same, by tables with numbers of a stated width |
 //! | `regions_within` | what `regions` gives, or nothing if a budget of vertices to place is used up first |
 //!
-//! A strategy has moves only at its player's own vertices that the player wins. `Counts` has the depth of nested calls,
-//! which is at most the number of different priorities, at least 1 if there is a vertex, and 2 if a vertex is left out.
+//! A strategy has moves only at its player's own vertices that the player wins. `Counts` has the depth of nested calls.
+//! It is at most the number of different priorities, at least 1 if there is a vertex, and at least 2 if a vertex is left
+//! out.
 //!
 //! The number of calls can grow exponentially with the number of priorities. A turn takes time proportional to the
 //! edges that its attractor looks at. The memory is proportional to vertices and edges.

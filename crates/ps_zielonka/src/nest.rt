@@ -57,7 +57,7 @@ impl<W: Width> Nest<W> {
         })
     }
 
-    /// Decides each vertex, and returns whether it did. It does not if a budget of vertices to place is used up first.
+    /// Decides each vertex, unless a budget of vertices to place is used up first. Returns whether all are decided.
     pub fn decide<A: Arena>(
         &mut self,
         alloc: Global,

@@ -33,7 +33,7 @@ def letters_of(texts, count):
 
 
 def steps(read, letters):
-    """Of each step the state's name, the letter and the sets; behind a step without an edge there is none."""
+    """For each step the state's name, the letter and the sets; no step follows one without an edge."""
     state, numbers = read.start, {name: number for number, name in enumerate(read.names)}
     for true in letters:
         letter = {numbers[name] for name in true}

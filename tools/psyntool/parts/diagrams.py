@@ -15,7 +15,7 @@ class Diagrams:
 
     def __init__(self, names=None):
         self.names = names
-        # of each diagram its proposition (a leaf's is behind all), and its two sides or its value
+        # for each diagram its proposition (a leaf's is greater than all), and its two sides or its value
         self.propositions, self.lows, self.highs = [], [], []
         self.known = {}
         self.texts = {}
@@ -44,7 +44,7 @@ class Diagrams:
         return self.lows[leaf]
 
     def sides(self, one, proposition):
-        """Both sides of a diagram at a proposition that is not behind its own."""
+        """Both sides of a diagram at a proposition that is not greater than its own."""
         return (self.lows[one], self.highs[one]) if self.propositions[one] == proposition else (one, one)
 
     def joined(self, first, second, function, known):
@@ -110,7 +110,7 @@ class Diagrams:
         return list(found)
 
     def letter(self, one, is_wanted):
-        """A letter, truth by proposition, whose value is wanted, false before true; None where there is none."""
+        """A letter, truth by proposition, with a wanted value, false before true; None if there is none."""
         waiting, seen = [(one, ())], set()
         while waiting:
             now, path = waiting.pop()

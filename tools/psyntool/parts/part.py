@@ -45,7 +45,7 @@ class Part:
         return "controllable-AP:" in self.automaton.headers
 
     def state_name(self, state):
-        """The state's name; or its number behind the part's title, or nothing where there is no other state."""
+        """The state's name; or its number after the part's title, or nothing if there is no other state."""
         name = self.automaton.state_names.get(state)
         return name or (f"{self.title}:{state}" if len(self.automaton.states) > 1 else "")
 
@@ -56,7 +56,7 @@ class Part:
 
 
 def part_of(stem, sentence, renamed, text):
-    """The part of a text, with other names for its propositions. What is no part is refused; the message begins behind its file's name."""
+    """The part of a text, with other names for its propositions. A text that is not a part is refused; the message lacks the file's name."""
     read = automaton.read(text)
     if read.condition not in (SAFETY, BUCHI):
         raise Refused(f"its acceptance is {read.acceptance}; that of a part is `0 t` or `1 Inf(0)`")

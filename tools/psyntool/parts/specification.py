@@ -19,9 +19,9 @@ WORDS_OF_AN_ITEM = 4
 FLAGS = {flag.name: flag for flag in OF_PARTS}
 # A circuit that has no name of any automaton: the program judges the automaton first.
 NO_CIRCUIT = b"aag 0 0 0 0 0\n%%\n-\n"
-# What stands in a part that does not say whose its propositions are.
+# What is put into a part that does not say who controls its propositions.
 OWNERS = b"controllable-AP: "
-# What a part must be besides is told by the tool, with the letter or the acceptance.
+# The tool tells what else a part must be, with the letter or the acceptance.
 TOLD_BETTER = {"Nondeterministic", "NonParity"}
 
 
@@ -61,7 +61,7 @@ class Wishes:
         self.parts, self.outs, self.is_strict = [], None, False
 
     def take(self, given, folder="", sentences=None):
-        """Takes the flags of a command line or of a list, in their order; files stand in the folder."""
+        """Takes the flags of a command line or of a list, in their order; files are relative to the folder."""
         self.is_strict = self.is_strict or STRICT.name in given
         said = sorted((place, name, word) for name in FLAGS if FLAGS[name].many for place, word in given.get(name, ()))
         count = len(self.parts)
@@ -163,7 +163,7 @@ def refuse_same_titles(parts):
 
 
 def part_of(wish, reader, read):
-    """The part that is asked for; what is no part is refused with its file's name."""
+    """The part that is asked for; a text that is not a part is refused with its file's name."""
     if wish.path not in read:
         read[wish.path] = reader.text(Kind.AUTOMATON, wish.path)
         refuse_faults(read[wish.path])

@@ -4,7 +4,7 @@ import html
 from psyntool.pictures.dot import FONT, WIDTH, legend, quoted, within, wrapped
 
 LONGEST_NAME_IN_A_CIRCLE = 8
-# Above so many pairs of states with edges, labels stand in tables at the states, so that none lies on another.
+# Above this number of pairs of states with edges, labels are put into tables at the states, so that none covers another.
 FEW_EDGES = 8
 TABLE_WIDTH = 48
 

@@ -8,7 +8,7 @@ from psyntool.texts import Unreadable, labels
 REGION = {0: "palegreen", 1: "lightsalmon"}
 MOVE = {0: "darkgreen", 1: "firebrick"}
 CYCLE = "blue"
-# Above so many edges, letters stand in tables.
+# Above this number of edges, letters are put into tables.
 FEW_EDGES = 60
 OTHER_GAME = "the certificate, or the solution, is one of another game: its ids are not those of the game"
 OTHER_AUTOMATON = "the game is not that of this automaton: its vertices have other names"
@@ -90,7 +90,7 @@ class Names:
 
 
 class Drawing:
-    """What is drawn of a game, with which colours and names; of many edges the letters stand in tables, so that none lies on another."""
+    """What is drawn of a game, with which colours and names; the letters of many edges are put into tables, so that none covers another."""
 
     def __init__(self, game, certificate, automaton, reach, cycle=()):
         self.game, self.entries = game, certificate.entries if certificate else {}

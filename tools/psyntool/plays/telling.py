@@ -1,16 +1,16 @@
-"""What is said of a play: where it stands, what can be chosen, and how it ended."""
+"""What is said about a play: its present state, the choices, and how it ended."""
 from psyntool.plays.board import run
 
 
 def standing(play):
-    """Where the play stands, in lines."""
+    """The present state of the play, in lines."""
     board, behind = play.board, f" (priority {play.steps[-1].priority})" if play.steps else ""
     told = [f"step {len(play.steps)}: {board.title(play.state)}{behind}"]
     return told + ([] if play.theirs is None else [f"the {board.other} says {board.letter_text(play.theirs)}"])
 
 
 def offered(play):
-    """The choices, and for each a line with its number; `*` stands at the one that holds out longest."""
+    """The choices, and for each a line with its number; `*` marks the one that holds out longest."""
     choices = play.choices()
     best, width = play.board.longest(choices), max(len(choice.said) for choice in choices)
     lines = [f"{'*' if choice is best else ' '}{number:>3}  {choice.said:<{width}}  -> {where(play.board, choice)}" for number, choice in enumerate(choices, 1)]

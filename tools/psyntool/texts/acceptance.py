@@ -23,7 +23,7 @@ class Chain:
 
 
 def chain_of(condition):
-    """The chain that a condition is; None where it is none."""
+    """The chain of a condition; None if it is not a chain."""
     links = []
     while True:
         if isinstance(condition, bool):

@@ -27,7 +27,7 @@ class Automaton:
 
     @cached_property
     def chain(self):
-        """The chain that the condition is; None where it is none."""
+        """The chain of the condition; None if it is not a chain."""
         return None if self.condition is None else chain_of(self.condition)
 
     def owners(self):
@@ -50,7 +50,7 @@ class Automaton:
         return labels.written(label, self.names, self.alias_texts)[0]
 
     def edge_at(self, state, true):
-        """The first edge of a state that a letter meets, given by the propositions that are true; None where there is none."""
+        """The first edge of a state that takes a letter, given by the propositions that are true; None if there is none."""
         edges = self.edges.get(state, ())
         place = labels.first_met([edge.label for edge in edges], {number: number in true for number in range(len(self.names))}, self.aliases)
         return None if place is None else edges[place]

@@ -3,7 +3,7 @@ from psyntool.texts import is_number
 
 
 class Broken(Exception):
-    """The bytes are no circuit in the binary form."""
+    """The bytes are not a circuit in the binary form."""
 
 
 def number_at(data, at):

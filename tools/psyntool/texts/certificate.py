@@ -39,7 +39,7 @@ class Certificate:
 
 
 def entry_of(words, opposing, is_compact):
-    """The entry that the words behind an id say."""
+    """The entry from the words after an id."""
     winner, move = int(words[0]), None if words[1] == "-" else int(words[1])
     losing = opposing[winner]
     if is_compact:

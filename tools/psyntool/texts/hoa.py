@@ -20,7 +20,7 @@ class Token:
 
 @dataclass(frozen=True)
 class Edge:
-    """An edge: its label in postfix form, its target, its sets (those of its state too), and where it stands in the text."""
+    """An edge: its label in postfix form, its target, its sets (those of its state too), and its place in the text."""
 
     source: int
     label: tuple
@@ -48,7 +48,7 @@ def tokens_of(text):
 
 
 class Reader:
-    """Reads tokens one behind another."""
+    """Reads tokens one after another."""
 
     def __init__(self, tokens):
         self.tokens, self.at = tokens, 0
@@ -81,7 +81,7 @@ class Reader:
         return found
 
     def formula(self, atom):
-        """A formula of !, & and |, in postfix form; `atom` reads what is none of these signs. Parentheses are an operator too."""
+        """A formula of !, & and |, in postfix form; `atom` reads everything else. Parentheses are an operator too."""
         output, waiting, wants_atom = [], [], True
         while True:
             sign = self.now
@@ -137,7 +137,7 @@ def known_label(reader, aliases):
 
 
 def condition_of(reader):
-    """The condition behind `Acceptance: N`, as `acceptance` has it."""
+    """The condition after `Acceptance: N`, in the form of `acceptance`."""
 
     def atom():
         if reader.now in ("t", "f"):
@@ -215,7 +215,7 @@ def marks_of(reader):
 
 
 def bracketed(reader, aliases):
-    """A label between brackets; None where there is none."""
+    """A label between brackets; None if there is none."""
     if not reader.take(r"\[", must=False):
         return None
     label = known_label(reader, aliases)

@@ -80,7 +80,7 @@ def first_met(those, letter, aliases):
 
 
 def meeting(those, aliases, fixed=None):
-    """A letter, as truth by proposition, that meets all of these labels; None where there is none, or where none was found soon."""
+    """A letter, as truth by proposition, that meets all of these labels; None if there is none, or if none was found soon."""
     used = used_by(those, aliases)
     numbers = {part.number for label in (*those, *used.values()) for part in label if isinstance(part, Proposition)}
     numbers = sorted(numbers - set(fixed or {}))

@@ -9,7 +9,7 @@ SEPARATOR = "%%\n"
 
 @dataclass(frozen=True)
 class Report:
-    """The first word, and the texts behind it: a circuit, or a circuit, a game and a certificate."""
+    """The first word, and the texts after it: a circuit, or a circuit, a game and a certificate."""
 
     word: str
     parts: tuple

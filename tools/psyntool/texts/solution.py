@@ -32,7 +32,7 @@ class Solution:
 
 
 def begin(text):
-    """The entries with which a text begins, each with its id, until one has no meaning or stands again; and where they end."""
+    """The entries with which a text begins, each with its id, until one has no meaning or is repeated; and where they end."""
     entries, at = {}, HEAD.match(text).end()
     while found := ENTRY.match(text, at):
         identity = int(found[1])
