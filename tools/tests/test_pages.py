@@ -201,6 +201,11 @@ class Pages(OnFiles):
         self.assertEqual(len(re.findall(r"(?i)<script", page)), 2)
         self.assertEqual(re.findall(r"(?i)<img|<b>|onerror=[\"']", page), [])
 
+    def test_bytes_that_are_no_text_are_marked(self):
+        path = self.solved("out", AUTOMATON.replace(b'"off"', b'"\xe9t\xe9"').replace(b'"r"', b'"\xff"'))
+        page = self.page("out", path)
+        self.assertTrue("The environment says \ufffd;" in page and '"0":"\ufffdt\ufffd"' in page)
+
     def test_what_is_not_printed_by_psyn_is_refused(self):
         path = self.solved("out", AUTOMATON)
         for ending, old, new, said in (

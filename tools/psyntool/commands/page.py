@@ -20,8 +20,10 @@ def run(request):
     prefix = os.path.basename(request.words[0])
     titles = [kind.title for kind in reading.KINDS]
     texts = [(title, prefix + ending, text.bytes) for title, ending, text in zip(titles, reading.ENDINGS, given.printed)]
-    texts.append(("specification", os.path.basename(given.specification.name), given.specification.bytes))
-    if given.specification.looks_like is Kind.LIST:
+    kind = given.specification.looks_like
+    name = f"{prefix}.{kind.endings[0]}" if request.words[1] == "-" else os.path.basename(request.words[1])
+    texts.append(("specification", name, given.specification.bytes))
+    if kind is Kind.LIST:
         texts.append(("automaton of its parts", f"{prefix}.hoa", given.automaton.encode("utf-8", "surrogateescape")))
     console.write_text(writing.page(prefix, given.board, texts))
     return 0
@@ -61,7 +63,7 @@ def refuse_other(given):
 COMMAND = Command(
     "page",
     "a page for a browser, in one file: a play by buttons against the circuit in files PREFIX.., with pictures and what is proved; with "
-    "--parts of what psyn answers to a list",
+    "--parts, of psyn's answer to a list of parts",
     ("PREFIX", "SPEC"),
     run,
     own=(PARTS,),

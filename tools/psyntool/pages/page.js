@@ -96,8 +96,8 @@ function showWave() {
 function showPlace(name, sign, place, title) {
   const picture = byId(name).querySelector("svg");
   const graph = board.pictures[name];
-  const part = graph ? `; in the ${picture ? "second " : ""}picture with at most ${AROUND} others, of ${Object.keys(graph).length}` : "";
-  byId(`${name}-says`).textContent = `Marked: ${title}${part}`;
+  const part = graph ? ` The ${picture ? "second " : ""}picture shows at most ${AROUND} others around it, of ${Object.keys(graph).length}.` : "";
+  byId(`${name}-says`).textContent = `Marked: ${title}.${part}`;
   byId(name).hidden = !picture;
   byId(`${name}-around`).hidden = !graph;
   if (picture) mark(picture, place === null ? "" : `${sign}${place}`);

@@ -39,13 +39,18 @@ def page(title, board, texts):
         game=pictures["game"].svg,
         texts=", ".join(link_of(*text) for text in texts),
         css=asset("page.css"),
-        board=json.dumps(known, separators=(",", ":")).replace("<", "\\u003c"),
+        board=json.dumps(known, separators=(",", ":"), ensure_ascii=False).replace("<", "\\u003c"),
         script=script,
         hash="sha256-" + base64.b64encode(hashlib.sha256(script.encode()).digest()).decode(),
     )
     if len(whole) > MOST_BYTES:
         raise Refused(f"the page would have more than {MOST_BYTES:,} bytes, which no browser shows well: `play` shows the same")
-    return whole
+    return as_utf8(whole)
+
+
+def as_utf8(text):
+    """The text with U+FFFD in the place of bytes that are no UTF-8, which names may have, and which no page may."""
+    return text.encode("utf-8", "surrogateescape").decode("utf-8", "replace")
 
 
 def asset(name):
