@@ -148,7 +148,7 @@ pub inputs-again : (m : MachineData) (w : Wanted) (node : ℕ) (d e : Drafted) �
 unfolding node_made
 inputs-again m w node d e x = over-again (range_with_len 1 (length m.inputs)) _ d e x
 
--- what the row that a leaf leads to has
+-- the wanted bit of the row to which a leaf leads
 abbrev bit_at : MachineData → Wanted → Option ℕ → Bool
 bit_at m w leaf = wanted_bit w (row_of m (unwrap_or leaf (length m.rows)))
 
