@@ -17,6 +17,8 @@ impl<T> Box<T> {
 
     fn shut(&self)
         ensures shut { C }
+
+        // A box that is shut was open.
         ensures opened { D }
     {}
 }

@@ -16,6 +16,7 @@ BEGIN, END = re.compile(r"<!-- calls of (\w+) -->"), "<!-- end -->"
 HEAD = re.compile(r"//! ?(.*)")
 BLOCK = re.compile(r"(?:pub )?(?:trait (\w+)|impl(?:<.*?>)? (?:.+ for )?(\w+))")
 CALL = re.compile(r"(\s*)(?:pub(?:\(\w+\))? )?(?:const )?fn (\w+)")
+ENDS = re.compile(r"\s*(\{|\{\}|\}|///.*|#\[.*)$")
 CLAUSE = re.compile(r"\s*ensures (\w+ )?\{")
 
 
@@ -37,7 +38,7 @@ def clauses_of(files):
                 block = None
             if begun := CALL.match(line):
                 call = found.setdefault((block if begun[1] else None, begun[2]), [])
-            elif not line.strip() or line.strip() in ("{", "{}"):
+            elif ENDS.match(line):
                 call = None
             elif (clause := CLAUSE.match(line)) and call is not None and clause[1]:
                 call.append(clause[1].strip())

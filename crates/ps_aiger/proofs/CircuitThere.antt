@@ -1,4 +1,4 @@
--- The circuit of a machine is there: of its wires one is made, where there is a literal for each variable.
+-- A machine has a circuit: one is made from its wires, if there is a literal for each variable.
 use Rattle.std.proofs.Common.{rules, ◌≡◌, ◌∙◌, ℕ, zero, suc, ◌+◌, ◌*◌, ◌^◌, ◌<◌, ◌≤◌, ◌⊎◌, false, List, length, map}
 use Rattle.std.proofs.Common.{get_or, Some, None, sym, ap, subst, arith, inl, inr, replicate}
 use Rattle.std.specs.List.{range_with_len}

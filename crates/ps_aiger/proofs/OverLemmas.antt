@@ -148,7 +148,7 @@ pub inputs-again : (m : MachineData) (w : Wanted) (node : ℕ) (d e : Drafted) �
 unfolding node_made
 inputs-again m w node d e x = over-again (range_with_len 1 (length m.inputs)) _ d e x
 
--- what the row that a leaf leads to has
+-- the wanted bit of the row to which a leaf leads
 abbrev bit_at : MachineData → Wanted → Option ℕ → Bool
 bit_at m w leaf = wanted_bit w (row_of m (unwrap_or leaf (length m.rows)))
 
@@ -187,7 +187,7 @@ settled (p ∷ ps) (x ∷ a) (y ∷ b) q ea eb h = elim (cases_eq p q) [
       ∙ sym (ap (λ t. cond t y (bit_for ps b q)) (no_test p q ne))
 ]
 
--- a node that heeds later propositions alone heeds later places alone
+-- a node that depends only on later propositions depends only on later places
 node_behind : (m : MachineData) (w : Wanted) (node p place : ℕ) → IsMachine (behaviour m) →
     slice_get m.inputs place ≡ Some p → HeedsBehind m.store node p → (n : ℕ) → n ≡ length m.inputs →
     IsBehind n place (λ bits. wanted_bit w (row_by m node (letter_over m.inputs bits)))

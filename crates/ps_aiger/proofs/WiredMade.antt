@@ -1,5 +1,5 @@
--- The literals of a machine's step: where there is one for each variable, their gates are sound, and they have the bits
--- of the step.
+-- The literals of a machine's step: if there is one for each variable, their gates are sound, and they have the bits of
+-- the step.
 use Rattle.std.proofs.Common.{◌≡◌, ◌∙◌, ℕ, zero, suc, ◌+◌, ◌*◌, ◌/◌, ◌^◌, ◌<◌, ◌≤◌, Bool, true, false, cond, List, []}
 use Rattle.std.proofs.Common.{◌∷◌, All, map, length, get_or, slice_get, Some, refl, sym, ap, ap₂, subst, arith}
 use Rattle.std.specs.List.{range_with_len}

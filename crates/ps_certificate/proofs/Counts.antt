@@ -31,7 +31,7 @@ pub opposing_complete : {game : ParityGame} {certificate : CertificateData} (pla
 unfolding opposing
 opposing_complete player h k v m n = search rules
 
--- two counts and a rising list of priorities, of which those from `start` on are at least both ends'
+-- two counts and an ascending list of priorities, of which those from `start` on are at least both ends'
 pub record Compared (game : ParityGame) (certificate : CertificateData) (v w : ℕ) (priorities before after : List ℕ)
     (top start : ℕ) : Type 0 where
   pub priorities_are : priorities ≡ opposing certificate (winner_of certificate v)

@@ -44,7 +44,7 @@ IsSomeAnd-at {A} P is holds = let F : Option A → Type 0 = λ p. IsSomeAnd p P 
 pub some_of : {A : Type 0} (o : Option A) (P : A → Type 0) → IsSomeAnd o P → (x : A) × (o ≡ Some x) × P x
 some_of o P h = search rules
 
--- the winner's move, where the winner owns the vertex
+-- the winner's move, if the winner owns the vertex
 pub own_move : (game : ParityGame) (certificate : CertificateData) (v : ℕ) → HasRightMove game certificate v →
     owner_of game v ≡ winner_of certificate v → (w : ℕ) × (choice_of certificate v ≡ Some w) × HasEdge game v w
 own_move game certificate v right own = some_of (choice_of certificate v) (HasEdge game v) (right.own own)
@@ -72,7 +72,7 @@ IsFirstEscape-at {game} {certificate} {v} k {w} in_range other_owner within is b
       grind (arith, cases_order);
 }
 
--- where no successor has the other winner, what remains stays inside
+-- if no successor has the other winner, the edges that remain stay inside
 pub StaysInside-from_all : (game : ParityGame) (certificate : CertificateData) (v : ℕ) →
     ((j : ℕ) → j < length (successors_of game v) → winner_of certificate (get_or (successors_of game v) j 0) ≡ winner_of
     certificate v) → StaysInside game certificate v

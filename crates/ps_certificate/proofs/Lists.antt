@@ -11,7 +11,7 @@ use Rattle.std.proofs.lemmas.List.Kept.{AllPairs-from_increasing}
 use Rattle.std.proofs.lemmas.List.Sorted.{searched}
 use Rattle.std.proofs.lemmas.Bool.{cases_lt, cases_eq}
 
--- of a rising list each number is below each later one
+-- in an ascending list each number is less than each later one
 pub rising_far : (xs : List ℕ) → IsStrictlyIncreasing xs → (i j : ℕ) → i < j → j < length xs →
     slice_index xs i < slice_index xs j
 rising_far xs rising i j less within = AllPairs-from_increasing xs rising i j 0 less within
@@ -20,13 +20,13 @@ pub rising_near : (xs : List ℕ) → IsStrictlyIncreasing xs → (i j : ℕ) �
     slice_index xs i ≤ slice_index xs j
 rising_near xs rising i j at_most within = search (rules, cases_eq, rising_far)
 
--- what a binary search of a rising list answers
+-- what a binary search of an ascending list answers
 pub search_result : (xs : List ℕ) (x : ℕ) (r : Result ℕ ℕ) → IsStrictlyIncreasing xs →
     IsBinarySearchResult (λ y. nat_cmp y x) xs r → MatchResult r (λ i. (i < length xs) × (get_or xs i 0 ≡ x)) (λ i.
     (i ≤ length xs) × ((k : ℕ) → k < i → get_or xs k 0 < x) × ((k : ℕ) → i ≤ k → k < length xs → x < get_or xs k 0))
 search_result xs x r rising answer = searched xs x r answer (rising_near xs rising)
 
--- where a search ends between smaller and greater numbers, the number is not in the list
+-- if a search ends between smaller and greater numbers, the number is not in the list
 pub not_between : (xs : List ℕ) (x i : ℕ) → ((k : ℕ) → k < i → get_or xs k 0 < x) →
     ((k : ℕ) → i ≤ k → k < length xs → x < get_or xs k 0) → Contains xs x → ⊥
 not_between xs x i below above (k, within, is) = grind (arith, get_or_default xs k 0 x within, cases_lt k i)

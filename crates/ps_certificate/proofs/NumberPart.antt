@@ -41,7 +41,7 @@ dropped (suc n) at (b ∷ bytes) = grind (arith, dropped n (at + 1) bytes)
 abbrev pub run_length : List ℕ → ℕ
 run_length bytes = length (numeral bytes)
 
--- where the verdict speaks of a number, it is the longest one: something ends it, or it is 0
+-- if the verdict says something about a number, it is the longest one: something ends it, or it is 0
 abbrev pub Settled : Verdict → Type 0
 Settled Wrong = (more : List ℕ) (n : ℕ) (f : CertCause) → Wrong more n f → EndsField more ⊎ (n ≡ 0)
 
@@ -268,7 +268,7 @@ judged_wrong settled f r wrong first is =
     stops_at_place (stops_there r.at (read_bytes r) r.old_is (wrong_number settled r.at (read_bytes r)
     (read_long r) (read_value r) r.small (read_behind r) wrong first)) is
 
--- a number that is not the game's, where it is ended
+-- a number that is complete and not the game's
 module _ (Wrong : ℕ → Type 0) {old new : Stream Seen} {n : ℕ} (r : IsNumberRead old new n) where
   pub number_reads : (EndsField r.rest → Wrong n → ⊥) → Reads (number Wrong) old n new
   number_reads right = judged_reads (OfOtherGame Wrong) (settled_other Wrong) r (λ f w. right w.1 w.2)

@@ -61,7 +61,7 @@ numeral_longest (d ∷ digits) more h = elim (cases_eq d 48) [
     only_zero [] e z none = rw e (ap (λ x. x ∷ []) (sym z))
     only_zero (c ∷ rest) e z none = absurd (none (omega arith) z)
 
--- a front of a number without leading zeros is one, unless it is empty
+-- a front of a number without leading zeros is such a number, unless it is empty
 pub plain_front : (a b : List ℕ) → 0 < length a → IsPlainNumber (a ++ b) → IsPlainNumber a
 plain_front [] b l h = absurd (omega arith)
 plain_front (d ∷ a) b l h =

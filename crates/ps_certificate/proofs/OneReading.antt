@@ -45,7 +45,7 @@ above x xs p r c = omega (arith, r.0 c.0 p c.1, c.2)
 abbrev Within : List ℕ → List ℕ → Type 0
 Within xs ys = (p : ℕ) → Contains xs p → Contains ys p
 
--- rising lists of the same numbers are the same
+-- ascending lists of the same numbers are the same
 same_list : (xs ys : List ℕ) → Rises xs → Rises ys → Within xs ys → Within ys xs → xs ≡ ys
 same_list [] [] r s a b = refl
 same_list [] (y ∷ ys) r s a b = absurd (omega (arith, (b y (head_in y ys)).1))

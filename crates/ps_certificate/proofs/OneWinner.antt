@@ -13,7 +13,7 @@ use Rattle.ps_certificate.proofs.Holding.{BothHold-from_valid}
 some_and : (P Q : ℕ → Type 0) (o : Option ℕ) → IsSomeAnd o P → IfSome o Q → (w : ℕ) × (o ≡ Some w) × P w × Q w
 some_and P Q o h k = search rules
 
--- where the winner moves, the winner's move
+-- the winner's move, if the winner moves there
 given : (game : ParityGame) (certificate : CertificateData) → Fits game certificate → IsValid game certificate →
     (v : ℕ) → v < vertex_count game → owner_of game v ≡ winner_of certificate v
     → (w : ℕ) × (choice_of certificate v ≡ Some w) × HasEdge game v w × (w < vertex_count game)

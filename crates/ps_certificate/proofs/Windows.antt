@@ -18,7 +18,7 @@ pub Contains-found : (list : List ℕ) (number : ℕ) (found : Option ℕ) → I
     is_some found ≡ true → Contains list number
 Contains-found list number found h k = search (rules, Contains-at)
 
--- two places of one number in a rising list
+-- two places of one number in an ascending list
 pub same_place : (list : List ℕ) → IsStrictlyIncreasing list → {i j : ℕ} → i < length list → j < length list →
     slice_index list i ≡ slice_index list j → i ≡ j
 same_place list rising {i} {j} i_within j_within same = search (rules, cases_order, rising_far)

@@ -125,7 +125,7 @@ gates_once c once i j d lt within e = grind (arith, length-append, many, length-
         (length (c.inputs ++ map (λ l. l.literal) c.latches) + i) 0 ≡ (get_or c.gates i d).literal
     at_gate i d lt = search (rules, get_or-append-add, get_or-map, c.inputs, c.latches, c.gates)
 
--- where a side of a gate leads is a gate
+-- the target of a side of a gate is a gate
 pub side_within : (links : List Links) (item place : ℕ) {sides : Links} → IsWithin (graph_of links) →
     slice_get links item ≡ Some sides → place < 2 → IfSome (side_of sides place) (λ to. to < length links)
 side_within links item place {sides} within at lt = which (side_of sides place) refl

@@ -1,5 +1,5 @@
--- Gates made of literals that are held: where there is a literal for each variable they are sound, and what is made has
--- the bit that is asked for.
+-- Gates made of literals that are held. If there is a literal for each variable they are sound, and what is made has
+-- the bit that was asked for.
 use Rattle.std.proofs.Common.{if◌then◌else◌, ◌≡◌, ◌∙◌, ℕ, ◌+◌, ◌^◌, ◌<◌, ◌==◌, ◌&&◌, ◌||◌, rules}
 use Rattle.std.proofs.Common.{Bool, true, false, not, cond, nat_lt, refl, ap, arith}
 use Rattle.std.specs.List.{list_any}

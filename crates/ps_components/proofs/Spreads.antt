@@ -71,7 +71,7 @@ module _ {g : Digraph} {seen : List Bool} {steps : List Step} {place : ℕ} (s :
       ((w : ℕ) → Link g r.item w → slice_get seen w ≡ Some true) → IsSpread g seen steps (place + 1)
   next-spread {r} at all = search (rules, cases_lt)
 
-  -- where all places were looked at, what the first leads to was seen
+  -- if all places were looked at, what the first leads to was seen
   pub way-seen : {v w : ℕ} → length steps ≤ place → slice_get seen v ≡ Some true → SameOrWay g v w →
       slice_get seen w ≡ Some true
   way-seen all h (inl e) = rw e at h

@@ -328,7 +328,7 @@ fn cut(bounds: &mut Vec<usize>, place: usize)
     }
 }
 
-/// Makes all items unseen; these are the items that have marks.
+/// Makes all marked items unseen; `items` lists them.
 fn unmark(marks: &mut Marks, items: &[usize])
     requires { AreListed marks.old items.now }
     ensures { All (λ m. m ≡ Mark.Unseen) marks.new }

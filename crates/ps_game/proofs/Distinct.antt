@@ -98,7 +98,7 @@ pub record IsDropped (before vertices : ParityGame) (seen : List ℕ) (number : 
   pub places : length seen ≡ length before
   pub stamps : All (λ stamp. stamp < number + 1) seen
 
--- where no vertex is left, all repeats are dropped
+-- if no vertex is left, all repeats are dropped
 pub all_dropped : {before vertices : ParityGame} {seen : List ℕ} {number : ℕ} → IsDropped before vertices seen number →
     length vertices ≡ length before → length before ≤ number → vertices ≡ without_repeats before
 all_dropped {before = before} {vertices = vertices} dropped same_length whole = ext_get_or no_vertex vertices

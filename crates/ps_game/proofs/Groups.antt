@@ -71,7 +71,7 @@ group_clear words group none before k lt = elim (cases_lt k (group * 8)) [
       )
 ]
 
--- where no word up to the end of a group has a bit, its disjunction is 0
+-- if no word up to the end of a group has a bit, its disjunction is 0
 pub clear_group : (words : List ℕ) (group groups : ℕ) → group < groups → groups * 8 ≤ length words
     → ((k : ℕ) → k < groups * 8 → get_or words k 0 ≡ 0) → fold_l bit_or 0 (chunk (group * 8) 8 words) ≡ 0
 clear_group words group groups lt room clear =

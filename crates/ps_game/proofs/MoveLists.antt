@@ -24,7 +24,7 @@ pub move_read : (chosen : List Bool) (moves : List ℕ) {table : List (Option �
     move_at table v ≡ cond b (Some (get_or moves v 0)) None
 move_read chosen moves {v = v} is lt there = search (rules, move_inside, length-moves_of)
 
--- a table is that of two lists where it says what they say
+-- a table is that of two lists if it says what they say
 moves_are : (chosen : List Bool) (moves : List ℕ) (table : List (Option ℕ)) → length table ≡ length moves
     → ((v : ℕ) → v < length moves → get_or table v None ≡ move_in chosen moves v) → moves_of chosen moves ≡ table
 unfolding moves_of

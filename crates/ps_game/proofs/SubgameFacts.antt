@@ -43,7 +43,7 @@ pub number_of_edge : (game : ParityGame) (v w : ℕ) → HasEdge game v w →
     (k : ℕ) × (k < length (successors_of game v)) × (get_or (successors_of game v) k 0 ≡ w)
 number_of_edge game v w edge = search (rules, get_or_default)
 
--- where no successor is in a set, no edge leads into it
+-- if no successor is in a set, no edge leads into it
 pub none_leads : (game : ParityGame) (set : ℕ → Bool) (v : ℕ) →
     ((k : ℕ) → k < length (successors_of game v) → set (get_or (successors_of game v) k 0) ≡ false) → (w : ℕ) →
     LeadsInto game set v w → ⊥

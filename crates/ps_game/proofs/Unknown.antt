@@ -21,7 +21,7 @@ all_from_find n [] none k d within = absurd (omega arith)
 all_from_find n (x ∷ xs) none zero d within = (parts n x _ none).0
 all_from_find n (x ∷ xs) none (suc k) d within = all_from_find n xs (parts n x _ none).1 k d (omega arith)
 
--- where one is found, not all are smaller
+-- if one is found, not all are smaller
 none_found : (n w : ℕ) (xs : List ℕ) → find (λ w. nat_le n w) xs ≡ Some w → All (λ w. w < n) xs → ⊥
 none_found n w [] found small = cc
 none_found n w (x ∷ xs) found small =

@@ -64,7 +64,7 @@ full_words places words few enough no_more all none_past = record {
       (λ v lt. get_or-replicate places v true false lt ∙ sym (all v lt));
 }
 
--- the last word is full, where the places fill it
+-- the last word is full if the places fill it
 pub full_whole : (places n : ℕ) → places < 2 ^ 64 → places % 64 ≡ 0 → n ≡ places / 64 →
     AreWords places (replicate n (2 ^ 64 - 1)) (replicate places true)
 full_whole places n few none is = search (rules, length-replicate, full_words, ones_bit, bit_past)

@@ -211,7 +211,7 @@ fn make_room(
     successors.reserve(degree)
 }
 
-/// Appends numbers to others, where there is room.
+/// Appends numbers to others; there must be room.
 fn put_all(numbers: &mut Vec<usize>, more: &[usize])
     requires { vec_len numbers.old + length more.now ≤ vec_capacity numbers.old }
     ensures { numbers.new.items ≡ numbers.old.items ++ more.now }

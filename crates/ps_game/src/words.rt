@@ -110,7 +110,7 @@ fn count_groups(words: &[u64], groups: usize) -> usize
     count
 }
 
-/// How many bits are set in the words from a place on, one by one.
+/// How many bits are set in the words from a place on, which are counted one by one.
 fn count_rest(words: &[u64], start: usize) -> usize
     requires start { start ≤ length words.now }
     requires room { sum_by count_ones words.now < 2 ^ 64 }
@@ -145,7 +145,7 @@ fn are_groups_clear(words: &[u64], groups: usize) -> bool
     true
 }
 
-/// Whether no bit is set in the words from a place on, one by one.
+/// Whether no bit is set in the words from a place on, which are checked one by one.
 fn is_rest_clear(words: &[u64], start: usize) -> bool
     ensures { IsTrue result ↔ ((k : ℕ) → start ≤ k → slice_index words.now k ≡ 0) }
 {

@@ -38,8 +38,8 @@ abbrev pub truths_behind : List Bool → ℕ → List Expression → List Bool
 truths_behind known letter [] = known
 truths_behind known letter (e ∷ es) = truths_behind (known ++ truth known letter e ∷ []) letter es
 
--- The truth of a label at a letter, where its names are those of the aliases. (If each alias uses only earlier ones,
--- there is one table of their truths, and this is the truth by that table.)
+-- The truth of a label at a letter, if its names are those of the aliases. (If each alias uses only earlier ones, there
+-- is one table of their truths, and this is the truth by that table.)
 unfoldable pub alias_truths : List Expression → ℕ → List Bool
 alias_truths aliases letter = truths_behind [] letter aliases
 

@@ -1,5 +1,5 @@
--- Least counts for one priority are there, or a cycle that is lost: counts are raised along the edges that remain until
--- none has to be. Each is the length of a chain of vertices of that priority; where one comes twice, a cycle is lost.
+-- There are least counts for one priority, or a cycle that is lost: counts are raised along the edges that remain until
+-- none has to be. Each is the length of a chain of vertices of that priority. If one comes twice, a cycle is lost.
 use Rattle.std.proofs.Common.{◌≡◌, ℕ, zero, suc, ◌+◌, ◌-◌, ◌*◌, ◌%◌, ◌<◌, ◌≤◌, ◌⊎◌, ◌∙◌, List, [], ◌∷◌, ◌++◌, length}
 use Rattle.std.proofs.Common.{map, max, get_or, inl, inr, refl, sym, ap, arith, add-one, Option, Bool, true}
 use Rattle.std.proofs.Common.{cond, not, nat_le, nat_eq, ◌&&◌, rules}

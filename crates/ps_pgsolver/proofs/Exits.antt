@@ -52,7 +52,7 @@ pub done_value : {V : Type 0} (P : Part Sign V PgCause) (old new : Stream Sign) 
     Done P old w new
 done_value P old new e m = (m.0, subst (λ x. IsRead P (signs old.pieces) x (signs new.pieces)) e m.1)
 
--- what is left to read: the whole is read from start on where rest is read from now on
+-- what is left to read: if rest is read from now on, the whole is read from start on
 pub record Continues {V : Type 0} (whole rest : Part Sign V PgCause) (start now : Stream Sign) : Type 0 where
   pub done : (v : V) (new : Stream Sign) → Done rest now v new → Done whole start v new
   pub stops : (e : PgFault) → Halts rest now e → Halts whole start e

@@ -147,7 +147,7 @@ reads_split {text} {rest} at {start} {size} {kind} begins within front back ende
     subst P is (reads text at start size kind begins within (λ empty. ended (back ∙ empty))
     (λ left. grind arith) (sized ∙ ap first_size back))
 
--- where the next token begins is the offset of what is left
+-- the offset of what is left is where the next token begins
 pub offset_ahead : (text : List ℕ) (at : ℕ) {start : ℕ} → start ≡ at + prefix_len is_blank (drop at text) →
     start ≤ length text → start ≡ offset_of (stream_from text at).pieces (length text)
 offset_ahead text at {start} begins within = let e : stream_from text at ≡ stream_from text start =

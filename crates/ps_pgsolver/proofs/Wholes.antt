@@ -1,4 +1,4 @@
--- From what the reading of a whole text did to the answer.
+-- From the reading of a whole text to its answer.
 use Rattle.std.proofs.Common.{rules, ◌≡◌, ℕ, List, [], ◌∷◌, Option, Result, Ok, Err, IsErrAnd, refl, sym, subst}
 use Rattle.std.proofs.lemmas.Result.{err_from_is_err_and}
 use Rattle.ps_text.specs.Answers.{Piece, Stream, signs, first_of, next_of, offset_of}

@@ -131,7 +131,7 @@ fn make_room(
     names.reserve(1)
 }
 
-/// Keeps a name, if there is one, where there is room.
+/// Appends a name, if there is one; there must be room.
 fn keep_name(names: &mut Vec<Option<Vec<u8>>>, name: Option<Vec<u8>>)
     requires { is_some name ≡ true → vec_len names.old < vec_capacity names.old }
     ensures { names.new.items ≡ names_with names.old.items name }

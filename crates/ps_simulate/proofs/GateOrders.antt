@@ -42,7 +42,7 @@ module _ (R : ℕ → ℕ → Type 0) (n : ℕ) (to_within : (i j : ℕ) → R i
       IsPart (xs ++ i ∷ [])
   push {xs} i is lt absent sides = search (rules, at_push, get_or_append_left)
 
-  -- all of a kind that are below m, where each can be put into a part
+  -- all of a kind that are below m, if each can be put into a part
   each_below : (P : ℕ → Type 0) → ((j : ℕ) → Decided (P j)) →
       ((j : ℕ) → P j → (xs : List ℕ) → IsPart xs → Grown xs (λ k. j ≡ k))
       → (m : ℕ) (xs : List ℕ) → IsPart xs → Grown xs (λ k. (k < m) × P k)

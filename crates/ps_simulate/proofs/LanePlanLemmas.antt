@@ -1,4 +1,4 @@
--- The plan of the lanes: where a circuit's rows are moved.
+-- The plan of the lanes: the new places of a circuit's rows.
 use Rattle.std.proofs.Common.{◌≡◌, ℕ, zero, suc, ◌+◌, ◌-◌, ◌/◌, ◌^◌, ◌⊎◌, ◌<◌, ◌≤◌, Bool, inl, inr, List, [], ◌∷◌, ◌++◌}
 use Rattle.std.proofs.Common.{map, take, drop, length, get_or, refl, ap, ◌∙◌, arith, All, rules}
 use Rattle.std.proofs.Common.{get_or-set_same, get_or-set_other}

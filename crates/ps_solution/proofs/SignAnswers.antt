@@ -88,7 +88,7 @@ semicolon_fits : (t : Sign) (at : ℕ) → Fits cause_number Syntax semicolon_in
 semicolon_fits Semicolon at = taken tt refl (λ f b. b) refl
 semicolon_fits _ at = refused refl (λ f b. b) refl
 
--- a number that is small or too large, where its value has no meaning
+-- a number that is small or too large, if its value has no meaning
 pub value_small : {n : ℕ} (at : ℕ) → n < too_large → Ok n ≡ value_answer any_of_number (Some (Number n)) at
 value_small {n} at small = rw (lt-ltb n too_large small) refl
 

@@ -61,7 +61,7 @@ some_sign : {T : Type 0} (front : List T) (t : T) → (u : T) × (first_of (fron
 some_sign [] t = (t, refl)
 some_sign (s ∷ front) t = (s, refl)
 
--- a part W of which each text and each cause is one of P or one of Q, where Q does not begin
+-- a part W each text and each cause of which is one of P, or one of Q if Q does not begin
 covers_one : {T V F : Type 0} {odd : T → Type 0} {P Q : Part T V F} {First More : T → Type 0} {Null : Type 0}
     (W : Part T V F) (l : Laws odd Q First More Null) (there : Option T) → Avoids First there → ((text : List T)
     (v : V) → P.IsText text v → W.IsText text v) → ((front : List T) (t : T) (f : F) → P.IsCause front t f → W.IsCause

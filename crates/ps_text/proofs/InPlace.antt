@@ -90,7 +90,7 @@ module _ {T V F : Type 0} (P Q : Part T V F) where
       no_text [] e b v k = starts (rw e b) v k
       no_text (t ∷ front) e b v k = b.no_text v (c.text_back t front v (ap first_of e) k)
 
--- ## Behind some signs
+-- ## After some signs
 
 abbrev pub after : {T V F : Type 0} → Part T V F → List T → Part T V F
 after P left =

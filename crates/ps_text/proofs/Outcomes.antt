@@ -129,7 +129,7 @@ module _ {T F : Type 0} (causes : Causes T F) where
     has_times zero c = has_give c
     has_times (suc n) c = has_then (joint_times item l apart n c) (p c) (λ d. has_times n d)
 
-    -- where no item begins, none is read
+    -- if no item begins, none is read
     module _ (c : C) (all : List T) (b : IsBroken (item c) [] (first_of all)) where
       first_item : Laws odd (more_items item c) (Or (λ t. Enters (item c) (Some t)) (When ⊥ First))
           (Or (Or More First) (When (Unit {0}) More)) (⊥ × Unit {0})

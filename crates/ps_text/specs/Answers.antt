@@ -29,7 +29,7 @@ pub record Found (F : Type 0) : Type 0 where
   pub cause : F
   pub offset : ℕ
 
--- the signs alone
+-- only the signs
 abbrev pub signs : {T : Type 0} → List (Piece T) → List T
 signs ps = map (λ p. p.sign) ps
 

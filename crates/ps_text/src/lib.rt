@@ -11,7 +11,7 @@
 //! | `Cursor::step`, `byte`, `word`, `run`, `digits`, `finish` | moves past a byte, a word, a run, digits, or all |
 //! | `cursor::run_length(text, class)` | how many bytes of a class a text begins with |
 //! | `faults::Cause::number`, `name` | the number and name of a cause in psyn's list of faults |
-//! | `faults::Fault::number`, `name` | those of a fault: of its cause, or of out of memory (24) |
+//! | `faults::Fault::number`, `name` | those of a fault: its cause's, or 24 and `OutOfMemory` |
 //! | `answers::one_answer` | a law: a text of a `Format` has at most one answer |
 //! | `answers::some_answer` | a law: a text of a `Grammar` has an answer, if its part always has an outcome |
 //! | `tokens::one_tokenisation` | a law: a text of a `Lexicon` has at most one list of tokens |

@@ -16,7 +16,7 @@ use Rattle.ps_zielonka.specs.Inner.Nests.{StandsBetween, StandsBefore, IsKeptAt,
 
 -- ## What is kept
 
--- the move at u alone changes
+-- only the move at u changes
 pub moved_more : {old mid new : TablesData} (turn top place u : ℕ) → turn ≤ place → place < top →
     get_or old.trail place 0 ≡ u → IsMoved old mid (StandsBetween old turn top) → IsMoved mid new (λ v. v ≡ u) →
     IsMoved old new (StandsBetween old turn top)

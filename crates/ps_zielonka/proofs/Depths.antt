@@ -67,7 +67,8 @@ HasPriorities-turned {game} {open_part} {rest} {n} turned has_n =
     let (top, is_top, greatest) = turned.some_top in
     HasPriorities-more open_part top turned.left.within (grind arith) (λ v inside same. grind arith) has_n
 
--- what such a set leaves out, a turn leaves to be solved whose tops are just the vertices of the greatest priority
+-- what such a set leaves out is left to be solved by a turn whose tops are exactly the vertices of the greatest
+-- priority
 pub left_out : {game : ParityGame} {whole rest set : ℕ → Bool} {player : ℕ} {win : ℕ → ℕ} {table : ℕ → Option ℕ} (v : ℕ)
     → ((u : ℕ) → u < vertex_count game → IsTrue (whole u)) → ((u : ℕ) → IsTrue (whole u) → u < vertex_count game) →
     (turned : IsTurned game whole rest player win table) → ((u : ℕ) → IsTrue (turned.tops u) →

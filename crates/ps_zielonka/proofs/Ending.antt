@@ -44,13 +44,13 @@ IsSolved-tables : {game : ParityGame} {tables : TablesData} {winner : List ℕ} 
     IsSolved game winner tables.moves (from tables.level 1)
 IsSolved-tables {game} {tables} solved_by = search (rules, to_from, cases_lt, get_or_past, from_at)
 
--- where a player has a move it wins and owns the vertex
+-- a player that has a move at a vertex wins and owns the vertex
 move_is_given : {game : ParityGame} {moves winner : List ℕ} {player n : ℕ} (v : ℕ) {strategy : List (Option ℕ)} →
     AreMovesTo game moves winner player n strategy → IsSome (move_at strategy v) →
     (v < n) × MovesAt game winner player v
 move_is_given {game} {winner} {player} {n} v {strategy} given some = search (rules, cases_lt, cases_eq, false≢true)
 
--- a player holds a set by a strategy that moves at its own vertices of the set alone
+-- a player holds a set by a strategy that moves only at its own vertices of the set
 pub record IsPlayed (game : ParityGame) (player : ℕ) (set : ℕ → Bool) (strategy : List (Option ℕ)) : Type 0 where
   pub holds : Holds game player set (move_at strategy)
   pub moves : MovesWithin game player set strategy
@@ -62,7 +62,7 @@ module _ {game : ParityGame} {tables : TablesData} {winner read again : List ℕ
   whole : IsRegionTo winner (vertex_count game) region
   whole = rw (same, solved_by.winners) at is_region
 
-  -- the set has just the vertices that the player wins
+  -- the set has exactly the vertices that the player wins
   played : {player : ℕ} (set : ℕ → Bool) {strategy : List (Option ℕ)} → player < 2 →
       ((v : ℕ) → v < vertex_count game → IsTrue (set v) → get_or winner v 0 ≡ player) →
       ((v : ℕ) → v < vertex_count game → get_or winner v 0 ≡ player → IsTrue (set v)) →

@@ -80,7 +80,7 @@ pub segment_below : {b : ℕ} (c m : ℕ) {t : ℕ} {old : TablesData} (new : Ta
     ((c ≤ level_of new v) × (level_of new v < UNPLACED → StandsFrom new m v))) → IsSegment old t b → IsSegment new t b
 segment_below {b} c m {old} new less before inside within front behind each segment = grind (arith, cases_lt)
 
--- a segment, where levels and trail stay
+-- a segment, if levels and trail stay
 pub segment_moved : {b t : ℕ} {old : TablesData} (new : TablesData) → new.level ≡ old.level → new.trail ≡ old.trail →
     IsSegment old t b → IsSegment new t b
 segment_moved {b} {t} {old} new level trail segment = search (rules, stands_longer)

@@ -94,7 +94,7 @@ pub HoldsWithin-none : (game : ParityGame) (subgame : ℕ → Bool) (player : �
     ((v : ℕ) → ¬ IsTrue (set v)) → HoldsWithin game subgame player set table
 HoldsWithin-none game subgame player set table none = search rules
 
--- a set beside one that is held, where the other player's edges lead on in the smaller subgame or to the first set
+-- a set beside one that is held, if the other player's edges lead on in the smaller subgame or to the first set
 pub HoldsWithin-beside : {game : ParityGame} {smaller larger : ℕ → Bool} {player : ℕ} {first second : ℕ → Bool}
     (set : ℕ → Bool) {table : ℕ → Option ℕ} → IsWithin smaller larger → IsWithin first set → IsWithin second set →
     ((v : ℕ) → IsTrue (set v) → IsTrue (first v) ⊎ IsTrue (second v)) →

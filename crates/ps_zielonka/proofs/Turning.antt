@@ -29,7 +29,7 @@ Solved-done progress none = record {
 
 -- ## The same with other tables
 
--- where winners and moves of what is decided stay
+-- if winners and moves of what is decided stay
 pub Progress-same : {game : ParityGame} {subgame open_part : ℕ → Bool} {win : ℕ → ℕ} (other_win : ℕ → ℕ)
     {table : ℕ → Option ℕ} (other_table : ℕ → Option ℕ) → ((v : ℕ) → IsTrue (subgame v) → ¬ IsTrue (open_part v) →
     other_win v ≡ win v) → ((v : ℕ) → IsTrue (subgame v) → ¬ IsTrue (open_part v) → other_table v ≡ table v) →
@@ -44,7 +44,8 @@ Progress-same {win} other_win other_table same_win same_move progress = record {
 
 -- ## A step
 
--- a part that a player holds within the open part is decided, where none of his vertices that stay open leads into it
+-- a part that a player holds within the open part is decided, if none of the player's vertices that stay open leads
+-- into it
 pub Progress-taken : {game : ParityGame} {subgame open_part part left : ℕ → Bool} {win : ℕ → ℕ} {table : ℕ → Option ℕ}
     {player : ℕ} → IsGame game → player < 2 → IsWithout open_part part left → IsWithin part open_part →
     ((v : ℕ) → IsTrue (part v) → win v ≡ player) → ((v w : ℕ) → IsTrue (left v) → owner_of game v ≡ player →

@@ -1,6 +1,6 @@
 -- A run of bytes has an outcome from each list of signs: what its first sign sees judges it.
---     has_run      the outcome, where the run's bytes are judged
---     run_of      the longest run that a list begins with
+--     has_run      the outcome, if the run's bytes can be judged
+--     run_of      the longest run with which a list begins
 use Rattle.std.proofs.Common.{◌≡◌, ℕ, Bool, true, false, List, [], ◌∷◌, ◌++◌, Some, refl, rules, sym, ap, subst, arith}
 use Rattle.std.specs.List.{AllByRecursion}
 use Rattle.ps_text.specs.Answers.{first_of}
