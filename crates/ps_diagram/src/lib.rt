@@ -23,9 +23,9 @@
 //! leads alike; both keep each node too. `copy` is a store of the same value.
 //!
 //! A store never drops a node, and equal diagrams are one node, which a hash table finds. `guard`, `fill`, `relabel`
-//! and `relabel_from` look at each node below theirs once, `overlay` at each pair of nodes that it comes to once;
-//! `of_letter` makes a node for each proposition, `of_label` one for each literal of a product and else joins the
-//! diagrams of its operands by halves, `classes` copies the store first.
+//! and `relabel_from` look at each node below theirs once, `overlay` at each pair of nodes that it comes to, but for
+//! the first few, of which no table is kept. `of_letter` makes a node for each proposition, `of_label` one for each
+//! literal of a product, and else joins the diagrams of its operands by halves; `classes` copies the store first.
 #![tactic(auto)]
 
 mod classes;
@@ -33,6 +33,7 @@ mod fault;
 mod labels;
 mod letter;
 mod maps;
+mod memo;
 mod overlay;
 mod paths;
 mod products;
