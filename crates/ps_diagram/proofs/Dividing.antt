@@ -13,7 +13,7 @@ use Rattle.ps_diagram.proofs.Canon.{same_cond}
 use Rattle.ps_diagram.proofs.Cells.{bool_cases, keeps_refl}
 use Rattle.ps_diagram.proofs.Keys.{and_both}
 use Rattle.ps_diagram.proofs.Clashing.{one_node}
-use Rattle.ps_diagram.proofs.KnownLemmas.{keeps_trans, knows_kept, one_more}
+use Rattle.ps_diagram.proofs.KnownLemmas.{MayBePut, keeps_trans, knows_kept, one_more}
 
 are_tested : {t : Table} {test : (ℕ → Bool) → Bool} {x y z : Option ℕ} {low high made : ℕ} → x ≡ Some low →
     y ≡ Some high → z ≡ Some made → IsNode t low → IsNode t high → IsNode t made →
@@ -115,9 +115,8 @@ pub test_same : (a b : ℕ × ℕ × ℕ) → test_eq a b ≡ true → a ≡ b
 test_same (n, x, y) (p, a, b) e = search (rules, and_both, eqb-true)
 
 pub tests_more : {t : Table} (known new : ℕ × ℕ × ℕ → Option ℕ) (n : ℕ) {x y value : ℕ} →
-    ((q : ℕ × ℕ × ℕ) → new q ≡ cond (test_eq (n, x, y) q) (Some value) (known q)) → KnowsTests t known → IsNode t x →
-    IsNode t y → IsNode t value → IsTested t n (tree_of t x) (tree_of t y) (tree_of t value) → KnowsTests t new
-tests_more {t} known new n update h hx hy hv r p a b = search (rules, one_more, test_same)
+    MayBePut test_eq known new (n, x, y) value → KnowsTests t known → IsNode t x → IsNode t y → IsNode t value → IsTested t n (tree_of t x) (tree_of t y) (tree_of t value) → KnowsTests t new
+tests_more {t} known new n put h hx hy hv r p a b = search (rules, one_more, test_same)
 
 -- places that are named
 

@@ -1,5 +1,5 @@
 -- Leaves gathered, low side first: each with the least letter that leads to it.
-use Rattle.std.proofs.Common.{◌≡◌, ℕ, suc, ◌+◌, ◌*◌, ◌%◌, ◌^◌, ◌<◌, ◌≤◌, Bool, true, false, cond, List, [], ◌∷◌, ◌++◌}
+use Rattle.std.proofs.Common.{◌≡◌, ℕ, suc, ◌+◌, ◌*◌, ◌%◌, ◌^◌, ◌<◌, ◌≤◌, Bool, true, false, List, [], ◌∷◌, ◌++◌}
 use Rattle.std.proofs.Common.{rules, Option, Some, None, nat_eq, eqb, refl, ap, sym, subst, ◌∙◌, arith, append_assoc}
 use Rattle.std.proofs.Common.{inl, inr}
 use Rattle.std.proofs.lemmas.Bool.{cases_order, eq-eqb, eqb-true}
@@ -19,6 +19,7 @@ use Rattle.ps_diagram.specs.Split.{root_of}
 use Rattle.ps_diagram.specs.Table.{Table, tree_of}
 use Rattle.ps_diagram.specs.Tree.{Tree, final, choice, leaf_at, IsFrom}
 use Rattle.ps_diagram.proofs.Cells.{bool_cases}
+use Rattle.ps_diagram.proofs.KnownLemmas.{MayBePut}
 use Rattle.ps_diagram.proofs.Halving.{one_bit}
 use Rattle.ps_diagram.proofs.Letters.{no_bit, top_bit, lower_bit}
 
@@ -182,10 +183,14 @@ gathers_test {t} {node} {p} {low} {high} {letter} {old} {mid} {new} h lt a b =
     search (rules, gathers_choice, begun_below, root_later)
 
 -- one node more was seen
-pub seen_more : (t : Table) (old new : ℕ → Bool) (node : ℕ) (found : List (ℕ × ℕ)) →
-    ((q : ℕ) → new q ≡ cond (eqb node q) true (old q)) → HaveFound t old found →
-    ((f : ℕ → Bool) (leaf : ℕ) → leaf_at (tree_of t node) f ≡ Some leaf → IsFound found leaf) → HaveFound t new found
-seen_more t old new node found update h own q is f leaf e = search (rules, bool_cases, eqb-true)
+pub seen_more : (t : Table) (old new : ℕ → Option ℕ) (node value : ℕ) (found : List (ℕ × ℕ)) →
+    MayBePut eqb old new node value → HaveFound t (λ q. is_some (old q)) found →
+    ((f : ℕ → Bool) (leaf : ℕ) → leaf_at (tree_of t node) f ≡ Some leaf → IsFound found leaf) →
+    HaveFound t (λ q. is_some (new q)) found
+seen_more t old new node value found put h own q is f leaf e = elim (put q) [
+  | inl same ↦ h q (ap is_some (sym same) ∙ is) f leaf e
+  | inr here ↦ own f leaf (rw (eqb-true node q here.0) e)
+]
 
 -- ## What was gathered from the whole node
 

@@ -1,11 +1,11 @@
 -- What is known stays known as the table grows, and one more is known.
-use Rattle.std.proofs.Common.{◌≡◌, ℕ, Bool, true, cond, eqb, Option, Some, rules}
+use Rattle.std.proofs.Common.{◌≡◌, ℕ, Bool, true, eqb, Option, Some, rules, sym, subst, ◌∙◌, ◌⊎◌, inl, inr}
 use Rattle.std.specs.Option.{unwrap_or}
 use Rattle.std.proofs.lemmas.Bool.{eqb-true}
 use Rattle.ps_diagram.specs.Tree.{Tree}
 use Rattle.ps_diagram.specs.Table.{Table, IsNode, Keeps, tree_of}
 use Rattle.ps_diagram.specs.Inner.Known.{Knows, KnowsPairs, pair_eq}
-use Rattle.ps_diagram.proofs.Cells.{bool_cases, keeps_refl}
+use Rattle.ps_diagram.proofs.Cells.{keeps_refl}
 use Rattle.ps_diagram.proofs.Keys.{and_both}
 
 pub keeps_trans : {t u v : Table} → Keeps t u → Keeps u v → Keeps t v
@@ -33,17 +33,21 @@ pairs_kept R known k h a b made e =
     let r = h a b made e in
     (k.held a r.0, k.held b r.1, k.held made r.2, rw (k.same a r.0, k.same b r.1, k.same made r.2) r.3)
 
--- one more key has a value
+-- a key may have a value now
+abbrev pub MayBePut : {K : Type 0} → (K → K → Bool) → (known new : K → Option ℕ) → K → ℕ → Type 0
+MayBePut {K} eq known new key value = (q : K) → (new q ≡ known q) ⊎ ((eq key q ≡ true) × (new q ≡ Some value))
+
 pub one_more : {K : Type 0} (F : K → ℕ → Type 0) (eq : K → K → Bool) → ((a b : K) → eq a b ≡ true → a ≡ b) →
     (known new : K → Option ℕ) {key : K} {value : ℕ} →
-    ((q : K) → new q ≡ cond (eq key q) (Some value) (known q)) →
-    ((q : K) (made : ℕ) → known q ≡ Some made → F q made) → F key value → (q : K) (made : ℕ) → new q ≡ Some made →
-    F q made
-one_more F eq same known new {key} {value} update h f q made e = search (rules, bool_cases)
+    MayBePut eq known new key value → ((q : K) (made : ℕ) → known q ≡ Some made → F q made) → F key value → (q : K)
+    (made : ℕ) → new q ≡ Some made → F q made
+one_more F eq same known new {key} {value} put h f q made e = elim (put q) [
+  | inl is ↦ h q made (sym is ∙ e)
+  | inr is ↦ subst (λ k. F k made) (same key q is.0) (subst (F key) (some_nat value made (sym is.1 ∙ e)) f)
+]
 
 pub knows_more : (R : Tree → Tree → Type 0) (s t : Table) (known new : ℕ → Option ℕ) {key value : ℕ} →
-    ((q : ℕ) → new q ≡ cond (eqb key q) (Some value) (known q)) →
-    Knows R s t known → IsNode s key → IsNode t value → R (tree_of s key) (tree_of t value) → Knows R s t new
+    MayBePut eqb known new key value → Knows R s t known → IsNode s key → IsNode t value → R (tree_of s key) (tree_of t value) → Knows R s t new
 knows_more R s t known new update h hk hv r = one_more (λ k v. IsNode s k × IsNode t v × R (tree_of s k) (tree_of t v))
     eqb eqb-true known new update h (hk, hv, r)
 
@@ -51,8 +55,7 @@ pub pair_same : (a b : ℕ × ℕ) → pair_eq a b ≡ true → a ≡ b
 pair_same (x, y) (a, b) e = search (rules, and_both, eqb-true)
 
 pub pairs_more : (R : Tree → Tree → Tree → Type 0) (t : Table) (known new : ℕ × ℕ → Option ℕ) {x y value : ℕ} →
-    ((q : ℕ × ℕ) → new q ≡ cond (pair_eq (x, y) q) (Some value) (known q)) → KnowsPairs R t known → IsNode t x →
-    IsNode t y → IsNode t value → R (tree_of t x) (tree_of t y) (tree_of t value) → KnowsPairs R t new
+    MayBePut pair_eq known new (x, y) value → KnowsPairs R t known → IsNode t x → IsNode t y → IsNode t value → R (tree_of t x) (tree_of t y) (tree_of t value) → KnowsPairs R t new
 pairs_more R t known new update h hx hy hv r a b =
     one_more (λ k v. IsNode t k.0 × IsNode t k.1 × IsNode t v × R (tree_of t k.0) (tree_of t k.1) (tree_of t v)) pair_eq
     pair_same known new update (λ k. h k.0 k.1) (hx, hy, hv, r) (a, b)

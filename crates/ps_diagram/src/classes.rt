@@ -10,6 +10,7 @@ ghost use Rattle.ps_diagram.specs.Classes.{AreClasses};
 ghost use Rattle.ps_diagram.specs.Inner.Numbered.{AreOf, AreOfLeaves, IsPlaced};
 ghost use Rattle.ps_diagram.specs.Inner.Rests.{IsDivided, IsDividedTest, IsTested, KnowsTests, LeadsToNodes, test_eq};
 
+use crate::memo::Memo;
 use crate::split::Split;
 use crate::store::Store;
 use crate::view::{Node, View};
@@ -86,8 +87,8 @@ impl Store {
             (λ made. IsDivided self.new split (tree_of other.now node) (tree_of self.new made)) }
     {
         let alloc = self.allocator();
-        let mut known = IndexMap::new(alloc);
-        let mut tests = IndexMap::new(alloc);
+        let mut known = Memo::new(alloc);
+        let mut tests = Memo::new(alloc);
         self.divided(other, node, split, &mut known, &mut tests)
     }
 
@@ -119,16 +120,16 @@ impl Store {
         other: &Store,
         node: Node,
         split: u64,
-        known: &mut IndexMap<Node, Node>,
-        tests: &mut IndexMap<(u32, Node, Node), Node>,
+        known: &mut Memo<Node>,
+        tests: &mut Memo<(u32, Node, Node)>,
     ) -> Result<Node, AllocError>
         requires held { IsNode other.now node }
         requires letters { self.old.propositions ≡ other.now.propositions }
-        requires known { Knows (IsDivided self.old split) other.now self.old (get nat_eq known.old) }
-        requires tests { KnowsTests self.old (get test_eq tests.old) }
+        requires known { Knows (IsDivided self.old split) other.now self.old (get nat_eq known.old.table) }
+        requires tests { KnowsTests self.old (get test_eq tests.old.table) }
         ensures keeps { Keeps self.old self.new }
-        ensures known { Knows (IsDivided self.new split) other.now self.new (get nat_eq known.new) }
-        ensures tests { KnowsTests self.new (get test_eq tests.new) }
+        ensures known { Knows (IsDivided self.new split) other.now self.new (get nat_eq known.new.table) }
+        ensures tests { KnowsTests self.new (get test_eq tests.new.table) }
         ensures held { IfOk result (λ made. IsNode self.new made) }
         ensures leaf { IfOk result
             (λ made. IsDivided self.new split (tree_of other.now node) (tree_of self.new made)) }
@@ -141,14 +142,14 @@ impl Store {
                 low,
                 high,
             } => {
-                if let Some(made) = known.get(&node) {
-                    return Ok(*made);
+                if let Some(made) = known.get(node) {
+                    return Ok(made);
                 }
                 let low = self.divided(other, low, split, known, tests)?;
                 let high = self.divided(other, high, split, known, tests)?;
                 let _ = self.allocator();
                 let made = self.divided_test(proposition, low, high, split, tests)?;
-                let _ = known.insert(node, made)?;
+                known.put(node, made)?;
                 Ok(made)
             }
         }
@@ -172,7 +173,7 @@ impl Store {
         low: Node,
         high: Node,
         split: u64,
-        tests: &mut IndexMap<(u32, Node, Node), Node>,
+        tests: &mut Memo<(u32, Node, Node)>,
     ) -> Result<Node, AllocError>
         requires named { proposition < self.old.propositions }
         requires low_held { IsNode self.old low }
@@ -181,9 +182,9 @@ impl Store {
         requires high_later { IsBlind (proposition + 1) (tree_of self.old high) }
         requires low_leads { LeadsToNodes self.old (proposition + 1) (tree_of self.old low) }
         requires high_leads { LeadsToNodes self.old (proposition + 1) (tree_of self.old high) }
-        requires tests { KnowsTests self.old (get test_eq tests.old) }
+        requires tests { KnowsTests self.old (get test_eq tests.old.table) }
         ensures keeps { Keeps self.old self.new }
-        ensures tests { KnowsTests self.new (get test_eq tests.new) }
+        ensures tests { KnowsTests self.new (get test_eq tests.new.table) }
         ensures held { IfOk result (λ made. IsNode self.new made) }
         ensures leaf { IfOk result
             (λ made. IsDividedTest self.new split proposition (tree_of self.old low) (tree_of self.old high)
@@ -203,16 +204,16 @@ impl Store {
         proposition: u32,
         low: Node,
         high: Node,
-        tests: &mut IndexMap<(u32, Node, Node), Node>,
+        tests: &mut Memo<(u32, Node, Node)>,
     ) -> Result<Node, AllocError>
         requires named { proposition < self.old.propositions }
         requires low_held { IsNode self.old low }
         requires high_held { IsNode self.old high }
         requires low_leads { LeadsToNodes self.old (proposition + 1) (tree_of self.old low) }
         requires high_leads { LeadsToNodes self.old (proposition + 1) (tree_of self.old high) }
-        requires tests { KnowsTests self.old (get test_eq tests.old) }
+        requires tests { KnowsTests self.old (get test_eq tests.old.table) }
         ensures keeps { Keeps self.old self.new }
-        ensures tests { KnowsTests self.new (get test_eq tests.new) }
+        ensures tests { KnowsTests self.new (get test_eq tests.new.table) }
         ensures held { IfOk result (λ made. IsNode self.new made) }
         ensures leaf { IfOk result
             (λ made. IsTested self.new proposition (tree_of self.old low) (tree_of self.old high)
@@ -221,8 +222,8 @@ impl Store {
         if low == high {
             return Ok(low);
         }
-        if let Some(made) = tests.get(&(proposition, low, high)) {
-            return Ok(*made);
+        if let Some(made) = tests.get((proposition, low, high)) {
+            return Ok(made);
         }
         let Some(split) = self.split(low, high) else {
             return self.tested_leaves(proposition, low, high);
@@ -236,7 +237,7 @@ impl Store {
         let on_high = self.tested(proposition, left.high, right.high, tests)?;
         let _ = self.allocator();
         let made = self.test(first, on_low, on_high)?;
-        let _ = tests.insert((proposition, low, high), made)?;
+        tests.put((proposition, low, high), made)?;
         Ok(made)
     }
 

@@ -27,8 +27,9 @@
 //!
 //! A store never drops a node, and equal diagrams are one node, which a hash table finds. `negated`, `guard`, `fill`,
 //! `relabel` and `relabel_from` look at each node below theirs once, `overlay` and `both` at each pair of nodes that they
-//! come to once, `choose` at each three. `of_letter` makes a node for each proposition. `of_label` makes one for each
-//! literal of a product, and joins the diagrams of other operands by halves. `classes` copies the store first.
+//! come to once, `choose` at each three: but for the first few, of which most calls keep no table. `of_letter` makes a
+//! node for each proposition. `of_label` makes one for each literal of a product, and joins the diagrams of other
+//! operands by halves. `classes` copies the store first.
 #![tactic(auto)]
 
 mod both;
@@ -38,6 +39,7 @@ mod fault;
 mod labels;
 mod letter;
 mod maps;
+mod memo;
 mod overlay;
 mod paths;
 mod products;

@@ -9,6 +9,7 @@ ghost use Rattle.ps_diagram.specs.Table.{IsNode, Keeps, leaf_of, tree_of};
 ghost use Rattle.ps_diagram.specs.Inner.Known.{IsMapped, Knows};
 ghost use Rattle.ps_diagram.specs.Inner.Parts.{IsPart};
 
+use crate::memo::Memo;
 use crate::store::Store;
 use crate::view::{Node, View};
 use indexmap::IndexMap;
@@ -239,7 +240,7 @@ impl Store {
             (λ made. IsMapped (R.rule rule.now) (tree_of (unwrap_or (option_copied other.entry) self.old) node)
             (tree_of self.new made)) }
     {
-        let mut known = IndexMap::new(self.allocator());
+        let mut known = Memo::new(self.allocator());
         self.mapped_by(other, node, rule, &mut known)
     }
 
@@ -249,17 +250,17 @@ impl Store {
         other: Option<&Store>,
         node: Node,
         rule: &R,
-        known: &mut IndexMap<Node, Node>,
+        known: &mut Memo<Node>,
     ) -> Result<Node, AllocError>
         requires held { IsNode (unwrap_or (option_copied other) self.old) node }
         requires few { (unwrap_or (option_copied other) self.old).propositions ≤ self.old.propositions }
         requires fits { (f : ℕ → Bool)
             → R.fits rule.now (leaf_at (tree_of (unwrap_or (option_copied other) self.old) node) f) }
         requires known { Knows (IsMapped (R.rule rule.now)) (unwrap_or (option_copied other) self.old) self.old
-            (get nat_eq known.old) }
+            (get nat_eq known.old.table) }
         ensures keeps { Keeps self.old self.new }
         ensures known { Knows (IsMapped (R.rule rule.now)) (unwrap_or (option_copied other.entry) self.new) self.new
-            (get nat_eq known.new) }
+            (get nat_eq known.new.table) }
         ensures held { IfOk result (λ made. IsNode self.new made) }
         ensures leaf { IfOk result
             (λ made. IsMapped (R.rule rule.now) (tree_of (unwrap_or (option_copied other.entry) self.old) node)
@@ -273,13 +274,13 @@ impl Store {
                 low,
                 high,
             } => {
-                if let Some(changed) = known.get(&node) {
-                    return Ok(*changed);
+                if let Some(changed) = known.get(node) {
+                    return Ok(changed);
                 }
                 let low = self.mapped_by(other, low, rule, known)?;
                 let high = self.mapped_by(other, high, rule, known)?;
                 let changed = self.test(proposition, low, high)?;
-                let _ = known.insert(node, changed)?;
+                known.put(node, changed)?;
                 Ok(changed)
             }
         }

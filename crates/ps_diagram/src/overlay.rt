@@ -9,10 +9,10 @@ ghost use Rattle.ps_diagram.specs.Inner.Known.{IsClash, IsOverlay, KnowsPairs, p
 ghost use Rattle.ps_diagram.specs.Clashes.{TellsClash};
 
 use crate::fault::OverlayError;
+use crate::memo::Memo;
 use crate::split::Split;
 use crate::store::Store;
 use crate::view::Node;
-use indexmap::IndexMap;
 
 impl Store {
     /// The diagram that has the leaf of the first, or else that of the second.
@@ -32,7 +32,7 @@ impl Store {
             (leaf_of self.old second letter)) }
         ensures clash { IfErr result (TellsClash self.old first second) }
     {
-        let mut known = IndexMap::new(self.allocator());
+        let mut known = Memo::new(self.allocator());
         self.overlaid(first, second, &mut known)
     }
 
@@ -41,13 +41,13 @@ impl Store {
         &mut self,
         first: Node,
         second: Node,
-        known: &mut IndexMap<(Node, Node), Node>,
+        known: &mut Memo<(Node, Node)>,
     ) -> Result<Node, OverlayError>
         requires first { IsNode self.old first }
         requires second { IsNode self.old second }
-        requires known { KnowsPairs IsOverlay self.old (get pair_eq known.old) }
+        requires known { KnowsPairs IsOverlay self.old (get pair_eq known.old.table) }
         ensures keeps { Keeps self.old self.new }
-        ensures known { KnowsPairs IsOverlay self.new (get pair_eq known.new) }
+        ensures known { KnowsPairs IsOverlay self.new (get pair_eq known.new.table) }
         ensures held { IfOk result (λ node. IsNode self.new node) }
         ensures leaf { IfOk result
             (λ node. IsOverlay (tree_of self.old first) (tree_of self.old second) (tree_of self.new node)) }
@@ -59,8 +59,8 @@ impl Store {
         if self.is_nothing(second) || first == second {
             return Ok(first);
         }
-        if let Some(node) = known.get(&(first, second)) {
-            return Ok(*node);
+        if let Some(node) = known.get((first, second)) {
+            return Ok(node);
         }
         let Some(split) = self.split(first, second) else {
             return self.overlaid_leaves(first, second);
@@ -73,7 +73,7 @@ impl Store {
         let low = self.overlaid(left.low, right.low, known)?;
         let high = self.overlaid(left.high, right.high, known)?;
         let node = self.test(proposition, low, high)?;
-        known.insert((first, second), node)?;
+        known.put((first, second), node)?;
         Ok(node)
     }
 

@@ -1,15 +1,16 @@
 //! The leaves of a node, and the least letter of each.
 
-ghost use Rattle.std.specs.Prelude.{◌≡◌, ℕ, ◌+◌, ◌^◌, ◌<◌, IfOk, OnOk, MatchOption, nat_eq};
-ghost use Rattle.indexmap.specs.IndexSet.{contains};
+ghost use Rattle.std.specs.Prelude.{◌≡◌, ℕ, ◌+◌, ◌^◌, ◌<◌, IfOk, OnOk, MatchOption, is_some, nat_eq};
+ghost use Rattle.indexmap.specs.IndexMap.{get};
 ghost use Rattle.ps_diagram.specs.Letters.{IsLeast};
 ghost use Rattle.ps_diagram.specs.Reached.{AreLeaves, Gathers, HaveFound, IsGathered, LeadsTo};
 ghost use Rattle.ps_diagram.specs.Split.{root_of};
 ghost use Rattle.ps_diagram.specs.Table.{IsNode, tree_of};
 
+use crate::memo::Memo;
 use crate::store::Store;
 use crate::view::{Node, View};
-use indexmap::{IndexMap, IndexSet};
+use indexmap::IndexMap;
 use std::alloc::{AllocError, Global};
 
 impl Store {
@@ -44,7 +45,7 @@ impl Store {
         requires held { IsNode self.now node }
         ensures { IfOk result (λ found. IsGathered self.now node found.entries) }
     {
-        let mut seen = IndexSet::new(self.allocator());
+        let mut seen = Memo::new(self.allocator());
         let mut found = IndexMap::new(self.allocator());
         self.gather(node, 0, &mut seen, &mut found)?;
         Ok(found)
@@ -56,13 +57,13 @@ impl Store {
         &self,
         node: Node,
         letter: u64,
-        seen: &mut IndexSet<Node>,
+        seen: &mut Memo<Node>,
         found: &mut IndexMap<u64, u64>,
     ) -> Result<(), AllocError>
         requires held { IsNode self.now node }
         requires begun { letter < 2 ^ root_of self.now.propositions (tree_of self.now node) }
-        requires seen { HaveFound self.now (contains nat_eq seen.old) found.old.entries }
-        ensures seen { OnOk result (HaveFound self.now (contains nat_eq seen.new) found.new.entries) }
+        requires seen { HaveFound self.now (λ q. is_some (get nat_eq seen.old.table q)) found.old.entries }
+        ensures seen { OnOk result (HaveFound self.now (λ q. is_some (get nat_eq seen.new.table q)) found.new.entries) }
         ensures found { OnOk result (Gathers self.now.propositions (tree_of self.now node) letter found.old.entries
             found.new.entries) }
     {
@@ -79,12 +80,12 @@ impl Store {
                 low,
                 high,
             } => {
-                if seen.contains(&node) {
+                if seen.get(node).is_some() {
                     return Ok(());
                 }
                 self.gather(low, letter, seen, found)?;
                 self.gather(high, letter + (1 << proposition), seen, found)?;
-                seen.insert(node)?;
+                seen.put(node, node)?;
                 Ok(())
             }
         }

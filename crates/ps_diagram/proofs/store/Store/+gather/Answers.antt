@@ -1,5 +1,6 @@
-use Rattle.std.proofs.Common.{rules, ℕ, nat_eq}
-use Rattle.indexmap.specs.IndexSet.{contains}
+use Rattle.std.proofs.Common.{◌≡◌, rules, ℕ, nat_eq, true}
+use Rattle.std.specs.Prelude.{is_some}
+use Rattle.indexmap.specs.IndexMap.{get}
 use Rattle.indexmap.proofs.CallerLemmas.{insert_entry-new}
 use Rattle.ps_diagram.specs.Reached.{Gathers}
 use Rattle.ps_diagram.specs.Table.{tree_of}
@@ -7,8 +8,11 @@ use Rattle.ps_diagram.proofs.Gathering.{some_of, none_of, gathers_none, leaf_fou
 use Rattle.ps_diagram.proofs.Gathering.{set_bit, gathers_test, seen_more}
 use Rattle.ps_diagram.proofs.store.Store.+gather.Goals as goal
 
-pub returns-then-contains-clause-found : goal.returns-then-contains-clause-found
-returns-then-contains-clause-found t c = search (rules, gathers_none)
+pub returns-then-is_some-clause-found : goal.returns-then-is_some-clause-found
+returns-then-is_some-clause-found t c =
+    let is : is_some (get nat_eq c.args.seen.now.table c.args.node) ≡ true = cc in
+    gathers_none c.args.self.now.propositions (tree_of c.args.self.now c.args.node) c.args.letter
+    c.args.found.now.entries (c.requires.seen c.args.node is)
 
 pub returns-else-not-contains_key-clause-found : goal.returns-else-not-contains_key-clause-found
 returns-else-not-contains_key-clause-found t c = search (rules, some_of, gathers_none, leaf_found)
@@ -22,14 +26,14 @@ gather-requires-in-Test t c = search (rules, set_bit, begun_high)
 pub returns-in_ok-insert-in-Leaf-clause-found : goal.returns-in_ok-insert-in-Leaf-clause-found
 returns-in_ok-insert-in-Leaf-clause-found t c = search (rules, none_of, gathers_leaf, insert_entry-new)
 
-found : (t : ℕ) (c : goal.In_ok-insert-in-Test t) → Gathers c.args.self.now.propositions
+found : (t : ℕ) (c : goal.In_ok-put-in-Test t) → Gathers c.args.self.now.propositions
     (tree_of c.args.self.now c.args.node) c.args.letter c.args.found.now.entries c.gather-in-Test.new.found.entries
 found t c = search (rules, gathers_test, set_bit)
 
-pub returns-in_ok-insert-in-Test-clause-found : goal.returns-in_ok-insert-in-Test-clause-found
-returns-in_ok-insert-in-Test-clause-found t c = found t c
+pub returns-in_ok-put-in-Test-clause-found : goal.returns-in_ok-put-in-Test-clause-found
+returns-in_ok-put-in-Test-clause-found t c = found t c
 
-pub returns-in_ok-insert-in-Test-clause-seen : goal.returns-in_ok-insert-in-Test-clause-seen
-returns-in_ok-insert-in-Test-clause-seen t c = seen_more c.args.self.now (contains nat_eq c.gather-in-Test.new.seen)
-    (contains nat_eq c.insert-in-Test.new.self) c.args.node c.gather-in-Test.new.found.entries
-    c.in_ok-insert-in-Test.ensures.updates.0 c.in_ok-gather-in-Test-2.ensures.seen (found t c).whole
+pub returns-in_ok-put-in-Test-clause-seen : goal.returns-in_ok-put-in-Test-clause-seen
+returns-in_ok-put-in-Test-clause-seen t c = seen_more c.args.self.now (get nat_eq c.gather-in-Test.new.seen.table)
+    (get nat_eq c.put.new.self.table) c.args.node c.args.node c.gather-in-Test.new.found.entries c.put.ensures.put
+    c.in_ok-gather-in-Test-2.ensures.seen (found t c).whole

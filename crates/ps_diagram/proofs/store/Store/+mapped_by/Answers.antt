@@ -10,10 +10,10 @@ use Rattle.ps_diagram.proofs.Mapping.{mapped_blind, mapped_sides, on_side}
 use Rattle.ps_diagram.proofs.store.Store.+mapped_by.Goals as goal
 
 pub returns-in-Some-clause-held : goal.returns-in-Some-clause-held
-returns-in-Some-clause-held g t c = (c.requires.known c.args.node c.in-Some.changed.now (sym c.in-Some.ensures.value)).1
+returns-in-Some-clause-held g t c = (c.requires.known c.args.node c.in-Some.changed (sym c.in-Some.ensures)).1
 
 pub returns-in-Some-clause-leaf : goal.returns-in-Some-clause-leaf
-returns-in-Some-clause-leaf g t c = (c.requires.known c.args.node c.in-Some.changed.now (sym c.in-Some.ensures.value)).2
+returns-in-Some-clause-leaf g t c = (c.requires.known c.args.node c.in-Some.changed (sym c.in-Some.ensures)).2
 
 pub changed-requires : goal.changed-requires
 changed-requires g t c = rw c.in-Nothing.ensures.part at (c.requires.fits (λ _. false))
@@ -75,21 +75,25 @@ pub returns-in_err-changed-in-Test-clause-keeps : goal.returns-in_err-changed-in
 returns-in_err-changed-in-Test-clause-keeps g t c =
     keeps_trans (keeps_trans c.mapped_by.ensures.keeps c.mapped_by-in-Test.ensures.keeps) c.test.ensures.keeps
 
-pub returns-in_err-insert-in-Test-clause-keeps : goal.returns-in_err-insert-in-Test-clause-keeps
-returns-in_err-insert-in-Test-clause-keeps g t c =
+pub returns-in_err-put-in-Test-clause-keeps : goal.returns-in_err-put-in-Test-clause-keeps
+returns-in_err-put-in-Test-clause-keeps g t c =
     keeps_trans (keeps_trans c.mapped_by.ensures.keeps c.mapped_by-in-Test.ensures.keeps) c.test.ensures.keeps
 
-pub returns-in_ok-insert-in-Test-clause-known : goal.returns-in_ok-insert-in-Test-clause-known
-returns-in_ok-insert-in-Test-clause-known g t c =
+pub returns-in_ok-put-in-Test-clause-keeps : goal.returns-in_ok-put-in-Test-clause-keeps
+returns-in_ok-put-in-Test-clause-keeps g t c =
+    keeps_trans (keeps_trans c.mapped_by.ensures.keeps c.mapped_by-in-Test.ensures.keeps) c.test.ensures.keeps
+
+pub returns-in_ok-put-in-Test-clause-known : goal.returns-in_ok-put-in-Test-clause-known
+returns-in_ok-put-in-Test-clause-known g t c =
     let rule = g.R.LeafRule.rule c.args.rule.now in
     let other = option_copied c.args.other in
     let mid = c.mapped_by-in-Test.new.self in
     let last = c.test.new.self in
     let j = read_keeps other (keeps_trans (keeps_trans c.mapped_by.ensures.keeps c.mapped_by-in-Test.ensures.keeps)
     c.test.ensures.keeps) in
-    knows_more (IsMapped rule) (unwrap_or other last) last (get nat_eq c.mapped_by-in-Test.new.known) (get nat_eq
-    c.insert.new.self) c.in_ok-insert-in-Test.ensures.updates.0 (knows_kept (IsMapped rule) (unwrap_or other mid)
-    (unwrap_or other last) mid last (get nat_eq c.mapped_by-in-Test.new.known) (read_keeps other c.test.ensures.keeps)
+    knows_more (IsMapped rule) (unwrap_or other last) last (get nat_eq c.mapped_by-in-Test.new.known.table) (get nat_eq
+    c.put.new.self.table) c.put.ensures.put (knows_kept (IsMapped rule) (unwrap_or other mid)
+    (unwrap_or other last) mid last (get nat_eq c.mapped_by-in-Test.new.known.table) (read_keeps other c.test.ensures.keeps)
     c.test.ensures.keeps c.mapped_by-in-Test.ensures.known) (j.held c.args.node c.requires.held)
     c.in_ok-changed-in-Test.ensures.held (kept (λ u. IsMapped rule u (tree_of last c.in_ok-changed-in-Test.changed)) j
     c.requires.held (mapped_sides rule last (read_keeps other c.mapped_by.ensures.keeps)

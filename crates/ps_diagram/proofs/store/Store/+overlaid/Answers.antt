@@ -8,11 +8,11 @@ use Rattle.ps_diagram.proofs.store.Store.+overlaid.Goals as goal
 
 pub returns-in-Some-clause-held : goal.returns-in-Some-clause-held
 returns-in-Some-clause-held t c =
-    (c.requires.known c.args.first c.args.second c.in-Some.node.now (sym c.in-Some.ensures.value)).2
+    (c.requires.known c.args.first c.args.second c.in-Some.node (sym c.in-Some.ensures)).2
 
 pub returns-in-Some-clause-leaf : goal.returns-in-Some-clause-leaf
 returns-in-Some-clause-leaf t c =
-    (c.requires.known c.args.first c.args.second c.in-Some.node.now (sym c.in-Some.ensures.value)).3
+    (c.requires.known c.args.first c.args.second c.in-Some.node (sym c.in-Some.ensures)).3
 
 pub returns-in_err-low-clause-clash : goal.returns-in_err-low-clause-clash
 returns-in_err-low-clause-clash t c =
@@ -37,21 +37,21 @@ returns-in_err-node-clause-keeps t c =
 
 pub returns-in_err-node-clause-known : goal.returns-in_err-node-clause-known
 returns-in_err-node-clause-known t c =
-    pairs_kept IsOverlay (get pair_eq c.overlaid-2.new.known) c.test.ensures.keeps c.overlaid-2.ensures.known
+    pairs_kept IsOverlay (get pair_eq c.overlaid-2.new.known.table) c.test.ensures.keeps c.overlaid-2.ensures.known
 
-pub returns-in_err-insert-clause-keeps : goal.returns-in_err-insert-clause-keeps
-returns-in_err-insert-clause-keeps t c =
+pub returns-in_err-put-clause-keeps : goal.returns-in_err-put-clause-keeps
+returns-in_err-put-clause-keeps t c =
     keeps_trans (keeps_trans c.overlaid.ensures.keeps c.overlaid-2.ensures.keeps) c.test.ensures.keeps
 
-pub returns-in_err-insert-clause-known : goal.returns-in_err-insert-clause-known
-returns-in_err-insert-clause-known t c = rw c.in_err-insert.ensures.err
-    (pairs_kept IsOverlay (get pair_eq c.overlaid-2.new.known) c.test.ensures.keeps c.overlaid-2.ensures.known)
+pub returns-in_err-put-clause-known : goal.returns-in_err-put-clause-known
+returns-in_err-put-clause-known t c = rw c.in_err-put.ensures.err
+    (pairs_kept IsOverlay (get pair_eq c.overlaid-2.new.known.table) c.test.ensures.keeps c.overlaid-2.ensures.known)
 
 pub returns-clause-keeps : goal.returns-clause-keeps
 returns-clause-keeps t c =
     keeps_trans (keeps_trans c.overlaid.ensures.keeps c.overlaid-2.ensures.keeps) c.test.ensures.keeps
 
-joins : (t : ℕ) (c : goal.In_ok-insert t) → IsOverlay (tree_of c.args.self.now c.args.first)
+joins : (t : ℕ) (c : goal.In_ok-put t) → IsOverlay (tree_of c.args.self.now c.args.first)
     (tree_of c.args.self.now c.args.second) (tree_of c.test.new.self c.in_ok-node.node)
 joins t c =
     let s = c.in-Some-split.ensures in
@@ -62,7 +62,7 @@ pub returns-clause-known : goal.returns-clause-known
 returns-clause-known t c =
     let last = c.test.new.self in
     let k = keeps_trans (keeps_trans c.overlaid.ensures.keeps c.overlaid-2.ensures.keeps) c.test.ensures.keeps in
-    pairs_more IsOverlay last (get pair_eq c.overlaid-2.new.known) (get pair_eq c.insert.new.self)
-    c.in_ok-insert.ensures.updates.0 (pairs_kept IsOverlay (get pair_eq c.overlaid-2.new.known) c.test.ensures.keeps
+    pairs_more IsOverlay last (get pair_eq c.overlaid-2.new.known.table) (get pair_eq c.put.new.self.table)
+    c.put.ensures.put (pairs_kept IsOverlay (get pair_eq c.overlaid-2.new.known.table) c.test.ensures.keeps
     c.overlaid-2.ensures.known) (k.held c.args.first c.requires.first) (k.held c.args.second c.requires.second)
     c.in_ok-node.ensures.held (rw (k.same _ c.requires.first, k.same _ c.requires.second) (joins t c))

@@ -16,11 +16,11 @@ returns-then-eq-clause-leaf t c = rw (← eqb-true c.args.low c.args.high (sym c
 
 pub returns-in-Some-clause-held : goal.returns-in-Some-clause-held
 returns-in-Some-clause-held t c =
-    (c.requires.tests c.args.proposition c.args.low c.args.high c.in-Some.made.now (sym c.in-Some.ensures.value)).2
+    (c.requires.tests c.args.proposition c.args.low c.args.high c.in-Some.made (sym c.in-Some.ensures)).2
 
 pub returns-in-Some-clause-leaf : goal.returns-in-Some-clause-leaf
 returns-in-Some-clause-leaf t c =
-    (c.requires.tests c.args.proposition c.args.low c.args.high c.in-Some.made.now (sym c.in-Some.ensures.value)).3
+    (c.requires.tests c.args.proposition c.args.low c.args.high c.in-Some.made (sym c.in-Some.ensures)).3
 
 pub returns-in_default-split-clause-tests : goal.returns-in_default-split-clause-tests
 returns-in_default-split-clause-tests t c = search (rules, tests_kept)
@@ -92,13 +92,13 @@ test-requires-clause-high_later t c =
 pub returns-in_err-made-clause-tests : goal.returns-in_err-made-clause-tests
 returns-in_err-made-clause-tests t c = search (rules, tests_kept)
 
-pub returns-in_err-insert-clause-keeps : goal.returns-in_err-insert-clause-keeps
-returns-in_err-insert-clause-keeps t c =
+pub returns-in_err-put-clause-keeps : goal.returns-in_err-put-clause-keeps
+returns-in_err-put-clause-keeps t c =
     keeps_trans (keeps_trans c.tested.ensures.keeps c.tested-2.ensures.keeps) c.test.ensures.keeps
 
-pub returns-in_err-insert-clause-tests : goal.returns-in_err-insert-clause-tests
-returns-in_err-insert-clause-tests t c = rw c.in_err-insert.ensures.err
-    (tests_kept (get test_eq c.tested-2.new.tests) c.test.ensures.keeps c.tested-2.ensures.tests)
+pub returns-in_err-put-clause-tests : goal.returns-in_err-put-clause-tests
+returns-in_err-put-clause-tests t c = rw c.in_err-put.ensures.err
+    (tests_kept (get test_eq c.tested-2.new.tests.table) c.test.ensures.keeps c.tested-2.ensures.tests)
 
 pub returns-clause-keeps : goal.returns-clause-keeps
 returns-clause-keeps t c =
@@ -114,8 +114,8 @@ returns-clause-leaf t c =
 pub returns-clause-tests : goal.returns-clause-tests
 returns-clause-tests t c =
     let k = keeps_trans (keeps_trans c.tested.ensures.keeps c.tested-2.ensures.keeps) c.test.ensures.keeps in
-    tests_more (get test_eq c.tested-2.new.tests) (get test_eq c.insert.new.self) c.args.proposition
-    c.in_ok-insert.ensures.updates.0 (tests_kept (get test_eq c.tested-2.new.tests) c.test.ensures.keeps
+    tests_more (get test_eq c.tested-2.new.tests.table) (get test_eq c.put.new.self.table) c.args.proposition
+    c.put.ensures.put (tests_kept (get test_eq c.tested-2.new.tests.table) c.test.ensures.keeps
     c.tested-2.ensures.tests) (k.held c.args.low c.requires.low_held)
     (k.held c.args.high c.requires.high_held) c.in_ok-made.ensures.held
     (rw (k.same _ c.requires.low_held, k.same _ c.requires.high_held) (returns-clause-leaf t c))
