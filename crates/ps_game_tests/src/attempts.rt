@@ -1,7 +1,7 @@
 //! Solvers that may give nothing: how far a budget or fuel goes, and that an answer is that of the sure solver.
 
 use ps_game::{Counts, Game, Region, Strategy};
-use ps_improvement::attempt;
+use ps_improvement::{Attempted, attempt};
 use ps_pgsolver::read;
 use ps_zielonka::{regions, regions_within};
 use std::alloc::{AllocError, Global};
@@ -45,7 +45,10 @@ fn is_right(
 fn attempts_win_what_is_won(rt: HostRuntime) -> Result<(), Fail> {
     for text in [BOTH, RUNGS] {
         let named = read(rt.alloc(), text)?;
-        let found = attempt(rt.alloc(), named.game(), 10_000)?;
+        let found = match attempt(rt.alloc(), named.game(), 10_000)? {
+            Attempted::Found { won, first, second } => Some((won, first, second)),
+            Attempted::OutOfFuel | Attempted::OutOfRoom => None,
+        };
         assert!(rt; is_right(rt.alloc(), named.game(), &found)?);
     }
     Ok(())
@@ -55,8 +58,24 @@ fn attempts_win_what_is_won(rt: HostRuntime) -> Result<(), Fail> {
 fn attempts_end_with_their_fuel(rt: HostRuntime) -> Result<(), Fail> {
     let named = read(rt.alloc(), BOTH)?;
     for fuel in [0, 1, 5] {
-        assert!(rt; attempt(rt.alloc(), named.game(), fuel)?.is_none());
+        let found = attempt(rt.alloc(), named.game(), fuel)?;
+        assert!(rt; matches!(&found, Attempted::OutOfFuel));
     }
+    Ok(())
+}
+
+/// A path of 800 vertices of player 0, each of a greater even priority than the next, has rows of 320,000 cells.
+#[test]
+fn attempts_end_where_there_is_no_room(rt: HostRuntime) -> Result<(), Fail> {
+    let mut text = String::new(rt.alloc());
+    text.push_str("0 1 0 0;")?;
+    for vertex in 1..800u64 {
+        let line = format!(in rt.alloc(); "{vertex} {} 0 {};", 2 * vertex, vertex - 1)?;
+        text.push_str(&line)?;
+    }
+    let named = read(rt.alloc(), text.as_bytes())?;
+    let found = attempt(rt.alloc(), named.game(), 1_000_000_000)?;
+    assert!(rt; matches!(&found, Attempted::OutOfRoom));
     Ok(())
 }
 

@@ -1,7 +1,8 @@
 //! The call.
 
-ghost use Rattle.std.specs.Prelude.{◌≡◌, ◌<◌, ◌≤◌, All, IfOk, IfSome, length};
+ghost use Rattle.std.specs.Prelude.{◌≡◌, ◌<◌, ◌≤◌, All, IfOk, length};
 ghost use Rattle.ps_game.specs.Games.{vertex_count};
+ghost use Rattle.ps_improvement.specs.Attempts.{HasPlaces};
 
 use crate::evaluating::evaluate;
 use crate::fuel::Fuel;
@@ -20,38 +21,49 @@ const ROOM: u64 = 1 << 18;
 /// How many more may be held for each vertex and edge.
 const ROOM_EACH: u64 = 16;
 
-/// Which vertices player 0 may win, moves by which it may, and those by which player 1 may win the others: that they do
-/// is not promised. There is none where the fuel ends first.
+/// What an attempt comes to.
+#[derive(Drop)]
+pub enum Attempted {
+    /// Nothing improves any more: so the players may win. That they do is not promised.
+    Found {
+        /// The vertices that player 0 may win.
+        won: Region,
+        /// Moves by which it may.
+        first: Strategy,
+        /// Moves by which player 1 may win the others.
+        second: Strategy,
+    },
+    /// The fuel ended first.
+    OutOfFuel,
+    /// There was no room for a row. With more fuel it would come to the same.
+    OutOfRoom,
+}
+
+/// Which vertices player 0 may win, and by which moves.
 ///
 /// # Errors
 ///
 /// Fails where a growth was refused.
-pub fn attempt<A: Arena>(
-    alloc: Global,
-    arena: &A,
-    fuel: u64,
-) -> Result<Option<(Region, Strategy, Strategy)>, AllocError>
-    ensures region { IfOk result (λ found. IfSome found
-        (λ answer. length answer.0 ≡ vertex_count (A.game arena.now))) }
-    ensures first { IfOk result (λ found. IfSome found
-        (λ answer. length answer.1 ≡ vertex_count (A.game arena.now))) }
-    ensures second { IfOk result (λ found. IfSome found
-        (λ answer. length answer.2 ≡ vertex_count (A.game arena.now))) }
+pub fn attempt<A: Arena>(alloc: Global, arena: &A, fuel: u64) -> Result<Attempted, AllocError>
+    ensures { IfOk result (HasPlaces (vertex_count (A.game arena.now))) }
 {
     if !has_room::<A, usize>(arena) {
-        return Ok(None);
+        return Ok(Attempted::OutOfRoom);
     }
     let mut fuel = Fuel {
         left: fuel,
         room: room_of(arena),
+        is_full: false,
     };
     let ground = Ground::of(alloc, arena)?;
     let mut plan = Plan::new(alloc, arena.count())?;
-    if !settle_all(alloc, &ground, &mut plan, &mut fuel)? {
-        return Ok(None);
+    if settle_all(alloc, &ground, &mut plan, &mut fuel)? {
+        answer_of(alloc, arena, plan)
+    } else if fuel.is_full {
+        Ok(Attempted::OutOfRoom)
+    } else {
+        Ok(Attempted::OutOfFuel)
     }
-    let answer = answer_of(alloc, arena, plan)?;
-    Ok(Some(answer))
 }
 
 /// How many cells may be held.
@@ -128,17 +140,15 @@ fn settle<A: Arena>(
 }
 
 /// The answer that a plan has: player 0 wins where plays go on for ever.
-fn answer_of<A: Arena>(
-    alloc: Global,
-    arena: &A,
-    plan: Plan,
-) -> Result<(Region, Strategy, Strategy), AllocError>
+fn answer_of<A: Arena>(alloc: Global, arena: &A, plan: Plan) -> Result<Attempted, AllocError>
     requires { length plan.rows.items ≡ vertex_count (A.game arena.now) }
-    ensures region { IfOk result (λ answer. length answer.0 ≡ vertex_count (A.game arena.now)) }
-    ensures first { IfOk result (λ answer. length answer.1 ≡ vertex_count (A.game arena.now)) }
-    ensures second { IfOk result (λ answer. length answer.2 ≡ vertex_count (A.game arena.now)) }
+    ensures { IfOk result (HasPlaces (vertex_count (A.game arena.now))) }
 {
-    let mut fuel = Fuel { left: 0, room: 0 };
+    let mut fuel = Fuel {
+        left: 0,
+        room: 0,
+        is_full: false,
+    };
     let mut won = Region::empty(alloc, arena.count())?;
     let mut second = Strategy::empty(alloc, arena.count())?;
     for vertex in 0..arena.count() {
@@ -148,5 +158,9 @@ fn answer_of<A: Arena>(
             second.set(vertex, plan.least(arena, vertex, &mut fuel));
         }
     }
-    Ok((won, plan.first, second))
+    Ok(Attempted::Found {
+        won,
+        first: plan.first,
+        second,
+    })
 }

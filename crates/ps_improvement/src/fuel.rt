@@ -7,6 +7,8 @@ pub struct Fuel {
     pub left: u64,
     /// Cells that may be held besides those that are.
     pub room: u64,
+    /// Whether there was no room for a row.
+    pub is_full: bool,
 }
 
 impl Fuel {
@@ -20,6 +22,7 @@ impl Fuel {
         let room = self.room.saturating_add(instead as u64);
         if room < cells as u64 {
             self.left = 0;
+            self.is_full = true;
         }
         self.room = room.saturating_sub(cells as u64);
     }

@@ -9,9 +9,10 @@
 //!
 //! | Call | What it gives |
 //! |---|---|
-//! | `attempt(arena, fuel)` | a region and the moves of both players, or nothing where the fuel ends |
+//! | `attempt(arena, fuel)` | an `Attempted`: a region and the moves of both players, or what it lacked |
 //!
-//! Time and memory are bounded by the fuel: it counts the cells of rows that are read or written.
+//! Time is bounded by the fuel, which counts the cells of rows that are read or written, and memory by a number of cells
+//! for each vertex and edge.
 #![tactic(auto)]
 
 mod attempting;
@@ -23,4 +24,4 @@ mod plan;
 mod row;
 mod waiting;
 
-pub use attempting::attempt;
+pub use attempting::{Attempted, attempt};

@@ -12,16 +12,16 @@ use crate::fault::SolveFault;
 use crate::solver::Solver;
 use ps_certificate::Certificate;
 use ps_game::{Arena, Counts, FlatGame, Game, NamedGame, Region, Strategy, Width, fits_narrow};
-use ps_improvement::attempt;
+use ps_improvement::{Attempted, attempt};
 use ps_referee::{JudgeFault, certificate_of_solution, judge};
 use ps_zielonka::{regions, regions_within};
 use std::alloc::{AllocError, Global};
 
 /// How often a budget is tried before there is none.
-const ROUNDS: u64 = 24;
+const ROUNDS: u64 = 12;
 
 /// How many times the budget before each one is.
-const GROWTH: u64 = 4;
+const GROWTH: u64 = 16;
 
 /// How many vertices the first recursion may place for each vertex of the game. A game that people meet has each placed
 /// some ten times.
@@ -30,8 +30,38 @@ const PLACED_EACH: u64 = 256;
 /// How many it may place besides.
 const PLACED_BESIDE: u64 = 1024;
 
-/// How many cells an attempt may read or write for each vertex that the recursion may place, which takes about as long.
-const CELLS_EACH: u64 = 16;
+/// How many cells an attempt may read or write for each vertex that the recursion may place. That takes longer, and less
+/// long than what the recursion may place next.
+const CELLS_EACH: u64 = 64;
+
+/// How much work the two may do in a round.
+#[derive(Drop)]
+struct Budget {
+    /// How many vertices the recursion may place.
+    placed: u64,
+    /// How many cells an attempt may read or write: none where one has failed in a way that more of them do not change.
+    cells: u64,
+}
+
+impl Budget {
+    /// That of the first round.
+    fn first<A: Arena>(arena: &A) -> Budget {
+        let count = arena.count() as u64;
+        let placed = count
+            .saturating_mul(PLACED_EACH)
+            .saturating_add(PLACED_BESIDE);
+        Budget {
+            placed,
+            cells: placed.saturating_mul(CELLS_EACH),
+        }
+    }
+
+    /// That of the round after this one.
+    fn grow(&mut self) {
+        self.placed = self.placed.saturating_mul(GROWTH);
+        self.cells = self.cells.saturating_mul(GROWTH);
+    }
+}
 
 /// Finds the regions of both players, with their moves, and then the least counts that show it. It is sure, and ignores
 /// what it is fed.
@@ -87,46 +117,39 @@ fn certificate_in<W: Width>(alloc: Global, game: &Game) -> Result<Certificate, S
 }
 
 /// The certificate of a game. The recursion has a budget of vertices that it may place, which games that people meet do
-/// not spend. Where it is spent, an attempt that promises nothing is judged. Then both have four times as much, and so
-/// on; at last the recursion has no bound.
+/// not spend. Where it is spent, an attempt that promises nothing is judged. Then both have more, and so on; at last the
+/// recursion has no bound.
 fn certificate_of<A: Arena>(alloc: Global, arena: &A) -> Result<Certificate, SolveFault>
     ensures fits { IfOk result (Fits (A.game arena.now)) }
     ensures valid { IfOk result (IsValid (A.game arena.now)) }
     ensures least { IfOk result (HasLeastCounts (A.game arena.now)) }
     ensures memory { IfErr result (λ fault. fault ≡ faults.OutOfMemory) }
 {
-    let mut budget = first_budget(arena);
+    let mut budget = Budget::first(arena);
     for _ in 0..ROUNDS {
-        if let Some(certificate) = certificate_within(alloc, arena, budget)? {
+        if let Some(certificate) = certificate_within(alloc, arena, &mut budget)? {
             return Ok(certificate);
         }
-        budget = budget.saturating_mul(GROWTH);
+        budget.grow();
     }
     certificate_without_bound(alloc, arena)
-}
-
-/// How many vertices the first recursion may place.
-fn first_budget<A: Arena>(arena: &A) -> u64 {
-    let count = arena.count() as u64;
-    count
-        .saturating_mul(PLACED_EACH)
-        .saturating_add(PLACED_BESIDE)
 }
 
 /// The certificate of a game, or none where neither the recursion nor the attempt has found one within the budget.
 fn certificate_within<A: Arena>(
     alloc: Global,
     arena: &A,
-    budget: u64,
+    budget: &mut Budget,
 ) -> Result<Option<Certificate>, SolveFault>
     ensures fits { IfOk result (λ found. IfSome found (Fits (A.game arena.now))) }
     ensures valid { IfOk result (λ found. IfSome found (IsValid (A.game arena.now))) }
     ensures least { IfOk result (λ found. IfSome found (HasLeastCounts (A.game arena.now))) }
     ensures memory { IfErr result (λ fault. fault ≡ faults.OutOfMemory) }
 {
-    match solved_within(alloc, arena, budget)? {
+    match solved_within(alloc, arena, budget.placed)? {
         Some(certificate) => Ok(Some(certificate)),
-        None => attempted(alloc, arena, budget.saturating_mul(CELLS_EACH)),
+        None if budget.cells == 0 => Ok(None),
+        None => attempted(alloc, arena, budget),
     }
 }
 
@@ -149,21 +172,29 @@ fn solved_within<A: Arena>(
     Ok(Some(certificate))
 }
 
-/// The certificate by an attempt, or none where the fuel ends first or what it answers is refused.
+/// The certificate by an attempt, or none where the cells do not suffice or what it answers is refused. The budget has no
+/// cells left where more of them would not help.
 fn attempted<A: Arena>(
     alloc: Global,
     arena: &A,
-    fuel: u64,
+    budget: &mut Budget,
 ) -> Result<Option<Certificate>, SolveFault>
     ensures fits { IfOk result (λ found. IfSome found (Fits (A.game arena.now))) }
     ensures valid { IfOk result (λ found. IfSome found (IsValid (A.game arena.now))) }
     ensures least { IfOk result (λ found. IfSome found (HasLeastCounts (A.game arena.now))) }
     ensures memory { IfErr result (λ fault. fault ≡ faults.OutOfMemory) }
 {
-    let Some((won, first, second)) = attempt(alloc, arena, fuel)? else {
-        return Ok(None);
-    };
-    tried(alloc, arena, &won, &first, &second)
+    match attempt(alloc, arena, budget.cells)? {
+        Attempted::OutOfFuel => Ok(None),
+        Attempted::OutOfRoom => {
+            budget.cells = 0;
+            Ok(None)
+        }
+        Attempted::Found { won, first, second } => {
+            budget.cells = 0;
+            tried(alloc, arena, &won, &first, &second)
+        }
+    }
 }
 
 /// The certificate by a region and tables of which nothing is known, or none: just where a player does not hold its
@@ -207,6 +238,5 @@ fn certificate_without_bound<A: Arena>(alloc: Global, arena: &A) -> Result<Certi
 {
     let mut counts = Counts::default();
     let (won, first, second) = regions(alloc, arena, &mut counts)?;
-    let certificate = certificate_of_solution(alloc, arena, &won, &first, &second)?;
-    Ok(certificate)
+    Ok(certificate_of_solution(alloc, arena, &won, &first, &second)?)
 }
