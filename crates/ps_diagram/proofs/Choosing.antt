@@ -1,5 +1,5 @@
 -- Trees chosen by a truth.
-use Rattle.std.proofs.Common.{◌≡◌, ℕ, cond, Option, Some, inl, inr, rules}
+use Rattle.std.proofs.Common.{◌≡◌, ℕ, Option, Some, inl, inr, rules}
 use Rattle.ps_diagram.specs.Inner.Chosen.{IsChosen, KnowsTriples}
 use Rattle.ps_diagram.specs.Inner.Rests.{test_eq}
 use Rattle.ps_diagram.specs.Split.{IsSides}
@@ -7,7 +7,7 @@ use Rattle.ps_diagram.specs.Tree.{Tree, IsTestOf}
 use Rattle.ps_diagram.specs.Table.{Table, IsNode, Keeps, tree_of}
 use Rattle.ps_diagram.proofs.Cells.{bool_cases}
 use Rattle.ps_diagram.proofs.Dividing.{test_same}
-use Rattle.ps_diagram.proofs.KnownLemmas.{one_more}
+use Rattle.ps_diagram.proofs.KnownLemmas.{MayBePut, one_more}
 
 -- a test of two trees that are chosen is chosen by the tests
 chosen_test : (p : ℕ) (a al ah b bl bh c cl ch d dl dh : Tree) → IsTestOf p al ah a → IsTestOf p bl bh b →
@@ -47,7 +47,7 @@ triples_kept known k h a b c made e =
     )
 
 pub triples_more : (t : Table) (known new : ℕ × ℕ × ℕ → Option ℕ) {x y z value : ℕ} →
-    ((q : ℕ × ℕ × ℕ) → new q ≡ cond (test_eq (x, y, z) q) (Some value) (known q)) → KnowsTriples t known →
+    MayBePut test_eq known new (x, y, z) value → KnowsTriples t known →
     IsNode t x → IsNode t y → IsNode t z → IsNode t value →
     IsChosen (tree_of t x) (tree_of t y) (tree_of t z) (tree_of t value) → KnowsTriples t new
 triples_more t known new update h hx hy hz hv r a b c =

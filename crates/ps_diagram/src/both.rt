@@ -8,10 +8,11 @@ ghost use Rattle.ps_diagram.specs.Pairs.{Adds, IsPaired, MeetAt};
 ghost use Rattle.ps_diagram.specs.Split.{IsConstant};
 ghost use Rattle.ps_diagram.specs.Table.{IsNode, Keeps, leaf_of, tree_of};
 
+use crate::memo::Memo;
 use crate::split::Split;
 use crate::store::Store;
 use crate::view::Node;
-use indexmap::{IndexMap, IndexSet};
+use indexmap::IndexSet;
 use std::alloc::AllocError;
 
 impl Store {
@@ -36,7 +37,7 @@ impl Store {
             (λ made. (letter : ℕ) → IsPaired pairs.new.keys (leaf_of self.old first letter)
             (leaf_of self.old second letter) (leaf_of self.new made letter)) }
     {
-        let mut known = IndexMap::new(self.allocator());
+        let mut known = Memo::new(self.allocator());
         self.paired(first, second, pairs, &mut known)
     }
 
@@ -46,14 +47,14 @@ impl Store {
         first: Node,
         second: Node,
         pairs: &mut IndexSet<(u64, u64)>,
-        known: &mut IndexMap<(Node, Node), Node>,
+        known: &mut Memo<(Node, Node)>,
     ) -> Result<Node, AllocError>
         requires first { IsNode self.old first }
         requires second { IsNode self.old second }
-        requires known { KnowsPairs (IsPairOf pairs.old.keys) self.old (get pair_eq known.old) }
+        requires known { KnowsPairs (IsPairOf pairs.old.keys) self.old (get pair_eq known.old.table) }
         ensures keeps { Keeps self.old self.new }
         ensures adds { Adds (Meet (tree_of self.old first) (tree_of self.old second)) pairs.old.keys pairs.new.keys }
-        ensures known { KnowsPairs (IsPairOf pairs.new.keys) self.new (get pair_eq known.new) }
+        ensures known { KnowsPairs (IsPairOf pairs.new.keys) self.new (get pair_eq known.new.table) }
         ensures held { IfOk result (λ made. IsNode self.new made) }
         ensures leaf { IfOk result
             (λ made. IsPairOf pairs.new.keys (tree_of self.old first) (tree_of self.old second)
@@ -65,8 +66,8 @@ impl Store {
         if self.is_nothing(second) {
             return Ok(second);
         }
-        if let Some(made) = known.get(&(first, second)) {
-            return Ok(*made);
+        if let Some(made) = known.get((first, second)) {
+            return Ok(made);
         }
         let Some(split) = self.split(first, second) else {
             return self.paired_leaves(first, second, pairs);
@@ -80,7 +81,7 @@ impl Store {
         let high = self.paired(left.high, right.high, pairs, known)?;
         let _ = pairs.as_slice();
         let made = self.test(proposition, low, high)?;
-        let _ = known.insert((first, second), made)?;
+        known.put((first, second), made)?;
         Ok(made)
     }
 

@@ -8,10 +8,10 @@ ghost use Rattle.ps_diagram.specs.Leaves.{chosen};
 ghost use Rattle.ps_diagram.specs.Split.{root_of};
 ghost use Rattle.ps_diagram.specs.Table.{IsNode, Keeps, leaf_of, tree_of};
 
+use crate::memo::Memo;
 use crate::split::Sides;
 use crate::store::Store;
 use crate::view::{Node, View};
-use indexmap::IndexMap;
 use std::alloc::AllocError;
 
 /// Three nodes at the first proposition that one of them tests.
@@ -43,7 +43,7 @@ impl Store {
             (λ made. (letter : ℕ) → leaf_of self.new made letter ≡ chosen (leaf_of self.old truth letter)
             (leaf_of self.old one letter) (leaf_of self.old other letter)) }
     {
-        let mut known = IndexMap::new(self.allocator());
+        let mut known = Memo::new(self.allocator());
         self.chosen(truth, one, other, &mut known)
     }
 
@@ -53,14 +53,14 @@ impl Store {
         truth: Node,
         one: Node,
         other: Node,
-        known: &mut IndexMap<(Node, Node, Node), Node>,
+        known: &mut Memo<(Node, Node, Node)>,
     ) -> Result<Node, AllocError>
         requires truth { IsNode self.old truth }
         requires one { IsNode self.old one }
         requires other { IsNode self.old other }
-        requires known { KnowsTriples self.old (get test_eq known.old) }
+        requires known { KnowsTriples self.old (get test_eq known.old.table) }
         ensures keeps { Keeps self.old self.new }
-        ensures known { KnowsTriples self.new (get test_eq known.new) }
+        ensures known { KnowsTriples self.new (get test_eq known.new.table) }
         ensures held { IfOk result (λ made. IsNode self.new made) }
         ensures leaf { IfOk result
             (λ made. IsChosen (tree_of self.old truth) (tree_of self.old one) (tree_of self.old other)
@@ -74,8 +74,8 @@ impl Store {
             View::Leaf(_) => return Ok(one),
             View::Test { proposition, .. } => proposition,
         };
-        if let Some(made) = known.get(&(truth, one, other)) {
-            return Ok(*made);
+        if let Some(made) = known.get((truth, one, other)) {
+            return Ok(made);
         }
         let Cut {
             proposition,
@@ -86,7 +86,7 @@ impl Store {
         let low = self.chosen(test.low, left.low, right.low, known)?;
         let high = self.chosen(test.high, left.high, right.high, known)?;
         let made = self.test(proposition, low, high)?;
-        let _ = known.insert((truth, one, other), made)?;
+        known.put((truth, one, other), made)?;
         Ok(made)
     }
 

@@ -7,11 +7,11 @@ use Rattle.ps_diagram.proofs.store.Store.+chosen.Goals as goal
 
 pub returns-in-Some-clause-held : goal.returns-in-Some-clause-held
 returns-in-Some-clause-held t c =
-    (c.requires.known c.args.truth c.args.one c.args.other c.in-Some.made.now (sym c.in-Some.ensures.value)).3
+    (c.requires.known c.args.truth c.args.one c.args.other c.in-Some.made (sym c.in-Some.ensures)).3
 
 pub returns-in-Some-clause-leaf : goal.returns-in-Some-clause-leaf
 returns-in-Some-clause-leaf t c =
-    (c.requires.known c.args.truth c.args.one c.args.other c.in-Some.made.now (sym c.in-Some.ensures.value)).4
+    (c.requires.known c.args.truth c.args.one c.args.other c.in-Some.made (sym c.in-Some.ensures)).4
 
 pub chosen-requires-2 : goal.chosen-requires-2
 chosen-requires-2 t c =
@@ -24,13 +24,13 @@ chosen-requires-2 t c =
       ),
     )
 
-pub returns-in_err-insert-clause-keeps : goal.returns-in_err-insert-clause-keeps
-returns-in_err-insert-clause-keeps t c =
+pub returns-in_err-put-clause-keeps : goal.returns-in_err-put-clause-keeps
+returns-in_err-put-clause-keeps t c =
     keeps_trans (keeps_trans c.chosen.ensures.keeps c.chosen-2.ensures.keeps) c.test.ensures.keeps
 
-pub returns-in_err-insert-clause-known : goal.returns-in_err-insert-clause-known
-returns-in_err-insert-clause-known t c = rw c.in_err-insert.ensures.err
-    (triples_kept (get test_eq c.chosen-2.new.known) c.test.ensures.keeps c.chosen-2.ensures.known)
+pub returns-in_err-put-clause-known : goal.returns-in_err-put-clause-known
+returns-in_err-put-clause-known t c = rw c.in_err-put.ensures.err
+    (triples_kept (get test_eq c.chosen-2.new.known.table) c.test.ensures.keeps c.chosen-2.ensures.known)
 
 pub returns-clause-leaf : goal.returns-clause-leaf
 returns-clause-leaf t c =
@@ -42,8 +42,8 @@ pub returns-clause-known : goal.returns-clause-known
 returns-clause-known t c =
     let last = c.test.new.self in
     let k = keeps_trans (keeps_trans c.chosen.ensures.keeps c.chosen-2.ensures.keeps) c.test.ensures.keeps in
-    triples_more last (get test_eq c.chosen-2.new.known) (get test_eq c.insert.new.self)
-    c.in_ok-insert.ensures.updates.0 (triples_kept (get test_eq c.chosen-2.new.known) c.test.ensures.keeps
+    triples_more last (get test_eq c.chosen-2.new.known.table) (get test_eq c.put.new.self.table)
+    c.put.ensures.put (triples_kept (get test_eq c.chosen-2.new.known.table) c.test.ensures.keeps
     c.chosen-2.ensures.known) (k.held c.args.truth c.requires.truth) (k.held c.args.one c.requires.one)
     (k.held c.args.other c.requires.other) c.in_ok-made.ensures.held
     (rw (k.same _ c.requires.truth, k.same _ c.requires.one, k.same _ c.requires.other) (returns-clause-leaf t c))

@@ -9,11 +9,11 @@ use Rattle.ps_diagram.proofs.store.Store.+paired.Goals as goal
 
 pub returns-in-Some-clause-held : goal.returns-in-Some-clause-held
 returns-in-Some-clause-held t c =
-    (c.requires.known c.args.first c.args.second c.in-Some.made.now (sym c.in-Some.ensures.value)).2
+    (c.requires.known c.args.first c.args.second c.in-Some.made (sym c.in-Some.ensures)).2
 
 pub returns-in-Some-clause-leaf : goal.returns-in-Some-clause-leaf
 returns-in-Some-clause-leaf t c =
-    (c.requires.known c.args.first c.args.second c.in-Some.made.now (sym c.in-Some.ensures.value)).3
+    (c.requires.known c.args.first c.args.second c.in-Some.made (sym c.in-Some.ensures)).3
 
 pub returns-in_err-low-clause-adds : goal.returns-in_err-low-clause-adds
 returns-in_err-low-clause-adds t c =
@@ -55,20 +55,20 @@ returns-in_err-made-clause-adds t c =
 
 pub returns-in_err-made-clause-known : goal.returns-in_err-made-clause-known
 returns-in_err-made-clause-known t c = pairs_kept (IsPairOf c.paired-2.new.pairs.keys)
-    (get pair_eq c.paired-2.new.known) c.test.ensures.keeps c.paired-2.ensures.known
+    (get pair_eq c.paired-2.new.known.table) c.test.ensures.keeps c.paired-2.ensures.known
 
-pub returns-in_err-insert-clause-keeps : goal.returns-in_err-insert-clause-keeps
-returns-in_err-insert-clause-keeps t c =
+pub returns-in_err-put-clause-keeps : goal.returns-in_err-put-clause-keeps
+returns-in_err-put-clause-keeps t c =
     keeps_trans (keeps_trans c.paired.ensures.keeps c.paired-2.ensures.keeps) c.test.ensures.keeps
 
-pub returns-in_err-insert-clause-adds : goal.returns-in_err-insert-clause-adds
-returns-in_err-insert-clause-adds t c =
+pub returns-in_err-put-clause-adds : goal.returns-in_err-put-clause-adds
+returns-in_err-put-clause-adds t c =
     let s = c.in-Some-split.ensures in
     adds_sides c.paired.ensures.keeps s.first_sides s.second_sides c.paired.ensures.adds c.paired-2.ensures.adds
 
-pub returns-in_err-insert-clause-known : goal.returns-in_err-insert-clause-known
-returns-in_err-insert-clause-known t c = rw c.in_err-insert.ensures.err
-    (pairs_kept (IsPairOf c.paired-2.new.pairs.keys) (get pair_eq c.paired-2.new.known) c.test.ensures.keeps
+pub returns-in_err-put-clause-known : goal.returns-in_err-put-clause-known
+returns-in_err-put-clause-known t c = rw c.in_err-put.ensures.err
+    (pairs_kept (IsPairOf c.paired-2.new.pairs.keys) (get pair_eq c.paired-2.new.known.table) c.test.ensures.keeps
     c.paired-2.ensures.known)
 
 pub returns-clause-keeps : goal.returns-clause-keeps
@@ -91,8 +91,8 @@ returns-clause-known t c =
     let last = c.test.new.self in
     let pairs = IsPairOf c.paired-2.new.pairs.keys in
     let k = keeps_trans (keeps_trans c.paired.ensures.keeps c.paired-2.ensures.keeps) c.test.ensures.keeps in
-    pairs_more pairs last (get pair_eq c.paired-2.new.known) (get pair_eq c.insert.new.self)
-    c.in_ok-insert.ensures.updates.0 (pairs_kept pairs (get pair_eq c.paired-2.new.known) c.test.ensures.keeps
+    pairs_more pairs last (get pair_eq c.paired-2.new.known.table) (get pair_eq c.put.new.self.table)
+    c.put.ensures.put (pairs_kept pairs (get pair_eq c.paired-2.new.known.table) c.test.ensures.keeps
     c.paired-2.ensures.known) (k.held c.args.first c.requires.first) (k.held c.args.second c.requires.second)
     c.in_ok-made.ensures.held
     (rw (k.same _ c.requires.first, k.same _ c.requires.second) (returns-clause-leaf t c))
