@@ -81,7 +81,7 @@ pub pair_blind : (xs : List (ℕ × ℕ)) → IsDistinct pair_eq xs → (level :
     IsBlind level a → IsBlind level b → IsBlind level c
 pair_blind xs once level a b c h ba bb f g e =
     paired_alike xs once (leaf_at a g) (leaf_at b g) (leaf_at c f) (leaf_at c g) (rw (ba f g e, bb f g e) at (h f))
-        (h g)
+    (h g)
 
 -- a test of two diagrams of pairs is one of the tests' pairs
 pair_test : (xs : List (ℕ × ℕ)) (p : ℕ) (a al ah b bl bh c cl ch : Tree) → IsTestOf p al ah a → IsTestOf p bl bh b →

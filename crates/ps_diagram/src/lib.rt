@@ -8,6 +8,7 @@
 //! | `leaf(value)` | `value` |
 //! | `none()` | none |
 //! | `of_label(labels, label)` | 1 where the label is true, else none |
+//! | `of_proposition(proposition)` | 1 where the proposition is true, else none |
 //! | `of_letter(letter)` | 1 at that letter alone |
 //! | `of_leaves(leaves)` | the one at the letter's place in the list, or none behind its end |
 //! | `overlay(first, second)` | that of the first, or else that of the second; `Clash` exactly where two differ |
@@ -26,9 +27,9 @@
 //! leads alike; both keep each node too. `copy` is a store of the same value.
 //!
 //! A store never drops a node, and equal diagrams are one node, which a hash table finds. `negated`, `guard`, `fill`,
-//! `relabel` and `relabel_from` look at each node below theirs once, `overlay` and `both` at each pair of nodes that they
-//! come to once, `choose` at each three; `of_letter` makes a node for each proposition, `of_label` joins the diagrams of
-//! its operands by halves, `classes` copies the store first.
+//! `relabel` and `relabel_from` look at each node below theirs once, `overlay` and `both` at each pair of nodes that
+//! they come to once, `choose` at each three; `of_letter` makes a node for each proposition, `of_label` joins the
+//! diagrams of its operands by halves, `classes` copies the store first.
 #![tactic(auto)]
 
 mod both;
