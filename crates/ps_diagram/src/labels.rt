@@ -142,8 +142,12 @@ impl Store {
         if value { self.leaf(1) } else { self.none() }
     }
 
-    /// The diagram of a proposition.
-    fn of_proposition(&mut self, proposition: u32) -> Result<Node, AllocError>
+    /// The diagram with the leaf 1 at the letters at which the proposition is true, and without a leaf elsewhere.
+    ///
+    /// # Errors
+    ///
+    /// Fails where a growth was refused.
+    pub fn of_proposition(&mut self, proposition: u32) -> Result<Node, AllocError>
         requires named { proposition < self.old.propositions }
         ensures keeps { Keeps self.old self.new }
         ensures held { IfOk result (λ node. IsNode self.new node) }

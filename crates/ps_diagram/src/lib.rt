@@ -8,6 +8,7 @@
 //! | `leaf(value)` | `value` |
 //! | `none()` | none |
 //! | `of_label(labels, label)` | 1 where the label is true, else none |
+//! | `of_proposition(proposition)` | 1 where the proposition is true, else none |
 //! | `of_letter(letter)` | 1 at that letter alone |
 //! | `of_leaves(leaves)` | the one at the letter's place in the list, or none behind its end |
 //! | `overlay(first, second)` | that of the first, or else that of the second; `Clash` exactly where two differ |

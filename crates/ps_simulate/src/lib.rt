@@ -7,6 +7,8 @@
 //! | `LaneSimulator::new(circuit)`, `step_lanes`, `latch` | 256 runs at once: bit b of word w is run 64·w + b |
 //! | `parse_stimulus(text, width, split)` | the letters of a text, a line of digits each, or the first fault |
 //! | `parse_letters(text, width)` | the same for a text without a lap; the bits are in one list |
+//! | `Places::new(circuit)`, `wire(literal)` | the place of a literal's variable in a table without gaps |
+//! | `output_wires(circuit, places)`, `next_wires` | the wires of the outputs and of the latches' next literals |
 //! | `lasso(circuit, automaton, role, stem, lap)` | the `Verdict` at the first repetition, or a `LassoFault` |
 //! | `LassoFault::number`, `StimulusCause::number`, `name` | a fault or a cause in psyn's list of faults |
 //!
@@ -44,6 +46,8 @@ pub use lanes::LaneSimulator;
 pub use lassos::{LassoFault, Verdict, lasso};
 pub use laws::{circuit_has_one_values, lanes_are_plain_runs, verdict_is_one};
 pub use letters::{Letters, parse_letters};
+pub use places::Places;
+pub use plan::{Wire, next_wires, output_wires};
 pub use role::Role;
 pub use simulator::Simulator;
 pub use stimulus::{

@@ -93,7 +93,15 @@ fn rows_of(alloc: Global, circuit: &Circuit, places: &Places) -> Result<Vec<Row>
 }
 
 /// The outputs' literals.
-fn output_wires(alloc: Global, circuit: &Circuit, places: &Places) -> Result<Vec<Wire>, AllocError>
+///
+/// # Errors
+///
+/// Fails where a growth was refused.
+pub fn output_wires(
+    alloc: Global,
+    circuit: &Circuit,
+    places: &Places,
+) -> Result<Vec<Wire>, AllocError>
     requires { places.now ≡ circuit.now }
     ensures { IfOk result (λ wires. wires.items ≡ map (wire_of circuit.now) circuit.now.outputs) }
 {
@@ -105,7 +113,15 @@ fn output_wires(alloc: Global, circuit: &Circuit, places: &Places) -> Result<Vec
 }
 
 /// The literals of the latches' next values.
-fn next_wires(alloc: Global, circuit: &Circuit, places: &Places) -> Result<Vec<Wire>, AllocError>
+///
+/// # Errors
+///
+/// Fails where a growth was refused.
+pub fn next_wires(
+    alloc: Global,
+    circuit: &Circuit,
+    places: &Places,
+) -> Result<Vec<Wire>, AllocError>
     requires { places.now ≡ circuit.now }
     ensures { IfOk result (λ wires. wires.items ≡ map (λ l. wire_of circuit.now l.next) circuit.now.latches) }
 {

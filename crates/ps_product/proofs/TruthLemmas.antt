@@ -1,0 +1,93 @@
+-- Truths as their table grows, and those of diagrams.
+use Rattle.std.proofs.Common.{◌≡◌, ℕ, ◌<◌, ◌^◌, Bool, true, false, Option, Some, None, refl, ap, sym, ◌∙◌}
+use Rattle.std.proofs.Common.{List, cond, length, set, length-set, get_or-set_same, get_or-set_other, inl, inr}
+use Rattle.std.specs.Prelude.{is_some}
+use Rattle.std.proofs.lemmas.Bool.{cases_eq}
+use Rattle.ps_diagram.specs.Labels.{IsOneOrNone, one_where}
+use Rattle.ps_diagram.specs.Leaves.{chosen, opposite}
+use Rattle.ps_diagram.specs.Letters.{assignment}
+use Rattle.ps_diagram.specs.Table.{Table, IsNode, Keeps, leaf_of}
+use Rattle.ps_diagram.specs.Tree.{leaf_at}
+use Rattle.ps_diagram.proofs.Truths.{opposite_of}
+use Rattle.ps_circuit.specs.Values.{AreValues}
+use Rattle.ps_product.specs.Inner.Knowing.{IsTruthAt, Knows}
+use Rattle.ps_product.specs.Inner.Nets.{value_at}
+use Rattle.ps_product.specs.Truths.{IsTruth, IsVarying, bits_at, truth_at}
+use Rattle.ps_product.specs.declared.site.Site.{Site}
+use Rattle.ps_product.specs.declared.truth.Truth.{Truth}
+use Rattle.ps_product.specs.declared.truth.Truth.TheVariants.{Never, Always, Sometimes}
+
+pub leaf_kept : {t u : Table} {node : ℕ} (letter : ℕ) → Keeps t u → IsNode t node →
+    leaf_of u node letter ≡ leaf_of t node letter
+leaf_kept {node} letter k h = ap (λ x. leaf_at x (assignment letter)) (k.same node h)
+
+varying_kept : {t u : Table} {node : ℕ} → Keeps t u → IsVarying t node → IsVarying u node
+varying_kept {t} {u} {node} k v = record {
+  held = k.held node v.held;
+  leaves = λ letter. let one = v.leaves letter in (one.0, leaf_kept letter k v.held ∙ one.1);
+  varies = λ b all. v.varies b
+      (λ letter lt. sym (leaf_kept letter k v.held) ∙ all letter (rw k.propositions lt));
+}
+
+pub truth_kept : {t u : Table} → Keeps t u → (truth : Truth) → IsTruth t truth → IsTruth u truth
+truth_kept k Never h = tt
+truth_kept k Always h = tt
+truth_kept k (Sometimes node) h = varying_kept k h
+
+pub truth_same : {t u : Table} → Keeps t u → (truth : Truth) → IsTruth t truth → (letter : ℕ) →
+    truth_at u truth letter ≡ truth_at t truth letter
+truth_same k Never h letter = refl
+truth_same k Always h letter = refl
+truth_same k (Sometimes node) h letter = ap is_some (leaf_kept letter k h.held)
+
+pub some_where : (b : Bool) → is_some (one_where b) ≡ b
+some_where true = refl
+some_where false = refl
+
+pub chosen_leaf : (x y z : Option ℕ) → IsOneOrNone y → IsOneOrNone z → IsOneOrNone (chosen x y z)
+chosen_leaf None y z hy hz = hz
+chosen_leaf (Some k) y z hy hz = hy
+
+pub negated_leaf : (x : Option ℕ) → IsOneOrNone x → IsOneOrNone (opposite x)
+negated_leaf x h = (cond h.0 false true, ap opposite h.1 ∙ opposite_of h.0)
+
+-- a truth is right at a place where both are one function of the letter
+pub placed : (s : Site) {t u : Table} (f : ℕ → Bool) (place : ℕ) (truth : Truth) → Keeps t u → IsTruth u truth →
+    ((letter : ℕ) → letter < 2 ^ t.propositions → truth_at u truth letter ≡ f letter) →
+    ((letter : ℕ) (values : List Bool) → letter < 2 ^ t.propositions →
+    AreValues s.net.now (bits_at s.propositions.now letter) s.latches.now values →
+    value_at s.net.now values place ≡ f letter) → IsTruthAt s u place truth
+placed s {t} {u} f place truth k is truths values = record {
+  is_truth = is;
+  holds = λ letter vs lt are.
+      let low : letter < 2 ^ t.propositions = rw k.propositions at lt in
+      truths letter low ∙ sym (values letter vs low are);
+}
+
+-- what is known stays right as the truths' table grows
+pub known_kept : (s : Site) {t u : Table} (known : List (Option Truth)) → Keeps t u → Knows s t known → Knows s u known
+known_kept s {t} {u} known k h = record {
+  size = h.size;
+  each = λ place truth e.
+      let at = h.each place truth e in
+      placed s (λ letter. truth_at t truth letter) place truth k (truth_kept k truth at.is_truth)
+      (λ letter lt. truth_same k truth at.is_truth letter)
+      (λ letter values lt are. sym (at.holds letter values lt are));
+}
+
+-- one more place is known
+pub known_more : (s : Site) {t : Table} (known : List (Option Truth)) {more : List (Option Truth)} (place : ℕ)
+    (truth : Truth) → Knows s t known → place < length known → IsTruthAt s t place truth →
+    more ≡ set known place (Some truth) → Knows s t more
+known_more s known place truth h lt at e = rw e (record {
+  size = length-set known place (Some truth) ∙ h.size;
+  each = λ other found is. elim (cases_eq place other) [
+    | inl same ↦
+        let here : Some truth ≡ Some found =
+        rw (← same, get_or-set_same known place (Some truth) None lt) at is in
+        let same_truth : truth ≡ found = cc in
+        rw (← same, ← same_truth) at
+    | inr differ ↦
+        h.each other found (sym (get_or-set_other known place other (Some truth) None (λ e. differ (sym e))) ∙ is)
+  ];
+})

@@ -1,0 +1,6 @@
+-- What private functions say of each other; no public clause cites these.
+
+pub mod Constants
+pub mod Entries
+pub mod Knowing
+pub mod Nets

@@ -1,0 +1,7 @@
+-- Truths with stamps, of which those of one stamp count.
+use Rattle.std.specs.Prelude.{ℕ, ◌==◌, Option, None, Some, if◌then◌else◌}
+use Rattle.ps_product.specs.declared.known.Entry.{Entry}
+use Rattle.ps_product.specs.declared.truth.Truth.{Truth}
+
+abbrev pub truth_in : ℕ → Entry → Option Truth
+truth_in stamp e = if e.stamp == stamp then Some e.truth else None

@@ -1,0 +1,53 @@
+-- What is known of the places of a circuit at given latches.
+use Rattle.std.specs.Prelude.{◌≡◌, ℕ, ◌^◌, ◌<◌, Bool, List, length, Option, None, Some, All, slice_get}
+use Rattle.std.specs.Prelude.{slice_index_or, slice_set}
+use Rattle.ps_circuit.specs.Circuits.{CircuitData, IsCircuit}
+use Rattle.ps_circuit.specs.Values.{AreValues}
+use Rattle.ps_diagram.specs.Table.{Table}
+use Rattle.ps_product.specs.Inner.Nets.{IsBelow, read_at, value_at}
+use Rattle.ps_product.specs.Truths.{IsTruth, bits_at, truth_at}
+use Rattle.ps_product.specs.declared.site.Site.{Site}
+use Rattle.ps_product.specs.declared.truth.Truth.{Truth}
+use Rattle.ps_simulate.specs.declared.plan.Wire.{Wire}
+use Rattle.ps_simulate.specs.Plans.{variables}
+
+-- nothing is known
+abbrev pub IsForgotten : List (Option Truth) → Type 0
+IsForgotten known = (place : ℕ) → slice_index_or known place None ≡ None
+
+-- a proposition for each input, and a bit for each latch
+pub record IsSite (s : Site) (t : Table) : Type 0 where
+  pub is_circuit : IsCircuit s.net.now
+  pub inputs : length s.propositions.now ≡ length s.net.now.inputs
+  pub named : All (λ p. p < t.propositions) s.propositions.now
+  pub latches : length s.latches.now ≡ length s.net.now.latches
+
+-- the truth is that of the value at the place
+pub record IsTruthAt (s : Site) (t : Table) (place : ℕ) (truth : Truth) : Type 0 where
+  pub is_truth : IsTruth t truth
+  pub holds : (letter : ℕ) (values : List Bool) → letter < 2 ^ t.propositions →
+      AreValues s.net.now (bits_at s.propositions.now letter) s.latches.now values → truth_at t truth letter ≡ value_at
+      s.net.now values place
+
+-- a place for each variable; each truth that is known is right
+pub record Knows (s : Site) (t : Table) (known : List (Option Truth)) : Type 0 where
+  pub size : length known ≡ length (variables s.net.now)
+  pub each : (place : ℕ) (truth : Truth) → slice_index_or known place None ≡ Some truth → IsTruthAt s t place truth
+
+-- the place is known now; or nothing changed, and the place needs a lower one that is not known
+abbrev pub IsStep : CircuitData → ℕ → List (Option Truth) → List (Option Truth) → Option ℕ → Type 0
+IsStep c place old new None = (truth : Truth) × (new ≡ slice_set old place (Some truth))
+IsStep c place old new (Some lower) =
+    (new ≡ old) × IsBelow c place lower × (slice_index_or old lower None ≡ None)
+
+-- the truth is that of what the wire reads
+pub record IsTruthAlong (s : Site) (t : Table) (w : Wire) (truth : Truth) : Type 0 where
+  pub is_truth : IsTruth t truth
+  pub holds : (letter : ℕ) (values : List Bool) → letter < 2 ^ t.propositions →
+      AreValues s.net.now (bits_at s.propositions.now letter) s.latches.now values → truth_at t truth letter ≡ read_at
+      s.net.now values w
+
+pub record AreTruthsAlong (s : Site) (t : Table) (wires : List Wire) (truths : List Truth) : Type 0 where
+  pub one_each : length truths ≡ length wires
+  pub each : (k : ℕ) (w : Wire) (truth : Truth) → slice_get wires k ≡ Some w → slice_get truths k ≡ Some truth →
+      IsTruthAlong s t w truth

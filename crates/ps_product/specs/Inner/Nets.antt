@@ -1,0 +1,44 @@
+-- A circuit whose literals are found by the places of their variables.
+use Rattle.std.specs.Prelude.{◌≡◌, ℕ, ◌+◌, ◌-◌, ◌<◌, ◌≤◌, ◌⊎◌, ◌&&◌, Bool, List, length, map, slice_index_or}
+use Rattle.ps_circuit.specs.declared.parts.Gate.{Gate}
+use Rattle.ps_circuit.specs.Circuits.{CircuitData, IsCircuit, ReadsGate}
+use Rattle.ps_circuit.specs.Values.{AreValues, value_of}
+use Rattle.ps_product.specs.declared.net.Sides.{Sides}
+use Rattle.ps_product.specs.Truths.{wired}
+use Rattle.ps_simulate.specs.declared.plan.Wire.{Wire}
+use Rattle.ps_simulate.specs.Plans.{variables, wire_of}
+
+-- the first place of a gate
+abbrev pub front_of : CircuitData → ℕ
+front_of c = 1 + length c.inputs + length c.latches
+
+abbrev pub sides_of : CircuitData → Gate → Sides
+sides_of c g = record { first = wire_of c g.first; second = wire_of c g.second }
+
+pub record IsNet (c : CircuitData) (front : ℕ) (gates : List Sides) (outputs nexts : List Wire) : Type 0 where
+  pub is_circuit : IsCircuit c
+  pub front_is : front ≡ front_of c
+  pub gates_are : gates ≡ map (sides_of c) c.gates
+  pub outputs_are : outputs ≡ map (wire_of c) c.outputs
+  pub nexts_are : nexts ≡ map (λ l. wire_of c l.next) c.latches
+
+-- the value at a place, and the bit that a wire reads there
+abbrev pub value_at : CircuitData → List Bool → ℕ → Bool
+value_at c values place = value_of values (slice_index_or (variables c) place 0)
+
+abbrev pub read_at : CircuitData → List Bool → Wire → Bool
+read_at c values w = wired w (value_at c values w.place)
+
+-- the place is a gate's, and the other one stands in front of the gates', or is that of a gate which it reads
+pub record IsBelow (c : CircuitData) (place lower : ℕ) : Type 0 where
+  pub behind : front_of c ≤ place
+  pub within : lower < length (variables c)
+  pub below : (lower < front_of c) ⊎ ((front_of c ≤ lower) × ReadsGate c.gates (place - front_of c)
+      (lower - front_of c))
+
+-- the place is a gate's, which reads these two
+pub record IsGateAt (c : CircuitData) (place : ℕ) (s : Sides) : Type 0 where
+  pub first_below : IsBelow c place s.first.place
+  pub second_below : IsBelow c place s.second.place
+  pub meets : (inputs latches values : List Bool) → AreValues c inputs latches values → value_at c values place ≡
+      (read_at c values s.first && read_at c values s.second)

@@ -1,0 +1,52 @@
+-- Truths over letters, in a store of diagrams.
+--     truth_at t truth letter      whether it holds at the letter
+--     IsTruth t truth      it is never, always, or a node that is neither
+--     bits_at propositions letter      the bits of these propositions at a letter
+--     IsTruthOf c propositions latches t truth literal      at each letter of these propositions, which the circuit
+--               reads as its inputs, it is the bit of the literal at these latches
+--     AreTruthsOf      the same of lists
+use Rattle.std.specs.Prelude.{◌≡◌, ℕ, ◌^◌, ◌<◌, Bool, true, false, not, is_some, if◌then◌else◌, List, length, map}
+use Rattle.std.specs.Prelude.{slice_get, Some}
+use Rattle.ps_label.specs.Truth.{is_in}
+use Rattle.ps_circuit.specs.Circuits.{CircuitData}
+use Rattle.ps_circuit.specs.Values.{AreValues, bit_of}
+use Rattle.ps_diagram.specs.Labels.{IsOneOrNone, one_where}
+use Rattle.ps_diagram.specs.Table.{Table, IsNode, leaf_of}
+use Rattle.ps_product.specs.declared.truth.Truth.{Truth}
+use Rattle.ps_product.specs.declared.truth.Truth.TheVariants.{Never, Always, Sometimes}
+use Rattle.ps_simulate.specs.declared.plan.Wire.{Wire}
+
+abbrev pub truth_at : Table → Truth → ℕ → Bool
+truth_at t Never letter = false
+truth_at t Always letter = true
+truth_at t (Sometimes node) letter = is_some (leaf_of t node letter)
+
+-- each leaf is 1, and there is one at some letter, and none at another
+pub record IsVarying (t : Table) (node : ℕ) : Type 0 where
+  pub held : IsNode t node
+  pub leaves : (letter : ℕ) → IsOneOrNone (leaf_of t node letter)
+  pub varies : (b : Bool) → ¬ ((letter : ℕ) → letter < 2 ^ t.propositions → leaf_of t node letter ≡ one_where b)
+
+abbrev pub IsTruth : Table → Truth → Type 0
+IsTruth t Never = Unit {0}
+IsTruth t Always = Unit {0}
+IsTruth t (Sometimes node) = IsVarying t node
+
+-- the bit that a wire makes of that of its place
+abbrev pub wired : Wire → Bool → Bool
+wired w b = if w.is_negated then not b else b
+
+abbrev pub bits_at : List ℕ → ℕ → List Bool
+bits_at propositions letter = map (λ p. is_in p letter) propositions
+
+pub record IsTruthOf (c : CircuitData) (propositions : List ℕ) (latches : List Bool) (t : Table) (truth : Truth)
+    (literal : ℕ) : Type 0 where
+  pub is_truth : IsTruth t truth
+  pub holds : (letter : ℕ) (values : List Bool) → letter < 2 ^ t.propositions →
+      AreValues c (bits_at propositions letter) latches values → truth_at t truth letter ≡ bit_of values literal
+
+pub record AreTruthsOf (c : CircuitData) (propositions : List ℕ) (latches : List Bool) (t : Table)
+    (truths : List Truth) (literals : List ℕ) : Type 0 where
+  pub one_each : length truths ≡ length literals
+  pub each : (k literal : ℕ) (truth : Truth) → slice_get truths k ≡ Some truth → slice_get literals k ≡ Some literal →
+      IsTruthOf c propositions latches t truth literal

@@ -1,0 +1,125 @@
+//! Outputs and next latches as truths.
+
+ghost use Rattle.std.specs.Prelude.{◌≡◌, ◌<◌, length, map, All, IfOk};
+ghost use Rattle.ps_diagram.specs.Table.{Keeps};
+ghost use Rattle.ps_product.specs.Inner.Knowing.{AreTruthsAlong, IsSite, Knows};
+ghost use Rattle.ps_product.specs.Truths.{AreTruthsOf};
+ghost use Rattle.ps_simulate.specs.Plans.{variables};
+
+use crate::known::Known;
+use crate::net::Net;
+use crate::site::Site;
+use crate::truth::{Truth, Truths};
+use ps_circuit::Circuit;
+use ps_simulate::Wire;
+use std::alloc::{AllocError, Global};
+use std::marker::Model;
+
+/// What a circuit does at given latches.
+#[derive(Drop)]
+pub struct Outcome {
+    /// The truth of each output.
+    pub outputs: Vec<Truth>,
+    /// The truth of each latch in the next step.
+    pub nexts: Vec<Truth>,
+}
+
+/// Works out what a circuit does at given latches, at all letters at once.
+#[derive(Drop)]
+pub struct Evaluator<'a> {
+    alloc: Global,
+    net: Net<'a>,
+    known: Known,
+    stack: Vec<u32>,
+}
+
+impl<'a> Model for Evaluator<'a> {
+    ghost use Rattle.std.specs.Prelude.{◌≡◌, length};
+    ghost use Rattle.ps_circuit.specs.Circuits.{CircuitData};
+    ghost use Rattle.ps_simulate.specs.Plans.{variables};
+
+    ghost Value = { CircuitData };
+
+    ghost view = { λ e. e.net };
+
+    ghost invariant = { λ e. length e.known ≡ length (variables e.net) };
+}
+
+impl<'a> Evaluator<'a> {
+    /// An evaluator of a circuit.
+    ///
+    /// # Errors
+    ///
+    /// Fails where a growth was refused.
+    pub fn new(alloc: Global, circuit: &'a Circuit) -> Result<Self, AllocError>
+        ensures { IfOk result (λ evaluator. evaluator ≡ circuit.now) }
+    {
+        let net = Net::new(alloc, circuit)?;
+        let known = Known::new(alloc, net.size())?;
+        Ok(Evaluator {
+            alloc,
+            net,
+            known,
+            stack: Vec::new(alloc),
+        })
+    }
+
+    /// The truths of the outputs and of the next latches, at given latches, over the letters of the propositions that
+    /// the inputs are.
+    ///
+    /// # Errors
+    ///
+    /// Fails where a growth was refused.
+    pub fn at(
+        &mut self,
+        propositions: &[u32],
+        latches: &[bool],
+        truths: &mut Truths,
+    ) -> Result<Outcome, AllocError>
+        requires inputs { length propositions.now ≡ length self.old.inputs }
+        requires named { All (λ p. p < truths.old.propositions) propositions.now }
+        requires latches { length latches.now ≡ length self.old.latches }
+        ensures circuit { self.new ≡ self.old }
+        ensures keeps { Keeps truths.old truths.new }
+        ensures outputs { IfOk result (λ o. AreTruthsOf self.old propositions.now latches.now truths.new
+            o.outputs.items self.old.outputs) }
+        ensures nexts { IfOk result (λ o. AreTruthsOf self.old propositions.now latches.now truths.new o.nexts.items
+            (map (λ l. l.next) self.old.latches)) }
+    {
+        self.known.forget();
+        let site = Site {
+            net: &self.net,
+            propositions,
+            latches,
+        };
+        let (known, stack) = (&mut self.known, &mut self.stack);
+        let outputs = truths_of(self.alloc, site, known, stack, truths, self.net.outputs())?;
+        let nexts = truths_of(self.alloc, site, known, stack, truths, self.net.nexts())?;
+        Ok(Outcome { outputs, nexts })
+    }
+}
+
+/// The truths of literals by their wires.
+fn truths_of(
+    alloc: Global,
+    site: Site,
+    known: &mut Known,
+    stack: &mut Vec<u32>,
+    truths: &mut Truths,
+    wires: &[Wire],
+) -> Result<Vec<Truth>, AllocError>
+    requires site { IsSite site truths.old }
+    requires within { All (λ w. w.place < length (variables site.net.now)) wires.now }
+    requires knows { Knows site truths.old known.old }
+    ensures keeps { Keeps truths.old truths.new }
+    ensures knows { Knows site.entry truths.new known.new }
+    ensures truths { IfOk result (λ made. AreTruthsAlong site.entry truths.new wires.now made.items) }
+{
+    let mut made = Vec::new(alloc);
+    for wire in wires {
+        site.settle(known, stack, truths, wire.place)?;
+        let truth = known.get(wire.place).unwrap();
+        made.push(truths.along(truth, *wire)?)?;
+    }
+    Ok(made)
+}

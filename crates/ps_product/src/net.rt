@@ -1,0 +1,141 @@
+//! A circuit whose literals are found by places.
+
+ghost use Rattle.std.specs.Prelude.{◌≡◌, ℕ, ◌<◌, length, map, IfOk, IsTrue, MatchOption};
+ghost use Rattle.ps_circuit.specs.Circuits.{CircuitData, IsCircuit};
+ghost use Rattle.ps_product.specs.Inner.Nets.{IsGateAt, front_of, sides_of};
+ghost use Rattle.ps_simulate.specs.Plans.{variables, wire_of};
+
+use ps_circuit::Circuit;
+use ps_simulate::{Places, Wire, next_wires, output_wires};
+use std::alloc::{AllocError, Global};
+use std::marker::Model;
+
+/// The two literals that a gate reads.
+#[derive(Clone, Copy)]
+pub(crate) struct Sides {
+    /// The first.
+    pub first: Wire,
+    /// The second.
+    pub second: Wire,
+}
+
+impl Sides {
+    /// The same with the one that lies lower first.
+    pub fn lower_first(self) -> Self
+        ensures { (c : CircuitData) (place : ℕ) → IsGateAt c place self → IsGateAt c place result }
+    {
+        if self.first.place <= self.second.place {
+            return self;
+        }
+        Sides {
+            first: self.second,
+            second: self.first,
+        }
+    }
+}
+
+/// A circuit, and the literals that it reads, by the places of their variables: the constant has place 0, and then come
+/// the inputs, the latches and the gates.
+#[derive(Drop)]
+pub(crate) struct Net<'a> {
+    circuit: &'a Circuit,
+    front: usize,
+    gates: Vec<Sides>,
+    outputs: Vec<Wire>,
+    nexts: Vec<Wire>,
+}
+
+impl<'a> Model for Net<'a> {
+    ghost use Rattle.ps_circuit.specs.Circuits.{CircuitData};
+    ghost use Rattle.ps_product.specs.Inner.Nets.{IsNet};
+
+    ghost Value = { CircuitData };
+
+    ghost view = { λ n. n.circuit.now };
+
+    ghost invariant = { λ n. IsNet n.circuit.now n.front n.gates.items n.outputs.items n.nexts.items };
+}
+
+impl<'a> Net<'a> {
+    /// The net of a circuit.
+    pub fn new(alloc: Global, circuit: &'a Circuit) -> Result<Self, AllocError>
+        ensures { IfOk result (λ net. net ≡ circuit.now) }
+    {
+        let places = Places::new(alloc, circuit)?;
+        Net::by_places(alloc, circuit, &places)
+    }
+
+    /// The net of a circuit whose variables have these places.
+    fn by_places(alloc: Global, circuit: &'a Circuit, places: &Places) -> Result<Self, AllocError>
+        requires { places.now ≡ circuit.now }
+        ensures { IfOk result (λ net. net ≡ circuit.now) }
+    {
+        let gates = gate_sides(alloc, circuit, places)?;
+        let outputs = output_wires(alloc, circuit, places)?;
+        let nexts = next_wires(alloc, circuit, places)?;
+        Ok(Net {
+            circuit,
+            front: 1 + circuit.inputs().len() + circuit.latches().len(),
+            gates,
+            outputs,
+            nexts,
+        })
+    }
+
+    /// The circuit.
+    pub fn circuit(&self) -> &Circuit
+        ensures circuit { result.now ≡ self.now }
+        ensures well_formed { IsCircuit self.now }
+    {
+        self.circuit
+    }
+
+    /// How many places there are.
+    pub fn size(&self) -> usize
+        ensures { result ≡ length (variables self.now) }
+    {
+        self.front + self.gates.len()
+    }
+
+    /// What the gate at a place reads, if it is a gate's.
+    pub fn gate(&self, place: u32) -> Option<Sides>
+        requires { place < length (variables self.now) }
+        ensures { MatchOption result (place < front_of self.now) (λ sides. IsGateAt self.now place sides) }
+    {
+        let place = place as usize;
+        if place < self.front {
+            return None;
+        }
+        Some(self.gates[place - self.front])
+    }
+
+    /// The literals of the outputs.
+    pub fn outputs(&self) -> &[Wire]
+        ensures wires { result.now ≡ map (wire_of self.now) self.now.outputs }
+        ensures well_formed { IsCircuit self.now }
+    {
+        &self.outputs
+    }
+
+    /// The literals of the latches' next values.
+    pub fn nexts(&self) -> &[Wire]
+        ensures { result.now ≡ map (λ l. wire_of self.now l.next) self.now.latches }
+    {
+        &self.nexts
+    }
+}
+
+/// What each gate reads.
+fn gate_sides(alloc: Global, circuit: &Circuit, places: &Places) -> Result<Vec<Sides>, AllocError>
+    requires { places.now ≡ circuit.now }
+    ensures { IfOk result (λ sides. sides.items ≡ map (sides_of circuit.now) circuit.now.gates) }
+{
+    let mut sides = Vec::new(alloc);
+    for gate in circuit.gates() {
+        sides.push(Sides {
+            first: places.wire(gate.first),
+            second: places.wire(gate.second),
+        })?;
+    }
+    Ok(sides)
+}

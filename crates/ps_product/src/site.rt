@@ -1,0 +1,150 @@
+//! A circuit at given latches, gate by gate.
+
+ghost use Rattle.std.specs.Prelude.{◌≡◌, ℕ, ◌^◌, ◌<◌, ◌&&◌, length, slice_index_or, IfOk, IsSome, IsTrue, None, not};
+ghost use Rattle.std.specs.Prelude.{if◌then◌else◌, OnOk};
+ghost use Rattle.std.specs.Prelude.{false};
+ghost use Rattle.ps_diagram.specs.Table.{Keeps, Table};
+ghost use Rattle.ps_product.specs.Inner.Knowing.{IsSite, IsStep, IsTruthAt, Knows};
+ghost use Rattle.ps_product.specs.Inner.Nets.{IsGateAt, front_of};
+ghost use Rattle.ps_product.specs.Truths.{IsTruth, truth_at, wired};
+ghost use Rattle.ps_simulate.specs.Plans.{variables};
+
+use crate::known::Known;
+use crate::net::{Net, Sides};
+use crate::truth::{Truth, Truths};
+use ps_simulate::Wire;
+use std::alloc::AllocError;
+
+/// A circuit at given latches, whose inputs are propositions.
+#[derive(Clone, Copy)]
+pub(crate) struct Site<'s, 'c> {
+    /// The circuit.
+    pub net: &'s Net<'c>,
+    /// The proposition of each input.
+    pub propositions: &'s [u32],
+    /// The value of each latch.
+    pub latches: &'s [bool],
+}
+
+impl<'s, 'c> Site<'s, 'c> {
+    /// Makes the truth at a place known, and what it needs of the truths below.
+    pub fn settle(
+        self,
+        known: &mut Known,
+        stack: &mut Vec<u32>,
+        truths: &mut Truths,
+        place: u32,
+    ) -> Result<(), AllocError>
+        requires site { IsSite self truths.old }
+        requires within { place < length (variables self.net.now) }
+        requires knows { Knows self truths.old known.old }
+        ensures keeps { Keeps truths.old truths.new }
+        ensures knows { Knows self.entry truths.new known.new }
+        ensures here { OnOk result (IsSome (slice_index_or known.new place None)) }
+    {
+        if known.get(place).is_some() {
+            return Ok(());
+        }
+        let order = self.net.circuit().order();
+        stack.clear();
+        stack.push(place)?;
+        while let Some(&top) = stack.last() {
+            // what a gate reads stands before it there, so this comes to an end
+            let _ = order;
+            let Some(lower) = self.step(known, truths, top)? else {
+                let _ = stack.pop();
+                continue;
+            };
+            stack.push(lower)?;
+        }
+        Ok(())
+    }
+
+    /// What is done for a place of which nothing is known: it becomes known, or the answer is a lower place that has to
+    /// be known before.
+    fn step(
+        self,
+        known: &mut Known,
+        truths: &mut Truths,
+        place: u32,
+    ) -> Result<Option<u32>, AllocError>
+        requires site { IsSite self truths.old }
+        requires within { place < length (variables self.net.now) }
+        requires knows { Knows self truths.old known.old }
+        ensures keeps { Keeps truths.old truths.new }
+        ensures knows { Knows self.entry truths.new known.new }
+        ensures step { IfOk result (IsStep self.entry.net.now place known.old known.new) }
+        ensures size { length known.new ≡ length known.old }
+    {
+        let Some(sides) = self.net.gate(place) else {
+            let truth = self.given(truths, place)?;
+            known.put(place, truth);
+            return Ok(None);
+        };
+        let sides = sides.lower_first();
+        let Some(one) = known.get(sides.first.place) else {
+            return Ok(Some(sides.first.place));
+        };
+        if is_never(&one, sides.first.is_negated) {
+            known.put(place, Truth::Never);
+            return Ok(None);
+        }
+        let Some(other) = known.get(sides.second.place) else {
+            return Ok(Some(sides.second.place));
+        };
+        let truth = conjunction(truths, sides, one, other)?;
+        known.put(place, truth);
+        Ok(None)
+    }
+
+    /// The truth at a place that is no gate's: the constant, an input or a latch.
+    fn given(self, truths: &mut Truths, place: u32) -> Result<Truth, AllocError>
+        requires site { IsSite self truths.old }
+        requires front { place < front_of self.net.now }
+        ensures keeps { Keeps truths.old truths.new }
+        ensures truth { IfOk result (λ truth. IsTruthAt self.entry truths.new place truth) }
+    {
+        let place = place as usize;
+        if place == 0 {
+            return Ok(Truth::Never);
+        }
+        let inputs = self.propositions.len();
+        if place <= inputs {
+            let truth = truths.proposition(self.propositions[place - 1])?;
+            return Ok(truth);
+        }
+        Ok(Truth::constant(self.latches[place - inputs - 1]))
+    }
+}
+
+/// Whether the truth, negated or not, is seen to hold never.
+fn is_never(truth: &Truth, is_negated: bool) -> bool
+    ensures { IsTrue result → (table : Table) (letter : ℕ) →
+        (if is_negated then not (truth_at table truth.now letter) else truth_at table truth.now letter) ≡ false }
+{
+    match truth {
+        Truth::Never => !is_negated,
+        Truth::Always => is_negated,
+        Truth::Sometimes(_) => false,
+    }
+}
+
+/// The truth of a gate that reads these two, from the truths at their places.
+fn conjunction(
+    truths: &mut Truths,
+    sides: Sides,
+    one: Truth,
+    other: Truth,
+) -> Result<Truth, AllocError>
+    requires one { IsTruth truths.old one }
+    requires other { IsTruth truths.old other }
+    ensures keeps { Keeps truths.old truths.new }
+    ensures is_truth { IfOk result (λ made. IsTruth truths.new made) }
+    ensures truth { IfOk result (λ made. (letter : ℕ) → letter < 2 ^ truths.old.propositions →
+        truth_at truths.new made letter ≡
+        (wired sides.first (truth_at truths.old one letter) && wired sides.second (truth_at truths.old other letter))) }
+{
+    let one = truths.along(one, sides.first)?;
+    let other = truths.along(other, sides.second)?;
+    truths.both(one, other)
+}

@@ -1,0 +1,172 @@
+//! Truths over letters.
+
+ghost use Rattle.std.specs.Prelude.{◌≡◌, ℕ, ◌^◌, ◌<◌, ◌≤◌, ◌&&◌, not, is_some, IfOk};
+ghost use Rattle.ps_label.specs.Truth.{is_in};
+ghost use Rattle.ps_diagram.specs.Labels.{IsOneOrNone};
+ghost use Rattle.ps_diagram.specs.Table.{IsNode, Keeps, Table, leaf_of};
+ghost use Rattle.ps_product.specs.Truths.{IsTruth, truth_at, wired};
+
+use ps_diagram::{Node, Store};
+use ps_simulate::Wire;
+use std::alloc::{AllocError, Global};
+use std::marker::Model;
+
+/// A truth over letters.
+#[derive(Debug, Clone, Copy)]
+pub enum Truth {
+    /// It holds at no letter.
+    Never,
+    /// It holds at every letter.
+    Always,
+    /// It holds at some letters, at which the node has a leaf, and not at others.
+    Sometimes(Node),
+}
+
+impl Truth {
+    /// The truth that is that bit at every letter.
+    pub fn constant(bit: bool) -> Self
+        ensures truth { (table : Table) (letter : ℕ) → truth_at table result letter ≡ bit }
+        ensures is_truth { (table : Table) → IsTruth table result }
+    {
+        if bit { Truth::Always } else { Truth::Never }
+    }
+}
+
+/// Truths over the letters of so many propositions, in a store of their own.
+#[derive(Drop)]
+pub struct Truths {
+    store: Store,
+    none: Node,
+    one: Node,
+}
+
+impl Model for Truths {
+    ghost use Rattle.ps_diagram.specs.Table.{Table};
+    ghost use Rattle.ps_product.specs.Inner.Constants.{HasConstants};
+
+    ghost Value = { Table };
+
+    ghost view = { λ t. t.store };
+
+    ghost invariant = { λ t. HasConstants t.store t.none t.one };
+}
+
+impl Truths {
+    /// No truths yet.
+    ///
+    /// # Errors
+    ///
+    /// Fails where a growth was refused.
+    pub fn new(alloc: Global, propositions: u32) -> Result<Self, AllocError>
+        requires few { propositions ≤ 64 }
+        ensures { IfOk result (λ truths. truths.propositions ≡ propositions) }
+    {
+        let mut store = Store::new(alloc, propositions);
+        let none = store.none()?;
+        let one = store.leaf(1)?;
+        Ok(Truths { store, none, one })
+    }
+
+    /// The store in which the nodes of truths stand.
+    pub fn store(&self) -> &Store
+        ensures { result.now ≡ self.now }
+    {
+        &self.store
+    }
+
+    /// The truth of a proposition.
+    ///
+    /// # Errors
+    ///
+    /// Fails where a growth was refused.
+    pub fn proposition(&mut self, proposition: u32) -> Result<Truth, AllocError>
+        requires named { proposition < self.old.propositions }
+        ensures keeps { Keeps self.old self.new }
+        ensures is_truth { IfOk result (λ truth. IsTruth self.new truth) }
+        ensures truth { IfOk result (λ truth. (letter : ℕ) → letter < 2 ^ self.old.propositions →
+            truth_at self.new truth letter ≡ is_in proposition letter) }
+    {
+        let node = self.store.of_proposition(proposition)?;
+        Ok(self.truth_of(node))
+    }
+
+    /// The truth that holds where both do.
+    ///
+    /// # Errors
+    ///
+    /// Fails where a growth was refused.
+    pub fn both(&mut self, first: Truth, second: Truth) -> Result<Truth, AllocError>
+        requires first { IsTruth self.old first }
+        requires second { IsTruth self.old second }
+        ensures keeps { Keeps self.old self.new }
+        ensures is_truth { IfOk result (λ truth. IsTruth self.new truth) }
+        ensures truth { IfOk result (λ truth. (letter : ℕ) → letter < 2 ^ self.old.propositions →
+            truth_at self.new truth letter ≡ (truth_at self.old first letter && truth_at self.old second letter)) }
+    {
+        let one = match first {
+            Truth::Never => return Ok(Truth::Never),
+            Truth::Always => return Ok(second),
+            Truth::Sometimes(node) => node,
+        };
+        let other = match second {
+            Truth::Never => return Ok(Truth::Never),
+            Truth::Always => return Ok(first),
+            Truth::Sometimes(node) => node,
+        };
+        let node = self.store.choose(one, other, self.none)?;
+        Ok(self.truth_of(node))
+    }
+
+    /// The truth that holds where this one does not.
+    ///
+    /// # Errors
+    ///
+    /// Fails where a growth was refused.
+    pub fn negated(&mut self, truth: Truth) -> Result<Truth, AllocError>
+        requires held { IsTruth self.old truth }
+        ensures keeps { Keeps self.old self.new }
+        ensures is_truth { IfOk result (λ made. IsTruth self.new made) }
+        ensures truth { IfOk result (λ made. (letter : ℕ) → letter < 2 ^ self.old.propositions →
+            truth_at self.new made letter ≡ not (truth_at self.old truth letter)) }
+    {
+        match truth {
+            Truth::Never => Ok(Truth::Always),
+            Truth::Always => Ok(Truth::Never),
+            Truth::Sometimes(node) => {
+                let node = self.store.negated(node)?;
+                Ok(self.truth_of(node))
+            }
+        }
+    }
+
+    /// The truth, negated where the wire is.
+    pub(crate) fn along(&mut self, truth: Truth, wire: Wire) -> Result<Truth, AllocError>
+        requires held { IsTruth self.old truth }
+        ensures keeps { Keeps self.old self.new }
+        ensures is_truth { IfOk result (λ made. IsTruth self.new made) }
+        ensures truth { IfOk result (λ made. (letter : ℕ) → letter < 2 ^ self.old.propositions →
+            truth_at self.new made letter ≡ wired wire (truth_at self.old truth letter)) }
+    {
+        if wire.is_negated {
+            return self.negated(truth);
+        }
+        Ok(truth)
+    }
+
+    /// The truth of a diagram whose leaves are 1.
+    fn truth_of(&self, node: Node) -> Truth
+        requires held { IsNode self.now node }
+        requires leaves { (letter : ℕ) → IsOneOrNone (leaf_of self.now node letter) }
+        ensures is_truth { IsTruth self.now result }
+        ensures truth { (letter : ℕ) → letter < 2 ^ self.now.propositions →
+            truth_at self.now result letter ≡ is_some (leaf_of self.now node letter) }
+    {
+        if self.store.same(node, self.none) {
+            return Truth::Never;
+        }
+        if self.store.same(node, self.one) {
+            return Truth::Always;
+        }
+        Truth::Sometimes(node)
+    }
+}
