@@ -243,9 +243,8 @@ fn node_of_union(pairs: &mut Pairs, levels: &Levels, union: &Union) -> Result<No
         (unwrap_or (option_map (λ k. slice_index places k) (leaf_of pairs.old.store union.now.node letter)) 0))) }
 {
     let places = places_of(pairs.alloc, &mut pairs.steps, levels, union.targets.list())?;
-    let named = pairs.store.relabel(union.node, &places)?;
-    let filled = pairs.store.fill(named, 0)?;
-    Ok(filled)
+    let named = pairs.store.relabel_or(union.node, &places, 0)?;
+    Ok(named)
 }
 
 /// The places of the steps to targets.

@@ -32,6 +32,29 @@ pub(crate) fn taken(store: &mut Store, guards: &Guards, edge: &Edge) -> Result<N
     }
 }
 
+/// The diagram with that leaf at the letters at which an edge of the row is taken.
+pub(crate) fn marked(
+    store: &mut Store,
+    guards: &Guards,
+    edge: &Edge,
+    value: u64,
+) -> Result<Node, AllocError>
+    requires ready { IsReady store.old guards.now }
+    requires fit { IsFit guards.now.file.now (edge_data edge.now).guard }
+    ensures keeps { OnOk result (Keeps store.old store.new) }
+    ensures held { IfOk result (λ node. IsNode store.new node) }
+    ensures shows { IfOk result (λ node. ShowsEdge guards.now.file.now (row_data guards.now.row.now)
+        (edge_data edge.now) store.new node value) }
+{
+    match &edge.guard {
+        Guard::Stated(label) => store.of_label_as(guards.aliases, label, value),
+        _ => {
+            let letters = taken(store, guards, edge)?;
+            store.guard(letters, value)
+        }
+    }
+}
+
 /// Whether some letter has a leaf in both diagrams.
 fn meet(store: &mut Store, one: Node, other: Node) -> Result<bool, AllocError>
     requires one { IsNode store.old one }

@@ -8,7 +8,7 @@ ghost use Rattle.ps_automaton.specs.Inner.Drafts.{IsReady, IsRowFault, IsUnion};
 use crate::fault::AutomatonFault;
 use crate::guards::Guards;
 use crate::places::Places;
-use crate::taken::{first_clash, taken};
+use crate::taken::{first_clash, marked};
 use crate::targets::target_of;
 use ps_diagram::{Node, OverlayError, Store};
 use std::alloc::Global;
@@ -76,9 +76,8 @@ fn add(
 {
     let edge = &guards.row.edges[place];
     let target = union.targets.place_of(target_of(guards.row, edge))?;
-    let letters = taken(store, guards, edge)?;
-    let marked = store.guard(letters, target as u64)?;
-    match store.overlay(union.node, marked) {
+    let letters = marked(store, guards, edge, target as u64)?;
+    match store.overlay(union.node, letters) {
         Ok(node) => {
             union.node = node;
             Ok(())

@@ -5,7 +5,7 @@ use Rattle.std.specs.Prelude.{◌&&◌, ◌||◌}
 use Rattle.std.proofs.lemmas.Nat.{one_shl}
 use Rattle.std.proofs.lemmas.Nat.Bits.{bit_at_or, bit_at-lt, bit_at-pow_same, bit_at-pow_other}
 use Rattle.ps_label.specs.Truth.{is_in}
-use Rattle.ps_diagram.specs.Labels.{one_where}
+use Rattle.ps_diagram.specs.Labels.{leaf_where}
 use Rattle.ps_diagram.specs.Letters.{assignment}
 use Rattle.ps_diagram.specs.Table.{Table, tree_of}
 use Rattle.ps_diagram.specs.Tree.{Tree, leaf_at, IsBlind, IsTestOf}
@@ -145,10 +145,10 @@ unfolding all_allowed
 meets_none f level zero = refl
 meets_none f level (suc n) = rw (none_allows level (f level)) (meets_none f (level + 1) n)
 
--- Of the propositions from the level on and below n, the tree has the leaf 1 where the product lets all be as they are,
+-- Of the propositions from the level on and below n, the tree has that leaf where the product lets all be as they are,
 -- and else none.
-pub record IsProduct (n level : ℕ) (product : Product) (t : Tree) : Type 0 where
-  pub leaf : (f : ℕ → Bool) → leaf_at t f ≡ one_where (all_allowed (allows product) f level (n - level))
+pub record IsProduct (value n level : ℕ) (product : Product) (t : Tree) : Type 0 where
+  pub leaf : (f : ℕ → Bool) → leaf_at t f ≡ leaf_where value (all_allowed (allows product) f level (n - level))
 
 same_letters : (may : ℕ → Bool → Bool) (f g : ℕ → Bool) (level count : ℕ) → ((q : ℕ) → level ≤ q → f q ≡ g q) →
     all_allowed may f level count ≡ all_allowed may g level count
@@ -157,49 +157,49 @@ same_letters may f g level zero same = refl
 same_letters may f g level (suc count) same =
     rw (same level (omega arith), same_letters may f g (level + 1) count (λ q le. same q (omega arith))) refl
 
-product_blind : {n level : ℕ} {product : Product} {t : Tree} → IsProduct n level product t → IsBlind level t
-product_blind {n} {level} {product} h f g same = h.leaf f
-    ∙ ap one_where (same_letters (allows product) f g level (n - level) same) ∙ sym (h.leaf g)
+product_blind : {value n level : ℕ} {product : Product} {t : Tree} → IsProduct value n level product t → IsBlind level t
+product_blind {value} {n} {level} {product} h f g same = h.leaf f
+    ∙ ap (leaf_where value) (same_letters (allows product) f g level (n - level) same) ∙ sym (h.leaf g)
 
-pub product_begins : {n level : ℕ} {product : Product} {t : Tree} → level ≡ n →
-    ((f : ℕ → Bool) → leaf_at t f ≡ one_where true) → IsProduct n level product t
+pub product_begins : {value n level : ℕ} {product : Product} {t : Tree} → level ≡ n →
+    ((f : ℕ → Bool) → leaf_at t f ≡ leaf_where value true) → IsProduct value n level product t
 unfolding all_allowed
-product_begins {n} {level} same h = record {
+product_begins {value} {n} {level} same h = record {
   leaf = λ f. let none : n - level ≡ 0 = omega arith in rw none (h f);
 }
 
-side_leaf : (t : Table) (b : Bool) (none node side : ℕ) (f : ℕ → Bool) (rest : Bool) → side ≡ cond b none node →
-    leaf_at (tree_of t none) f ≡ None → leaf_at (tree_of t node) f ≡ one_where rest →
-    leaf_at (tree_of t side) f ≡ one_where (cond b false true && rest)
-side_leaf t true none node side f rest e empty h = rw e empty
-side_leaf t false none node side f rest e empty h = rw e h
+side_leaf : (t : Table) (value : ℕ) (b : Bool) (none node side : ℕ) (f : ℕ → Bool) (rest : Bool) → side ≡ cond b none node →
+    leaf_at (tree_of t none) f ≡ None → leaf_at (tree_of t node) f ≡ leaf_where value rest →
+    leaf_at (tree_of t side) f ≡ leaf_where value (cond b false true && rest)
+side_leaf t value true none node side f rest e empty h = rw e empty
+side_leaf t value false none node side f rest e empty h = rw e h
 
-pub side_blind : (t : Table) {n level : ℕ} {product : Product} (b : Bool) (none node side : ℕ) →
+pub side_blind : (t : Table) {value n level : ℕ} {product : Product} (b : Bool) (none node side : ℕ) →
     side ≡ cond b none node → ((f : ℕ → Bool) → leaf_at (tree_of t none) f ≡ None) →
-    IsProduct n level product (tree_of t node) → IsBlind level (tree_of t side)
+    IsProduct value n level product (tree_of t node) → IsBlind level (tree_of t side)
 side_blind t true none node side e empty h = rw e (λ f g same. empty f ∙ sym (empty g))
 side_blind t false none node side e empty h = rw e (product_blind h)
 
 -- the leaf of a test whose sides are products
-tested : (b x y rest : Bool) → cond b (one_where (x && rest)) (one_where (y && rest)) ≡ one_where (cond b x y && rest)
-tested true x y rest = refl
-tested false x y rest = refl
+tested : (value : ℕ) (b x y rest : Bool) → cond b (leaf_where value (x && rest)) (leaf_where value (y && rest)) ≡ leaf_where value (cond b x y && rest)
+tested value true x y rest = refl
+tested value false x y rest = refl
 
 -- one step of the loop, which counts down
-pub product_next : {n m i : ℕ} {product : Product} (t : Table) (none node low high : ℕ) {made : Tree} → m ≡ n →
-    0 < i → i ≤ n → ((f : ℕ → Bool) → leaf_at (tree_of t none) f ≡ None) → IsProduct n i product (tree_of t node) →
+pub product_next : {value n m i : ℕ} {product : Product} (t : Table) (none node low high : ℕ) {made : Tree} → m ≡ n →
+    0 < i → i ≤ n → ((f : ℕ → Bool) → leaf_at (tree_of t none) f ≡ None) → IsProduct value n i product (tree_of t node) →
     low ≡ cond (is_in (i - 1) product.positive) none node → high ≡ cond (is_in (i - 1) product.negative) none node →
-    IsTestOf (i - 1) (tree_of t low) (tree_of t high) made → IsProduct m (i - 1) product made
+    IsTestOf (i - 1) (tree_of t low) (tree_of t high) made → IsProduct value m (i - 1) product made
 unfolding all_allowed
-product_next {n} {m} {i} {product} t none node low high same some le empty h lo hi is = record {
+product_next {value} {n} {m} {i} {product} t none node low high same some le empty h lo hi is = record {
   leaf = λ f.
       let next : i - 1 + 1 ≡ i = omega arith in
       let count : m - (i - 1) ≡ suc (n - i) = omega arith in
       let rest = all_allowed (allows product) f i (n - i) in
-      let down : leaf_at (tree_of t low) f ≡ one_where (cond (is_in (i - 1) product.positive) false true && rest) =
-      side_leaf t (is_in (i - 1) product.positive) none node low f rest lo (empty f) (h.leaf f) in
-      let up : leaf_at (tree_of t high) f ≡ one_where (cond (is_in (i - 1) product.negative) false true && rest) =
-      side_leaf t (is_in (i - 1) product.negative) none node high f rest hi (empty f) (h.leaf f) in
-      rw (count, next, is f, down, up) (tested (f (i - 1)) (cond (is_in (i - 1) product.negative) false true)
+      let down : leaf_at (tree_of t low) f ≡ leaf_where value (cond (is_in (i - 1) product.positive) false true && rest) =
+      side_leaf t value (is_in (i - 1) product.positive) none node low f rest lo (empty f) (h.leaf f) in
+      let up : leaf_at (tree_of t high) f ≡ leaf_where value (cond (is_in (i - 1) product.negative) false true && rest) =
+      side_leaf t value (is_in (i - 1) product.negative) none node high f rest hi (empty f) (h.leaf f) in
+      rw (count, next, is f, down, up) (tested value (f (i - 1)) (cond (is_in (i - 1) product.negative) false true)
       (cond (is_in (i - 1) product.positive) false true) rest);
 }

@@ -1,6 +1,7 @@
 -- Diagrams of truths: what is made of them, and that they stay as the table grows.
 use Rattle.std.proofs.Common.{◌≡◌, ℕ, ◌+◌, ◌<◌, Bool, true, false, cond, List, [], ◌∷◌, ◌++◌, length, get_or, Option}
 use Rattle.std.proofs.Common.{Some, refl, ap, sym, ◌∙◌, arith, drop, drop-cons, add-one, length-append, rules}
+use Rattle.std.specs.Prelude.{option_map}
 use Rattle.std.proofs.lemmas.List.{get_or-map, length-map}
 use Rattle.ps_label.specs.declared.label.Label.{Label}
 use Rattle.ps_label.specs.Expression.{constant, AreOrdered, expression}
@@ -9,7 +10,7 @@ use Rattle.ps_label.proofs.Tables.{table}
 use Rattle.ps_diagram.specs.declared.fault.OverlayError.TheVariants.{Clash}
 use Rattle.ps_diagram.specs.Clashes.{TellsClash}
 use Rattle.ps_diagram.specs.Leaves.{joined, opposite}
-use Rattle.ps_diagram.specs.Labels.{one_where, IsOneOrNone, HaveTruths}
+use Rattle.ps_diagram.specs.Labels.{leaf_where, one_where, IsOneOrNone, HaveTruths}
 use Rattle.ps_diagram.specs.Letters.{assignment}
 use Rattle.ps_diagram.specs.Tree.{leaf_at}
 use Rattle.ps_diagram.specs.Table.{Table, IsNode, Keeps, leaf_of}
@@ -34,6 +35,12 @@ truths_kept k h = search rules
 pub leaf_kept : {t u : Table} {node : ℕ} (letter : ℕ) → Keeps t u → IsNode t node →
     leaf_of u node letter ≡ leaf_of t node letter
 leaf_kept {node} letter k h = ap (λ x. leaf_at x (assignment letter)) (k.same node h)
+
+pub leaf_one : (b : Bool) → leaf_where 1 b ≡ one_where b
+leaf_one b = search rules
+
+pub guarded_is : (value : ℕ) (b : Bool) → option_map (λ _. value) (one_where b) ≡ leaf_where value b
+guarded_is value b = search rules
 
 pub opposite_of : (b : Bool) → opposite (one_where b) ≡ one_where (cond b false true)
 opposite_of b = search rules

@@ -13,6 +13,11 @@ abbrev pub one_where : Bool → Option ℕ
 one_where true = Some 1
 one_where false = None
 
+-- the leaf for a truth: that one, or none
+abbrev pub leaf_where : ℕ → Bool → Option ℕ
+leaf_where value true = Some value
+leaf_where value false = None
+
 abbrev pub IsOneOrNone : Option ℕ → Type 0
 IsOneOrNone leaf = (b : Bool) × (leaf ≡ one_where b)
 

@@ -4,7 +4,7 @@ ghost use Rattle.std.specs.Prelude.{◌≡◌, ℕ, ◌<◌, All, Bool, List, If
 ghost use Rattle.ps_label.specs.Expression.{AreOverFrom, Expression, IsOver, expression};
 ghost use Rattle.ps_label.specs.Truth.{expressions, is_in, label_truth, truth};
 ghost use Rattle.ps_diagram.specs.Table.{IsNode, Keeps, leaf_of};
-ghost use Rattle.ps_diagram.specs.Labels.{AreNodesOf, HaveTruths, IsOneOrNone, one_where};
+ghost use Rattle.ps_diagram.specs.Labels.{AreNodesOf, HaveTruths, IsOneOrNone, leaf_where, one_where};
 ghost use Rattle.ps_diagram.specs.Leaves.{joined};
 ghost use Rattle.ps_diagram.specs.Inner.Unions.{IsTruth, first_leaf, leaves_of};
 
@@ -66,9 +66,38 @@ impl Store {
             (λ node. (names : List Expression) → AreNodesOf self.old names aliases.now → (letter : ℕ) →
             leaf_of self.new node letter ≡ one_where (label_truth names letter (expression label.now))) }
     {
-        match self.of_literals(label)? {
+        match self.of_literals(label, 1)? {
             Some(node) => Ok(node),
             None => self.truth_by(aliases, label),
+        }
+    }
+
+    /// The diagram with that leaf where a label is true, from the nodes of its aliases. It is `guard` of the one by
+    /// `of_label_by`, but a product of literals is made at once.
+    ///
+    /// # Errors
+    ///
+    /// Fails where a growth was refused.
+    pub fn of_label_as(
+        &mut self,
+        aliases: &[Node],
+        label: &Label,
+        value: u64,
+    ) -> Result<Node, AllocError>
+        requires aliases { (names : List Expression) × AreNodesOf self.old names aliases.now }
+        requires within { IsOver (length aliases.now) self.old.propositions (expression label.now) }
+        ensures keeps { Keeps self.old self.new }
+        ensures held { IfOk result (λ node. IsNode self.new node) }
+        ensures leaf { IfOk result
+            (λ node. (names : List Expression) → AreNodesOf self.old names aliases.now → (letter : ℕ) →
+            leaf_of self.new node letter ≡ leaf_where value (label_truth names letter (expression label.now))) }
+    {
+        match self.of_literals(label, value)? {
+            Some(node) => Ok(node),
+            None => {
+                let node = self.truth_by(aliases, label)?;
+                self.guard(node, value)
+            }
         }
     }
 

@@ -77,6 +77,26 @@ impl LeafRule for Relabelled<'_> {
     }
 }
 
+/// The leaf at its place in a table, and another one wherever there is none.
+#[derive(Drop)]
+struct Replaced<'a> {
+    values: &'a [u64],
+    other: u64,
+}
+
+impl LeafRule for Replaced<'_> {
+    ghost fits = { λ s leaf. IfSome leaf (λ k. k < length s.values.now) };
+
+    ghost rule = { λ s leaf. Some (unwrap_or (option_map (λ k. slice_index s.values.now k) leaf) s.other) };
+
+    fn changed(&self, leaf: Option<u64>) -> Option<u64> {
+        match leaf {
+            None => Some(self.other),
+            Some(k) => Some(self.values[k as usize]),
+        }
+    }
+}
+
 /// What a table has at the leaf.
 #[derive(Drop)]
 struct Placed<'a>(&'a IndexMap<u64, u64>);
@@ -165,6 +185,25 @@ impl Store {
     {
         let _ = self.allocator();
         self.mapped(None, node, &Relabelled(values))
+    }
+
+    /// The diagram with `values[k]` wherever the node has the leaf k, and with another leaf wherever it has none.
+    ///
+    /// # Errors
+    ///
+    /// Fails where a growth was refused.
+    pub fn relabel_or(&mut self, node: Node, values: &[u64], other: u64) -> Result<Node, AllocError>
+        requires held { IsNode self.old node }
+        requires within { (letter : ℕ) → letter < 2 ^ self.old.propositions →
+            IfSome (leaf_of self.old node letter) (λ k. k < length values.now) }
+        ensures keeps { Keeps self.old self.new }
+        ensures held { IfOk result (λ made. IsNode self.new made) }
+        ensures leaf { IfOk result
+            (λ made. (letter : ℕ) → leaf_of self.new made letter ≡ Some
+            (unwrap_or (option_map (λ k. slice_index values.now k) (leaf_of self.old node letter)) other)) }
+    {
+        let _ = self.allocator();
+        self.mapped(None, node, &Replaced { values, other })
     }
 
     /// The diagram with `values[k]` wherever a node of another store has the leaf k.

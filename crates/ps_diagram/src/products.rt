@@ -3,7 +3,7 @@
 ghost use Rattle.std.specs.Prelude.{◌≡◌, ◌&&◌, ℕ, ◌<◌, Bool, true, false, List, IfOk, IfSome, cond};
 ghost use Rattle.ps_label.specs.Expression.{IsOver, expression, proposition};
 ghost use Rattle.ps_label.specs.Truth.{is_in, truth};
-ghost use Rattle.ps_diagram.specs.Labels.{one_where};
+ghost use Rattle.ps_diagram.specs.Labels.{leaf_where};
 ghost use Rattle.ps_diagram.specs.Table.{IsNode, Keeps, leaf_of};
 ghost use Rattle.ps_diagram.specs.Inner.Products.{meets};
 
@@ -48,13 +48,17 @@ impl Product {
 }
 
 impl Store {
-    /// The diagram of a label, if it is a product of literals.
-    pub(crate) fn of_literals(&mut self, label: &Label) -> Result<Option<Node>, AllocError>
+    /// The diagram with that leaf where a label is true, if it is a product of literals.
+    pub(crate) fn of_literals(
+        &mut self,
+        label: &Label,
+        value: u64,
+    ) -> Result<Option<Node>, AllocError>
         requires within { (aliases : ℕ) × IsOver aliases self.old.propositions (expression label.now) }
         ensures keeps { Keeps self.old self.new }
         ensures held { IfOk result (λ made. IfSome made (λ node. IsNode self.new node)) }
         ensures leaf { IfOk result (λ made. IfSome made (λ node. (known : List Bool) (letter : ℕ) →
-            leaf_of self.new node letter ≡ one_where (truth known letter (expression label.now)))) }
+            leaf_of self.new node letter ≡ leaf_where value (truth known letter (expression label.now)))) }
     {
         let none = Product {
             positive: 0,
@@ -63,7 +67,7 @@ impl Store {
         let Some(product) = self.with_label(none, label) else {
             return Ok(None);
         };
-        let node = self.of_product(product)?;
+        let node = self.of_product(product, value)?;
         Ok(Some(node))
     }
 
@@ -88,15 +92,15 @@ impl Store {
         }
     }
 
-    /// The diagram with the leaf 1 where a product is true.
-    fn of_product(&mut self, product: Product) -> Result<Node, AllocError>
+    /// The diagram with that leaf where a product is true.
+    fn of_product(&mut self, product: Product, value: u64) -> Result<Node, AllocError>
         ensures keeps { Keeps self.old self.new }
         ensures held { IfOk result (λ node. IsNode self.new node) }
         ensures leaf { IfOk result (λ node. (letter : ℕ) →
-            leaf_of self.new node letter ≡ one_where (meets self.old.propositions product letter)) }
+            leaf_of self.new node letter ≡ leaf_where value (meets self.old.propositions product letter)) }
     {
         let none = self.constant(None)?;
-        let mut node = self.constant(Some(1))?;
+        let mut node = self.constant(Some(value))?;
         for proposition in (0..self.propositions()).rev() {
             let low = side(product.positive, proposition, none, node);
             let high = side(product.negative, proposition, none, node);

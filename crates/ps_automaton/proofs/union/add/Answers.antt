@@ -1,26 +1,18 @@
 use Rattle.std.proofs.Common.{◌^◌, ◌<◌, subst, ◌∙◌, rules}
 use Rattle.ps_diagram.specs.Clashes.{TellsClash}
-use Rattle.ps_hoa.specs.Views.{edge_data, row_data}
-use Rattle.ps_automaton.specs.Inner.Drafts.{ShowsEdge}
 use Rattle.ps_automaton.proofs.Fitting.{fits, edge_at, edge_marks_few}
 use Rattle.ps_automaton.proofs.Meeting.{keeps_both}
 use Rattle.ps_automaton.proofs.PlaceTables.{placed_is, placed_keeps}
 use Rattle.ps_automaton.proofs.Ready.{kept_ready}
-use Rattle.ps_automaton.proofs.Unions.{marked_shows, union_grown, union_clash, first_of_row}
+use Rattle.ps_automaton.proofs.Unions.{union_grown, union_clash, first_of_row}
 use Rattle.ps_automaton.proofs.union.add.Goals as goal
-use Rattle.ps_automaton.proofs.union.add.Goals.{In_ok-marked}
-
--- the marked node shows the edge by its target's place
-shows_edge : (c : In_ok-marked) → ShowsEdge c.args.guards.now.file.now (row_data c.args.guards.now.row.now)
-    (edge_data c.index-edge.result.now) c.guard.new.self c.in_ok-marked.marked c.in_ok-target.target
-shows_edge c = search (rules, marked_shows)
 
 pub target_of-requires-clause-edge : goal.target_of-requires-clause-edge
 target_of-requires-clause-edge c = edge_marks_few c.requires.ready.sound c.requires.ready.row c.args.place
     (edge_at c.args.guards.now.row.now.edges.items c.args.place c.requires.within c.index-edge.ensures)
 
-pub taken-requires-clause-fit : goal.taken-requires-clause-fit
-taken-requires-clause-fit c = fits c.requires.ready.sound c.requires.ready.row c.args.place
+pub marked-requires-clause-fit : goal.marked-requires-clause-fit
+marked-requires-clause-fit c = fits c.requires.ready.sound c.requires.ready.row c.args.place
     (edge_at c.args.guards.now.row.now.edges.items c.args.place c.requires.within c.index-edge.ensures)
 
 pub overlay-requires-clause-first : goal.overlay-requires-clause-first
@@ -28,33 +20,33 @@ overlay-requires-clause-first c = search rules
 
 pub first_clash-requires-clause-ready : goal.first_clash-requires-clause-ready
 first_clash-requires-clause-ready c =
-    let keeps = keeps_both (keeps_both c.in_ok-letters.ensures.keeps c.guard.ensures.keeps) c.overlay.ensures.keeps in
+    let keeps = keeps_both c.in_ok-letters.ensures.keeps c.overlay.ensures.keeps in
     kept_ready keeps c.requires.ready
 
 pub first_clash-requires-clause-clash : goal.first_clash-requires-clause-clash
 first_clash-requires-clause-clash c =
     let at = edge_at c.args.guards.now.row.now.edges.items c.args.place c.requires.within c.index-edge.ensures in
-    let keeps = keeps_both c.in_ok-letters.ensures.keeps c.guard.ensures.keeps in
+    let keeps = c.in_ok-letters.ensures.keeps in
     let placed = c.in_ok-target.ensures.placed in
-    let told = subst (TellsClash c.guard.new.self c.args.union.now.node c.in_ok-marked.marked) c.in-Err-Clash.field-0-is
+    let told = subst (TellsClash c.marked.new.store c.args.union.now.node c.in_ok-letters.letters) c.in-Err-Clash.field-0-is
     c.in-Err-Clash.ensures.clash in
     let small = subst (λ n. told.0 < 2 ^ n) (keeps.propositions ∙ c.requires.ready.letters) told.1 in
     union_clash c.requires.ready.sound c.requires.ready.row at c.target_of.ensures c.place_of.new.self
-    c.in_ok-target.target (placed_keeps placed) placed.stored (placed_is placed) keeps c.in_ok-marked.marked
-    c.requires.union (search (rules, shows_edge)) c.in_ok-target.ensures.distinct told.0 small told.2 told.3 told.4
+    c.in_ok-target.target (placed_keeps placed) placed.stored (placed_is placed) keeps c.in_ok-letters.letters
+    c.requires.union c.in_ok-letters.ensures.shows c.in_ok-target.ensures.distinct told.0 small told.2 told.3 told.4
 
 pub returns-in-Ok-clause-keeps : goal.returns-in-Ok-clause-keeps
 returns-in-Ok-clause-keeps c =
-    keeps_both (keeps_both c.in_ok-letters.ensures.keeps c.guard.ensures.keeps) c.overlay.ensures.keeps
+    keeps_both c.in_ok-letters.ensures.keeps c.overlay.ensures.keeps
 
 pub returns-in-Ok-clause-union : goal.returns-in-Ok-clause-union
 returns-in-Ok-clause-union c =
     let at = edge_at c.args.guards.now.row.now.edges.items c.args.place c.requires.within c.index-edge.ensures in
-    let keeps = keeps_both c.in_ok-letters.ensures.keeps c.guard.ensures.keeps in
+    let keeps = c.in_ok-letters.ensures.keeps in
     let placed = c.in_ok-target.ensures.placed in
     union_grown c.requires.ready.sound c.requires.ready.row at c.target_of.ensures c.place_of.new.self
-    c.in_ok-target.target (placed_keeps placed) placed.stored (placed_is placed) keeps c.in_ok-marked.marked
-    c.requires.union (search (rules, shows_edge)) c.in-Ok.ensures.held c.in-Ok.ensures.leaf c.in-Ok.ensures.alike
+    c.in_ok-target.target (placed_keeps placed) placed.stored (placed_is placed) keeps c.in_ok-letters.letters
+    c.requires.union c.in_ok-letters.ensures.shows c.in-Ok.ensures.held c.in-Ok.ensures.leaf c.in-Ok.ensures.alike
 
 pub returns-in_ok-first_clash-in-Err-Clash-clause-refused : goal.returns-in_ok-first_clash-in-Err-Clash-clause-refused
 returns-in_ok-first_clash-in-Err-Clash-clause-refused c = search (rules, first_of_row)

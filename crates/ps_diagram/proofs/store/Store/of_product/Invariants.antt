@@ -10,5 +10,5 @@ invariant-loop-proposition l = record {
   none_held : IsNode l.self l.none;
   held : IsNode l.self l.node;
   nothing : (f : ℕ → Bool) → leaf_at (tree_of l.self l.none) f ≡ None;
-  leaf : IsProduct l.self.propositions l.proposition l.product (tree_of l.self l.node);
+  leaf : IsProduct l.value l.self.propositions l.proposition l.product (tree_of l.self l.node);
 }
