@@ -44,7 +44,7 @@ needs_sides needed r within p h = needs_more (slice_set needed r.first.place tru
 
 module _ {rows : List Row} (is : IsScheduled rows) (needed : List Bool) (n : ℕ) (lt : n < length rows)
     (within : IsWithin (length needed) (row rows n)) where
-  -- a row that stands behind isn't read
+  -- a later row isn't read
   needed_before : (k : ℕ) → n ≤ k → k < length rows → Needs (with_sides needed (row rows n)) (row rows k).target →
       Needs needed (row rows k).target
   needed_before k le less h =

@@ -1,5 +1,5 @@
 -- The gates that a step needs: those that an output, a latch's next value or another needed gate reads. The others are
--- not worked out.
+-- not evaluated.
 use Rattle.std.specs.Prelude.{◌≡◌, ℕ, ◌<◌, Bool, true, false, List, length, slice_index_or, All}
 use Rattle.std.specs.List.{filter}
 use Rattle.ps_simulate.specs.declared.plan.Wire.{Wire}
@@ -30,7 +30,7 @@ Needs needed place = slice_index_or needed place false ≡ true
 abbrev pub NeedsWire : List Bool → Wire → Type 0
 NeedsWire needed wire = Needs needed wire.place
 
--- where the row's value is needed, so are those that it reads
+-- if the row's value is needed, so are those that it reads
 pub record NeedsWhatItReads (needed : List Bool) (r : Row) : Type 0 where
   pub first : Needs needed r.target → NeedsWire needed r.first
   pub second : Needs needed r.target → NeedsWire needed r.second

@@ -9,11 +9,7 @@ use crate::plan::{Plan, Row, Wire};
 use ps_circuit::Circuit;
 use std::alloc::{AllocError, Global};
 
-/// The plan of a circuit without the gates that neither an output nor a latch needs.
-///
-/// # Errors
-///
-/// Fails if memory runs out.
+/// The plan of a circuit without the gates that neither an output nor a latch needs. Fails if out of memory.
 pub fn plan_of_needed(alloc: Global, circuit: &Circuit) -> Result<Plan, AllocError>
     ensures { IfOk result (λ cut. (whole : Plan) × IsPlan circuit.now whole × IsCut whole cut) }
 {
