@@ -1,7 +1,7 @@
--- What is owed of what stands behind the name of an item: a section for each item, and a row for it in `form`.
---     IsForm h part      a part may stand behind a name, behind items that say h: its laws, of which only the signs
---               with which it goes on matter; an outcome from each list of signs; and what the items so far keep
---     form h item      so may what stands behind the name of that item; judge_item, what may be wrong with its name
+-- What must hold of what follows the name of an item: a section for each item, and a row for it in `form`.
+--     IsForm h part      a part may follow a name, after items that say h: its laws, of which only the signs with which
+--               it continues matter; an outcome from each list of signs; and what the items so far keep
+--     form h item      so may what follows the name of that item; judge_item, what may be wrong with its name
 --     joint_.., .._loop, .._begins, .._serves      of its parts, for the functions that read them
 use Rattle.std.proofs.Common.{arith, rules, ◌≡◌, ◌<◌, true, Bool, ℕ, List, [], length, Some, refl, sym, ap, ◌∙◌}
 use Rattle.ps_text.specs.Answers.{Stream, next_of as there_of}
@@ -58,7 +58,7 @@ use Rattle.ps_hoa.proofs.Soundness.Keeping.{keeps_mapped, keeps_many}
 use Rattle.ps_hoa.proofs.Soundness.Places.{different_kept}
 use Rattle.ps_hoa.proofs.Soundness.SoundLabels.{keeps_label}
 
--- the signs with which an item goes on
+-- the signs with which an item continues
 abbrev pub is_argument : Kind → Bool
 is_argument = union is_value is_connective
 

@@ -7,7 +7,7 @@ use Rattle.ps_text.specs.Digits.{decimal_value}
 use Rattle.ps_text.proofs.Decimals.{value_more, value_front}
 use Rattle.ps_hoa.specs.Operands.{number_limit}
 
--- the number, if it is no more than the greatest one
+-- the number, if it is at most the greatest one
 abbrev pub checked : ℕ → Option ℕ
 checked n = cond (nat_le n number_limit) (Some n) None
 

@@ -1,4 +1,4 @@
--- The first place that passes a test, behind one more element.
+-- The first place that passes a test, after one more element.
 --     pushed_position      the place is found as before, or it is the new one
 use Rattle.std.proofs.Common.{◌≡◌, ℕ, ◌+◌, ◌≤◌, Bool, true, cond, eqb, List, [], ◌∷◌, ◌++◌, length}
 use Rattle.std.proofs.Common.{None, Some, arith, length-append, rules}

@@ -1,11 +1,11 @@
--- The body of an HOA text, from behind `--BODY--` to `--END--`:
+-- The body of an HOA text, from after `--BODY--` to `--END--`:
 --     state ::= "State:" ("[" label "]")? INT STRING? sets? edge*
 --     edge  ::= ("[" label "]")? INT sets?
 --     sets  ::= "{" INT* "}"
--- The label of a state is that of each of its edges. A state without one, whose edges have none either, has implicit
--- labels: edge k is taken at the letter k, in which proposition i is bit i.
+-- The label of a state is that of each of its edges. A state without a label, whose edges have none either, has
+-- implicit labels: edge k is taken at the letter k, in which proposition i is bit i.
 --     BodyData      the rows so far, and how many edges they have
---     state h body      one more state, behind those of body
+--     state h body      one more state, after those of body
 --     body h      all states, and `--END--`
 use Rattle.std.specs.Prelude.{◌≡◌, ◌≢◌, ℕ, ◌+◌, ◌-◌, ◌^◌, ◌<◌, ◌≤◌, ◌⊎◌, Bool, true, false, List, [], ◌∷◌, ◌++◌, length}
 use Rattle.std.specs.Prelude.{codes, if◌then◌else◌, nat_eq, Option, None, Some, IfSome, slice_get}
@@ -37,12 +37,12 @@ edge_limit = 1048576
 
 -- ## Numbers
 
--- an INT that is no state
+-- an INT that is not a state
 abbrev pub IsBadState : Option ℕ → ℕ → HoaCause → Type 0
 IsBadState (Some states) n f = ((number_limit < n) × (f ≡ causes.Limit)) ⊎ ((states ≤ n) × (f ≡ causes.Range))
 IsBadState None n f = (state_limit ≤ n) × (f ≡ causes.Limit)
 
--- an INT that is no set
+-- an INT that is not a set
 abbrev pub IsBadSet : ℕ → ℕ → HoaCause → Type 0
 IsBadSet sets n f = ((number_limit < n) × (f ≡ causes.Limit)) ⊎ ((sets ≤ n) × (f ≡ causes.Range))
 
@@ -91,7 +91,7 @@ body_scope h = record { names = h.alias_names; propositions = Some (length (name
 abbrev pub some_label : Expression → Unit {0} → Option Expression
 some_label e _ = Some e
 
--- what stands behind `[`
+-- what follows `[`
 abbrev pub label_in_brackets : HeaderData → Part Sign (Option Expression) HoaCause
 label_in_brackets h =
     then_by (labels.label (body_scope h) nesting_limit) (λ e. mapped (some_label e) (mark is_right_bracket))
@@ -129,12 +129,12 @@ IsBadBracket before row s f = (s.kind ≡ kinds.LeftBracket)
 abbrev pub is_bracket : Sign → Option (Unit {0})
 is_bracket s = if is_left_bracket s.kind then Some tt else None
 
--- the target of an edge whose label stands before it
+-- the target of an edge whose label comes before it
 abbrev pub labelled_target : HeaderData → Part Sign ℕ HoaCause
 labelled_target h = barred (one int_in (BadIn (IsBadState h.states))) IsAlternating
 
--- a target that is an edge's first sign: of a state's number that is wrong, of one edge too many, or of an edge that
--- wants a label
+-- a target that is an edge's first sign: with a wrong state number, of one edge too many, or of an edge that needs a
+-- label
 abbrev pub IsBadPlainTarget : Option ℕ → ℕ → RowData → ℕ → HoaCause → Type 0
 IsBadPlainTarget states before row n f =
     IsBadState states n f
@@ -177,7 +177,7 @@ IsWrongCount h row = (labelling row ≡ ByPlace) × (length row.edges ≢ 2 ^ le
 abbrev pub last_row : BodyData → Option RowData
 last_row body = slice_get body.rows (length body.rows - 1)
 
--- what may be wrong with a sign behind the last edge of a state: the number of its edges
+-- what may be wrong with a sign after the last edge of a state: the number of its edges
 abbrev pub IsBadEnd : HeaderData → BodyData → HoaCause → Type 0
 IsBadEnd h body f = ((row : RowData) × (last_row body ≡ Some row) × IsWrongCount h row) × (f ≡ causes.Labels)
 
@@ -187,7 +187,7 @@ abbrev pub has_row : ℕ → List RowData → Bool
 has_row n [] = false
 has_row n (row ∷ rows) = if nat_eq n row.state then true else has_row n rows
 
--- an INT that is no state, or that of an earlier row
+-- an INT that is not a state, or that of an earlier row
 abbrev pub IsBadRow : HeaderData → BodyData → ℕ → HoaCause → Type 0
 IsBadRow h body n f = IsBadState h.states n f ⊎ ((has_row n body.rows ≡ true) × (f ≡ causes.StateTwice))
 

@@ -42,7 +42,7 @@ digits _ = false
 abbrev pub is_digit : ℕ → Bool
 is_digit b = digits (class_of b)
 
--- a byte of a name behind its first
+-- a byte of a name after its first
 abbrev pub goes_on : Class → Bool
 goes_on Digit = true
 goes_on Letter = true

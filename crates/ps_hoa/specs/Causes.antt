@@ -1,5 +1,5 @@
--- The causes by which an HOA text is refused, with their numbers in psyn's list of faults, and those that a sign is by
--- itself, wherever it stands.
+-- The causes by which an HOA text is refused, with their numbers in psyn's list of faults, and the causes that a sign
+-- is by itself, wherever it occurs.
 --     hoa_causes      for the answer to a text: the numbers, the causes of signs by themselves, and the grammar's
 --               refusal
 --     found_of      what an error says of the text
@@ -41,7 +41,7 @@ cause_number causes.Controllable = 19
 cause_number causes.Name = 20
 cause_number causes.SeveralAutomata = 22
 
--- the grammar spells a name: it is that of an item, or stands elsewhere
+-- the grammar defines a name, as that of an item or elsewhere
 abbrev pub is_spelled : List ℕ → Bool
 is_spelled name =
     bytes_eq name (codes "HOA:") || bytes_eq name (codes "State:") || is_some (item_named name)

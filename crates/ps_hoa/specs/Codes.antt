@@ -9,8 +9,8 @@ use Rattle.ps_hoa.specs.Conditions.{Condition, Conditions, constant, infinitely,
 use Rattle.ps_hoa.specs.Conditions.{more}
 use Rattle.ps_hoa.specs.Files.{GuardData, EdgeData, RowData, FileData, stated, of_state, at_letter}
 
--- a set that is visited infinitely often stands as a proposition, one finitely often as an alias, and a complement as a
--- negation
+-- a set that is visited infinitely often is written as a proposition, one visited finitely often as an alias, and a
+-- complement as a negation
 abbrev expression_of_set : Bool → Expression → Expression
 expression_of_set true e = expressions.not_of e
 expression_of_set false e = e

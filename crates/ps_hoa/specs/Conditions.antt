@@ -1,8 +1,9 @@
 -- Acceptance conditions:
 --     cond ::= BOOLEAN | ("Inf" | "Fin") "(" "!"? INT ")" | "(" cond ")" | cond "&" cond | cond "|" cond
--- `&` binds tighter than `|`. The operands of several `&` are one conjunction, and so with `|`; a condition in
--- parentheses stands for itself.
---     condition room      a condition at a place where `(` may nest so many deep; those of `Inf` and `Fin` don't count
+-- `&` binds tighter than `|`. The operands of several `&` are one conjunction, and likewise for `|`; a condition in
+-- parentheses is one operand.
+--     condition room      a condition in which `(` may be nested to the depth `room`; those of `Inf` and `Fin` don't
+--               count
 use Rattle.std.specs.Prelude.{ℕ, ◌≡◌, ◌<◌, Bool, true, false, List, [], ◌∷◌, codes, if◌then◌else◌, Option}
 use Rattle.std.specs.Prelude.{None, Some}
 use Rattle.std.specs.Str.{bytes_eq}
@@ -104,7 +105,7 @@ abbrev pub together : Connective → List Condition → Condition
 together connectives.And cs = all_hold (row_of cs)
 together connectives.Or cs = any_holds (row_of cs)
 
--- an operand is an atom or is in parentheses, and `!` stands before none
+-- an operand is an atom or is in parentheses; `!` comes before none
 abbrev pub grammar : InfixGrammar Condition
 grammar = record { leaf = atom; negated = None; together = together }
 

@@ -1,11 +1,11 @@
--- The header of an HOA text, from behind the version to `--BODY--`:
+-- The header of an HOA text, from after the version to `--BODY--`:
 --     item ::= "States:" INT | "Start:" INT | "AP:" INT STRING* | "Alias:" ANAME label | "Acceptance:" INT cond
 --            | "controllable-AP:" INT* | "tool:" STRING STRING? | "name:" STRING
 --            | HEADERNAME (BOOLEAN | INT | STRING | IDENTIFIER)*
--- Items stand in any order, an alias before its use.
+-- Items may be in any order; an alias must come before its use.
 --     HeaderData      what the items so far say; header_data, what those say that the code has read
---     item_in s      the item that has that name
---     behind_name h item      what stands behind the name of that item, behind items that say h
+--     item_in s      the item with that name
+--     behind_name h item      what follows the name of that item, after items that say h
 --     item h      one more item
 --     header      all items, and `--BODY--`
 use Rattle.std.specs.Prelude.{◌≡◌, ◌≢◌, ℕ, ◌<◌, ◌≤◌, ◌⊎◌, ◌||◌, Bool, true, false, List, [], ◌∷◌, ◌++◌, length, drop}
@@ -116,7 +116,7 @@ IsAbove limit s f = IfSome (int_in s) (λ n. (limit < n) × (f ≡ causes.Limit)
 abbrev pub int : ℕ → Part Sign ℕ HoaCause
 int limit = one int_in (IsAbove limit)
 
--- what a string between quotes means: a backslash and a byte stand for that byte
+-- the meaning of a string between quotes: a backslash and a byte stand for that byte
 abbrev pub unescaped : Bool → List ℕ → List ℕ
 unescaped skip [] = []
 unescaped true (b ∷ bs) = b ∷ unescaped false bs
@@ -152,7 +152,7 @@ item_value kind text = None
 abbrev pub item_in : Sign → Option Item
 item_in s = item_value s.kind s.text
 
--- an item that may not stand here, by its name alone: a second `Start:`
+-- an item that is not allowed here, by its name alone: a second `Start:`
 abbrev pub IsWrongItem : HeaderData → Item → HoaCause → Type 0
 IsWrongItem h items.Start f = (h.start ≢ None) × (f ≡ causes.Start)
 IsWrongItem h item f = ⊥
@@ -163,7 +163,7 @@ IsBadItem h s f = IfSome (item_in s) (λ item. IsWrongItem h item f) × (item_in
 abbrev pub item_name : HeaderData → Part Sign Item HoaCause
 item_name h = one item_in (IsBadItem h)
 
--- ## What stands behind the name of an item
+-- ## What follows the name of an item
 
 abbrev pub with_states : HeaderData → ℕ → HeaderData
 with_states h n = record h { states = Some n }
@@ -171,7 +171,7 @@ with_states h n = record h { states = Some n }
 abbrev pub state_count : HeaderData → Part Sign HeaderData HoaCause
 state_count h = mapped (with_states h) (int state_limit)
 
--- `&` behind a state makes an alternating automaton
+-- `&` after a state makes an alternating automaton
 abbrev pub IsAlternating : ℕ → Sign → HoaCause → Type 0
 IsAlternating state s f = (s.kind ≡ kinds.And) × (f ≡ causes.Alternating)
 
@@ -181,7 +181,7 @@ with_start h n = record h { start = Some n }
 abbrev pub start_state : HeaderData → Part Sign HeaderData HoaCause
 start_state h = mapped (with_start h) (barred (int number_limit) IsAlternating)
 
--- a byte that stands in no name of a proposition
+-- a byte that occurs in no name of a proposition
 abbrev pub is_control : ℕ → Bool
 is_control b = nat_lt b 32 || nat_eq b 127
 
@@ -197,7 +197,7 @@ abbrev pub is_empty : List ℕ → Bool
 is_empty [] = true
 is_empty (b ∷ bs) = false
 
--- a string that is no name of a proposition, or that of an earlier one
+-- a string that is not a name of a proposition, or that of an earlier one
 abbrev pub IsBadName : List (List ℕ) → Sign → HoaCause → Type 0
 IsBadName names s f =
     IfSome (string_in s) (λ name. ((is_empty name || has_control name || is_name_among name names) ≡ true) ×
@@ -243,8 +243,8 @@ abbrev pub counted_condition : HeaderData → Part Sign HeaderData HoaCause
 counted_condition h =
     then_by (int set_limit) (λ n. mapped (with_acceptance h n) (conditions.condition nesting_limit))
 
--- Each proposition has a place, and all numbers that are no proposition's have one together: of them it matters only
--- that there is one.
+-- Each proposition has a place, and all numbers that are not propositions share one: it only matters whether there is
+-- one.
 abbrev pub place_of : ℕ → ℕ
 place_of n = if nat_lt n proposition_limit then n else proposition_limit
 
@@ -337,7 +337,7 @@ abbrev pub AnIndexBeyond : ℕ → List ℕ → Type 0
 AnIndexBeyond count [] = ⊥
 AnIndexBeyond count (n ∷ ns) = (count ≤ n) ⊎ AnIndexBeyond count ns
 
--- the start is no state; without `States:` it is above the greatest that there can be
+-- the start is not a state; without `States:` it is above the greatest possible one
 abbrev pub IsStartBeyond : Option ℕ → Option ℕ → Type 0
 IsStartBeyond (Some n) (Some start) = n ≤ start
 IsStartBeyond states start = ⊥

@@ -1,7 +1,7 @@
 -- The names of the items of a header.
 --     item_names      those that have a meaning here
---     item_named name      the item of that name
---     mark_of item      which mark a text has of an item that may stand once; no_marks, where none has stood
+--     item_named name      the item with that name
+--     mark_of item      the mark of an item that may occur only once; no_marks, if none has occurred
 use Rattle.std.specs.Prelude.{ℕ, Bool, false, List, [], ◌∷◌, codes, if◌then◌else◌, Option, None, Some}
 use Rattle.std.specs.Str.{bytes_eq}
 use Rattle.ps_hoa.specs.declared.items.Item.{Item}
@@ -26,7 +26,7 @@ item_among (row ∷ rows) name = if bytes_eq name row.0 then Some row.1 else ite
 unfoldable pub item_named : List ℕ → Option Item
 item_named name = item_among item_names name
 
--- ## Items that may stand once
+-- ## Items that may occur only once
 
 abbrev pub mark_of : Item → Option ℕ
 mark_of items.States = Some 0

@@ -1,9 +1,9 @@
 -- Label expressions:
 --     label ::= BOOLEAN | INT | ANAME | "!" label | "(" label ")" | label "&" label | label "|" label
--- `!` binds tightest, then `&`, then `|`. The operands of several `&` are one conjunction, and so with `|`; an operand
--- in parentheses stands for itself.
---     label scope room      a label at a place where `!` and `(` may nest so many deep
---     operand scope room      what may stand on either side of `&`
+-- `!` binds tightest, then `&`, then `|`. The operands of several `&` are one conjunction, and likewise for `|`; an
+-- expression in parentheses is one operand.
+--     label scope room      a label in which `!` and `(` may be nested to the depth `room`
+--     operand scope room      what is allowed on either side of `&`
 use Rattle.std.specs.Prelude.{ℕ, ◌≡◌, ◌≤◌, ◌<◌, ◌⊎◌, Bool, true, false, List, codes, if◌then◌else◌, Option}
 use Rattle.std.specs.Prelude.{None, Some, position}
 use Rattle.std.specs.Str.{bytes_eq}
@@ -19,8 +19,8 @@ use Rattle.ps_hoa.specs.declared.fault.HoaCause.TheVariants as causes
 use Rattle.ps_hoa.specs.declared.tokens.Kind.{Kind}
 use Rattle.ps_hoa.specs.declared.tokens.Kind.TheVariants as kinds
 
--- The surroundings of a label: the aliases that were defined before, in order, and where it matters the number of
--- propositions. In the header it does not, since `AP:` may stand behind the label.
+-- The context of a label: the aliases that were defined before, in order, and, if it matters, the number of
+-- propositions. In the header it does not, since `AP:` may come after the label.
 pub record ScopeData : Type 0 where
   pub names : List (List ℕ)
   pub propositions : Option ℕ
@@ -55,8 +55,7 @@ abbrev pub IsBeyond : Option ℕ → ℕ → Type 0
 IsBeyond None n = ⊥
 IsBeyond (Some count) n = count ≤ n
 
--- what may be wrong with such an operand: an INT above the greatest one, or that is no proposition; an alias that is
--- not known
+-- what may be wrong with such an operand: an INT above the greatest one, or that is not a proposition; an unknown alias
 abbrev pub IsBadLeaf : ScopeData → Kind → List ℕ → HoaCause → Type 0
 IsBadLeaf scope kinds.Int text f =
     ((number_limit < decimal_value text) × (f ≡ causes.Limit)) ⊎
@@ -75,7 +74,7 @@ abbrev pub together : Connective → List Expression → Expression
 together connectives.And es = all_of (row_of es)
 together connectives.Or es = any_of (row_of es)
 
--- an operand is of one sign, is behind `!` or is in parentheses
+-- an operand is one sign, follows `!` or is in parentheses
 abbrev pub grammar : ScopeData → InfixGrammar Expression
 grammar scope = record { leaf = leaf scope; negated = Some not_of; together = together }
 

@@ -23,7 +23,7 @@ pub record Grammar (V : Type 0) : Type 1 where
   -- what operands with a connective between them are together
   pub together : Connective → List V → V
 
--- each form has its nesting, its signs and its value; More are the parts behind the first, each behind its connective
+-- each form has its nesting, its signs and its value; More are the parts after the first, each after its connective
 mutual
   pub data IsOperand {V : Type 0} (g : Grammar V) : ℕ → List Sign → V → Type 0 where
     atom : (text : List Sign) (v : V) → g.IsAtom text v → IsOperand g 0 text v
@@ -33,7 +33,7 @@ mutual
         is_right r.kind ≡ true → IsRow g connectives.Or deep text v →
         IsOperand g (suc deep) (l ∷ text ++ r ∷ []) v
 
-  -- what stands between connectives: `&` binds tighter than `|`
+  -- what is between connectives: `&` binds tighter than `|`
   pub data IsPart {V : Type 0} (g : Grammar V) : Connective → ℕ → List Sign → V → Type 0 where
     operand : (deep : ℕ) (text : List Sign) (v : V) → IsOperand g deep text v → IsPart g connectives.And deep text v
     conjunction : (deep : ℕ) (text : List Sign) (v : V) → IsRow g connectives.And deep text v →
@@ -61,7 +61,7 @@ label_grammar names = record {
 abbrev pub IsLabel : List (List ℕ) → ℕ → List Sign → Expression → Type 0
 IsLabel names = IsRow (label_grammar names) connectives.Or
 
--- a condition's atoms are a constant or a set that is visited, and `!` stands before none
+-- a condition's atoms are a constant or a set that is visited; `!` comes before none
 abbrev pub condition_grammar : Grammar Condition
 condition_grammar = record {
   IsAtom =

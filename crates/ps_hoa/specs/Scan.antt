@@ -32,8 +32,8 @@ abbrev pub plus : ℕ → Option ℕ → Option ℕ
 plus k None = None
 plus k (Some n) = Some (k + n)
 
--- how many bytes end the comment that they stand in, with `depth` others around it; with `skip`, the first one belongs
--- to a pair before
+-- how many bytes there are up to the end of the comment that contains them, with `depth` others around it; with `skip`,
+-- the first one belongs to a pair before
 unfoldable pub comment_len : List ℕ → Bool → ℕ → Option ℕ
 comment_len [] skip depth = None
 comment_len (b ∷ bs) true depth = one_more (comment_len bs false depth)
@@ -43,7 +43,7 @@ comment_len (b ∷ bs) false depth =
     else (if nat_eq b 47 && nat_eq (head_or_zero bs) 42 then one_more (comment_len bs true (suc depth))
     else one_more (comment_len bs false depth))
 
--- how many bytes end the string that they stand in, the closing quote among them
+-- how many bytes there are up to the end of the string that contains them, including the closing quote
 unfoldable pub quoted_len : List ℕ → Bool → Option ℕ
 quoted_len [] skip = None
 quoted_len (b ∷ bs) true = one_more (quoted_len bs false)
@@ -52,7 +52,7 @@ quoted_len (b ∷ bs) false = if nat_eq b 34 then Some 1 else one_more (quoted_l
 abbrev pub begins_with : List ℕ → List ℕ → Bool
 begins_with bytes word = bytes_eq (take (length word) bytes) word
 
--- what begins here, and how many bytes it has: a token, by the class of its first byte and the bytes behind that
+-- what begins here, and how many bytes it has: a token, by the class of its first byte and the bytes after that
 abbrev pub number_step : ℕ → List ℕ → Step
 number_step b bs =
     if nat_eq b 48 && nat_lt 0 (prefix_len is_digit bs) then Found ZeroRun (1 + prefix_len is_digit bs)
@@ -112,7 +112,7 @@ abbrev pub SkipsSome : Step → Type 0
 SkipsSome (Skip n) = 0 < n
 SkipsSome (Found kind n) = Unit {0}
 
--- the end of a text is no token of its bytes
+-- the end of a text is not a token of its bytes
 abbrev pub is_finish : Kind → Bool
 is_finish Finish = true
 is_finish kind = false
@@ -152,7 +152,7 @@ pub record Reading : Type 0 where
   pub at : ℕ
   pub marks : Marks
 
--- a token by itself stands there
+-- a token by itself is there
 pub record IsLexeme (source : List ℕ) (found : Lexeme) : Type 0 where
   pub rises : found.start ≤ found.stop
   pub within : found.stop ≤ length source
@@ -163,7 +163,7 @@ pub record IsLexeme (source : List ℕ) (found : Lexeme) : Type 0 where
 unfoldable pub stream_of : Reading → Stream Sign
 stream_of r = record { pieces = marked r.marks (lex r.at (drop r.at r.source)); end = length r.source }
 
--- the next piece, which at the end of the text is none of its tokens
+-- the next piece; at the end of the text it is not one of its tokens
 abbrev pub next_of : Stream Sign → Piece Sign
 next_of s = elim s.pieces [ [] ↦ record { sign = record { kind = Finish; text = [] }; start = s.end } | p ∷ ps ↦ p ]
 

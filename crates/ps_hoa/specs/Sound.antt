@@ -13,7 +13,7 @@ use Rattle.ps_hoa.specs.Header.{state_limit, proposition_limit, set_limit, alias
 use Rattle.ps_hoa.specs.Header.{is_name_among}
 use Rattle.ps_hoa.specs.Body.{edge_limit, has_row}
 
--- none of the numbers stands twice
+-- no number occurs twice
 abbrev pub AreDifferent : List ℕ → Type 0
 AreDifferent [] = Unit {0}
 AreDifferent (n ∷ ns) = (is_among n ns ≡ false) × AreDifferent ns

@@ -1,4 +1,4 @@
--- A token of the code, and where it stands.
+-- A token of the code, and its place.
 use Rattle.std.specs.Prelude.{◌≡◌, ℕ, ◌+◌, ◌≤◌, List, ◌++◌, length, drop, slice_range}
 use Rattle.ps_text.specs.Answers.{Piece}
 use Rattle.ps_hoa.specs.Scan.{IsLexeme}
@@ -17,7 +17,7 @@ pub record IsSpan (source : List ℕ) (token : Token) : Type 0 where
   pub within : token.stop ≤ length source
   pub text : token.text.now ≡ slice_range source token.start token.stop
 
--- a token that stands there by itself as that kind, and what it is behind these marks
+-- a token that is there by itself with that kind, and what it is after these marks
 pub record IsKept (source : List ℕ) (marks : Marks) (kind : Kind) (token : Token) : Type 0 where
   pub lexeme : IsLexeme source (record { kind = kind; start = token.start; stop = token.stop })
   pub here : token.kind ≡ kind_here marks kind token.text.now

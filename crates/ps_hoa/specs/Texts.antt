@@ -1,9 +1,9 @@
 -- What the reader of HOA texts answers.
 --     file      header and body, as one part
---     IsBehindBlanks bytes blanks rest      rest is what stands behind all blanks and comments
---     ReadsFile bytes answer      the meaning of a text without a cause, and else its first cause. The stages go one
---               behind the other: the length, `HOA:`, the version, and what is behind it by its tokens
---     IsFileAnswer view bytes result      what the reader answers
+--     IsBehindBlanks bytes blanks rest      rest is what follows all blanks and comments
+--     ReadsFile bytes answer      the meaning of a text without a cause, and else its first cause. The stages follow
+--               one another: the length, `HOA:`, the version, and what comes after it by its tokens
+--     IsFileAnswer view bytes result      what the reader returns
 use Rattle.std.specs.Prelude.{◌≡◌, ◌≢◌, ℕ, ◌+◌, ◌<◌, ◌≤◌, ◌||◌, Bool, true, List, [], ◌++◌, length, codes, nat_eq, None}
 use Rattle.std.specs.Prelude.{Some, Result, Ok, Err}
 use Rattle.std.specs.Option.{unwrap_or}

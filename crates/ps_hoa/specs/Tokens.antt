@@ -2,12 +2,12 @@
 --     Sign      a token as the grammar sees it: its kind and its bytes
 --     IsComment text      `/* .. */`, with comments of its own inside
 --     IsBlankRun text      blanks and comments
---     Stands kind text rest      a token of that kind, where rest is what follows: the longest that can begin there
---     IsToken kind text rest      the same, or one that can't stand: a comment that is not closed, or a byte that
+--     Stands kind text rest      a token of that kind, followed by rest: the longest that can begin there
+--     IsToken kind text rest      the same, or one that is never allowed: a comment that is not closed, or a byte that
 --               begins no token
 --     AreTokens at bytes pieces      the tokens of bytes, the first of which has the offset at, with blanks between
---     marked marks pieces      the same, where names that may stand once are told from a second one, and what is behind
---               `--END--` from what is not
+--     marked marks pieces      the same, if the second occurrence of a name that may occur only once, and what follows
+--               `--END--`, are distinguished
 use Rattle.std.specs.Prelude.{◌≡◌, ℕ, suc, ◌+◌, ◌<◌, ◌⊎◌, ◌≢◌, ◌||◌, Bool, true, false, List, [], ◌∷◌, ◌++◌, length}
 use Rattle.std.specs.Prelude.{codes, if◌then◌else◌, nat_eq, get_or, set, Option, None, Some}
 use Rattle.std.specs.Str.{bytes_eq}
@@ -26,7 +26,7 @@ pub record Sign : Type 0 where
 
 -- ## Blanks
 
--- These bytes end the comment that they stand in, with `depth` further ones around it, and no sooner than with the last
+-- These bytes end the comment that contains them, with `depth` further ones around it, and do so only with the last
 -- byte.
 pub data Ends : ℕ → List ℕ → Type 0 where
   closes_last : {b c : ℕ} → b ≡ 42 → c ≡ 47 → Ends 0 (b ∷ c ∷ [])
@@ -60,7 +60,7 @@ abbrev pub BeginsWithZero : List ℕ → Type 0
 BeginsWithZero [] = ⊥
 BeginsWithZero (b ∷ bs) = b ≡ 48
 
--- what stands between quotes: bytes other than `"` and a backslash, and pairs of a backslash and any byte
+-- what is between quotes: bytes other than `"` and a backslash, and pairs of a backslash and any byte
 pub data IsQuoted : List ℕ → Type 0 where
   nothing : IsQuoted []
   plain : {b : ℕ} {bs : List ℕ} → b ≢ 34 → b ≢ 92 → IsQuoted bs → IsQuoted (b ∷ bs)
@@ -118,7 +118,7 @@ IsToken OpenComment text rest = IsOpen text rest
 IsToken Odd text rest = IsOdd text rest
 IsToken kind text rest = Stands kind text rest
 
--- one token behind blanks, and what follows
+-- one token after blanks, and what follows
 pub record IsNext (at : ℕ) (bytes : List ℕ) (piece : Piece Sign) (rest : List ℕ) : Type 0 where
   pub blanks : List ℕ
   pub split : bytes ≡ blanks ++ (piece.sign.text ++ rest)
@@ -131,9 +131,9 @@ AreTokens at bytes [] = IsBlankRun bytes
 AreTokens at bytes (p ∷ ps) =
     (rest : List ℕ) × IsNext at bytes p rest × AreTokens (p.start + length p.sign.text) rest ps
 
--- ## Names that may stand once, and what stands behind the end
+-- ## Names that may occur only once, and what follows the end
 
--- the name stood before (`HOA:` always did)
+-- the name occurred before (`HOA:` always did)
 abbrev pub has_stood : Marks → Option ℕ → Bool
 has_stood marks None = false
 has_stood marks (Some mark) = get_or marks.stood mark false

@@ -1,4 +1,4 @@
-//! The file that a header and a body make.
+//! The file that a header and a body make up.
 
 ghost use Rattle.std.specs.Prelude.{◌≡◌, ◌≤◌, IfErr, IfOk, map, option_map};
 ghost use Rattle.ps_text.specs.declared.faults.Fault.TheVariants as faults;
@@ -56,7 +56,7 @@ pub(crate) fn file(alloc: Global, header: Header, rows: Rows) -> Result<HoaFile,
     })
 }
 
-/// The aliases, each of which speaks of earlier ones alone.
+/// The aliases, each of which uses only earlier ones.
 fn labels(alloc: Global, aliases: Vec<Label>) -> Result<Labels, AllocError>
     requires { AreOrdered (expressions aliases.items) }
     ensures { IfOk result (λ labels. labels ≡ aliases.items) }
@@ -68,7 +68,7 @@ fn labels(alloc: Global, aliases: Vec<Label>) -> Result<Labels, AllocError>
     Ok(labels)
 }
 
-/// How many states there are: as many as a header says, or one more than the greatest that is named.
+/// How many states there are: as many as the header says, or one more than the greatest that is named.
 fn count_of_states(states: Option<u32>, start: u32, rows: &[Row]) -> u32
     requires { files.count_of_states states start (map row_data rows.now) ≤ state_limit }
     ensures { result ≡ files.count_of_states states start (map row_data rows.now) }
@@ -79,7 +79,7 @@ fn count_of_states(states: Option<u32>, start: u32, rows: &[Row]) -> u32
     }
 }
 
-/// The greatest state that is named, where one is already.
+/// The greatest state that is named, given one that is.
 fn greatest_state(named: u32, rows: &[Row]) -> u32
     ensures { result ≡ files.greatest_state named (map row_data rows.now) }
 {
@@ -90,7 +90,7 @@ fn greatest_state(named: u32, rows: &[Row]) -> u32
     greatest
 }
 
-/// The greatest state that is named, where one is already.
+/// The greatest state that is named, given one that is.
 fn greatest_target(named: u32, edges: &[Edge]) -> u32
     ensures { result ≡ files.greatest_target named (map edge_data edges.now) }
 {

@@ -36,7 +36,7 @@ pub(crate) fn body(alloc: Global, tokens: &mut Tokens, header: &Header) -> Resul
     Ok(rows)
 }
 
-/// Reads states, as many as stand here.
+/// Reads states, up to the first token that does not begin one.
 fn states(alloc: Global, tokens: &mut Tokens, header: &Header) -> Result<Rows, HoaFault>
     ensures { ReadsAs body_data (many (parts.state (header_data header.now)) no_rows) tokens.old result tokens.new }
 {
@@ -47,7 +47,7 @@ fn states(alloc: Global, tokens: &mut Tokens, header: &Header) -> Result<Rows, H
     Ok(rows)
 }
 
-/// Whether `State:` stands here.
+/// Whether `State:` comes next.
 fn is_at_state(tokens: &Tokens) -> bool
     ensures { result ≡ is_some (state_value (next_of (stream_of tokens.now)).sign) }
 {
@@ -55,7 +55,7 @@ fn is_at_state(tokens: &Tokens) -> bool
     is_name(token, b"State:")
 }
 
-/// Reads a state behind others.
+/// Reads a state after others.
 fn state(
     alloc: Global,
     tokens: &mut Tokens,
@@ -70,7 +70,7 @@ fn state(
     Ok(())
 }
 
-/// Reads the row of a state of which no other row is.
+/// Reads the row of a state that has no other row.
 fn row(alloc: Global, tokens: &mut Tokens, header: &Header, rows: &Rows) -> Result<Row, HoaFault>
     ensures part { ReadsAs (λ row. with_row (body_data rows.now) (row_data row))
         (parts.state (header_data header.now) (body_data rows.now)) tokens.old result tokens.new }
@@ -93,7 +93,7 @@ fn row(alloc: Global, tokens: &mut Tokens, header: &Header, rows: &Rows) -> Resu
     Ok(row)
 }
 
-/// Reads `State:` behind the edges of the last row.
+/// Reads `State:` after the edges of the last row.
 fn begin(tokens: &mut Tokens, header: &Header, rows: &Rows) -> Result<(), HoaFault>
     ensures { ReadsAs (λ u. u) (parts.state_begins (header_data header.now) (body_data rows.now)) tokens.old
         result tokens.new }
@@ -102,7 +102,7 @@ fn begin(tokens: &mut Tokens, header: &Header, rows: &Rows) -> Result<(), HoaFau
     begin_of(token, header, rows)
 }
 
-/// The token is `State:` behind the edges of the last row.
+/// The token is `State:` after the edges of the last row.
 fn begin_of(token: Token, header: &Header, rows: &Rows) -> Result<(), HoaFault>
     ensures { Takes (λ u. u) state_value (IsBadNext (header_data header.now) (body_data rows.now))
         (piece_of token.entry) result }
@@ -116,7 +116,7 @@ fn begin_of(token: Token, header: &Header, rows: &Rows) -> Result<(), HoaFault>
     }
 }
 
-/// Reads `--END--` behind the edges of the last row.
+/// Reads `--END--` after the edges of the last row.
 fn end(tokens: &mut Tokens, header: &Header, rows: &Rows) -> Result<(), HoaFault>
     ensures { ReadsAs (λ _. body_data rows.now) (parts.ended (header_data header.now) (body_data rows.now)) tokens.old
         result tokens.new }
@@ -125,7 +125,7 @@ fn end(tokens: &mut Tokens, header: &Header, rows: &Rows) -> Result<(), HoaFault
     end_of(token, header, rows)
 }
 
-/// The token is `--END--` behind the edges of the last row.
+/// The token is `--END--` after the edges of the last row.
 fn end_of(token: Token, header: &Header, rows: &Rows) -> Result<(), HoaFault>
     ensures { Takes (λ u. u) (mark_in is_end) (IsBadClose (header_data header.now) (body_data rows.now))
         (piece_of token.entry) result }
@@ -147,7 +147,7 @@ fn is_end_wrong(header: &Header, rows: &Rows) -> bool
     }
 }
 
-/// Whether a row has implicit labels that are not one for each letter, where there are so many propositions.
+/// Whether a row has implicit labels that are not one for each letter, given the number of propositions.
 fn has_wrong_count(row: &Row, propositions: usize) -> bool
     ensures { (h : HeaderData) → length (names_of h) ≡ propositions →
         (result ≡ true) ↔ IsWrongCount h (row_data row.now) }
@@ -180,7 +180,7 @@ fn state_label(
     Ok(Some(label))
 }
 
-/// Reads the number of a state of which no row is.
+/// Reads the number of a state that has no row yet.
 fn state_number(tokens: &mut Tokens, header: &Header, rows: &Rows) -> Result<u32, HoaFault>
     ensures part { ReadsAs (λ n. n) (parts.state_number (header_data header.now) (body_data rows.now)) tokens.old
         result tokens.new }
@@ -190,7 +190,7 @@ fn state_number(tokens: &mut Tokens, header: &Header, rows: &Rows) -> Result<u32
     new_state_of(token, header, rows)
 }
 
-/// The state that a token is, of which no row is.
+/// The state that a token is, which has no row yet.
 fn new_state_of(token: Token, header: &Header, rows: &Rows) -> Result<u32, HoaFault>
     ensures sign { Takes (λ n. n) int_in (BadIn (IsBadRow (header_data header.now) (body_data rows.now)))
         (piece_of token.entry) result }
@@ -203,7 +203,7 @@ fn new_state_of(token: Token, header: &Header, rows: &Rows) -> Result<u32, HoaFa
     Ok(state)
 }
 
-/// Goes on behind the name of a state, if it has one.
+/// Moves past the name of a state, if it has one.
 fn pass_name(tokens: &mut Tokens)
     ensures { ReadsPart parts.state_name (stream_of tokens.old) tt (stream_of tokens.new) }
 {

@@ -1,4 +1,4 @@
-//! Acceptance conditions, and the reading of them.
+//! Acceptance conditions, and reading them.
 
 ghost use Rattle.std.specs.Prelude.{◌≡◌, map};
 ghost use Rattle.ps_text.specs.Parts.{NoBad, one};
@@ -23,9 +23,9 @@ pub enum Cond {
     Always,
     /// True of no run.
     Never,
-    /// The set of that number is visited infinitely often, or, if the flag is set, its complement is.
+    /// The set with that number is visited infinitely often, or, if the flag is set, its complement is.
     Inf(u32, bool),
-    /// The set of that number is visited finitely often, or, if the flag is set, its complement is.
+    /// The set with that number is visited finitely often, or, if the flag is set, its complement is.
     Fin(u32, bool),
     /// All of these hold.
     All(Vec<Cond>),
@@ -33,7 +33,7 @@ pub enum Cond {
     Any(Vec<Cond>),
 }
 
-/// A set by its number, or the complement of that.
+/// A set by its number, or its complement.
 #[derive(Clone, Copy)]
 struct Set {
     number: u32,
@@ -76,7 +76,7 @@ impl Infix for Conditions {
         matches!(kind, Kind::LeftParen)
     }
 
-    // Never asked for: `!` stands in front of no operand here, only in front of the number of a set.
+    // Never called: here `!` may only come before the number of a set, not before an operand.
     fn negated(&self, _alloc: Global, operand: Cond) -> Result<Cond, AllocError> {
         Ok(operand)
     }
@@ -151,7 +151,7 @@ fn one_set(tokens: &mut Tokens, complemented: bool) -> Result<Set, HoaFault>
     set_of(token, complemented)
 }
 
-/// The set that a token is the number of.
+/// The set whose number a token is.
 fn set_of(token: Token, complemented: bool) -> Result<Set, HoaFault>
     ensures { Takes set_data (conditions.set_in complemented) conditions.BadSet (piece_of token.entry) result }
 {

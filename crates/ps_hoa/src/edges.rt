@@ -25,10 +25,10 @@ use ps_label::Label;
 use smallvec::SmallVec;
 use std::alloc::{AllocFailed, Global};
 
-/// A text has at most as many edges.
+/// The greatest number of edges in a text.
 pub(crate) const EDGE_LIMIT: usize = 1_048_576;
 
-/// Where `States:` does not give the number of states, each is below this.
+/// If `States:` does not give the number of states, each is less than this.
 const STATE_LIMIT: u32 = 65_535;
 
 /// How the edges of a state are labelled.
@@ -61,7 +61,8 @@ pub(crate) fn labelling_of(row: &Row) -> Labelling
     }
 }
 
-/// Reads the edges of a state, as many as stand here, behind as many of earlier states.
+/// Reads the edges of a state, up to the first token that does not begin one. The number of edges of earlier states is
+/// given.
 pub(crate) fn edges(
     alloc: Global,
     tokens: &mut Tokens,
@@ -198,7 +199,7 @@ fn bracket_of(token: Token, before: usize, row: &Row) -> Result<(), HoaFault>
     }
 }
 
-/// Reads what stands behind the `[` of a label.
+/// Reads what follows the `[` of a label.
 pub(crate) fn label_in_brackets(
     alloc: Global,
     tokens: &mut Tokens,
@@ -283,7 +284,7 @@ pub(crate) fn state_of(token: Token, states: Option<u32>) -> Result<u32, HoaFaul
     }
 }
 
-/// No `&` stands here, behind a state.
+/// Checks that no `&` follows a state.
 fn alone(tokens: &Tokens) -> Result<(), HoaFault>
     ensures { StandsAlone (next_of (stream_of tokens.now)) result }
 {
@@ -294,7 +295,7 @@ fn alone(tokens: &Tokens) -> Result<(), HoaFault>
     Ok(())
 }
 
-/// Reads the sets between braces, if they stand here.
+/// Reads the sets between braces, if there are any.
 pub(crate) fn marks(
     alloc: Global,
     tokens: &mut Tokens,
@@ -310,7 +311,7 @@ pub(crate) fn marks(
     }
 }
 
-/// Reads sets between braces, of which there are so many.
+/// Reads sets between braces; each is less than `count`.
 fn sets(alloc: Global, tokens: &mut Tokens, count: u32) -> Result<SmallVec<u32, 4>, HoaFault>
     ensures { ReadsAs (λ marks. marks.items) (parts.sets count) tokens.old result tokens.new }
 {
@@ -320,7 +321,7 @@ fn sets(alloc: Global, tokens: &mut Tokens, count: u32) -> Result<SmallVec<u32, 
     Ok(marks)
 }
 
-/// Reads sets, of which there are so many, as far as numbers stand here.
+/// Reads sets, up to the first token that is not a number; each is less than `count`.
 fn set_numbers(alloc: Global, tokens: &mut Tokens, count: u32) -> Result<SmallVec<u32, 4>, HoaFault>
     ensures { ReadsAs (λ marks. marks.items) (many (parts.set_number count) []) tokens.old result tokens.new }
 {
@@ -333,7 +334,7 @@ fn set_numbers(alloc: Global, tokens: &mut Tokens, count: u32) -> Result<SmallVe
     Ok(marks)
 }
 
-/// The set that a token is, where there are so many.
+/// The set that a token is, if it is less than `count`.
 fn set_of(token: Token, count: u32) -> Result<u32, HoaFault>
     ensures { Takes (λ n. n) int_in (BadIn (IsBadSet count)) (piece_of token.entry) result }
 {
@@ -347,7 +348,7 @@ fn set_of(token: Token, count: u32) -> Result<u32, HoaFault>
     }
 }
 
-/// Adds a number that is not there yet.
+/// Adds a number, unless it is there already.
 fn add_once(numbers: &mut SmallVec<u32, 4>, number: u32) -> Result<(), AllocFailed<u32>>
     ensures { OnOk result (numbers.new.items ≡ once numbers.old.items number) }
 {

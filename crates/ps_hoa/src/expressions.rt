@@ -16,8 +16,8 @@ pub fn one_expression()
     ensures conditions { (room : ℕ) → HasOneMeaning (conditions.condition room).IsText }
 {}
 
-/// Labels and conditions with room for so many `!` and `(` are those of the grammars without a limit in which no more
-/// of them nest.
+/// Labels and conditions with room for a given nesting of `!` and `(` are those of the grammars without a limit in
+/// which the nesting is no deeper.
 pub fn bounded_nesting()
     ensures labels { (scope : ScopeData) (room : ℕ) (text : List Sign) (v : Expression) →
         (labels.label scope room).IsText text v ↔ Within room (IsLabel scope.names) text v }

@@ -5,7 +5,7 @@ ghost use Rattle.ps_hoa.specs.Causes.{cause_number};
 
 use ps_text::faults::{Cause, Fault};
 
-/// Why an HOA text is refused. In brackets the part of HOA v1 that asks for it; limits and names are psyn's own.
+/// Why an HOA text is refused. In brackets the part of HOA v1 that requires it; limits and names are psyn's own.
 #[derive(Clone, Copy, Debug, PartialEq, Eq)]
 pub enum HoaCause {
     /// The text does not begin with `HOA:` (header).
@@ -14,37 +14,37 @@ pub enum HoaCause {
     Version,
     /// No token begins here, or a string or a comment is not closed (tokens).
     Token,
-    /// A token that can't stand here, or an early end.
+    /// A token that is not allowed here, or an early end.
     Syntax,
     /// Several digits that begin with `0` (tokens: `INT`).
     Number,
-    /// A header item that may stand once, a second time (header).
+    /// A header item that may occur only once, a second time (header).
     HeaderTwice,
     /// There is no `Acceptance:` (acceptance).
     MissingAcceptance,
     /// An unknown header item whose name begins with a capital (header).
     UnknownHeader,
-    /// A limit is passed.
+    /// A limit is exceeded.
     Limit,
     /// The text was aborted: `--ABORT--` (body).
     Aborted,
-    /// `&` behind a state: the automaton is alternating (body).
+    /// `&` after a state: the automaton is alternating (body).
     Alternating,
     /// There is no start state, or a second one.
     Start,
-    /// A number beyond the propositions, the sets or the states.
+    /// A number that is not one of the propositions, the sets or the states.
     Range,
     /// An alias that is not defined before, or defined twice (labels).
     Alias,
     /// Labels on some edges of a state, or a wrong number of edges without any (body: implicit labels).
     Labels,
-    /// A state a second time (body).
+    /// A second row of a state (body).
     StateTwice,
     /// There is no `controllable-AP:` (extended HOA).
     Controllable,
     /// A name that no proposition can have, or that an earlier one has.
     Name,
-    /// Something stands behind `--END--`.
+    /// Something follows `--END--`.
     SeveralAutomata,
 }
 

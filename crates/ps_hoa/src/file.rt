@@ -23,7 +23,7 @@ pub enum Guard {
     Stated(Label),
     /// Those at which the label of the edge's state is true.
     OfState,
-    /// This letter alone, in which proposition `i` is bit `i`. It is also the place of the edge in its row, from 0.
+    /// Only this letter, in which proposition `i` is bit `i`. It is also the place of the edge in its row, from 0.
     Letter(u64),
 }
 
@@ -32,13 +32,13 @@ pub enum Guard {
 pub struct Edge {
     /// When it is taken.
     pub guard: Guard,
-    /// The state behind it.
+    /// The state to which it leads.
     pub target: u32,
     /// The sets that it is in, each once, in the order in which the text first names them.
     pub marks: SmallVec<u32, 4>,
 }
 
-/// What is written of a state (HOA v1, body: `State:`).
+/// What the text says about a state (HOA v1, body: `State:`).
 #[derive(Debug, Drop)]
 pub struct Row {
     /// The state's number.

@@ -1,4 +1,4 @@
-//! What is wrong with a header, where `--BODY--` stands.
+//! What is wrong with a header, checked at `--BODY--`.
 
 ghost use Rattle.std.specs.Prelude.{◌≡◌, ◌↔◌, true, MatchOption, option_map};
 ghost use Rattle.ps_label.specs.Expression.{expression};
@@ -14,10 +14,10 @@ use crate::header::{Acceptance, Header};
 use crate::indices::Indices;
 use ps_label::Label;
 
-/// The greatest number of a state is below that, where `States:` does not say it.
+/// If `States:` does not say it, the number of each state is less than this.
 const STATE_LIMIT: u32 = 65_535;
 
-/// What is wrong with a header; of several flaws that with the smallest number.
+/// What is wrong with a header; if there are several flaws, the one with the smallest number.
 pub(crate) fn flaw(header: &Header) -> Option<HoaCause>
     ensures { MatchOption result (IsSoundHeader (header_data header.now)) (IsLeastFlaw (header_data header.now)) }
 {
@@ -49,7 +49,7 @@ fn is_start_too_large(states: Option<u32>, start: Option<u32>) -> bool
     }
 }
 
-/// Whether the header speaks of a state, a proposition or a set that there is not.
+/// Whether the header uses a state, a proposition or a set that does not exist.
 fn is_range_broken(header: &Header) -> bool
     ensures { (result ≡ true) ↔ parts.IsRangeBroken (header_data header.now) }
 {
@@ -66,7 +66,7 @@ fn is_range_broken(header: &Header) -> bool
     is_control_beyond(count, &header.controllable)
 }
 
-/// Whether the start is no state.
+/// Whether the start is not a state.
 fn is_start_beyond(states: Option<u32>, start: Option<u32>) -> bool
     ensures { (result ≡ true) ↔ parts.IsStartBeyond states start }
 {
@@ -76,7 +76,7 @@ fn is_start_beyond(states: Option<u32>, start: Option<u32>) -> bool
     }
 }
 
-/// Whether an alias speaks of a proposition that there is not.
+/// Whether an alias uses a proposition that does not exist.
 fn is_alias_beyond(count: usize, aliases: &[Label]) -> bool
     ensures { (result ≡ true) ↔ parts.AnAliasBeyond count (expressions aliases.now) }
 {
@@ -88,7 +88,7 @@ fn is_alias_beyond(count: usize, aliases: &[Label]) -> bool
     false
 }
 
-/// Whether a label speaks of a proposition that there is not.
+/// Whether a label uses a proposition that does not exist.
 fn speaks_beyond(count: usize, label: &Label) -> bool
     ensures { (result ≡ true) ↔ parts.SpeaksBeyond count (expression label.now) }
 {
@@ -107,7 +107,7 @@ fn speaks_beyond(count: usize, label: &Label) -> bool
     }
 }
 
-/// Whether the condition names a set that there is not.
+/// Whether the condition names a set that does not exist.
 fn is_condition_beyond(acceptance: &Option<Acceptance>) -> bool
     ensures { (result ≡ true) ↔ parts.IsConditionBeyond (option_map acceptance_data acceptance.now) }
 {
@@ -117,7 +117,7 @@ fn is_condition_beyond(acceptance: &Option<Acceptance>) -> bool
     }
 }
 
-/// Whether a condition names a set that there is not.
+/// Whether a condition names a set that does not exist.
 fn names_set_beyond(count: u32, condition: &Cond) -> bool
     ensures { (result ≡ true) ↔ parts.NamesSetBeyond count (condition_of condition.now) }
 {
@@ -135,7 +135,7 @@ fn names_set_beyond(count: u32, condition: &Cond) -> bool
     }
 }
 
-/// Whether a proposition is controllable that there is not.
+/// Whether a proposition that does not exist is controllable.
 fn is_control_beyond(count: usize, controllable: &Option<Indices>) -> bool
     ensures { (result ≡ true) ↔ parts.IsControlBeyond count controllable.now }
 {
@@ -145,7 +145,7 @@ fn is_control_beyond(count: usize, controllable: &Option<Indices>) -> bool
     }
 }
 
-/// Whether one of the numbers is that of no proposition.
+/// Whether one of the numbers is not that of a proposition.
 fn is_index_beyond(count: usize, indices: &[u32]) -> bool
     ensures { (result ≡ true) ↔ parts.AnIndexBeyond count indices.now }
 {

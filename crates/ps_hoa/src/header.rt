@@ -66,7 +66,7 @@ impl<'a> Header<'a> {
         }
     }
 
-    /// What a label of the body may speak of.
+    /// The propositions and aliases that a label of the body may use.
     pub(crate) fn scope(&self) -> Scope<'_, 'a>
         ensures { result ≡ body_scope (header_data self.now) }
     {

@@ -6,11 +6,11 @@ ghost use Rattle.ps_hoa.specs.Header.{has_place, kept, place_of};
 use std::alloc::{AllocError, Global};
 use std::marker::Model;
 
-/// Numbers from here on are no propositions, and have one place together.
+/// Numbers from here on are not propositions, and share one place.
 const LAST_PLACE: u32 = 64;
 
-/// Numbers in the order in which they came: each proposition's once, and of the other numbers the first one. So they
-/// are at most 65.
+/// Numbers in order of appearance: each proposition's once, and of the other numbers only the first. So there are at
+/// most 65.
 #[derive(Debug, Drop)]
 pub(crate) struct Indices {
     numbers: Vec<u32>,

@@ -1,4 +1,4 @@
-//! The reading of operands with connectives between them: of labels, and of acceptance conditions.
+//! Reading operands with connectives between them: of labels, and of acceptance conditions.
 
 ghost use Rattle.std.specs.Prelude.{◌≡◌, ◌↔◌, [], ◌∷◌, IfOk, IfSome, map, true};
 ghost use Rattle.ps_hoa.specs.Operands.{InfixGrammar, between, holds as holds_at, nesting_limit, operand as operand_of};
@@ -13,7 +13,7 @@ use crate::signs::{is_kind, mark};
 use crate::tokens::{Kind, Tokens};
 use std::alloc::{AllocError, Global};
 
-/// `!` and `(` may nest as many deep.
+/// The greatest nesting of `!` and `(`.
 const NESTING_LIMIT: usize = 256;
 
 /// A sign between operands; `&` binds tighter.
@@ -27,7 +27,7 @@ pub(crate) enum Connective {
 
 /// A grammar of operands with connectives between them.
 pub(crate) trait Infix {
-    /// What is made of an operand.
+    /// The value of an operand.
     type Value: Drop;
 
     /// What such values mean.
@@ -39,20 +39,20 @@ pub(crate) trait Infix {
     /// What the grammar has of its own.
     ghost grammar: { Self → InfixGrammar Self.Meaning };
 
-    /// Reads an operand without `!` or `(` in front.
+    /// Reads an operand that does not begin with `!` or `(`.
     fn leaf(&self, tokens: &mut Tokens) -> Result<Self::Value, HoaFault>
         ensures { ReadsAs meaning (grammar self.now).leaf tokens.old result tokens.new };
 
-    /// Whether with such a sign an operand begins that holds another one.
+    /// Whether an operand that contains another one may begin with such a sign.
     fn holds(&self, kind: Kind) -> bool
         ensures { result ≡ holds_at (grammar self.now).negated kind };
 
-    /// What `!` in front makes of an operand.
+    /// The operand with `!` before it.
     fn negated(&self, alloc: Global, operand: Self::Value) -> Result<Self::Value, AllocError>
         ensures { IfOk result
             (λ v. IfSome (grammar self.now).negated (λ negated. meaning v ≡ negated (meaning operand))) };
 
-    /// What operands with a connective between them are together.
+    /// The value of operands with a connective between them.
     fn together(&self, connective: Connective, operands: Vec<Self::Value>) -> Self::Value
         ensures { meaning result ≡ (grammar self.now).together connective (map meaning operands.items) };
 }
@@ -70,7 +70,7 @@ pub(crate) fn read<G: Infix>(
     row(alloc, tokens, grammar, NESTING_LIMIT, Connective::Or)
 }
 
-/// Reads operands with a connective between them, where `!` and `(` may nest so many deep.
+/// Reads operands with a connective between them; `!` and `(` may be nested to a given depth.
 #[cycle(infix)]
 fn row<G: Infix>(
     alloc: Global,
@@ -95,7 +95,7 @@ fn row<G: Infix>(
     Ok(grammar.together(connective, operands))
 }
 
-/// A list that begins with an operand, with room for a second one.
+/// A list that begins with an operand, and has room for a second one.
 fn begun<V: Drop>(alloc: Global, first: V) -> Result<Vec<V>, AllocError>
     ensures { IfOk result (λ operands. operands.items ≡ first ∷ []) }
 {
@@ -104,7 +104,7 @@ fn begun<V: Drop>(alloc: Global, first: V) -> Result<Vec<V>, AllocError>
     Ok(operands)
 }
 
-/// Reads what stands between such connectives.
+/// Reads what is between such connectives.
 #[cycle(infix)]
 fn part<G: Infix>(
     alloc: Global,
@@ -151,7 +151,7 @@ fn operand<G: Infix>(
     Ok(inner)
 }
 
-/// Whether a connective stands here.
+/// Whether a connective comes next.
 fn is_at(tokens: &Tokens, connective: Connective) -> bool
     ensures { (result ≡ true) ↔ ((next_of (stream_of tokens.now)).sign.kind ≡ kind_of connective) }
 {

@@ -27,13 +27,13 @@ use crate::tokens::{Kind, Token, Tokens, is_same};
 use ps_label::Label;
 use std::alloc::Global;
 
-/// A text has at most as many states,
+/// The greatest number of states in a text,
 const STATE_LIMIT: u32 = 65_535;
 
-/// as many propositions,
+/// of propositions,
 const PROPOSITION_LIMIT: u32 = 64;
 
-/// and as many acceptance sets.
+/// and of acceptance sets.
 const SET_LIMIT: u32 = 64;
 
 /// The items of a header: those that have a meaning here, and all others.
@@ -75,10 +75,10 @@ pub(crate) fn item_named(name: &[u8]) -> Option<Item>
     None
 }
 
-/// The number of marks that a text has of items that may stand once.
+/// The number of marks for items that may occur only once.
 pub(crate) const MARK_COUNT: usize = 4;
 
-/// The mark of an item, if it may stand once.
+/// The mark of an item, if it may occur only once.
 fn mark_of(item: Item) -> Option<usize>
     ensures value { result ≡ mark_of item }
     ensures within { IfSome result (λ mark. mark < MARK_COUNT) }
@@ -92,7 +92,7 @@ fn mark_of(item: Item) -> Option<usize>
     }
 }
 
-/// The mark of the item of that name, if it may stand once.
+/// The mark of the item with that name, if it may occur only once.
 pub(crate) fn mark_named(name: &[u8]) -> Option<usize>
     ensures value { result ≡ mark_named name.now }
     ensures within { IfSome result (λ mark. mark < MARK_COUNT) }
@@ -109,7 +109,7 @@ pub(crate) fn header<'a>(alloc: Global, tokens: &mut Tokens<'a>) -> Result<Heade
     Ok(header)
 }
 
-/// Reads `--BODY--`, where nothing may be wrong with the header.
+/// Reads `--BODY--`; nothing may be wrong with the header.
 fn body_mark(tokens: &mut Tokens, header: &Header) -> Result<(), HoaFault>
     ensures { ReadsAs (λ _. header_data header.now) (parts.body_mark (header_data header.now)) tokens.old
         result tokens.new }
@@ -178,7 +178,7 @@ fn item_name(tokens: &mut Tokens, header: &Header) -> Result<Item, HoaFault>
     item_name_of(token, header)
 }
 
-/// The token is the name of an item that may stand here.
+/// The token is the name of an item that is allowed here.
 fn item_name_of(token: Token, header: &Header) -> Result<Item, HoaFault>
     ensures { Takes (λ item. item) item_in (parts.IsBadItem (header_data header.now)) (piece_of token.entry) result }
 {
@@ -189,7 +189,7 @@ fn item_name_of(token: Token, header: &Header) -> Result<Item, HoaFault>
     }
 }
 
-/// Reads what stands behind the name of an item.
+/// Reads what follows the name of an item.
 fn behind_name<'a>(
     alloc: Global,
     tokens: &mut Tokens<'a>,
@@ -240,7 +240,7 @@ fn names(alloc: Global, tokens: &mut Tokens, header: &mut Header) -> Result<(), 
     Ok(())
 }
 
-/// Reads an alias, behind `Alias:`.
+/// Reads an alias, after `Alias:`.
 fn alias<'a>(
     alloc: Global,
     tokens: &mut Tokens<'a>,
@@ -256,7 +256,7 @@ fn alias<'a>(
     Ok(())
 }
 
-/// Reads a label in a header, where nothing is known of the propositions.
+/// Reads a label in a header, where nothing is known about the propositions.
 fn header_label(alloc: Global, tokens: &mut Tokens, names: &Names) -> Result<Label, HoaFault>
     ensures { ReadsAs expression (labels.label (record { names = names.now; propositions = None }) nesting_limit)
         tokens.old result tokens.new }
@@ -288,7 +288,7 @@ fn controllable(alloc: Global, tokens: &mut Tokens, header: &mut Header) -> Resu
     Ok(())
 }
 
-/// Reads numbers, as far as they are wanted.
+/// Reads numbers, and keeps those that matter.
 fn indices(alloc: Global, tokens: &mut Tokens) -> Result<Indices, HoaFault>
     ensures { ReadsAs (λ indices. indices) (many parts.index []) tokens.old result tokens.new }
 {

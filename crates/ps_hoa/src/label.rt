@@ -1,4 +1,4 @@
-//! The reading of labels.
+//! Reading labels.
 
 ghost use Rattle.std.specs.Prelude.{◌≡◌, ◌↔◌, true};
 ghost use Rattle.ps_label.specs.Expression.{expression};
@@ -81,7 +81,7 @@ fn leaf_of(token: Token, scope: &Scope) -> Result<Label, HoaFault>
     }
 }
 
-/// Whether there is no proposition of that number, as far as their number is known.
+/// Whether there is no proposition with that number, if the number of propositions is known.
 fn is_beyond(propositions: Option<usize>, number: u32) -> bool
     ensures { (result ≡ true) ↔ labels.IsBeyond propositions number }
 {

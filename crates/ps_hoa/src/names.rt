@@ -1,4 +1,4 @@
-//! Names in the order in which they came, each once.
+//! Names in order of appearance, each once.
 
 ghost use Rattle.std.specs.Prelude.{◌≡◌, ◌++◌, ◌∷◌, [], None, OnOk, OnErr, length};
 ghost use Rattle.ps_hoa.specs.Labels.{alias_number};
@@ -7,7 +7,7 @@ use std::alloc::{AllocError, Global};
 use std::collections::BTreeMap;
 use std::marker::Model;
 
-/// Names that are parts of one text, in order; an ordered table finds the number of each, whatever the names are.
+/// Names that are parts of one text, in order. An ordered table finds the number of each, whatever the names are.
 #[derive(Drop)]
 pub(crate) struct Names<'a> {
     names: Vec<&'a [u8]>,
@@ -54,7 +54,7 @@ impl<'a> Names<'a> {
         self.numbers.get(name).copied()
     }
 
-    /// Adds a name that is none of them.
+    /// Adds a new name.
     pub(crate) fn push(&mut self, name: &'a [u8]) -> Result<(), AllocError>
         requires { alias_number self.old name.now ≡ None }
         ensures ok { OnOk result (self.new ≡ self.old ++ name.now ∷ []) }
@@ -67,12 +67,12 @@ impl<'a> Names<'a> {
     }
 }
 
-/// What the aliases and propositions of a label may be.
+/// The aliases and propositions that a label may use.
 #[derive(Drop)]
 pub(crate) struct Scope<'s, 'a> {
     /// The aliases that are defined before the label.
     pub(crate) aliases: &'s Names<'a>,
-    /// The number of propositions, where it is known.
+    /// The number of propositions, if it is known.
     pub(crate) propositions: Option<usize>,
 }
 

@@ -1,4 +1,4 @@
-//! Names that a header gives: each a new one.
+//! Names in a header that must be new.
 
 ghost use Rattle.std.specs.Prelude.{◌≡◌, [], IfOk, None, false};
 ghost use Rattle.ps_text.specs.Parts.{one, times};
@@ -16,10 +16,10 @@ use crate::signs::{is_kind, quoted_of, unescaped};
 use crate::tokens::{Kind, Token, Tokens};
 use std::alloc::Global;
 
-/// A text has at most as many aliases.
+/// The greatest number of aliases in a text.
 const ALIAS_LIMIT: usize = 4096;
 
-/// Reads as many names of propositions.
+/// Reads `count` names of propositions.
 pub(crate) fn propositions(
     alloc: Global,
     tokens: &mut Tokens,
@@ -66,7 +66,7 @@ fn new_name_of(alloc: Global, token: Token, names: &Propositions) -> Result<Vec<
     Ok(name)
 }
 
-/// Whether a byte stands in a name that may not.
+/// Whether a name has a byte that is not allowed.
 fn has_control(name: &[u8]) -> bool
     ensures { result ≡ parts.has_control name.now }
 {

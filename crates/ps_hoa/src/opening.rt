@@ -13,10 +13,10 @@ ghost use Rattle.ps_hoa.specs.declared.fault.HoaCause.{HoaCause};
 use crate::fault::{HoaCause, HoaFault};
 use crate::tokens::{Tokens, begins_with, behind_blanks, is_name_byte, is_same};
 
-/// A text has at most as many bytes.
+/// The greatest number of bytes in a text.
 const TEXT_LIMIT: usize = 16_777_216;
 
-/// How many bytes of a version stand at the front.
+/// How many bytes of a version the text begins with.
 fn version_at(bytes: &[u8]) -> usize
     ensures value { result ≡ prefix_len is_version_byte bytes.now }
     ensures within { result ≤ length bytes.now }
@@ -28,12 +28,12 @@ fn version_at(bytes: &[u8]) -> usize
     count
 }
 
-/// The tokens behind the version of a text.
+/// The tokens after the version of a text.
 ///
 /// # Errors
 ///
-/// `Limit` where the text is too long, `NotHoa` where it does not begin with `HOA:`, and `Version` where
-/// the version is not `v1`.
+/// `Limit` if the text is too long, `NotHoa` if it does not begin with `HOA:`, and `Version` if the version is not
+/// `v1`.
 pub(crate) fn opened(text: &[u8]) -> Result<Tokens<'_>, HoaFault>
     // What the tokens mean, or the first cause in them, is the answer to the text.
     ensures tokens { IfOk result (λ tokens. (answer : Result FileData (Found HoaCause)) →

@@ -8,7 +8,7 @@ use crate::tokens::is_same;
 use std::alloc::{AllocFailed, Global};
 use std::marker::Model;
 
-/// The names of the propositions in order, each once. They are few, so that they are looked through.
+/// The names of the propositions in order, each once. They are few, so a search looks at all of them.
 #[derive(Debug, Drop)]
 pub struct Propositions {
     names: Vec<Vec<u8>>,
@@ -54,11 +54,7 @@ impl Propositions {
         is_among(name, &self.names)
     }
 
-    /// Adds one of a new name.
-    ///
-    /// # Errors
-    ///
-    /// Fails where a growth was refused, and gives the name back.
+    /// Adds a proposition with a new name. Fails if out of memory, and gives the name back.
     pub fn push(&mut self, name: Vec<u8>) -> Result<(), AllocFailed<Vec<u8>>>
         requires { is_name_among name.items self.old ≡ false }
         ensures ok { OnOk result (self.new ≡ self.old ++ name.items ∷ []) }

@@ -1,4 +1,4 @@
-//! The reading of whole texts.
+//! Reading whole texts.
 
 ghost use Rattle.std.specs.Prelude.{IfOk};
 ghost use Rattle.ps_hoa.specs.Scan.{next_of, stream_of};
@@ -20,8 +20,8 @@ use std::alloc::Global;
 ///
 /// # Errors
 ///
-/// Each cause by which a text is refused is an `HoaFault::Text`, with the offset at which it stands: the first one in
-/// the text, and of several at one place the one with the smallest number. `OutOfMemory` where a growth was refused.
+/// `HoaFault::Text` with the first cause in the text and its offset; at one place, the cause with the smallest number.
+/// `OutOfMemory` if out of memory.
 pub fn read(alloc: Global, text: &[u8]) -> Result<HoaFile, HoaFault>
     ensures answer { IsFileAnswer (λ file. file) text.now result }
     ensures sound { IfOk result IsSoundFile }
@@ -33,7 +33,7 @@ pub fn read(alloc: Global, text: &[u8]) -> Result<HoaFile, HoaFault>
     file(alloc, header, rows)
 }
 
-/// The text ends here.
+/// Checks that the text ends here.
 fn finish(tokens: &Tokens) -> Result<(), HoaFault>
     ensures { EndsHere (stream_of tokens.now) result }
 {

@@ -11,7 +11,7 @@ use crate::fault::{HoaCause, HoaFault};
 use crate::items::item_named;
 use crate::tokens::{Kind, Token, is_same};
 
-/// A fault of that cause at a token.
+/// The fault with that cause at a token.
 pub(crate) fn fault_at(token: Token, cause: HoaCause) -> HoaFault
     ensures { result ≡ faults.Text cause token.entry.start }
 {
@@ -21,7 +21,7 @@ pub(crate) fn fault_at(token: Token, cause: HoaCause) -> HoaFault
     }
 }
 
-/// The fault of a token that can't stand where it stands.
+/// The fault of a token that is not allowed at its place.
 pub(crate) fn refused(token: Token) -> HoaFault
     ensures { result ≡ faults.Text (refusal_of hoa_causes (Some (piece_of token.entry).sign)) token.entry.start }
 {
@@ -44,7 +44,7 @@ fn refusal(token: Token) -> HoaCause
     }
 }
 
-/// Whether a name begins with a capital and is none that the grammar spells.
+/// Whether a name begins with a capital and is not defined by the grammar.
 #[tactic(auto, unfolding(crate::specs::Causes::is_unknown_capital))]
 fn is_unknown(name: &[u8]) -> bool
     ensures { result ≡ is_unknown_capital name.now }
@@ -52,7 +52,7 @@ fn is_unknown(name: &[u8]) -> bool
     !is_spelled(name) && begins_capital(name)
 }
 
-/// Whether the grammar spells a name: it is that of an item, or stands elsewhere.
+/// Whether the grammar defines a name, as that of an item or elsewhere.
 fn is_spelled(name: &[u8]) -> bool
     ensures { result ≡ is_spelled name.now }
 {

@@ -26,7 +26,7 @@ impl Rows {
     ghost use Rattle.ps_hoa.specs.Body.{has_row, last_row, no_rows, with_row};
     ghost use Rattle.ps_hoa.specs.Inner.Rows.{body_data};
 
-    /// No rows.
+    /// No rows. Calls that add rows fail if out of memory.
     pub(crate) fn new(alloc: Global) -> Self
         ensures { body_data result ≡ no_rows }
     {
@@ -45,21 +45,21 @@ impl Rows {
         self.edges
     }
 
-    /// Whether one of them is of this state.
+    /// Whether a row belongs to this state.
     pub(crate) fn has(&self, state: u32) -> bool
         ensures { result ≡ has_row state (body_data self.now).rows }
     {
         self.places.contains_key(&state)
     }
 
-    /// The last one, if there is one.
+    /// The last row, if there is one.
     pub(crate) fn last(&self) -> Option<&Row>
         ensures { option_map row_data (option_copied result) ≡ last_row (body_data self.now) }
     {
         self.rows.last()
     }
 
-    /// Adds one of a new state.
+    /// Adds the row of a new state.
     pub(crate) fn push(&mut self, row: Row) -> Result<(), AllocError>
         requires new { has_row row.state (body_data self.old).rows ≡ false }
         requires within { (body_data self.old).edges + length row.edges.items ≤ edge_limit }

@@ -46,7 +46,7 @@ pub(crate) fn is_kind(token: Token, kind: Kind) -> bool
     token.kind == kind
 }
 
-/// Whether a token is that name, with `:` behind it.
+/// Whether a token is that name, with `:` after it.
 pub(crate) fn is_name(token: Token, name: &[u8]) -> bool
     ensures { result ≡ is_some (name_value name.now token.entry.kind token.entry.text.now) }
 {
@@ -76,7 +76,7 @@ fn int_up_to(token: Token, limit: u32) -> Result<u32, HoaFault>
     }
 }
 
-/// Reads a state in front of which no `&` stands.
+/// Reads a state that no `&` follows.
 pub(crate) fn start_state(tokens: &mut Tokens) -> Result<u32, HoaFault>
     ensures { ReadsAs (λ n. n) (barred_by (int_part number_limit) IsAlternating) tokens.old result tokens.new }
 {
@@ -87,7 +87,7 @@ pub(crate) fn start_state(tokens: &mut Tokens) -> Result<u32, HoaFault>
     Ok(state)
 }
 
-/// Reads a string between quotes, and gives what stands between them.
+/// Reads a string between quotes, and returns the bytes between them.
 pub(crate) fn quoted<'a>(tokens: &mut Tokens<'a>) -> Result<&'a [u8], HoaFault>
     ensures { ReadsAs (λ inner. meaning false inner.now) string_part tokens.old result tokens.new }
 {
@@ -95,7 +95,7 @@ pub(crate) fn quoted<'a>(tokens: &mut Tokens<'a>) -> Result<&'a [u8], HoaFault>
     quoted_of(token)
 }
 
-/// What stands between the quotes of a token.
+/// The bytes between the quotes of a token.
 pub(crate) fn quoted_of<'a>(token: Token<'a>) -> Result<&'a [u8], HoaFault>
     ensures { Takes (λ inner. meaning false inner.now) string_in NoBad (piece_of token.entry) result }
 {
@@ -116,7 +116,7 @@ fn between_quotes(text: &[u8]) -> &[u8]
     &text[1..text.len() - 1]
 }
 
-/// What stands between quotes means this: a backslash and a byte stand for that byte.
+/// The meaning of the bytes between quotes: a backslash and a byte stand for that byte.
 pub(crate) fn unescaped(alloc: Global, inner: &[u8]) -> Result<Vec<u8>, AllocError>
     ensures { IfOk result (λ bytes. bytes.items ≡ meaning false inner.now) }
 {
@@ -133,8 +133,8 @@ pub(crate) fn unescaped(alloc: Global, inner: &[u8]) -> Result<Vec<u8>, AllocErr
     Ok(bytes)
 }
 
-/// The number that digits write, if it is no more than the greatest `INT`. A byte below `0` counts as `0`, so that
-/// nothing is asked of the bytes.
+/// The number that digits write, if it is at most the greatest `INT`. A byte less than `0` counts as `0`, so that
+/// nothing is required of the bytes.
 pub(crate) fn int_of(digits: &[u8]) -> Option<u32>
     ensures { result ≡ (if nat_le (decimal_value digits.now) number_limit then Some
         (decimal_value digits.now) else None) }

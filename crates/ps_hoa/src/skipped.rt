@@ -1,4 +1,4 @@
-//! Items that are read over.
+//! Items that are ignored.
 
 ghost use Rattle.std.specs.Prelude.{◌≡◌};
 ghost use Rattle.ps_text.specs.Parts.{many};
@@ -14,7 +14,7 @@ use crate::refusal::{fault_at, refused};
 use crate::signs::{int_of, quoted};
 use crate::tokens::{Kind, Token, Tokens};
 
-/// Reads over the name of a tool, and its version if it stands there.
+/// Skips the name of a tool, and its version if there is one.
 pub(crate) fn tool(tokens: &mut Tokens) -> Result<(), HoaFault>
     ensures { (h : HeaderData) → ReadsAs (λ _. h) (parts.strings h) tokens.old result tokens.new }
 {
@@ -25,7 +25,7 @@ pub(crate) fn tool(tokens: &mut Tokens) -> Result<(), HoaFault>
     Ok(())
 }
 
-/// Reads over the name of the automaton.
+/// Skips the name of the automaton.
 pub(crate) fn name(tokens: &mut Tokens) -> Result<(), HoaFault>
     ensures { (h : HeaderData) → ReadsAs (λ _. h) (parts.one_string h) tokens.old result tokens.new }
 {
@@ -33,7 +33,7 @@ pub(crate) fn name(tokens: &mut Tokens) -> Result<(), HoaFault>
     Ok(())
 }
 
-/// Reads over what stands behind a name that has no meaning here.
+/// Skips what follows a name that has no meaning here.
 pub(crate) fn other(tokens: &mut Tokens) -> Result<(), HoaFault>
     ensures { (h : HeaderData) → ReadsAs (λ _. h) (many parts.read_over h) tokens.old result tokens.new }
 {
@@ -43,14 +43,14 @@ pub(crate) fn other(tokens: &mut Tokens) -> Result<(), HoaFault>
     Ok(())
 }
 
-/// Whether a token may be read over.
+/// Whether a token may be skipped.
 fn is_value(token: Token) -> bool
     ensures { result ≡ is_value_kind token.entry.kind }
 {
     matches!(token.kind, Kind::Int | Kind::Text | Kind::Word)
 }
 
-/// Reads over a number, a string or a word.
+/// Skips a number, a string or a word.
 fn read_over(tokens: &mut Tokens) -> Result<(), HoaFault>
     ensures { (h : HeaderData) → ReadsAs (λ _. h) (parts.read_over h) tokens.old result tokens.new }
 {
@@ -58,7 +58,7 @@ fn read_over(tokens: &mut Tokens) -> Result<(), HoaFault>
     read_over_of(token)
 }
 
-/// The token may be read over.
+/// The token may be skipped.
 fn read_over_of(token: Token) -> Result<(), HoaFault>
     ensures { (h : HeaderData) → Takes (λ _. h) (read_over_in h) (parts.IsAbove number_limit)
         (piece_of token.entry) result }

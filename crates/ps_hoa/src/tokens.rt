@@ -18,15 +18,15 @@ use std::marker::Model;
 /// What a token is (HOA v1, tokens).
 #[derive(Clone, Copy, Debug, PartialEq, Eq)]
 pub enum Kind {
-    /// A name with `:` directly behind it.
+    /// A name with `:` directly after it.
     Header,
-    /// One of the names that may stand once, a second time.
+    /// The second occurrence of a name that may occur only once.
     HeaderAgain,
     /// A name: a letter or `_`, and then letters, digits, `_` and `-`.
     Word,
     /// `@`, and then letters, digits, `_` and `-`.
     AliasName,
-    /// `0`, or digits that don't begin with it.
+    /// `0`, or digits that don't begin with `0`.
     Int,
     /// Several digits that begin with `0`.
     ZeroRun,
@@ -56,11 +56,11 @@ pub enum Kind {
     End,
     /// `--ABORT--`
     Abort,
-    /// `/*`, where the comment is not closed.
+    /// `/*`, if the comment is not closed.
     OpenComment,
     /// A byte that begins no token.
     Odd,
-    /// A byte that is no blank, behind `--END--`.
+    /// A byte after `--END--` that is not a blank.
     Behind,
     /// The end of the text.
     Finish,
@@ -109,7 +109,7 @@ fn class_of(byte: u8) -> Class
     }
 }
 
-/// Which of the names that may stand once have stood, and whether `--END--` has.
+/// Which of the names that may occur only once have occurred, and whether `--END--` has.
 #[derive(Clone, Copy)]
 pub struct Marks {
     pub(crate) stood: [bool; MARK_COUNT],
@@ -131,7 +131,7 @@ fn is_digit(byte: u8) -> bool
     matches!(byte, b'0'..=b'9')
 }
 
-/// How many digits stand at the front.
+/// How many digits the bytes begin with.
 fn digits_at(bytes: &[u8]) -> usize
     ensures value { result ≡ prefix_len digit bytes.now }
     ensures within { result ≤ length bytes.now }
@@ -143,7 +143,7 @@ fn digits_at(bytes: &[u8]) -> usize
     count
 }
 
-/// Whether a byte can stand behind the first one of a name.
+/// Whether a name may contain a byte after its first one.
 #[tactic(auto, unfolding(crate::specs::Bytes::class_of))]
 pub(crate) fn is_name_byte(byte: u8) -> bool
     ensures { result ≡ names byte }
@@ -151,7 +151,7 @@ pub(crate) fn is_name_byte(byte: u8) -> bool
     matches!(byte, b'0'..=b'9' | b'a'..=b'z' | b'A'..=b'Z' | b'_' | b'-')
 }
 
-/// How many bytes of a name stand at the front.
+/// How many bytes of a name the bytes begin with.
 fn name_at(bytes: &[u8]) -> usize
     ensures value { result ≡ prefix_len names bytes.now }
     ensures within { result ≤ length bytes.now }
@@ -163,7 +163,7 @@ fn name_at(bytes: &[u8]) -> usize
     count
 }
 
-/// How many bytes close the string that they stand in, the closing quote among them.
+/// How many bytes there are up to the end of the string that contains them, including the closing quote.
 fn quoted_at(bytes: &[u8]) -> Option<usize>
     ensures value { result ≡ quoted_len bytes.now false }
     ensures within { IfSome result (λ n. n ≤ length bytes.now) }
@@ -181,7 +181,7 @@ fn quoted_at(bytes: &[u8]) -> Option<usize>
     None
 }
 
-/// How many bytes close the comment that they stand in, those of the comments inside it among them.
+/// How many bytes there are up to the end of the comment that contains them, including the comments inside it.
 fn comment_at(bytes: &[u8]) -> Option<usize>
     ensures value { result ≡ comment_len bytes.now false 0 }
     ensures within { IfSome result (λ n. n ≤ length bytes.now) }
@@ -205,7 +205,7 @@ fn comment_at(bytes: &[u8]) -> Option<usize>
     None
 }
 
-/// Whether these two bytes stand at a place.
+/// Whether these two bytes are at a place.
 fn is_pair(bytes: &[u8], at: usize, first: u8, second: u8) -> bool
     requires some { 0 < second }
     ensures value { result ≡ (slice_index bytes.now at == first && slice_index bytes.now (at + 1) == second) }
@@ -214,7 +214,7 @@ fn is_pair(bytes: &[u8], at: usize, first: u8, second: u8) -> bool
     at < bytes.len() && bytes[at] == first && byte_at(bytes, at + 1) == second
 }
 
-/// The byte at a place, or 0 behind the end.
+/// The byte at a place, or 0 after the end.
 fn byte_at(bytes: &[u8], at: usize) -> u8
     ensures value { result ≡ slice_index bytes.now at }
     ensures within { 0 < result → at < length bytes.now }
@@ -339,7 +339,7 @@ fn step_at(bytes: &[u8]) -> Step
     }
 }
 
-/// A token by itself, whatever stood before it: what it is, and where.
+/// A token by itself, whatever came before it: what it is, and where.
 #[derive(Clone, Copy)]
 struct Lexeme {
     kind: Kind,
@@ -347,7 +347,7 @@ struct Lexeme {
     stop: usize,
 }
 
-/// The first token from a place on, behind blanks and comments.
+/// The first token from a place on, after blanks and comments.
 fn first_lexeme(source: &[u8], from: usize) -> Lexeme
     requires { from ≤ length source.now }
     ensures blanks { AreBlanks source.now from result.start }
@@ -390,7 +390,7 @@ pub(crate) fn is_same(name: &[u8], word: &[u8]) -> bool
 }
 
 impl Marks {
-    /// Nothing has stood yet but `HOA:`.
+    /// Only `HOA:` has occurred.
     fn new() -> Self
         ensures { result ≡ fresh }
     {
@@ -400,7 +400,7 @@ impl Marks {
         }
     }
 
-    /// Whether a name that may stand once has stood.
+    /// Whether a name that may occur only once has occurred.
     fn has(&self, name: &[u8]) -> bool
         ensures { result ≡ is_known self.now name.now }
     {
@@ -413,7 +413,7 @@ impl Marks {
         }
     }
 
-    /// What a token is behind these.
+    /// What a token is after these.
     fn kind_of(&self, kind: Kind, text: &[u8]) -> Kind
         ensures { result ≡ kind_here self.now kind text.now }
     {
@@ -434,7 +434,7 @@ impl Marks {
         }
     }
 
-    /// Goes on behind a token.
+    /// Records a token.
     fn pass(&mut self, kind: Kind, text: &[u8])
         ensures { self.new ≡ marks_after self.old kind text.now }
     {
@@ -455,7 +455,7 @@ pub struct Token<'a> {
     pub text: &'a [u8],
     /// The offset of its first byte.
     pub start: usize,
-    /// The offset behind its last byte.
+    /// The offset after its last byte.
     pub stop: usize,
 }
 
@@ -482,8 +482,8 @@ impl<'a> Model for Tokens<'a> {
 }
 
 impl<'a> Tokens<'a> {
-    /// The tokens from a place of a text on, which is behind its version: a `HOA:` that is still to come is a second
-    /// one, also where the place is 0.
+    /// The tokens from a place of a text on, which comes after its version. So a `HOA:` that is still to come is a
+    /// second one, even if the place is 0.
     pub fn new(source: &'a [u8], from: usize) -> Self
         requires { from ≤ length source.now }
         ensures pieces { (pieces : List (Piece Sign)) → AreTokens from (drop from source.now) pieces →
@@ -501,7 +501,7 @@ impl<'a> Tokens<'a> {
         }
     }
 
-    /// The next token, which at the end of the text is `Finish`.
+    /// The next token; at the end of the text it is `Finish`.
     pub fn peek(&self) -> Token<'a>
         ensures next { piece_of result ≡ next_of (stream_of self.now) }
         ensures finish { (result.kind ≡ Kind.Finish) ↔ ((stream_of self.now).pieces ≡ []) }
@@ -511,7 +511,7 @@ impl<'a> Tokens<'a> {
         self.next
     }
 
-    /// Goes on behind the next token, which it returns.
+    /// Moves past the next token, and returns it.
     pub fn advance(&mut self) -> Token<'a>
         ensures next { piece_of result ≡ next_of (stream_of self.old) }
         ensures rest { stream_of self.new ≡ behind_next (stream_of self.old) }
@@ -537,7 +537,7 @@ impl<'a> Tokens<'a> {
     }
 }
 
-/// The token that stands there, behind these marks.
+/// The token from a lexeme, after these marks.
 fn token_of<'a>(source: &'a [u8], lexeme: Lexeme, marks: Marks) -> Token<'a>
     requires { IsLexeme source.now lexeme }
     ensures kept { IsKept source.now marks lexeme.kind result }

@@ -1,5 +1,5 @@
--- The laws of the body's sets, labels and edges, and how their parts are joined. proofs/Grammar/StateLaws goes on with
--- states.
+-- The laws of the body's sets, labels and edges, and how their parts are joined. proofs/Grammar/StateLaws continues
+-- with states.
 --     laws_marks, laws_label_in_brackets, laws_state_label, laws_labelled_edge, laws_plain_edge, laws_edge      the
 --               laws
 --     joint_braces, joint_sets      `{`, the numbers and `}`
@@ -35,7 +35,7 @@ use Rattle.ps_hoa.proofs.Grammar.InfixLaws.{is_start}
 use Rattle.ps_hoa.proofs.Grammar.LabelLaws.{laws_label}
 use Rattle.ps_hoa.proofs.Grammar.SignLaws.{laws_alternating}
 
--- the signs with which an edge goes on
+-- the signs with which an edge continues
 abbrev pub lengthens_edge : Kind → Bool
 lengthens_edge = union is_and is_left_brace
 

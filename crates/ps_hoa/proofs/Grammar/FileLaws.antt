@@ -1,6 +1,6 @@
--- The laws of a whole text behind the version: header and body.
+-- The laws of a whole text after the version: header and body.
 --     laws_file      the laws
---     joint_file      the body behind the header
+--     joint_file      the body after the header
 use Rattle.ps_text.specs.Parts.{mapped}
 use Rattle.ps_text.proofs.Combined.{joint_tight}
 use Rattle.ps_text.proofs.Following.{laws_tight}

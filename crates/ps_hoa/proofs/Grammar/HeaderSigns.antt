@@ -1,7 +1,7 @@
 -- The single signs of a header, as parts of one sign.
---     reads_token      what is answered to the next token is the reading of its part
+--     reads_token      the answer to the next token is the reading of its part
 --     signs_mark, .., signs_body      some sign is taken, and the end of the text is neither taken nor bad
---     takes_refused, takes_bad      what is answered to a sign that can't stand, and to one that is bad
+--     takes_refused, takes_bad      the answer to a sign that is not allowed there, and to one that is bad
 use Rattle.std.proofs.Common.{◌≡◌, ℕ, ◌≤◌, Bool, cond, List, [], codes, Option, None, Some, Result, Err}
 use Rattle.std.proofs.Common.{refl, sym, ap, inl, inr, arith}
 use Rattle.ps_text.specs.Answers.{Piece, Stream}

@@ -1,8 +1,9 @@
--- The laws of grammars with connectives: rows of operands, and operands, whose forms stand by their first signs.
+-- The laws of grammars with connectives: rows of operands, and operands, whose forms are told apart by their first
+-- signs.
 --     laws_not, .., laws_right      signs by themselves
 --     laws_both, laws_rows, laws_nested      rows of operands, and those in parentheses
---     laws_negation, laws_holding, laws_operand      an operand behind `!`, one that holds another one, and any
---     joint_bar      a leaf where no more may nest
+--     laws_negation, laws_holding, laws_operand      an operand after `!`, one that contains another one, and any
+--     joint_bar      a leaf where the nesting may be no deeper
 use Rattle.std.proofs.Common.{rules, arith, ◌≡◌, ℕ, zero, suc, Bool, true, List, Option, None, Some, refl}
 use Rattle.ps_text.specs.Parts.{Part, then_by}
 use Rattle.ps_text.proofs.Barred.{laws_barred}
@@ -60,7 +61,7 @@ module _ {V : Type 0} (negated : Option (V → V)) where
   pub single_holds : Apart (Of is_single) (Of (holds negated))
   single_holds t h k = apart is_single nests refl t h (holds_nests t k)
 
--- what may stand behind the operands of a row, and of rows of rows
+-- what may follow the operands of a row, and of rows of rows
 abbrev pub AndMore : Sign → Type 0
 AndMore = Of is_and
 

@@ -1,4 +1,4 @@
--- The table of the names of items, as the code goes over it.
+-- The table of the names of items, as the code searches it.
 --     rows_of      its rows
 --     found, passed, ended      the next row has the name, or not, or there is none
 use Rattle.std.proofs.Common.{◌≡◌, ℕ, ◌+◌, ◌<◌, ◌≤◌, true, false, List, map, drop, length, get_or, Bor}

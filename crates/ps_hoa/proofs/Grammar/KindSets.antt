@@ -1,10 +1,10 @@
--- Facts of sets of kinds, each found by trying all kinds: the answer to `Each` is `refl`. And the laws of one sign.
+-- Facts about sets of kinds, each found by trying all kinds: the answer to `Each` is `refl`. And the laws of one sign.
 --     within, within_both, apart      the signs of a set, or of two, are in another one, or none is
 --     test_of      a set has one kind
 --     plain      no sign of a set is wrong by itself
---     laws_sign, laws_value, laws_mark      the laws of a sign whose kind is of a set: of any, of one that is bad only
---               where it has a value, of one without a value
---     laws_behind_option      a part behind one that may be empty
+--     laws_sign, laws_value, laws_mark      the laws of a sign whose kind is in a set: of any, of one that is bad only
+--               if it has a value, of one without a value
+--     laws_behind_option      a part after one that may be empty
 use Rattle.std.proofs.Common.{rules, ◌≡◌, ℕ, zero, suc, ◌<◌, Bool, true, not, cond, List, [], ◌∷◌, length, get_or}
 use Rattle.std.proofs.Common.{Option, None, Some, is_some, sym, ap, subst, ◌∙◌, arith, ◌&&◌, ◌||◌}
 use Rattle.std.proofs.lemmas.Bool.{and_parts, or_left, or_right}
@@ -47,7 +47,7 @@ at p [] n l e = absurd (omega (arith, l))
 at p (k ∷ ks) zero l e = (and_parts (p k) (all p ks) e).0
 at p (k ∷ ks) (suc n) l e = at p ks n (omega (arith, l)) (and_parts (p k) (all p ks) e).1
 
--- each kind stands in the list, at its tag
+-- each kind is in the list, at its tag
 place : (k : Kind) → (tag_of the_type k < length kinds) × (get_or kinds (tag_of the_type k) Finish ≡ k)
 place k = grind arith
 
@@ -119,7 +119,7 @@ module _ {V : Type 0} {take : Sign → Option V} {Bad : Sign → HoaCause → Ty
   pub laws_value : ((t : Sign) (f : HoaCause) → Bad t f → take t ≡ None → ⊥) → Tight (one take Bad) p
   laws_value bad = laws_sign (λ t h. has_kind p take are t (bad t h.0 h.1))
 
--- a part behind one that may be empty, and that goes on with the signs with which it begins
+-- a part after one that may be empty, and that continues with the signs with which it begins
 pub laws_behind_option : {A V : Type 0} {P : Part Sign A HoaCause} {Q : A → Part Sign V HoaCause} {Null : Type 0}
     (p q m : Kind → Bool) → Known P p p (Unit {0}) → ((a : A) → Known (Q a) q m Null) → Each (beside p q) →
     Each (inside p m) → Known (then_by P Q) (union p q) m Null

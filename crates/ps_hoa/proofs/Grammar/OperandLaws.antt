@@ -2,8 +2,8 @@
 -- its exits.
 --     Known, Tight      the laws of a part by sets of kinds
 --     laws_behind, laws_held, laws_row      the laws
---     joint_mark, joint_closed, joint_operands      what stands behind a sign, a `)` behind a part, further operands
---               behind the first
+--     joint_mark, joint_closed, joint_operands      what follows a sign, a `)` after a part, further operands after the
+--               first
 --     row_fails, row_alone, row_begins, row_goes_on, row_stops, row_ends      the exits of a row and the invariant of
 --               its loop
 use Rattle.std.proofs.Common.{arith, ◌≡◌, Bool, true, false, cond, List, Option, None, Some, inl}
@@ -34,8 +34,8 @@ Odd = Own hoa_causes
 abbrev pub Of : (Kind → Bool) → Sign → Type 0
 Of test sign = test sign.kind ≡ true
 
--- a part by the kinds of its signs: with which it begins, with which it goes on, and if it may be empty; and one that
--- is not empty and goes on with no sign
+-- a part by the kinds of its signs: with which it begins, with which it continues, and whether it may be empty; and one
+-- that is not empty and continues with no sign
 abbrev pub Known : {V : Type 0} → Part Sign V HoaCause → (Kind → Bool) → (Kind → Bool) → Type 0 → Type 0
 Known part first more null = Laws Odd part (Of first) (Of more) null
 
@@ -92,13 +92,13 @@ module _ {V : Type 0} (sign : Kind → Bool) (operand : Part Sign V HoaCause) {F
       Stops hoa_causes operand old o → Stops hoa_causes (row sign join operand) old o
   row_fails join old o s = grind (arith, stops_mapped, stops_first, joint_operands)
 
-  -- no further one stands behind it
+  -- no further one follows it
   pub row_alone : (join : List V → V) {old new : Stream Sign} {v : V} → Reads operand old v new →
       Avoids (Of sign) (next_of new) → Reads (row sign join operand) old v new
   row_alone join {new = new} {v = v} r a = reads_mapped (joined join)
       (reads_then joint_operands (reads_mapped single r) (many_ends item laws_item apart (single v) new a))
 
-  -- behind some operands
+  -- after some operands
   abbrev pub InRow : Stream Sign → List V → Stream Sign → Type 0
   InRow old vs now = Carries hoa_causes (operands sign operand) old (many (λ ws. further sign operand ws) vs) now
 
@@ -124,7 +124,7 @@ module _ {V : Type 0} (sign : Kind → Bool) (operand : Part Sign V HoaCause) {F
       (enters_read (mark sign) (signs now.pieces) (signs mid.pieces) tt (λ w h. m.null w h) r.1))
       (stops_behind hoa_causes (joint_item vs) r o (stops_mapped hoa_causes (with_last vs) operand mid o s))))
 
-  -- no further one stands here
+  -- no further one comes next
   pub row_ends : (join : List V → V) {old now : Stream Sign} {vs : List V} → InRow old vs now →
       Avoids (Of sign) (next_of now) → Reads (row sign join operand) old (joined join vs) now
   row_ends join {now = now} {vs = vs} k a =

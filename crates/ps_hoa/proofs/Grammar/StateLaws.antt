@@ -27,7 +27,7 @@ use Rattle.ps_hoa.proofs.Grammar.SignLaws.{header_apart, is_string, some_there, 
 use Rattle.ps_hoa.proofs.Grammar.BodyLaws.{lengthens_edge, laws_target_number, laws_marks, laws_state_label, laws_edge}
 use Rattle.ps_hoa.proofs.Grammar.BodyLaws.{edge_apart}
 
--- the signs with which a state's marks and edges begin, and its name, marks and edges; those behind its first one
+-- the signs with which a state's marks and edges begin, and its name, marks and edges; those after its first one
 abbrev begins_marks : Kind → Bool
 begins_marks = union is_left_brace begins_edge
 

@@ -1,7 +1,7 @@
 -- The laws of any item of the header, and of the header.
---     joint_item, joint_header      what stands behind a name, and `--BODY--` behind the items
---     item_begins, item_elsewhere      an item stands next, or none
---     item_loop      the items, one behind the other
+--     joint_item, joint_header      what follows a name, and `--BODY--` after the items
+--     item_begins, item_elsewhere      an item comes next, or none
+--     item_loop      the items, one after the other
 --     laws_header      the laws
 use Rattle.std.proofs.Common.{◌≡◌, [], true, false, is_some, refl, ap, sym, ◌∙◌}
 use Rattle.ps_text.specs.Answers.{Stream, next_of as there_of}

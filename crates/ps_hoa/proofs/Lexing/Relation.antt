@@ -1,5 +1,5 @@
--- The tokens that stand in a relation to the bytes are those that going over the bytes finds, and there is such a list.
---     only_lex, some_tokens      the list is the only one, and it is there
+-- The tokens that are related to the bytes are those that a scan of the bytes finds, and there is such a list.
+--     only_lex, some_tokens      the list is the only one, and it exists
 --     no_blanks, more_blanks, no_blank_begins      blanks from one place to another
 use Rattle.std.proofs.Common.{rules, ◌≡◌, ℕ, suc, zero, ◌+◌, ◌<◌, ◌≤◌, false, List, [], ◌∷◌, ◌++◌, length, take, drop}
 use Rattle.std.proofs.Common.{subst, refl, ap, sym, ◌∙◌, arith, length-append, length-drop, append_assoc, append-nil}
@@ -177,7 +177,7 @@ more_blanks source from at n before is =
       end = total;
     }
 
--- where a token or the end stands, no blank does
+-- where a token or the end is, there is no blank
 pub no_blank_begins : (bytes : List ℕ) → IsNoBlank (step_of bytes) → (part more : List ℕ) → bytes ≡ part ++ more →
     IsBlankPart part → ⊥
 no_blank_begins bytes h part more e is = subst (λ (s : Step). IsNoBlank s) (ap step_of e ∙ (part_is part more is).0) h

@@ -44,7 +44,7 @@ head-drop [] (suc at) = refl
 head-drop (b ∷ bs) zero = refl
 head-drop (b ∷ bs) (suc at) = head-drop bs at
 
--- the byte behind
+-- the next byte
 next-is : (bs : List ℕ) (at : ℕ) → head_or_zero (drop (suc at) bs) ≡ get_or bs (at + 1) 0
 next-is bs at = head-drop bs (suc at) ∙ ap (λ (k : ℕ). get_or bs k 0) (sym (add-one at))
 

@@ -95,7 +95,7 @@ number_sound b bs e =
     let r = run_sound is_digit bs in
     search (rules, length-prefix_len, cond_sound, and_true, ltb-true, eqb-true)
 
--- a byte that stands behind a front
+-- a byte that follows a front
 take_head : (k : ℕ) (bs : List ℕ) (c : ℕ) → 0 < c → head_or_zero (drop k bs) ≡ c →
     (take (suc k) bs ≡ take k bs ++ c ∷ []) × (suc k ≤ length bs)
 take_head zero [] c some e = absurd (omega arith)

@@ -32,7 +32,7 @@ token_piece source l marks =
 abbrev pub marks_behind : List ℕ → Lexeme → Marks → Marks
 marks_behind source l marks = marks_after marks l.kind (slice_range source l.start l.stop)
 
--- nothing stands behind the end
+-- nothing follows the end
 pub pieces_none : (r : Reading) → length r.source ≤ r.at → (stream_of r).pieces ≡ []
 unfolding stream_of
 pieces_none r done = search (rules, drop_all, lex_nothing)
@@ -88,7 +88,7 @@ never : (m : Marks) (kind : Kind) (text : List ℕ) → is_finish kind ≡ false
 never m kind text h k = search (rules, other)
 
 module _ (source : List ℕ) (l : Lexeme) (marks : Marks) (h : IsLexeme source l) where
-  -- a token stands here
+  -- a token is here
   found : l.start < length source →
       (stream_of (before source l marks)).pieces ≡ token_piece source l marks ∷ marked (marks_behind source l marks)
       (lex l.stop (drop l.stop source))

@@ -1,4 +1,4 @@
--- The body, and the whole text behind the version, have an outcome from each list of signs: they are read, or have a
+-- The body, and the whole text after the version, have an outcome from each list of signs: they are read, or have a
 -- first fault.
 --     has_file      the outcome
 use Rattle.std.proofs.Common.{ℕ, List, [], Option, None, rules}

@@ -1,5 +1,5 @@
--- What is wrong with a header where `--BODY--` stands: the flaw of the least number, or none.
---     no_acceptance_least, .., none_is_sound      the flaw is the least where those of smaller numbers are not
+-- What is wrong with a header at `--BODY--`: the flaw with the least number, or none.
+--     no_acceptance_least, .., none_is_sound      the flaw is the least if those with smaller numbers are absent
 --     judge_header      of a header
 --     judge_body_mark      of the sign
 --     said_none, .., is_said_some      what the code's tests for nothing say

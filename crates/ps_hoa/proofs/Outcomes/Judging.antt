@@ -1,5 +1,5 @@
 -- What may be wrong with a sign of labels, conditions, the header and the body: the least cause, or that there is none.
---     decide_kind      a sign's kind, where a test tells it
+--     decide_kind      a sign's kind, if a test decides it
 --     judge_above, .., judge_close      the least cause of each
 use Rattle.std.proofs.Common.{◌≡◌, ℕ, suc, ◌+◌, ◌<◌, ◌≤◌, Bool, true, List, length, Option, None, Some, rules, refl}
 use Rattle.std.proofs.Common.{sym, inr, ◌∙◌, subst}

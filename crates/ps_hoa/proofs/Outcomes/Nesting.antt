@@ -19,7 +19,7 @@ use Rattle.ps_hoa.specs.declared.fault.HoaCause.{HoaCause}
 use Rattle.ps_hoa.proofs.Grammar.OperandLaws.{taken_mark}
 use Rattle.ps_hoa.proofs.Reading.NestedRows.{mark_taken, Rest, rest_none, rest_more, row_text, rest_of}
 
--- a `!` and an operand behind it
+-- a `!` and an operand after it
 abbrev Negation : {V : Type 0} → Grammar V → Part Sign V HoaCause → List Sign → V → Type 0
 Negation {V} g P text v =
     (t : Sign) × (rest : List Sign) × (w : V) × (text ≡ t ∷ rest) × (is_not t.kind ≡ true) × g.Negates w v ×
@@ -29,7 +29,7 @@ Negation {V} g P text v =
 abbrev Form : {V : Type 0} → Grammar V → Part Sign V HoaCause → List Sign → V → Type 0
 Form g P text v = g.IsAtom text v ⊎ (Negation g P text v ⊎ (inner (rows g.together Or P)).IsText text v)
 
--- the operands of a grammar by its parts: atoms, and with more room also those behind `!` and in parentheses
+-- the operands of a grammar by its parts: atoms, and with more room also those after `!` and in parentheses
 record Operands {V : Type 0} (g : Grammar V) (part : ℕ → Part Sign V HoaCause) : Type 0 where
   pub atoms : (room : ℕ) (text : List Sign) (v : V) → g.IsAtom text v → (part room).IsText text v
   pub negations : (room : ℕ) (text : List Sign) (v : V) → Negation g (part room) text v →
@@ -147,7 +147,7 @@ module _ {V : Type 0} (g : Grammar V) (part : ℕ → Part Sign V HoaCause) (is 
 
 -- ## Labels and conditions
 
--- an atom is an operand whatever the room, and only that where there is none
+-- an atom is an operand whatever the room, and without room there is no other operand
 module _ {V : Type 0} (g : InfixGrammar V) where
   atom_text : (room : ℕ) (text : List Sign) (v : V) → g.leaf.IsText text v → (operand_of g room).IsText text v
   unfolding operand_of

@@ -89,7 +89,7 @@ same_meaning : (end : ℕ) (ps qs : List (Piece Sign)) (a b : Answer) → ps ≡
 same_meaning end ps qs a b e h k = has_one_answer file.IsText (IsWrong hoa_causes file) cause_number laws_file.one_value
     numbered (record { pieces = marked fresh qs; end = end }) a b (grind arith) k
 
--- what stands behind the version, and how long what is before it is
+-- what follows the version, and how long what precedes it is
 place : (bytes a b m n f g x y t u v w : List ℕ) → IsBehindBlanks bytes a (codes "HOA:" ++ m) →
     IsBehindBlanks bytes b (codes "HOA:" ++ n) → IsBehindBlanks m f x → IsBehindBlanks n g y →
     IsVersion x v t → IsVersion y w u → (length a ≡ length b) × (length f ≡ length g) × (v ≡ w) × (t ≡ u)

@@ -1,9 +1,9 @@
 -- The answer to a text, from what was read of it: the exits of the reader of whole texts.
 --     refused_answers      the text did not open
---     header_fails, body_fails      the header, or the body behind it, stopped at its first fault
---     ends_answers      both were read, and the text ends behind them
---     trails_answers      both were read, and a token stands behind them
--- `reads` says of the tokens behind the version that what they mean, or the first cause in them, is the answer to the
+--     header_fails, body_fails      the header, or the body after it, stopped at its first fault
+--     ends_answers      both were read, and the text ends after them
+--     trails_answers      both were read, and a token follows them
+-- `reads` says of the tokens after the version that what they mean, or the first cause in them, is the answer to the
 -- text.
 use Rattle.std.proofs.Common.{◌≡◌, ℕ, List, [], ◌∷◌, Some, Result, Ok, Err, IsErrAnd, refl, sym, ap, subst, ◌∙◌, rules}
 use Rattle.std.proofs.lemmas.Result.{err_from_is_err_and}

@@ -3,13 +3,13 @@
 --     serves_as, itself, serves_both      by the next sign, a part of itself, and in two steps
 --     serves_meets      the answer to P is that to Q
 --     Leads P old Q now      where Q from now on stops at a fault, so does P from old on
---     here, first, behind, under, instead      the call itself, the first of two, one behind a part that was read, one
+--     here, first, behind, under, instead      the call itself, the first of two, one after a part that was read, one
 --               whose value is seen otherwise, and one in place of another
---     exit      at a `?`: the fault that was met is what the function answers
+--     exit      at a `?`: the function returns the fault that was met
 --     entered      what begins the first of two parts begins both
 --     value_is      what was read has that value
 --     Loop item      the laws of the items of a loop
---     loop_more, loop_fails, loop_ends, loop_shrinks      behind one more item, at one that fails, at the end, and that
+--     loop_more, loop_fails, loop_ends, loop_shrinks      after one more item, at one that fails, at the end, and that
 --               the loop ends
 use Rattle.std.proofs.Common.{arith, ◌≡◌, ◌<◌, length, Option, Result, IsErrAnd}
 use Rattle.ps_text.specs.Answers.{Stream, Found, next_of as there_of}

@@ -1,7 +1,8 @@
 -- How operands with connectives between them are read: the rows of them, and the forms of an operand.
 --     operand_row      what the lemmas on rows need
---     leaf_serves, too_deep      an operand that holds no other one, and one that does where no more may nest
---     not_reads, not_fails      the exits of an operand behind `!`
+--     leaf_serves, too_deep      an operand that contains no other one, and one that does although the nesting may be
+--               no deeper
+--     not_reads, not_fails      the exits of an operand after `!`
 --     paren_reads, paren_fails, paren_stays_open      the exits of one in parentheses
 use Rattle.std.proofs.Common.{◌≡◌, ℕ, zero, suc, ◌-◌, true, false, List, Option, None, Some, is_some, IfSome, refl}
 use Rattle.std.proofs.Common.{sym, ap, subst, ◌∙◌, arith, rules}
@@ -39,14 +40,14 @@ use Rattle.ps_hoa.proofs.Reading.MarkReading.{mark_elsewhere, inner_fails, inner
 use Rattle.ps_hoa.proofs.Reading.NextSign.{next_there, next_same}
 use Rattle.ps_hoa.proofs.Reading.RowReading.{Row}
 
--- what may stand behind what stands between connectives
+-- what may follow what is between connectives
 abbrev pub Behind : Connective → Sign → Type 0
 Behind connectives.And = Nothing
 Behind connectives.Or = AndMore
 
 -- ## An operand that holds another one, by what it holds
 
--- it is in parentheses where it is not behind `!`
+-- it is in parentheses if it is not after `!`
 other_holds : {V : Type 0} (n : Option (V → V)) (kind : Kind) → holds n kind ≡ true → (kind ≡ Not → ⊥) →
     kind ≡ LeftParen
 other_holds n kind h differs = grind arith
@@ -100,7 +101,7 @@ module _ {V : Type 0} (g : InfixGrammar V) (is : IsLeaf g.leaf) where
   bar_read old other = reads_barred (λ _. IsTooDeep g.negated) (laws_give Odd tt) (nothing_apart _) (λ t f e b.
       false_true (sym other ∙ ap (λ (s : Sign). holds g.negated s.kind) (next_same old t e) ∙ b.0)) (reads_give old tt)
 
-  -- the operand holds no other one
+  -- the operand contains no other one
   pub leaf_serves : (room : ℕ) (old : Stream Sign) {p : Piece Sign} → p ≡ next_of old →
       holds g.negated p.sign.kind ≡ false → Serves old g.leaf (operand g room)
   unfolding operand

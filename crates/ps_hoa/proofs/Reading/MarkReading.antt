@@ -1,10 +1,10 @@
--- How signs by themselves are read, and what stands between parentheses.
+-- How signs by themselves are read, and what is between parentheses.
 --     Tests test kind      the test passes that kind, and no other
---     sign_begins, avoids_kind      the next sign begins its part, and none of those that a test passes
---     mark_read, mark_begins, mark_elsewhere      the sign stands there: it was taken, and begins a part; it does not
---               stand there
+--     sign_begins, avoids_kind      the next sign begins its part, and does not pass a test
+--     mark_read, mark_begins, mark_elsewhere      the sign comes next: it was taken, and begins a part; it does not
+--               come next
 --     tests_not, .., tests_string      the tests of the grammar
---     inner_reads, inner_fails, inner_stays_open      the exits of a part in parentheses behind its `(`
+--     inner_reads, inner_fails, inner_stays_open      the exits of a part in parentheses after its `(`
 use Rattle.std.proofs.Common.{◌≡◌, ◌≤◌, Bool, true, cond, length, Option, None, Some, Ok, refl, sym, ap, subst, ◌∙◌}
 use Rattle.std.proofs.Common.{inl, rules}
 use Rattle.ps_text.specs.Answers.{Stream, next_of as there_of}
@@ -42,7 +42,7 @@ pub sign_begins : {V : Type 0} (take : Sign → Option V) (Bad : Sign → HoaCau
 sign_begins take Bad s {v} proper e =
     subst (Enters (one take Bad)) (sym (next_there s proper)) (enters_one take Bad (next_of s).sign (inl (v, e)))
 
--- no sign of a test is next, where the next token is none
+-- no sign that passes a test is next, if the next token does not pass it
 pub avoids_kind : (test : Kind → Bool) (s : Stream Sign) → (test (next_of s).sign.kind ≡ true → ⊥) →
     Avoids (Of test) (there_of s)
 avoids_kind test s h t e k = h (ap (λ (u : Sign). test u.kind) (next_same s t e) ∙ k)
@@ -62,7 +62,7 @@ module _ {test : Kind → Bool} {kind : Kind} (tests : Tests test kind) where
   pub mark_elsewhere : (s : Stream Sign) → ((next_of s).sign.kind ≡ kind → ⊥) → Avoids (Of test) (there_of s)
   mark_elsewhere s differs = avoids_kind test s (λ h. differs (tests.is.1 (next_of s).sign.kind h))
 
--- going on by a token leaves no more pieces
+-- moving past a token leaves no more pieces
 pub behind_shrinks : (s new : Stream Sign) → new ≡ behind_next s → length new.pieces ≤ length s.pieces
 behind_shrinks s new e = search rules
 

@@ -1,4 +1,4 @@
--- Rows of operands, one behind the other: what a grammar by parts says of them, and a grammar of its own.
+-- Rows of operands, one after the other: what a grammar by parts says of them, and a grammar of its own.
 use Rattle.std.proofs.Common.{rules, arith, ◌≡◌, ℕ, zero, suc, Bool, true, cond, List, [], ◌∷◌, ◌++◌, None, Some, refl}
 use Rattle.std.proofs.Common.{sym, ap, subst, ◌∙◌, append_assoc, append-nil}
 use Rattle.ps_text.specs.Parts.{Part, times}
@@ -14,7 +14,7 @@ mark_taken test t e = ap (λ (b : Bool). cond b (Some tt) None) e
 -- ## Rows
 
 module _ {V : Type 0} (sign : Kind → Bool) (P : Part Sign V HoaCause) where
-  -- these operands stand behind others, each behind its sign
+  -- these operands follow others, each after its sign
   abbrev pub Rest : List Sign → List V → Type 0
   Rest text vs = (k : ℕ) × ((ws : List V) → (times k (λ us. further sign P us) ws).IsText text (ws ++ vs))
 

@@ -47,7 +47,7 @@ without_hoa text first short b h none = let e : length b.blanks ≡ first = omeg
     subst (λ (k : ℕ). ReadsFile text (at_offset causes.NotHoa k)) e
     (not_hoa short (behind text 0 first b h) (word_missing (drop first text) (codes "HOA:") none))
 
--- `HOA:` stands
+-- `HOA:` is there
 pub record Opens (text : List ℕ) (first second : ℕ) : Type 0 where
   pub short : length text ≤ text_limit
   pub before : AreBlanks text 0 first

@@ -1,8 +1,8 @@
 -- The loop that reads operands with a sign between them.
---     IsRow sign operand old vs now      from old on these operands were read; where it was only one, the sign stands
---               at now
+--     IsRow sign operand old vs now      from old on these operands were read; if there was only one, the sign is at
+--               now
 --     Row sign operand      the laws that the lemmas on rows need
---     first_fails, first_alone      the first operand fails, or stands alone
+--     first_fails, first_alone      the first operand fails, or is the only one
 --     row_starts, row_more, row_shrinks      the invariant of the loop and its measure
 --     row_fails, row_done      a later operand fails, and the end of the loop
 use Rattle.std.proofs.Common.{◌≡◌, ℕ, ◌+◌, ◌<◌, Bool, true, List, [], ◌∷◌, ◌++◌, length, map, refl, sym, ap, subst, ◌∙◌}
@@ -26,12 +26,12 @@ use Rattle.ps_hoa.proofs.Grammar.OperandLaws.{Odd, Of, row_alone, row_begins, ro
 use Rattle.ps_hoa.proofs.Reading.Exits.{Leads}
 use Rattle.ps_hoa.proofs.Reading.MarkReading.{Tests, mark_read, mark_elsewhere, behind_shrinks}
 
--- how many calls deep what stands between connectives is read
+-- how many calls deep the reading of what is between connectives is
 abbrev pub binding : Connective → ℕ
 binding connectives.And = 1
 binding connectives.Or = 3
 
--- the values of what a `Vec` holds, one more behind the others
+-- the values of what a `Vec` holds, with one more appended
 pub last_value : {X V : Type 0} (view : X → V) (x : X) (some : List X) {all : List X} → all ≡ some ++ x ∷ [] →
     map view all ≡ with_last (map view some) (view x)
 last_value view x some e = ap (map view) e ∙ map-append view some (x ∷ [])

@@ -16,7 +16,7 @@ use Rattle.ps_text.specs.declared.faults.Fault.TheVariants.{Text, OutOfMemory}
 use Rattle.ps_hoa.specs.declared.tokens.Kind.{Kind}
 use Rattle.ps_hoa.specs.declared.tokens.Kind.TheVariants.{Finish}
 
--- what stands at the end of a text
+-- the sign at the end of a text
 abbrev pub end_sign : Sign
 end_sign = record { kind = Finish; text = [] }
 

@@ -1,8 +1,8 @@
 -- The exits of the reading functions of states.
 --     next_signs, end_signs      `State:` and `--END--`
---     state_enters, avoids_state      `State:` stands next, or does not
+--     state_enters, avoids_state      `State:` comes next, or does not
 --     label_serves, no_label_serves      a state has a label, or none
---     name_serves, no_name_serves      and so with its name
+--     name_serves, no_name_serves      and likewise with its name
 --     edges_serve      the edges of a row that has none yet
 --     state_loop, edge_loop, set_loop      the loops of the body
 use Rattle.std.proofs.Common.{arith, ◌≡◌, true, false, List, [], Option, None, Some, is_some, refl, sym, ap, ◌∙◌, rules}

@@ -1,6 +1,6 @@
 -- Numbers that are kept once: what holds of each holds of each of those that are kept, and they differ.
---     neither      a list of which a test fails: it fails of the first, and of the others
---     all_once, different_once      behind one more number
+--     neither      a list that fails a test: the first fails it, and so do the others
+--     all_once, different_once      after one more number
 use Rattle.std.proofs.Common.{◌≡◌, ℕ, Bool, true, false, cond, List, [], ◌∷◌, ◌++◌, refl, arith, rules}
 use Rattle.std.proofs.lemmas.Bool.{cond_both}
 use Rattle.std.specs.List.{AllByRecursion}

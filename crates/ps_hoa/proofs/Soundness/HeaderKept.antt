@@ -43,7 +43,7 @@ keeps_int limit =
 
 -- ## What the items so far keep
 
--- each of these expressions, the first of which stands for the alias of that number, speaks of earlier aliases alone
+-- each of these expressions, the first of which stands for the alias with that number, uses only earlier aliases
 abbrev pub NamesRise : ℕ → List Expression → Type 0
 NamesRise k [] = Unit {0}
 NamesRise k (e ∷ es) = NamesBelow k e × NamesRise (k + 1) es
@@ -76,7 +76,7 @@ not_named other name [] e d = rw d refl
 not_named other name (next ∷ names) e d = let f = neither (bytes_eq other next) (is_name_among other names) e in
     rw (f.0, not_named other name names f.1 d) refl
 
--- one more name, which is none of the others
+-- one more name, which is new
 names_push : (names : List (List ℕ)) (name : List ℕ) → AreNames names → (is_empty name || has_control name) ≡ false →
     is_name_among name names ≡ false → AreNames (names ++ name ∷ [])
 names_push [] name a g e = (g, refl, tt)

@@ -1,5 +1,5 @@
--- What holds of the value of a part, where no cause of the part stands in its text.
---     Keeps part S      S holds of the value of each text of the part in which no cause of it stands
+-- What holds of the value of a part, if the part has no cause in its text.
+--     Keeps part S      S holds of the value of each text of the part in which it has no cause
 --     keeps_give, .., keeps_barred      for each combinator: of the parts of which it is made
 --     keeps_read      so S holds of what was read
 use Rattle.std.proofs.Common.{◌≡◌, ℕ, zero, suc, List, [], ◌∷◌, ◌++◌, Option, Some, refl, sym, subst}

@@ -1,4 +1,4 @@
--- Two tests in one, and what stands between quotes.
+-- Two tests in one, and what is between quotes.
 --     or_cond      the first test, or else the second
 --     inside-range      a text without its first and its last byte, as a part of it
 use Rattle.std.proofs.Common.{◌≡◌, ℕ, suc, ◌-◌, ◌||◌, Bool, true, cond, List, [], ◌∷◌, length, take, refl, ap, ◌∙◌}

@@ -126,7 +126,7 @@ pub record IsRowKept (h : HeaderData) (row : RowData) : Type 0 where
   pub edges : AllByRecursion (IsEdgeKept h) row.edges
   pub labelled : LabelledBy row.label row.edges
 
--- behind so many edges of earlier states
+-- after a number of edges of earlier states
 module _ (h : HeaderData) (before : ℕ) (n : ℕ) where
   -- the row of that state, with no edge too many
   abbrev RowOf : RowData → Type 0

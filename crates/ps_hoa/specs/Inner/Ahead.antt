@@ -8,7 +8,7 @@ use Rattle.ps_text.specs.declared.faults.Fault.TheVariants.{Text}
 use Rattle.ps_hoa.specs.declared.tokens.Kind.{Kind}
 use Rattle.ps_hoa.specs.declared.tokens.Kind.TheVariants.{And, LeftBracket, Int}
 
--- `&` may not stand behind a state
+-- `&` must not follow a state
 abbrev pub StandsAlone : Piece Sign → Result (Unit {0}) HoaFault → Type 0
 StandsAlone next (Ok u) = next.sign.kind ≢ And
 StandsAlone next (Err e) = (next.sign.kind ≡ And) × (e ≡ Text Alternating next.start)

@@ -8,7 +8,7 @@ use Rattle.ps_hoa.specs.Tokens.{Sign}
 use Rattle.ps_hoa.specs.Causes.{HoaFault}
 use Rattle.ps_text.specs.declared.faults.Fault.TheVariants.{Text}
 
--- nothing more stands in the text, or what stands next can't
+-- the text ends here, or what comes next is not allowed
 abbrev pub EndsHere : Stream Sign → Result (Unit {0}) HoaFault → Type 0
 EndsHere stream (Ok u) = stream.pieces ≡ []
 EndsHere stream (Err e) =

@@ -1,7 +1,7 @@
 -- What the reading functions say of the parts that they read.
 --     ReadsAs view part old result new      the part was read from old, and new is left, or its first fault was found
---     Takes view take Bad piece result      what is answered to one sign, or to the end of the text: it is taken, it is
---               bad, or it can't stand there
+--     Takes view take Bad piece result      the answer to one sign, or to the end of the text: it is taken, it is bad,
+--               or it is not allowed there
 use Rattle.std.specs.Prelude.{◌≡◌, ◌≤◌, ◌⊎◌, Option, None, Some, Result, Ok, Err}
 use Rattle.ps_text.specs.Answers.{Piece}
 use Rattle.ps_text.specs.Parts.{Part, refusal_of}
@@ -21,7 +21,7 @@ pub record IsWorst (Bad : Sign → HoaCause → Type 0) (sign : Sign) (f : HoaCa
   pub stands : Bad sign f
   pub least : (g : HoaCause) → Bad sign g → cause_number f ≤ cause_number g
 
--- the sign is none that is taken, and f is its own cause or the grammar's
+-- the sign is not taken, and f is its own cause or the grammar's
 pub record IsRefusal {V : Type 0} (take : Sign → Option V) (Bad : Sign → HoaCause → Type 0) (sign : Sign)
     (f : HoaCause) : Type 0 where
   pub none : take sign ≡ None

@@ -1,7 +1,7 @@
--- What the code's readers of single signs speak of.
---     IsTestOf test kind      the test is passed by this kind, and by no other
+-- Words for the code's readers of single signs.
+--     IsTestOf test kind      this kind passes the test, and no other does
 --     inside text      a text without its first and its last byte
---     IsLeaf part      the part begins with a sign that is an operand by itself, and no text of it goes on with any
+--     IsLeaf part      the part begins with a sign that is an operand by itself, and no text of it continues with any
 --               sign
 use Rattle.std.specs.Prelude.{ℕ, ◌≡◌, Bool, true, false, List, drop}
 use Rattle.ps_text.specs.Parts.{Part}
