@@ -27,7 +27,7 @@ moves_by first second player v = if player == 0 then move_at first v else move_a
 abbrev pub winner_by : List Bool → ℕ → ℕ
 winner_by won v = if has won v then 0 else 1
 
--- the winner's move at a vertex that the winner owns; a move of the other player's table is none
+-- the winner's move at a vertex that the winner owns; a move of the other player's table counts as no move
 abbrev pub choice_by : ParityGame → List Bool → List (Option ℕ) → List (Option ℕ) → ℕ → Option ℕ
 choice_by game won first second v =
     if owner_of game v == winner_by won v then moves_by first second (winner_by won v) v else None

@@ -10,7 +10,7 @@ use ps_game::{Arena, Region, Strategy};
 use ps_measure::CountTable;
 use std::alloc::{AllocError, Global};
 
-/// What is claimed of a game, as a certificate without priorities and counts.
+/// The claim about a game, as a certificate without priorities and counts.
 pub(crate) fn claim_of<A: Arena>(
     alloc: Global,
     arena: &A,
@@ -34,7 +34,7 @@ pub(crate) fn claim_of<A: Arena>(
     })
 }
 
-/// What is claimed of each vertex, with the row of its winner.
+/// The claim about each vertex, with the row of its winner.
 pub(crate) fn entries_of<A: Arena>(
     alloc: Global,
     arena: &A,
@@ -61,8 +61,7 @@ pub(crate) fn entries_of<A: Arena>(
     Ok(entries)
 }
 
-/// Puts the counts of a vertex into a list, in the place of what was in it: the first row where player 0 wins it, else
-/// the second.
+/// Replaces the contents of a list by the counts of a vertex: the first row if player 0 wins it, else the second.
 fn winner_row(
     vertex: usize,
     won: &Region,
@@ -82,7 +81,7 @@ fn winner_row(
     }
 }
 
-/// What is claimed of a vertex, with these counts.
+/// The claim about a vertex, with these counts.
 fn claim_at<'a, A: Arena>(
     arena: &A,
     vertex: usize,

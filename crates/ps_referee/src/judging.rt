@@ -16,14 +16,14 @@ use ps_game::{Arena, Counts, Region, Strategy};
 use ps_measure::{MeasureFault, Ranks, ranks};
 use std::alloc::{AllocError, Global};
 
-/// The certificate of a game by a solution of it: the vertices that player 0 wins, player 1 all others, and a table of
-/// moves for each player. Its winners and moves are the solution's, its counts the least ones. Only moves of the winner
-/// at vertices that the winner owns are looked at.
+/// The certificate of a game by a solution: the vertices that player 0 wins, player 1 all others, and a table of moves
+/// for each player. Its winners and moves are the solution's, and its counts are the least ones. Only moves of the
+/// winner at vertices that the winner owns are checked.
 ///
 /// # Errors
 ///
 /// A solution that does not hold is refused: [`JudgeFault::Unclosed`] with the first flaw of its moves and edges, as
-/// [`ps_certificate::closed`] has it, and where there is none [`JudgeFault::BadCycle`]. Else want of memory.
+/// [`ps_certificate::closed`] finds it. If there is none, [`JudgeFault::BadCycle`]. Otherwise out of memory.
 pub fn judge<A: Arena>(
     alloc: Global,
     arena: &A,
@@ -35,7 +35,7 @@ pub fn judge<A: Arena>(
     requires first { length first.now ≡ vertex_count (A.game arena.now) }
     requires second { length second.now ≡ vertex_count (A.game arena.now) }
 
-    // Ok exactly where each player holds what it wins, if there is memory for it.
+    // Ok exactly if each player holds what it wins, unless memory runs out.
     ensures solution { OnOk result (IsSolution (A.game arena.now) won.now first.now second.now) }
     ensures judged { IsSolution (A.game arena.now) won.now first.now second.now → IfErr result IsOutOfMemory }
 
@@ -53,12 +53,8 @@ pub fn judge<A: Arena>(
     counting(alloc, arena, won, first, second)
 }
 
-/// The certificate of a game by a solution that is known to hold, and is not judged: its winners and moves are the
-/// solution's, its counts the least ones.
-///
-/// # Errors
-///
-/// Fails for want of memory alone.
+/// The certificate of a game by a solution that is known to hold, and is not judged. Its winners and moves are the
+/// solution's, and its counts are the least ones. Fails only if out of memory.
 pub fn certificate_of_solution<A: Arena>(
     alloc: Global,
     arena: &A,
@@ -114,7 +110,7 @@ fn closing<A: Arena>(
     }
 }
 
-/// The certificate of a solution of which each edge that remains stays with its winner, or a cycle that a player loses.
+/// The certificate of a solution each remaining edge of which stays with its winner, or a cycle that a player loses.
 fn counting<A: Arena>(
     alloc: Global,
     arena: &A,

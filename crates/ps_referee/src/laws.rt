@@ -1,4 +1,4 @@
-//! What a solution is answered is decided, but for which cycle is told.
+//! The answer to a solution is determined, except for which cycle is told.
 
 ghost use Rattle.std.specs.Prelude.{◌≡◌, ℕ, List, Option, Bool};
 ghost use Rattle.ps_game.specs.Games.{ParityGame, IsGame};
@@ -6,14 +6,14 @@ ghost use Rattle.ps_certificate.specs.Certificates.{CertificateData, IsFirstFlaw
 ghost use Rattle.ps_certificate.specs.declared.flaw.Flaw.{Flaw};
 ghost use Rattle.ps_referee.specs.Solutions.{claimed, IsSolution, IsCycleOf, IsCertificateOf};
 
-/// A solution has one certificate at most.
+/// A solution has at most one certificate.
 pub fn one_certificate()
     ensures { (game : ParityGame) (won : List Bool) (first second : List (Option ℕ)) (one other : CertificateData) →
         IsCertificateOf game won first second one → IsCertificateOf game won first second other → one ≡ other }
 {}
 
-/// A solution has a flaw, a cycle that one player loses, or neither: then it holds. It has one first flaw at most
-/// (`ps_certificate::first_flaw_is_one`).
+/// A solution has a flaw, a cycle that one player loses, or neither; in the last case it holds. It has at most one
+/// first flaw (`ps_certificate::first_flaw_is_one`).
 pub fn one_verdict()
     ensures apart { (game : ParityGame) (won : List Bool) (first second : List (Option ℕ)) (flaw : Flaw) (player : ℕ)
         (cycle : List ℕ) → IsFirstFlaw game (claimed game won first second) flaw →

@@ -1,7 +1,8 @@
--- What the circuit of the winner is worth: a controller's where the automaton can be realised, else an environment's.
+-- What the circuit of the winner is worth: it is a controller's if the automaton can be realised, else an
+-- environment's.
 --     role_of player      0 is the controller
---     IsWitness order file player c      its shape; each word of it is accepted, or none is; each input goes on in such
---               a word; and an environment's meeting with any finite-state controller goes on in one, which is rejected
+--     IsWitness order file player c      its shape; each word of it is accepted, or none is; each input extends to such
+--               a word; and an environment's meeting with any finite-state controller extends to one, which is rejected
 use Rattle.std.specs.Prelude.{◌≡◌, ◌≢◌, ℕ, List, if◌then◌else◌, nat_eq}
 use Rattle.ps_hoa.specs.Files.{FileData}
 use Rattle.ps_circuit.specs.Circuits.{CircuitData, IsCircuit}

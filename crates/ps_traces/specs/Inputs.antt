@@ -1,8 +1,8 @@
--- Every input that repeats goes on in a trace that repeats.
+-- Every periodic input extends to a lasso trace.
 --     inputs_of moments      what is read at each moment
---     GoesOnInLasso c stem lap      some lasso trace reads the stem and some laps, at least one, and then again and
---               again some laps, at least one
---     EachInputGoesOn c      for each stem and each lap, not empty, of letters of the circuit's width
+--     GoesOnInLasso c stem lap      some lasso trace reads the stem and some laps, at least one, and then repeats some
+--               laps, at least one
+--     EachInputGoesOn c      for each stem and each non-empty lap of letters of the circuit's width
 use Rattle.std.specs.Prelude.{◌≡◌, ℕ, ◌<◌, Bool, List, ◌++◌, length, map, All}
 use Rattle.ps_circuit.specs.Circuits.{CircuitData}
 use Rattle.ps_circuit.specs.Values.{Moment}

@@ -1,10 +1,10 @@
 -- Finite-state controllers, and their meeting with the circuit of an environment. Letters are lists of bits in the
 -- circuit's order: a controller reads a bit for each of its outputs, and plays one for each of its inputs.
 --     FiniteController      a size, a first memory; tables from a memory and the letter read to a memory and a letter
---     IsController order c k      the tables keep to their ranges; where outputs come before inputs, the letter that is
---               played is decided by the memory alone
+--     IsController order c k      the tables keep to their ranges; if outputs come before inputs, the letter that is
+--               played depends only on the memory
 --     Meets c k latches memory moments      the one joint trace, from these latches and that memory
---     MeetsInLasso c k      it goes on in a lasso trace, at whose end the controller's memory has come back too
+--     MeetsInLasso c k      it extends to a lasso trace, at whose end the controller's memory has come back too
 --     IsRejected file c k      its letters are a word that the automaton does not accept
 use Rattle.std.specs.Prelude.{◌≡◌, ℕ, ◌<◌, Bool, List, [], ◌∷◌, length}
 use Rattle.ps_hoa.specs.Files.{FileData}
@@ -60,7 +60,7 @@ pub record IsMeeting (c : CircuitData) (k : FiniteController) (moments : List Mo
   pub memory : ℕ
   pub goes : GoesJointly c k (resets c) k.first moments latches memory
 
--- as many moments of the meeting as are wanted, and no others
+-- for each number of moments exactly one meeting of that length
 pub record IsOneMeeting (c : CircuitData) (k : FiniteController) (count : ℕ) : Type 0 where
   pub moments : List Moment
   pub many : length moments ≡ count

@@ -1,4 +1,4 @@
-//! Laws on traces that come back to their latches.
+//! Laws on traces that return to the same latches.
 
 ghost use Rattle.std.specs.Prelude.{◌≡◌, ◌≢◌, ℕ, ◌<◌, Bool, List, length};
 ghost use Rattle.ps_hoa.specs.Files.{FileData};
@@ -36,23 +36,23 @@ use ps_automaton::automaton_is_there;
 use ps_machine::lassos_won;
 use ps_simulate::circuit_has_one_values;
 
-/// Of a circuit, every input that repeats goes on in a lasso trace: for a stem and a lap, not empty, of
-/// letters of the circuit's width there are such numbers of laps, each at least 1, that a lasso trace reads the stem
-/// and the first ones, and then the others again and again.
+/// Every periodic input extends to a lasso trace of a circuit. For a stem and a non-empty lap of letters of the
+/// circuit's width there are two numbers of laps, each at least 1. A lasso trace reads the stem and the first number of
+/// laps, and then repeats the second number.
 pub fn every_input_goes_on()
     ensures { (c : CircuitData) → IsCircuit c → EachInputGoesOn c }
 {
     circuit_has_one_values();
 }
 
-/// Where the inputs and outputs of a circuit are the names of propositions, each once, each moment has one letter.
+/// If the inputs and outputs of a circuit are the names of propositions, each once, each moment has exactly one letter.
 pub fn every_trace_has_letters()
     ensures { (role : Role) (file : FileData) (c : CircuitData) (moments : List Moment) → AreNames file.names →
         HasSymbols role file.names file.controllable c → HasLetters file.names c moments }
 {}
 
 /// A file that was read and is admitted, and a circuit with the inputs and outputs of a role, have a verdict on each
-/// stem and each lap, not empty, of letters of the circuit's width.
+/// stem and each non-empty lap of letters of the circuit's width.
 pub fn verdict_is_there()
     ensures { (role : Role) (file : FileData) (c : CircuitData) (stem lap : List (List Bool)) → IsSoundFile file →
         IsAdmitted file → IsCircuit c →
@@ -63,7 +63,7 @@ pub fn verdict_is_there()
     circuit_has_one_values();
 }
 
-/// A circuit that is in time at all latches is so at those to which traces lead, which is what meetings ask for.
+/// A circuit that is in time at all latches is in time at those to which traces lead, which is what meetings require.
 pub fn in_time_where_reached()
     ensures { (order : Order) (role : Role) (c : CircuitData) → IsInTime order role c →
         IsInTimeWhereReached order role c }
@@ -77,7 +77,7 @@ pub fn meeting_is_one()
     circuit_has_one_values();
 }
 
-/// It goes on in a lasso trace, at whose end the controller's memory has come back too.
+/// The joint trace extends to a lasso trace, at whose end the controller's memory has come back too.
 pub fn every_meeting_goes_on()
     ensures { (order : Order) (c : CircuitData) (k : FiniteController) → IsCircuit c →
         IsInTimeWhereReached order Environment c → IsController order c k → MeetsInLasso c k }
@@ -85,7 +85,7 @@ pub fn every_meeting_goes_on()
     circuit_has_one_values();
 }
 
-/// So where no lasso trace of the environment's circuit is accepted, the meeting is rejected.
+/// So if no lasso trace of the environment's circuit is accepted, the meeting is rejected.
 pub fn every_meeting_is_rejected()
     ensures { (order : Order) (file : FileData) (c : CircuitData) (k : FiniteController) → AreNames file.names →
         IsCircuit c → HasSymbols Environment file.names file.controllable c → IsInTimeWhereReached order Environment c →
@@ -124,7 +124,7 @@ pub fn circuit_answers()
 }
 
 /// So a valid certificate of an automaton's game makes a controller whose lasso traces the automaton all accepts, or an
-/// environment whose lasso traces it all rejects, as vertex 0 is the one's or the other's.
+/// environment whose lasso traces it all rejects, depending on which player wins vertex 0.
 pub fn certified_circuit_answers()
     ensures { (file : FileData) (chain : Chain) (a : AutomatonData) (order : Order) (keys : List Key)
         (game : ParityGame) (certificate : CertificateData) (m : Behaviour) (c : CircuitData) →
