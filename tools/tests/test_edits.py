@@ -18,6 +18,7 @@ NAMED = (
     "always_not_certified",
     "always_too_large",
     "attractor_moves_anywhere",
+    "boxes_exchanged",
     "built_in_uncertified",
     "count_may_stay",
     "depth_always_one",

@@ -1,7 +1,7 @@
 use Rattle.std.proofs.Common.{subst, ℕ, List}
 use Rattle.ps_program.specs.Program.{AnswersInput, Writes}
 use Rattle.ps_program.specs.Replies.{reply_of}
-use Rattle.ps_program.specs.Solvers.{Solvers, solver_of, solvers_of}
+use Rattle.ps_program.specs.Solvers.{Solvers, solvers_of}
 use Rattle.ps_program.specs.Streams.{sink_state}
 use Rattle.ps_program.proofs.ProgramLemmas.{replies_answer}
 use Rattle.psyn.proofs.run.run.Goals as goal
@@ -10,10 +10,8 @@ pub returns-in-Ok-answer_to-clause-answered : goal.returns-in-Ok-answer_to-claus
 returns-in-Ok-answer_to-clause-answered g c =
     let b = c.args.built_in in
     let r = c.args.replay in
-    let s = goal.Solver-dyn g (b.vtable, b.value) in
-    let t = goal.Solver-dyn g (r.vtable, r.value) in
-    let solvers : Solvers = solvers_of (solver_of (s.is_sure b.value) (s.fed b.value) (s.may_answer b.value))
-    (solver_of (t.is_sure r.value) (t.fed r.value) (t.may_answer r.value)) in
+    let solvers : Solvers = solvers_of ((goal.Solver-dyn g (b.vtable, b.value)).known b.value)
+    ((goal.Solver-dyn g (r.vtable, r.value)).known r.value) in
     let state = sink_state g.W.Sink.contents g.W.Sink.has_failed g.W.Sink.has_stalled g.W.Sink.is_flushed in
     let answer = c.in-Ok-answer_to.answer in
     let read = c.in-Ok.ensures.read in (
