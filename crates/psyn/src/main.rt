@@ -3,6 +3,7 @@
 //! | Call | What it gives |
 //! |---|---|
 //! | `run::run` | reads the whole input, writes the answer to it, and gives the exit status |
+//! | `run::run_by` | the same by solvers that are known when it is compiled |
 //! | `memory::run_in_memory` | the same program over bytes |
 //! | `synthesis::synthesise` | the report of an HOA text by a solver that is chosen at run time: the whole promise |
 #![tactic(auto)]
@@ -20,8 +21,7 @@ pub mod synthesis;
 
 use ps_machine::{BuiltIn, Replay};
 pub use ps_program::{Reader, Sink, Source, Watched, Writer};
-use ps_program::{FAULT, OUT_OF_MEMORY};
-use run::{run, write_reply};
+use run::run_by;
 use std::alloc::Global;
 use std::process::ExitCode;
 
@@ -33,7 +33,7 @@ fn main(rt: HostRuntime) -> ExitCode {
     ))
 }
 
-/// Answers what is read with psyn's own solvers, or wants memory for them, and gives the exit status.
+/// Answers what is read by psyn's own solver, and by one that answers what it is fed, and gives the exit status.
 fn answered<R: Source, W: Sink>(alloc: Global, reader: &mut R, writer: &mut W) -> u8
     requires reader { R.has_failed reader.old ≡ false }
     requires writer { W.has_failed writer.old ≡ false }
@@ -44,11 +44,5 @@ fn answered<R: Source, W: Sink>(alloc: Global, reader: &mut R, writer: &mut W) -
         (sink_state W.contents W.has_failed W.has_stalled W.is_flushed writer.new)
         reply result }
 {
-    let Ok(built_in) = Box::new(alloc, BuiltIn::new(alloc)) else {
-        return write_reply(writer, OUT_OF_MEMORY, FAULT);
-    };
-    let Ok(replay) = Box::new(alloc, Replay::new(alloc)) else {
-        return write_reply(writer, OUT_OF_MEMORY, FAULT);
-    };
-    run(alloc, reader, writer, built_in, replay)
+    run_by(alloc, reader, writer, &mut BuiltIn::new(alloc), &mut Replay::new(alloc))
 }

@@ -36,8 +36,31 @@ pub fn run<R: Source, W: Sink>(
         (sink_state W.contents W.has_failed W.has_stalled W.is_flushed writer.new)
         reply result }
 {
+    run_by(alloc, reader, writer, &mut built_in, &mut replay)
+}
+
+/// The same, by any two solvers.
+pub fn run_by<R: Source, W: Sink, S: Solver, T: Solver>(
+    alloc: Global,
+    reader: &mut R,
+    writer: &mut W,
+    built_in: &mut S,
+    replay: &mut T,
+) -> u8
+    requires reader { R.has_failed reader.old ≡ false }
+    requires writer { W.has_failed writer.old ≡ false }
+    requires moving { W.has_stalled writer.old ≡ false }
+    ensures consumed { ConsumesAtMost (R.remaining reader.old) (R.remaining reader.new)
+        (input_limit + 1) }
+    ensures answered { (reply : Reply)
+        × Replies (solvers_of (S.known built_in.old) (T.known replay.old)) (R.remaining reader.old)
+        (R.has_failed reader.new) reply
+        × Writes (sink_state W.contents W.has_failed W.has_stalled W.is_flushed writer.old)
+        (sink_state W.contents W.has_failed W.has_stalled W.is_flushed writer.new)
+        reply result }
+{
     match read_input(alloc, reader) {
-        Ok(input) => match answer_to(alloc, input.as_slice(), &mut built_in, &mut replay) {
+        Ok(input) => match answer_to(alloc, input.as_slice(), built_in, replay) {
             Ok(answer) => write_reply(writer, answer.text.as_slice(), answer.status),
             Err(_) => write_reply(writer, OUT_OF_MEMORY, FAULT),
         },
@@ -47,7 +70,7 @@ pub fn run<R: Source, W: Sink>(
 }
 
 /// Writes an answer, and gives the exit status.
-pub fn write_reply<W: Sink>(writer: &mut W, text: &[u8], status: u8) -> u8
+fn write_reply<W: Sink>(writer: &mut W, text: &[u8], status: u8) -> u8
     requires sound { W.has_failed writer.old ≡ false }
     requires moving { W.has_stalled writer.old ≡ false }
     ensures { Writes

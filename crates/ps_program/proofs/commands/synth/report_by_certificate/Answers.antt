@@ -16,5 +16,5 @@ returns g c =
     gives_after (CutsInTwo c.args.texts.now) reply_of (λ (parts : List ℕ × List ℕ).
     AnswersReport (once_fed parts.1 solver) asked parts.0) (text, certificate) c.report.result
     c.in_ok-text.ensures
-    (gives_kept (once_fed certificate solver) (g.S.Solver.known c.feed.new.solver) c.in_ok-feed.ensures.ok asked text
+    (gives_kept (once_fed certificate solver) (g.S.Solver.known c.feed.new.self) c.in_ok-feed.ensures.ok asked text
     c.report.result c.report.ensures)

@@ -4,14 +4,11 @@ use Rattle.ps_program.specs.Replies.{reply_of}
 use Rattle.ps_program.specs.Solvers.{Solvers, solvers_of}
 use Rattle.ps_program.specs.Streams.{sink_state}
 use Rattle.ps_program.proofs.ProgramLemmas.{replies_answer}
-use Rattle.psyn.proofs.run.run.Goals as goal
+use Rattle.psyn.proofs.run.run_by.Goals as goal
 
 pub returns-in-Ok-answer_to-clause-answered : goal.returns-in-Ok-answer_to-clause-answered
 returns-in-Ok-answer_to-clause-answered g c =
-    let b = c.args.built_in in
-    let r = c.args.replay in
-    let solvers : Solvers = solvers_of ((goal.Solver-dyn g (b.vtable, b.value)).known b.value)
-    ((goal.Solver-dyn g (r.vtable, r.value)).known r.value) in
+    let solvers : Solvers = solvers_of (g.S.Solver.known c.args.built_in.now) (g.T.Solver.known c.args.replay.now) in
     let state = sink_state g.W.Sink.contents g.W.Sink.has_failed g.W.Sink.has_stalled g.W.Sink.is_flushed in
     let answer = c.in-Ok-answer_to.answer in
     let read = c.in-Ok.ensures.read in (
