@@ -1,8 +1,10 @@
-//! A problem, from its text to the winner's circuit, as a user of the library writes it.
+//! From a text to the winner's circuit, as a user of the library writes it.
 
-use ps_machine::{BuiltIn, Order, Solver};
-use ps_synthesis::{Problem, Report};
-use std::alloc::Global;
+use ps_certificate::Certificate;
+use ps_game::{Arena, NamedGame};
+use ps_machine::{BuiltIn, Order, SolveFault, Solver};
+use ps_synthesis::{Problem, Report, synthesise_by};
+use std::alloc::{AllocError, Global};
 use std::test::Fail;
 
 /// A grant must come exactly when there is a request.
@@ -28,5 +30,36 @@ fn a_controller_grants_what_is_requested(rt: HostRuntime) -> Result<(), Fail> {
     let report = answer(rt.alloc(), GRANTS)?;
     let circuit: &[u8] = b"aag 1 1 0 1 0\n2\n2\ni0 r\no0 g\n";
     assert!(rt; report.realizable && report.circuit_text.as_slice() == circuit);
+    Ok(())
+}
+
+/// A solver that notes the size of the game for which it was asked last, and asks another one.
+#[derive(Drop)]
+struct Noting<S> {
+    vertices: usize,
+    solver: S,
+}
+
+impl<S: Solver> Solver for Noting<S> {
+    ghost known = { λ noting. S.known noting.solver };
+
+    fn feed(&mut self, text: &[u8]) -> Result<(), AllocError> {
+        self.solver.feed(text)
+    }
+
+    fn solve(&mut self, game: &NamedGame) -> Result<Certificate, SolveFault> {
+        self.vertices = game.game().count();
+        self.solver.solve(game)
+    }
+}
+
+#[test]
+fn a_solver_of_the_tests_is_asked(rt: HostRuntime) -> Result<(), Fail> {
+    let mut solver = Noting {
+        vertices: 0,
+        solver: BuiltIn::new(rt.alloc()),
+    };
+    let report = synthesise_by(rt.alloc(), GRANTS, Order::Mealy, false, &mut solver)?;
+    assert!(rt; report.realizable && solver.vertices == 5);
     Ok(())
 }

@@ -10,5 +10,6 @@ pub mod KeyNames
 pub mod Keys
 pub mod Machines
 pub mod Numbering
+pub mod Solvers
 pub mod Solving
 pub mod Inner

@@ -5,14 +5,16 @@
 --     AnswersLeast game r      what psyn's own solver answers: such a certificate with the least counts, or that memory
 --               ran out
 --     NamesVertices game r      a cycle that is answered has vertices, and of the game only
---     KeepsText text old new      what a solver holds once it was fed a text
 --     Replays game fed r      the answer is that of reading the text that was fed
-use Rattle.std.specs.Prelude.{◌≡◌, ℕ, ◌<◌, List, length, Option, None, Some, Result, Ok, Err}
+--     own_solver      what is known of psyn's own solver
+--     replay_of text      what is known of the solver that answers what it was fed, where that is this text
+use Rattle.std.specs.Prelude.{◌≡◌, ℕ, ◌<◌, true, false, List, length, Option, None, Some, Result, Ok, Err}
 use Rattle.std.specs.List.{All}
 use Rattle.ps_game.specs.Games.{NamedGameData, vertex_count}
 use Rattle.ps_certificate.specs.Certificates.{CertificateData, winner_of, Fits, IsValid}
 use Rattle.ps_certificate.specs.Least.{HasLeastCounts}
 use Rattle.ps_certificate.specs.Texts.{ReadsCertificate}
+use Rattle.ps_machine.specs.Solvers.{SolverData}
 use Rattle.ps_machine.specs.declared.fault.SolveFault.{SolveFault}
 use Rattle.ps_machine.specs.declared.fault.SolveFault.TheVariants.{BadCycle, Text, OutOfMemory}
 
@@ -50,7 +52,18 @@ abbrev pub Replays : NamedGameData → Option (List ℕ) → Result CertificateD
 Replays game None r = ⊥
 Replays game (Some text) r = ReplaysText game text r
 
--- a solver that keeps texts keeps that one in the place of the one before
-abbrev pub KeepsText : List ℕ → Option (List ℕ) → Option (List ℕ) → Type 0
-KeepsText text None new = new ≡ None
-KeepsText text (Some old) new = new ≡ Some text
+abbrev pub own_solver : SolverData
+own_solver = record {
+  is_sure = true;
+  fed = None;
+  may_answer = λ fed game answer. AnswersLeast game answer;
+  gave = λ game answer. Unit {0};
+}
+
+abbrev pub replay_of : List ℕ → SolverData
+replay_of text = record {
+  is_sure = false;
+  fed = Some text;
+  may_answer = λ fed game answer. Replays game fed answer;
+  gave = λ game answer. Unit {0};
+}

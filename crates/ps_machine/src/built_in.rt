@@ -73,22 +73,17 @@ pub struct BuiltIn {
 impl BuiltIn {
     /// A solver that is sure.
     pub fn new(alloc: Global) -> Self
-        ensures sure { ⟦<BuiltIn as Solver>⟧.is_sure result ≡ true }
-        ensures fed { ⟦<BuiltIn as Solver>⟧.fed result ≡ None }
+        ensures sure { (⟦<BuiltIn as Solver>⟧.known result).is_sure ≡ true }
+        ensures fed { (⟦<BuiltIn as Solver>⟧.known result).fed ≡ None }
     {
         BuiltIn { alloc }
     }
 }
 
 impl Solver for BuiltIn {
-    ghost use Rattle.std.specs.Prelude.{true, None};
-    ghost use Rattle.ps_machine.specs.Solving.{AnswersLeast};
+    ghost use Rattle.ps_machine.specs.Solving.{own_solver};
 
-    ghost is_sure = { λ _. true };
-
-    ghost fed = { λ _. None };
-
-    ghost may_answer = { λ _ _ game answer. AnswersLeast game answer };
+    ghost known = { λ _. own_solver };
 
     fn feed(&mut self, _text: &[u8]) -> Result<(), AllocError> {
         Ok(())

@@ -10,7 +10,7 @@
 //! | `game_of(automaton, order)` | the game with ids and names; `Order` says who moves first |
 //! | `AutomatonGame::build(automaton, order)` | the same game with the key of each vertex |
 //! | `game_by_keys(source, order, first)` | the game of the keys to which a first one leads, by any `Successors` |
-//! | `Solver::feed`, `solve` | what any solver owes, and what it means that one is sure |
+//! | `Solver::feed`, `solve` | what any solver owes, a box of one too, and what it means that one is sure |
 //! | `BuiltIn::new` | the solver of psyn's own: regions, moves and least counts; it is sure |
 //! | `Replay::new` | the solver that answers the certificate whose text it was fed; it is not sure |
 //! | `machine_of_certificate`, `extract` | the machine of vertex 0's winner, by a valid certificate |
@@ -27,6 +27,7 @@
 //! | `one_machine`, `one_machine_of_file` | and one only; so has one of a file's game |
 #![tactic(auto)]
 
+mod boxed;
 mod built_in;
 mod divided;
 mod drawing;

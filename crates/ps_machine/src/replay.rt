@@ -1,7 +1,6 @@
 //! A solver that answers what it was fed.
 
 ghost use Rattle.std.specs.Prelude.{◌≡◌, [], Some};
-ghost use Rattle.ps_machine.specs.Solving.{Replays};
 
 use crate::fault::SolveFault;
 use crate::solver::Solver;
@@ -19,7 +18,7 @@ pub struct Replay {
 impl Replay {
     /// A solver that was fed the empty text.
     pub fn new(alloc: Global) -> Self
-        ensures { ⟦<Replay as Solver>⟧.fed result ≡ Some [] }
+        ensures { (⟦<Replay as Solver>⟧.known result).fed ≡ Some [] }
     {
         Replay {
             alloc,
@@ -29,14 +28,9 @@ impl Replay {
 }
 
 impl Solver for Replay {
-    ghost use Rattle.std.specs.Prelude.{false, Some};
-    ghost use Rattle.ps_machine.specs.Solving.{Replays};
+    ghost use Rattle.ps_machine.specs.Solving.{replay_of};
 
-    ghost is_sure = { λ _. false };
-
-    ghost fed = { λ r. Some r.text.items };
-
-    ghost may_answer = { λ _ text game answer. Replays game text answer };
+    ghost known = { λ replay. replay_of replay.text.items };
 
     fn feed(&mut self, text: &[u8]) -> Result<(), AllocError> {
         let kept = text.to_vec(self.alloc)?;

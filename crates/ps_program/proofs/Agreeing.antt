@@ -16,7 +16,7 @@ use Rattle.ps_machine.specs.Solving.{IsCertified}
 use Rattle.ps_machine.specs.declared.key.Key.{Key}
 use Rattle.ps_machine.specs.declared.key.Order.{Order}
 use Rattle.ps_pgsolver.specs.Written.{game_text}
-use Rattle.ps_synthesis.specs.Promises.{MayAnswer}
+use Rattle.ps_machine.specs.Solvers.{MayAnswer}
 use Rattle.ps_synthesis.specs.Reports.{IsReport}
 use Rattle.ps_synthesis.specs.declared.report.Report.{Report}
 use Rattle.ps_program.specs.Determined.{AgreeInWinners}

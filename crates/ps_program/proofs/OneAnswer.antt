@@ -2,6 +2,7 @@
 use Rattle.std.proofs.Common.{rules, ◌≡◌, ◌⊎◌, ◌∙◌, ℕ, Bool, true, false, List, length, Result, Ok, Err, refl, sym, ap}
 use Rattle.std.proofs.Common.{inl, inr, arith}
 use Rattle.ps_game.specs.Games.{ParityGame, NamedGameData}
+use Rattle.ps_machine.specs.Solvers.{SolverData, answers_now, once_fed}
 use Rattle.ps_pgsolver.specs.Written.{game_text}
 use Rattle.ps_certificate.specs.Certificates.{CertificateData}
 use Rattle.ps_circuit.specs.CauseNames as circuit_names
@@ -25,7 +26,7 @@ use Rattle.ps_program.specs.Outcomes.{printed}
 use Rattle.ps_program.specs.Program.{AnswersInput, AnswersLine}
 use Rattle.ps_program.specs.Replies.{Reply, text_reply}
 use Rattle.ps_program.specs.Simulating.{AnswersSim}
-use Rattle.ps_program.specs.Solvers.{SolverData, Solvers, answers_now, feed}
+use Rattle.ps_program.specs.Solvers.{Solvers}
 use Rattle.ps_program.specs.Solving.{AnswersGame, AnswersSolve}
 use Rattle.ps_program.specs.Synthesis.{AnswersBy, AnswersReport}
 use Rattle.ps_program.specs.Texts.{CutsInTwo, ReadsCertified, ReadsGameText, ReadsSimulated}
@@ -204,10 +205,10 @@ module _ (games : OneGame) (certificates : OneCertificate) (flaws : OneFlaw) (ci
                 {Q = ReportsAgree false asked texts} x y (λ a b agree. (texts, refl, agree)) alike,
           )
   synth_one_or solvers asked texts true x y h k =
-      by (then_one_or (CutsInTwo texts) (λ (parts : List ℕ × List ℕ). AnswersReport (feed parts.1 solvers.replay) asked
+      by (then_one_or (CutsInTwo texts) (λ (parts : List ℕ × List ℕ). AnswersReport (once_fed parts.1 solvers.replay) asked
       parts.0) (λ (parts : List ℕ × List ℕ). HasAutomaton parts.0 × Alike (AgreeAsReports asked.order asked.full
       parts.0) x y) (cut_one texts) x y
-      (λ parts n m. report_one_or (feed parts.1 solvers.replay) asked parts.0 x y n m) h k)
+      (λ parts n m. report_one_or (once_fed parts.1 solvers.replay) asked parts.0 x y n m) h k)
     where
       by : (x ≡ y) ⊎ ((parts : List ℕ × List ℕ) × CutsInTwo texts (Ok parts) ×
           (HasAutomaton parts.0 × Alike (AgreeAsReports asked.order asked.full parts.0) x y)) →

@@ -15,6 +15,7 @@ use Rattle.ps_game.specs.Games.{NamedGameData}
 use Rattle.ps_hoa.specs.Files.{FileData}
 use Rattle.ps_machine.specs.Behaviours.{Behaviour}
 use Rattle.ps_machine.specs.FileGames.{IsGameOfFile}
+use Rattle.ps_machine.specs.Solvers.{SolverData, answers_now, once_fed}
 use Rattle.ps_machine.specs.Solving.{IsCertified, Replays, winner}
 use Rattle.ps_machine.specs.declared.fault.SolveFault.{SolveFault}
 use Rattle.ps_machine.specs.declared.fault.SolveFault.TheVariants as solver_fault
@@ -33,7 +34,7 @@ use Rattle.ps_program.specs.Determined.{IsReplaying}
 use Rattle.ps_program.specs.Outcomes.{printed}
 use Rattle.ps_program.specs.Program.{AnswersInput, AnswersWhole}
 use Rattle.ps_program.specs.Replies.{Reply}
-use Rattle.ps_program.specs.Solvers.{SolverData, Solvers, answers_now, feed}
+use Rattle.ps_program.specs.Solvers.{Solvers}
 use Rattle.ps_program.specs.StageFaults.{stage_line}
 use Rattle.ps_program.specs.Synthesis.{AnswersBy, AnswersReport, AnswersSynth, report_reply, verdict_line}
 use Rattle.ps_program.specs.Synthesis.{verdict_status}
@@ -275,7 +276,7 @@ module _ (files : OneFile) (refusals : OneRefusal) (outcomes : OneOutcome) (game
     (cert : asked.cert ≡ true) where
   synth_one : (texts : List ℕ) → IsOne (AnswersSynth solvers asked texts)
   synth_one texts x y h k = then_one (CutsInTwo texts) (λ (parts : List ℕ × List ℕ). AnswersReport
-      (feed parts.1 solvers.replay) asked parts.0) (cut_one texts) (λ parts. search (rules, report_one)) x y
+      (once_fed parts.1 solvers.replay) asked parts.0) (cut_one texts) (λ parts. search (rules, report_one)) x y
       (subst (λ b. AnswersBy b solvers asked texts x) cert h) (subst (λ b. AnswersBy b solvers asked texts y) cert k)
 
   outcome_of : (input : List ℕ) → IsLine (first_line input) (line.Synth asked) → (a : Reply) →

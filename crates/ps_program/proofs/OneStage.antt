@@ -4,6 +4,7 @@ use Rattle.std.proofs.Common.{sym, ap, inl, inr, arith}
 use Rattle.std.specs.Prelude.{Option}
 use Rattle.ps_text.specs.Answers.{Found}
 use Rattle.ps_game.specs.Games.{ParityGame, NamedGameData, IsGame}
+use Rattle.ps_machine.specs.Solvers.{SolverData, answers_now}
 use Rattle.ps_pgsolver.specs.Reading.{Answer}
 use Rattle.ps_pgsolver.specs.declared.fault.PgCause.{PgCause}
 use Rattle.ps_certificate.specs.Certificates.{CertificateData, IsFirstFlaw}
@@ -30,7 +31,6 @@ use Rattle.ps_program.specs.Determined.{HasAutomaton}
 use Rattle.ps_program.specs.Games.{MakesGame, ReadsGameOf}
 use Rattle.ps_program.specs.Lassos.{TellsVerdict, verdict_text}
 use Rattle.ps_program.specs.Replies.{Reply, line_reply}
-use Rattle.ps_program.specs.Solvers.{SolverData, answers_now}
 use Rattle.ps_program.specs.StageFaults.{automaton_line, stage_line}
 use Rattle.ps_program.specs.Synthesis.{AnswersReport}
 use Rattle.ps_program.specs.declared.command_line.SynthLine.{SynthLine}

@@ -2,12 +2,12 @@
 use Rattle.std.proofs.Common.{arith, ◌≡◌, Bool, true, false, Err}
 use Rattle.ps_game.specs.Games.{NamedGameData}
 use Rattle.ps_certificate.specs.Certificates.{CertificateData}
+use Rattle.ps_machine.specs.Solvers.{SolverData, answers_now}
 use Rattle.ps_synthesis.specs.Stages.{IsSolverFault}
 use Rattle.ps_synthesis.specs.declared.fault.SynthFault.{SynthFault}
 use Rattle.ps_synthesis.specs.declared.fault.SynthFault.TheVariants.{OutOfMemory}
 use Rattle.ps_program.specs.declared.answer.Refusal.{Refusal}
 use Rattle.ps_program.specs.Outcomes.{Gives}
-use Rattle.ps_program.specs.Solvers.{SolverData, answers_now}
 use Rattle.ps_program.specs.Solving.{Certifies}
 use Rattle.ps_program.specs.StageFaults.{IsTold}
 use Rattle.ps_program.proofs.AutomatonLemmas.{no_line}

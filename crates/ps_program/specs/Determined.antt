@@ -14,6 +14,7 @@ use Rattle.ps_game.specs.Games.{NamedGameData, IsGame, vertex_count}
 use Rattle.ps_solution.specs.Solved.{SolutionData}
 use Rattle.ps_hoa.specs.Files.{FileData}
 use Rattle.ps_machine.specs.FileGames.{IsGameOfFile}
+use Rattle.ps_machine.specs.Solvers.{SolverData}
 use Rattle.ps_machine.specs.Solving.{IsCertified, Replays}
 use Rattle.ps_machine.specs.declared.fault.SolveFault.{SolveFault}
 use Rattle.ps_machine.specs.declared.key.Order.{Order}
@@ -26,7 +27,7 @@ use Rattle.ps_program.specs.Games.{ReadsGameOf}
 use Rattle.ps_program.specs.Judging.{ReadsSolved, LosesCycle}
 use Rattle.ps_program.specs.Program.{AnswersWhole}
 use Rattle.ps_program.specs.Replies.{Reply, fault_reply, text_reply}
-use Rattle.ps_program.specs.Solvers.{SolverData, Solvers}
+use Rattle.ps_program.specs.Solvers.{Solvers}
 use Rattle.ps_program.specs.Synthesis.{report_reply}
 use Rattle.ps_program.specs.Texts.{CutsInTwo, ReadsGameText}
 use Rattle.ps_program.specs.declared.command_line.Line.{Line}

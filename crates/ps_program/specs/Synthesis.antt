@@ -1,6 +1,7 @@
 -- The command that makes a circuit of an automaton.
 --     AnswersSynth solvers asked texts      `synth`
 use Rattle.std.specs.Prelude.{◌≡◌, ℕ, Bool, true, false, List, ◌++◌, codes, Some, Result, Ok, Err, if◌then◌else◌}
+use Rattle.ps_machine.specs.Solvers.{SolverData, answers_now, once_fed}
 use Rattle.ps_machine.specs.declared.key.Order.{Order}
 use Rattle.ps_synthesis.specs.Reports.{IsReport}
 use Rattle.ps_synthesis.specs.SynthFaults.{IsSynthFault}
@@ -9,7 +10,7 @@ use Rattle.ps_synthesis.specs.declared.report.Report.{Report}
 use Rattle.ps_program.specs.declared.command_line.SynthLine.{SynthLine}
 use Rattle.ps_program.specs.Outcomes.{Then}
 use Rattle.ps_program.specs.Replies.{Reply}
-use Rattle.ps_program.specs.Solvers.{SolverData, Solvers, answers_now, feed}
+use Rattle.ps_program.specs.Solvers.{Solvers}
 use Rattle.ps_program.specs.StageFaults.{IsOfSolver, stage_line}
 use Rattle.ps_program.specs.Texts.{CutsInTwo}
 
@@ -56,7 +57,7 @@ AnswersReport solver asked text =
 -- the same, by this solver once it was fed the certificate that stands behind the text
 abbrev pub AnswersCertified : SolverData → SynthLine → List ℕ → Result Reply (List ℕ) → Type 0
 AnswersCertified solver asked texts =
-    Then (CutsInTwo texts) (λ parts. AnswersReport (feed parts.1 solver) asked parts.0)
+    Then (CutsInTwo texts) (λ parts. AnswersReport (once_fed parts.1 solver) asked parts.0)
 
 -- `synth`: by the second solver where a certificate is given, and else by the first
 abbrev pub AnswersBy : (cert : Bool) → Solvers → SynthLine → List ℕ → Result Reply (List ℕ) → Type 0

@@ -1,7 +1,10 @@
-//! The commands that ask no solver, by their names.
+//! The commands, by their names.
 
+pub mod cert;
 pub mod check;
 pub mod game;
 pub mod judge;
 pub mod lasso;
 pub mod sim;
+pub mod solve;
+pub mod synth;

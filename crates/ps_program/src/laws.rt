@@ -1,7 +1,7 @@
 //! The law that the program's answer is determined, but for the choice of a solver.
 
 ghost use Rattle.ps_program.specs.Determined.{HasOneAnswer, HasOneCertified};
-ghost use Rattle.ps_program.specs.Solvers.{solver_of, solvers_of};
+ghost use Rattle.ps_program.specs.Solvers.{solvers_of};
 
 use ps_machine::Solver;
 
@@ -12,12 +12,8 @@ use ps_machine::Solver;
 /// game, `solve` and `cert` the same regions. With `synth --cert` there is one answer too, to the last byte, where the
 /// second solver answers only what reading the certificate that it was fed answers.
 pub fn one_answer<S: Solver, T: Solver>(built_in: &S, replay: &T)
-    ensures answer { HasOneAnswer (solvers_of
-        (solver_of (S.is_sure built_in.now) (S.fed built_in.now) (S.may_answer built_in.now))
-        (solver_of (T.is_sure replay.now) (T.fed replay.now) (T.may_answer replay.now))) }
-    ensures certified { HasOneCertified (solvers_of
-        (solver_of (S.is_sure built_in.now) (S.fed built_in.now) (S.may_answer built_in.now))
-        (solver_of (T.is_sure replay.now) (T.fed replay.now) (T.may_answer replay.now))) }
+    ensures answer { HasOneAnswer (solvers_of (S.known built_in.now) (T.known replay.now)) }
+    ensures certified { HasOneCertified (solvers_of (S.known built_in.now) (T.known replay.now)) }
 {
     ps_pgsolver::one_answer();
     ps_certificate::certificate_text_has_one_answer();

@@ -1,4 +1,4 @@
-//! The program without its solvers: what it reads, what it writes, and what it answers where no solver is asked.
+//! The program: what it reads, what it answers by the solvers that are handed in, and what it writes.
 //!
 //! | Call | What it gives |
 //! |---|---|
@@ -6,11 +6,9 @@
 //! | `send(sink, text)` | writes a text and flushes, or a `WriteFault`: nothing is written behind that |
 //! | `Watched::new` | a [`Source`] or a [`Sink`] of a reader or a writer of std |
 //! | `first_line`, `read_line` | the first line of an input and the rest; the [`Line`] that is asked for |
-//! | `two_texts`, `read_game`, `read_game_of` | the texts of a command, a game, the game of an automaton |
-//! | `ids_of(game, vertices)` | the ids by which a line names vertices |
-//! | `closed`, `check`, `judge`, `sim`, `lasso`, `game` | the [`Answer`] of a command that needs no solver |
-//! | `print(report, full)` | the answer of a report |
-//! | `settle(outcome)` | an answer of either: what is written, with its exit status |
+//! | `answer_to(input, built_in, replay)` | the [`Answer`] to an input: what is written, with its exit status |
+//! | `closed`, `check`, `judge`, `sim`, `lasso`, `game` | that of a command that asks no solver, to its texts |
+//! | `solve`, `cert`, `synth` | that of a command that does |
 //! | `lines_are_read`, `one_answer` | laws: how command lines are read; one answer, but for a solver's choice |
 //!
 //! What an input's answer is stands in the specs, for all commands: `Program` gives one case to each.
@@ -25,6 +23,7 @@ mod fault;
 mod fault_text;
 mod laws;
 mod printing;
+mod program;
 mod reading;
 mod sending;
 mod stage_faults;
@@ -36,17 +35,21 @@ pub use answer::{
     Answer, FAULT, HELP, OUT_OF_MEMORY, READ_FAULT, REALIZABLE, Refusal, UNREALIZABLE, settle,
 };
 pub use command_line::{Line, SynthLine, lines_are_read, read_line};
+pub use commands::cert::cert;
 pub use commands::check::{check, closed};
 pub use commands::game::{game, read_game_of};
 pub use commands::judge::judge;
 pub use commands::lasso::lasso;
 pub use commands::sim::sim;
+pub use commands::solve::{certify, solve};
+pub use commands::synth::synth;
 pub use cut::first_line;
 pub use fault::{FaultLine, Place};
 pub use laws::one_answer;
 pub use printing::print;
+pub use program::answer_to;
 pub use reading::{INPUT_LIMIT, InputFault, read_input};
 pub use sending::{WriteFault, send};
 pub use stream::{Sink, Source};
-pub use texts::{ids_of, read_game, two_texts};
+pub use texts::{read_game, two_texts};
 pub use watched::{Reader, Watched, Writer};

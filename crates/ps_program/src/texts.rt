@@ -1,6 +1,6 @@
 //! The texts of the commands, read, and the lines of what is wrong with them.
 
-ghost use Rattle.std.specs.Prelude.{◌≡◌, ◌<◌, false, length, map, slice_index, All, IfOk};
+ghost use Rattle.std.specs.Prelude.{◌≡◌, ◌<◌, false, length, All, IfOk};
 ghost use Rattle.ps_circuit.specs.Circuits.{IsCircuit};
 ghost use Rattle.ps_certificate.specs.Certificates.{Fits};
 ghost use Rattle.ps_game.specs.Games.{vertex_count};
@@ -18,7 +18,7 @@ use ps_certificate::{Certificate, Flaw};
 use ps_circuit::Circuit;
 use ps_game::NamedGame;
 use ps_simulate::{Letters, Stimulus};
-use std::alloc::{AllocError, Global};
+use std::alloc::Global;
 
 /// The line of a text that is missing.
 fn missing_text() -> FaultLine
@@ -195,20 +195,4 @@ pub fn flaw_line(game: &NamedGame, flaw: Flaw) -> FaultLine
         name: flaw.name(),
         place,
     }
-}
-
-/// The ids of vertices.
-///
-/// # Errors
-///
-/// Fails where a growth was refused.
-pub fn ids_of(alloc: Global, game: &NamedGame, vertices: &[usize]) -> Result<Vec<u64>, AllocError>
-    requires { All (λ v. v < vertex_count game.now.game) vertices.now }
-    ensures { IfOk result (λ ids. ids.items ≡ map (λ v. slice_index game.now.ids v) vertices.now) }
-{
-    let mut ids = Vec::new(alloc);
-    for vertex in vertices {
-        ids.push(game.id(*vertex))?;
-    }
-    Ok(ids)
 }

@@ -7,7 +7,8 @@ use Rattle.ps_game.specs.Games.{NamedGameData}
 use Rattle.ps_hoa.specs.Files.{FileData}
 use Rattle.ps_machine.specs.declared.fault.SolveFault.{SolveFault}
 use Rattle.ps_machine.specs.declared.key.Order.{Order}
-use Rattle.ps_synthesis.specs.Promises.{KeepsPromise, MayAnswer}
+use Rattle.ps_machine.specs.Solvers.{MayAnswer}
+use Rattle.ps_synthesis.specs.Promises.{KeepsPromise}
 use Rattle.ps_synthesis.specs.Reports.{IsReport}
 use Rattle.ps_synthesis.specs.SynthFaults.{IsOutcome, Reported, TooLarge, LacksMemory, IsSynthFault, IsTooLarge, OfGame}
 use Rattle.ps_synthesis.specs.declared.fault.SynthFault.{SynthFault}

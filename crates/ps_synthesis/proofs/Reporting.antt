@@ -21,7 +21,8 @@ use Rattle.ps_machine.specs.declared.key.Order.{Order}
 use Rattle.ps_synthesis.specs.Printing.{PrintsCertificate, PrintsCircuit, PrintsGame}
 use Rattle.ps_synthesis.specs.Problems.{Gives, IsProblem, IsProblemOf, ProblemData}
 use Rattle.ps_synthesis.specs.Reports.{IsReport, IsWinners, IsWinnersCircuit}
-use Rattle.ps_synthesis.specs.Promises.{KeepsPromise, MayAnswer}
+use Rattle.ps_machine.specs.Solvers.{MayAnswer}
+use Rattle.ps_synthesis.specs.Promises.{KeepsPromise}
 use Rattle.ps_synthesis.specs.Stages.{IsAutomatonOf, IsCircuitFault, IsCircuitOf, IsExtracted}
 use Rattle.ps_synthesis.specs.SynthFaults.{IsOutcome, IsSynthFault}
 use Rattle.ps_synthesis.specs.declared.fault.SynthFault.{SynthFault}

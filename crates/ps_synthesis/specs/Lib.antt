@@ -1,4 +1,3 @@
-pub mod Asking
 pub mod Printing
 pub mod Promises
 pub mod Problems

@@ -1,10 +1,9 @@
 -- What a report promises of the text that it is made of.
 --     IsAcceptedText text file      the text is that of a file that has an automaton
---     MayAnswer      what a solver may answer for a game
 --     KeepsPromise May order compact text report      the printed game is the automaton's; the printed certificate
 --               parts its vertices in two regions, each won by the moves that are printed; the printed circuit is the
 --               answer of the player who wins vertex 0
-use Rattle.std.specs.Prelude.{◌≡◌, ◌↔◌, ℕ, Bool, IsTrue, List, Result, Ok}
+use Rattle.std.specs.Prelude.{◌≡◌, ◌↔◌, ℕ, Bool, IsTrue, List, Ok}
 use Rattle.ps_automaton.specs.Answers.{IsAdmitted}
 use Rattle.ps_certificate.specs.Certificates.{CertificateData}
 use Rattle.ps_certificate.specs.Regions.{BothHold, NoneWinsOutside}
@@ -13,8 +12,8 @@ use Rattle.ps_game.specs.Games.{NamedGameData}
 use Rattle.ps_hoa.specs.Files.{FileData}
 use Rattle.ps_hoa.specs.Texts.{ReadsFile}
 use Rattle.ps_machine.specs.FileGames.{IsGameOfFile}
+use Rattle.ps_machine.specs.Solvers.{MayAnswer}
 use Rattle.ps_machine.specs.Solving.{IsCertified, winner}
-use Rattle.ps_machine.specs.declared.fault.SolveFault.{SolveFault}
 use Rattle.ps_machine.specs.declared.key.Order.{Order}
 use Rattle.ps_traces.specs.Answers.{IsWitness}
 use Rattle.ps_synthesis.specs.Printing.{PrintsGame, PrintsCertificate, PrintsCircuit}
@@ -23,9 +22,6 @@ use Rattle.ps_synthesis.specs.declared.report.Report.{Report}
 pub record IsAcceptedText (text : List ℕ) (file : FileData) : Type 0 where
   pub reads : ReadsFile text (Ok file)
   pub admitted : IsAdmitted file
-
-abbrev pub MayAnswer : Type 1
-MayAnswer = NamedGameData → Result CertificateData SolveFault → Type 0
 
 pub record KeepsPromise (May : MayAnswer) (order : Order) (compact : Bool) (text : List ℕ) (report : Report) : Type 0
   where

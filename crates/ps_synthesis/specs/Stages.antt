@@ -33,7 +33,8 @@ use Rattle.ps_machine.specs.declared.fault.SolveFault.TheVariants as solver
 use Rattle.ps_machine.specs.declared.key.Key.{Key}
 use Rattle.ps_machine.specs.declared.key.Order.{Order}
 use Rattle.ps_text.specs.declared.faults.Fault.TheVariants as hoa
-use Rattle.ps_synthesis.specs.Promises.{IsAcceptedText, MayAnswer}
+use Rattle.ps_machine.specs.Solvers.{MayAnswer}
+use Rattle.ps_synthesis.specs.Promises.{IsAcceptedText}
 use Rattle.ps_synthesis.specs.SynthFaults.{HasNoAutomaton, IsLost, IsNotCertified}
 use Rattle.ps_synthesis.specs.declared.fault.SynthFault.{SynthFault}
 use Rattle.ps_synthesis.specs.declared.fault.SynthFault.TheVariants.{Text, Automaton, BadCycle, Certificate}

@@ -8,11 +8,14 @@
 //! ultimately periodic traces, where player 0 wins the start; else it is an environment's, and the automaton accepts
 //! none of them, nor what any controller of finitely many states does against it.
 //!
-//! [`Problem`] is made of a text, asked for its game, and answered by a certificate of the game. Who has a solver needs
-//! no more: the program asks its own between the two.
+//! [`synthesise_by`] is the whole way, by a solver that is handed in. [`Problem`] is the same way for who asks a solver
+//! of another kind: it is made of a text, asked for its game, and answered by a certificate of the game.
 //!
 //! | Call | What it gives |
 //! |---|---|
+//! | `synthesise_by(text, order, compact, solver)` | the report of an HOA text, or the `SynthFault` for which there is none |
+//! | `certified(game, solver)` | what a solver gives for a game, checked |
+//! | `is_certified(game, certificate)` | whether a certificate fits a game and is valid |
 //! | `Problem::read(text, order)` | the problem of an HOA text, or the `SynthFault` for which there is none |
 //! | `Problem::game` | its game, which a solver is to solve |
 //! | `Problem::report(certificate, compact)` | the report by a certificate, which is checked first |
@@ -21,21 +24,26 @@
 //! | `read_automaton(text)` | the automaton of a text |
 //! | `circuit_of_certificate` | the circuit of the player who wins the start, by a valid certificate |
 //! | `report_of`, `certificate_text` | the three texts of a report, and that of a certificate alone |
+//! | `ids_of(game, vertices)` | the ids by which a fault names vertices |
 //! | `SynthFault::number`, `name` | a fault as psyn's list has it |
 //! | `winners_circuit_is_one` | a law: a certificate of a game has one circuit at most |
 //! | `winners_circuit_is_there` | a law: it has one, unless too many variables are needed |
 #![tactic(auto)]
 
 mod automata;
+mod certifying;
 mod circuits;
 mod fault;
 mod laws;
 mod problem;
 mod report;
+mod synthesis;
 
 pub use automata::read_automaton;
+pub use certifying::{certified, ids_of, is_certified};
 pub use circuits::circuit_of_certificate;
 pub use fault::SynthFault;
 pub use laws::{winners_circuit_is_one, winners_circuit_is_there};
 pub use problem::Problem;
 pub use report::{Report, certificate_text, report_of};
+pub use synthesis::synthesise_by;

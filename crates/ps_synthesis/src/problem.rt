@@ -24,11 +24,12 @@ ghost use Rattle.ps_synthesis.specs.declared.fault.SynthFault.TheVariants.{NotCe
 ghost use Rattle.ps_traces.specs.Answers.{IsWitness};
 
 use crate::automata::read_automaton;
+use crate::certifying::is_certified;
 use crate::circuits::circuit_of_certificate;
 use crate::fault::SynthFault;
 use crate::report::{Report, report_of};
 use ps_automaton::Automaton;
-use ps_certificate::{Certificate, check, fits, no_strategy_wins_outside, valid_regions_are_held};
+use ps_certificate::{Certificate, no_strategy_wins_outside, valid_regions_are_held};
 use ps_game::NamedGame;
 use ps_machine::{AutomatonGame, Order};
 use std::alloc::Global;
@@ -153,13 +154,6 @@ impl Problem {
             compact,
         )
     }
-}
-
-/// Whether a certificate fits a game and is valid.
-fn is_certified(game: &NamedGame, certificate: &Certificate) -> bool
-    ensures { IsTrue result ↔ IsCertified game.now certificate.now }
-{
-    fits(game.game(), certificate) && check(game.game(), certificate).is_ok()
 }
 
 /// The report of a certificate of an automaton's game, with the circuit of the player who wins the start.

@@ -2,59 +2,47 @@
 //!
 //! | Call | What it gives |
 //! |---|---|
-//! | `synthesis::synthesise` | the report of an HOA text by a solver that is handed in: the whole promise |
-//! | `certifying::certified` | what a solver gives for a game, checked |
 //! | `run::run` | reads the whole input, writes the answer to it, and gives the exit status |
-//! | `program::answer_to` | the answer to an input |
+//! | `run::run_by` | the same by solvers that are known when it is compiled |
 //! | `memory::run_in_memory` | the same program over bytes |
-//! | `commands::solve`, `cert`, `synth` | the commands that ask a solver; the others are those of `ps_program` |
+//! | `synthesis::synthesise` | the report of an HOA text by a solver that is chosen at run time: the whole promise |
 #![tactic(auto)]
 
-ghost use Rattle.std.specs.Prelude.{◌≡◌, ℕ, true, List, [], Option, Some, Result};
-ghost use Rattle.ps_certificate.specs.Certificates.{CertificateData};
-ghost use Rattle.ps_game.specs.Games.{NamedGameData};
-ghost use Rattle.ps_machine.specs.Solving.{Replays};
-ghost use Rattle.ps_machine.specs.declared.fault.SolveFault.{SolveFault};
+ghost use Rattle.std.specs.Prelude.{◌≡◌, false, []};
+ghost use Rattle.ps_machine.specs.Solving.{own_solver, replay_of};
+ghost use Rattle.ps_program.specs.Program.{Replies, Writes};
+ghost use Rattle.ps_program.specs.Replies.{Reply};
+ghost use Rattle.ps_program.specs.Solvers.{solvers_of};
+ghost use Rattle.ps_program.specs.Streams.{sink_state};
 
-pub mod certifying;
-pub mod commands;
 pub mod memory;
-pub mod program;
 pub mod run;
 pub mod synthesis;
 
-use ps_machine::{BuiltIn, Replay, Solver};
+use ps_machine::{BuiltIn, Replay};
 pub use ps_program::{Reader, Sink, Source, Watched, Writer};
-use ps_program::{FAULT, OUT_OF_MEMORY, send};
-use std::alloc::AllocError;
+use run::run_by;
+use std::alloc::Global;
 use std::process::ExitCode;
 
 fn main(rt: HostRuntime) -> ExitCode {
-    match answered(&rt) {
-        Ok(status) => ExitCode::from(status),
-        Err(_) => {
-            let mut writer = Watched::new(rt.stdout());
-            let _written = send(&mut writer, OUT_OF_MEMORY);
-            ExitCode::from(FAULT)
-        }
-    }
+    ExitCode::from(answered(
+        rt.alloc(),
+        &mut Watched::new(rt.stdin()),
+        &mut Watched::new(rt.stdout()),
+    ))
 }
 
-/// Answers with psyn's own solvers, or wants memory for them.
-fn answered(rt: &HostRuntime) -> Result<u8, AllocError> {
-    let built_in = Box::new(rt.alloc(), BuiltIn::new(rt.alloc()))?;
-    let replay = Box::new(rt.alloc(), Replay::new(rt.alloc()))?;
-    Ok(answered_by(rt, built_in, replay))
-}
-
-/// Answers with a solver that is sure, and with one that gives what reading the text that it was fed gives.
-fn answered_by(rt: &HostRuntime, built_in: Box<dyn Solver>, replay: Box<dyn Solver>) -> u8
-    requires sure { is_sure built_in ≡ true }
-    requires unfed { fed replay ≡ Some [] }
-    requires replays { (text : Option (List ℕ)) (game : NamedGameData) (answer : Result CertificateData SolveFault) →
-        may_answer replay text game answer → Replays game text answer }
+/// Answers what is read by psyn's own solver, and by one that answers what it is fed, and gives the exit status.
+fn answered<R: Source, W: Sink>(alloc: Global, reader: &mut R, writer: &mut W) -> u8
+    requires reader { R.has_failed reader.old ≡ false }
+    requires writer { W.has_failed writer.old ≡ false }
+    requires moving { W.has_stalled writer.old ≡ false }
+    ensures { (reply : Reply)
+        × Replies (solvers_of own_solver (replay_of [])) (R.remaining reader.old) (R.has_failed reader.new) reply
+        × Writes (sink_state W.contents W.has_failed W.has_stalled W.is_flushed writer.old)
+        (sink_state W.contents W.has_failed W.has_stalled W.is_flushed writer.new)
+        reply result }
 {
-    let mut reader = Watched::new(rt.stdin());
-    let mut writer = Watched::new(rt.stdout());
-    run::run(rt.alloc(), &mut reader, &mut writer, built_in, replay)
+    run_by(alloc, reader, writer, &mut BuiltIn::new(alloc), &mut Replay::new(alloc))
 }

@@ -3,7 +3,7 @@
 ghost use Rattle.std.specs.Prelude.{◌≡◌, [], Some, false, IfOk};
 ghost use Rattle.ps_program.specs.Program.{RepliesTo};
 ghost use Rattle.ps_program.specs.Replies.{reply_of};
-ghost use Rattle.ps_program.specs.Solvers.{solver_of, solvers_of};
+ghost use Rattle.ps_program.specs.Solvers.{solvers_of};
 
 use crate::run::run;
 use ps_machine::Solver;
@@ -22,9 +22,8 @@ pub fn run_in_memory(
     built_in: Box<dyn Solver>,
     replay: Box<dyn Solver>,
 ) -> Result<Answer, AllocError>
-    ensures { IfOk result (λ answer. RepliesTo (solvers_of
-        (solver_of (is_sure built_in) (fed built_in) (may_answer built_in))
-        (solver_of (is_sure replay) (fed replay) (may_answer replay))) input.now (reply_of answer)) }
+    ensures { IfOk result (λ answer. RepliesTo (solvers_of (known built_in) (known replay)) input.now
+        (reply_of answer)) }
 {
     let mut reader = Bytes { left: input };
     let mut writer = Page::new(alloc);

@@ -2,15 +2,14 @@
 
 ghost use Rattle.std.specs.Prelude.{◌≡◌, ◌+◌, false};
 ghost use Rattle.ps_program.specs.Input.{ConsumesAtMost, input_limit};
-ghost use Rattle.ps_program.specs.Solvers.{solver_of, solvers_of};
+ghost use Rattle.ps_program.specs.Solvers.{solvers_of};
 ghost use Rattle.ps_program.specs.Streams.{sink_state};
 ghost use Rattle.ps_program.specs.Replies.{Reply};
 ghost use Rattle.ps_program.specs.Program.{Replies, Writes};
 
-use crate::program::answer_to;
 use ps_machine::Solver;
 use ps_program::{
-    Answer, FAULT, InputFault, OUT_OF_MEMORY, READ_FAULT, Sink, Source, read_input, send,
+    FAULT, InputFault, OUT_OF_MEMORY, READ_FAULT, Sink, Source, answer_to, read_input, send,
 };
 use std::alloc::Global;
 
@@ -32,16 +31,36 @@ pub fn run<R: Source, W: Sink>(
     ensures consumed { ConsumesAtMost (R.remaining reader.old) (R.remaining reader.new)
         (input_limit + 1) }
     ensures answered { (reply : Reply)
-        × Replies (solvers_of
-        (solver_of (is_sure built_in) (fed built_in) (may_answer built_in))
-        (solver_of (is_sure replay) (fed replay) (may_answer replay))) (R.remaining reader.old)
+        × Replies (solvers_of (known built_in) (known replay)) (R.remaining reader.old) (R.has_failed reader.new) reply
+        × Writes (sink_state W.contents W.has_failed W.has_stalled W.is_flushed writer.old)
+        (sink_state W.contents W.has_failed W.has_stalled W.is_flushed writer.new)
+        reply result }
+{
+    run_by(alloc, reader, writer, &mut built_in, &mut replay)
+}
+
+/// The same, by any two solvers.
+pub fn run_by<R: Source, W: Sink, S: Solver, T: Solver>(
+    alloc: Global,
+    reader: &mut R,
+    writer: &mut W,
+    built_in: &mut S,
+    replay: &mut T,
+) -> u8
+    requires reader { R.has_failed reader.old ≡ false }
+    requires writer { W.has_failed writer.old ≡ false }
+    requires moving { W.has_stalled writer.old ≡ false }
+    ensures consumed { ConsumesAtMost (R.remaining reader.old) (R.remaining reader.new)
+        (input_limit + 1) }
+    ensures answered { (reply : Reply)
+        × Replies (solvers_of (S.known built_in.old) (T.known replay.old)) (R.remaining reader.old)
         (R.has_failed reader.new) reply
         × Writes (sink_state W.contents W.has_failed W.has_stalled W.is_flushed writer.old)
         (sink_state W.contents W.has_failed W.has_stalled W.is_flushed writer.new)
         reply result }
 {
     match read_input(alloc, reader) {
-        Ok(input) => match answer_to(alloc, input.as_slice(), &mut built_in, &mut replay) {
+        Ok(input) => match answer_to(alloc, input.as_slice(), built_in, replay) {
             Ok(answer) => write_reply(writer, answer.text.as_slice(), answer.status),
             Err(_) => write_reply(writer, OUT_OF_MEMORY, FAULT),
         },

@@ -11,11 +11,11 @@ ghost use Rattle.ps_program.specs.Replies.{reply_of};
 
 use crate::answer::{Answer, Refusal};
 use crate::fault::{FaultLine, Place};
-use crate::texts::{flaw_line, ids_of, read_game, two_texts};
+use crate::texts::{flaw_line, read_game, two_texts};
 use ps_game::NamedGame;
 use ps_referee::JudgeFault;
 use ps_solution::Solution;
-use ps_synthesis::certificate_text;
+use ps_synthesis::{certificate_text, ids_of};
 use std::alloc::Global;
 
 /// The certificate of a game by a solution of it, with the least counts.

@@ -1,14 +1,11 @@
-use Rattle.ps_program.specs.Solvers.{Solvers, solver_of, solvers_of}
+use Rattle.ps_program.specs.Solvers.{Solvers, solvers_of}
 use Rattle.ps_program.proofs.OneAnswer.{whole_one}
 use Rattle.ps_program.proofs.OneCertified.{certified_one}
 use Rattle.ps_program.proofs.laws.one_answer.Goals as goal
 
 pub returns : goal.returns
 returns g c =
-    let b = c.args.built_in.now in
-    let r = c.args.replay.now in
-    let solvers : Solvers = solvers_of (solver_of (g.S.Solver.is_sure b) (g.S.Solver.fed b) (g.S.Solver.may_answer b))
-    (solver_of (g.T.Solver.is_sure r) (g.T.Solver.fed r) (g.T.Solver.may_answer r)) in
+    let solvers : Solvers = solvers_of (g.S.Solver.known c.args.built_in.now) (g.T.Solver.known c.args.replay.now) in
     record {
       answer = whole_one c.one_answer.ensures c.certificate_text_has_one_answer.ensures c.first_flaw_is_one.ensures
           c.one_answer-2.ensures c.stimulus_text_has_one_answer.ensures c.one_answer-3.ensures

@@ -1,0 +1,20 @@
+//! A solver that is chosen at run time.
+
+use crate::fault::SolveFault;
+use crate::solver::Solver;
+use ps_certificate::Certificate;
+use ps_game::NamedGame;
+use std::alloc::AllocError;
+
+/// A box of a solver is one, so that it can be handed to what takes any solver.
+impl Solver for Box<dyn Solver> {
+    ghost known = { λ b. (Solver-box b).known b.value };
+
+    fn feed(&mut self, text: &[u8]) -> Result<(), AllocError> {
+        (**self).feed(text)
+    }
+
+    fn solve(&mut self, game: &NamedGame) -> Result<Certificate, SolveFault> {
+        (**self).solve(game)
+    }
+}

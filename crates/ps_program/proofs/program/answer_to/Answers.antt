@@ -1,0 +1,21 @@
+use Rattle.std.proofs.Common.{subst, ℕ, List, Result}
+use Rattle.ps_program.specs.Program.{AnswersInput, AnswersLine}
+use Rattle.ps_program.specs.CommandLine.{IsLine}
+use Rattle.ps_program.specs.Replies.{Reply, reply_of}
+use Rattle.ps_program.specs.Solvers.{Solvers, solvers_of}
+use Rattle.ps_program.specs.declared.answer.Answer.{Answer}
+use Rattle.ps_program.proofs.OutcomeLemmas.{settled}
+use Rattle.ps_program.proofs.program.answer_to.Goals as goal
+
+pub returns : goal.returns
+returns g c =
+    let solvers : Solvers = solvers_of (g.S.Solver.known c.args.built_in.now) (g.T.Solver.known c.args.replay.now) in
+    let line = c.in_ok-line.line in
+    let input = c.args.input.now in
+    settled (AnswersLine solvers line c.first_line.result.1.now) c.answer_line.result c.settle.result
+    (λ (answer : Answer). AnswersInput solvers input (reply_of answer)) c.answer_line.ensures c.settle.ensures
+    (λ (answer : Answer) (told : Result Reply (List ℕ)) answers same. (
+      line,
+      subst (λ (first : List ℕ). IsLine first line) c.first_line.ensures.line c.in_ok-line.ensures,
+      (told, subst (λ (texts : List ℕ). AnswersLine solvers line texts told) c.first_line.ensures.rest answers, same),
+    ))

@@ -1,0 +1,29 @@
+//! The command that prints a certificate of the game of an automaton.
+
+ghost use Rattle.ps_program.specs.Games.{AnswersCert};
+ghost use Rattle.ps_program.specs.Outcomes.{Gives};
+ghost use Rattle.ps_program.specs.Replies.{reply_of};
+
+use crate::answer::{Answer, Refusal};
+use crate::commands::game::read_game_of;
+use crate::commands::solve::certify;
+use ps_machine::{Order, Solver};
+use std::alloc::Global;
+
+/// The text of a certificate of the game of an automaton, in that order of moves.
+///
+/// # Errors
+///
+/// Fails with the first cause for which the text is refused, else where its file has no automaton, else as `certify`.
+pub fn cert<S: Solver>(
+    alloc: Global,
+    order: Order,
+    text: &[u8],
+    solver: &mut S,
+    compact: bool,
+) -> Result<Answer, Refusal>
+    ensures { Gives reply_of (AnswersCert (S.known solver.old) order compact text.now) result }
+{
+    let game = read_game_of(alloc, order, text)?;
+    certify(alloc, &game, solver, compact)
+}

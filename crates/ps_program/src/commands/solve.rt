@@ -1,0 +1,47 @@
+//! The command that solves a game.
+
+ghost use Rattle.ps_program.specs.Outcomes.{Gives};
+ghost use Rattle.ps_program.specs.Replies.{reply_of};
+ghost use Rattle.ps_program.specs.Solving.{AnswersGame, AnswersSolve};
+
+use crate::answer::{Answer, Refusal};
+use crate::texts::read_game;
+use ps_game::NamedGame;
+use ps_machine::Solver;
+use ps_synthesis::{certificate_text, certified};
+use std::alloc::Global;
+
+/// A certificate of the game of a text: who wins each vertex, by which moves.
+///
+/// # Errors
+///
+/// Fails with the first cause in the text, else as `certify`.
+pub fn solve<S: Solver>(
+    alloc: Global,
+    text: &[u8],
+    solver: &mut S,
+    compact: bool,
+) -> Result<Answer, Refusal>
+    ensures { Gives reply_of (AnswersSolve (S.known solver.old) compact text.now) result }
+{
+    let game = read_game(alloc, text)?;
+    certify(alloc, &game, solver, compact)
+}
+
+/// The text of a certificate of a game.
+///
+/// # Errors
+///
+/// Fails with the solver's fault, else where its certificate does not fit or is not valid; and where a growth was
+/// refused.
+pub fn certify<S: Solver>(
+    alloc: Global,
+    game: &NamedGame,
+    solver: &mut S,
+    compact: bool,
+) -> Result<Answer, Refusal>
+    ensures { Gives reply_of (AnswersGame (S.known solver.old) compact game.now) result }
+{
+    let certificate = certified(alloc, game, solver)?;
+    Ok(Answer::text(certificate_text(alloc, &certificate, game, compact)?))
+}

@@ -1,0 +1,63 @@
+//! The command that makes a circuit of an automaton.
+
+ghost use Rattle.ps_program.specs.Outcomes.{Gives};
+ghost use Rattle.ps_program.specs.Replies.{reply_of};
+ghost use Rattle.ps_program.specs.Solvers.{solvers_of};
+ghost use Rattle.ps_program.specs.Synthesis.{AnswersCertified, AnswersReport, AnswersSynth};
+
+use crate::answer::{Answer, Refusal};
+use crate::command_line::SynthLine;
+use crate::printing::print;
+use crate::texts::two_texts;
+use ps_machine::Solver;
+use ps_synthesis::synthesise_by;
+use std::alloc::Global;
+
+/// The circuit of the automaton of a text. The second solver is fed the certificate that stands behind the text.
+///
+/// # Errors
+///
+/// Fails where a text is missing, else with the fault for which there is no report; and where a growth was refused.
+pub fn synth<S: Solver, T: Solver>(
+    alloc: Global,
+    asked: SynthLine,
+    texts: &[u8],
+    built_in: &mut S,
+    replay: &mut T,
+) -> Result<Answer, Refusal>
+    ensures { Gives reply_of (AnswersSynth (solvers_of (S.known built_in.old) (T.known replay.old)) asked
+        texts.now) result }
+{
+    if asked.cert {
+        report_by_certificate(alloc, asked, texts, replay)
+    } else {
+        report(alloc, asked, texts, built_in)
+    }
+}
+
+/// The circuit of the automaton of a text, by that solver, which is fed the certificate behind the text.
+fn report_by_certificate<S: Solver>(
+    alloc: Global,
+    asked: SynthLine,
+    texts: &[u8],
+    solver: &mut S,
+) -> Result<Answer, Refusal>
+    ensures { Gives reply_of (AnswersCertified (S.known solver.old) asked texts.now) result }
+{
+    let (text, certificate) = two_texts(texts)?;
+    solver.feed(certificate)?;
+    report(alloc, asked, text, solver)
+}
+
+/// The circuit of the automaton of a text, by that solver.
+fn report<S: Solver>(
+    alloc: Global,
+    asked: SynthLine,
+    text: &[u8],
+    solver: &mut S,
+) -> Result<Answer, Refusal>
+    ensures { Gives reply_of (AnswersReport (S.known solver.old) asked text.now) result }
+{
+    let report = synthesise_by(alloc, text, asked.order, asked.compact, solver)?;
+    Ok(print(alloc, &report, asked.full)?)
+}
