@@ -1,5 +1,6 @@
 //! Each call on diagrams that takes memory, with ample memory.
 
+use indexmap::IndexSet;
 use ps_diagram::{OverlayError, Store};
 use ps_label::{Label, Labels};
 use std::alloc::{AllocError, Global};
@@ -64,10 +65,43 @@ fn leaves_and_classes(alloc: Global, store: &mut Store) -> Result<(usize, usize)
     Ok((leaves, classes.list.len()))
 }
 
+/// The leaf 4 where the first proposition is true, and else 5; and the negation of that proposition: each at the
+/// letters 1 and 0.
+fn chosen(store: &mut Store) -> Result<[Option<u64>; 4], AllocError> {
+    if store.propositions() != 2 {
+        return Ok([None; 4]);
+    }
+    let truth = store.of_proposition(0)?;
+    let four = store.leaf(4)?;
+    let five = store.leaf(5)?;
+    let chosen = store.choose(truth, four, five)?;
+    let negated = store.negated(truth)?;
+    Ok([
+        store.eval(chosen, 1),
+        store.eval(chosen, 0),
+        store.eval(negated, 1),
+        store.eval(negated, 0),
+    ])
+}
+
+/// The places of the pairs of 1, or none, and 7, at the letters 1 and 0, and how many pairs there are.
+fn paired(alloc: Global, store: &mut Store) -> Result<([Option<u64>; 2], usize), AllocError> {
+    if store.propositions() != 2 {
+        return Ok(([None; 2], 0));
+    }
+    let truth = store.of_proposition(0)?;
+    let seven = store.leaf(7)?;
+    let mut pairs = IndexSet::new(alloc);
+    let paired = store.both(truth, seven, &mut pairs)?;
+    Ok(([store.eval(paired, 1), store.eval(paired, 0)], pairs.len()))
+}
+
 /// What the calls answer, over two propositions.
 #[derive(Debug, Drop, PartialEq, Eq)]
 struct Answered {
     changed: [Option<u64>; 3],
+    chosen: [Option<u64>; 4],
+    paired: ([Option<u64>; 2], usize),
     clashes: bool,
     least_letter: Option<u64>,
     relabelled_from: Option<u64>,
@@ -79,6 +113,8 @@ struct Answered {
 fn answers_of(alloc: Global, store: &mut Store) -> Result<Answered, AllocError> {
     Ok(Answered {
         changed: changed(store)?,
+        chosen: chosen(store)?,
+        paired: paired(alloc, store)?,
         clashes: clashes(store)?,
         least_letter: least_letter(alloc, store)?,
         relabelled_from: relabelled_from(alloc, store)?,
@@ -101,6 +137,8 @@ fn answers(alloc: Global) -> Result<Answered, AllocError> {
 fn each_call_answers(rt: HostRuntime) -> Result<(), Fail> {
     let wanted = Answered {
         changed: [Some(6), Some(7), Some(9)],
+        chosen: [Some(4), Some(5), None, Some(1)],
+        paired: ([Some(0), None], 1),
         clashes: true,
         least_letter: Some(2),
         relabelled_from: Some(6),

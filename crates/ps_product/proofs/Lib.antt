@@ -5,3 +5,4 @@ pub mod Settling
 pub mod Stamps
 pub mod Gates
 pub mod Outcomes
+pub mod StepsOf

@@ -4,7 +4,7 @@
 --     bits_at propositions letter      the bits of these propositions at a letter
 --     IsTruthOf c propositions latches t truth literal      at each letter of these propositions, which the circuit
 --               reads as its inputs, it is the bit of the literal at these latches
---     AreTruthsOf      the same of lists
+--     AreTruthsOf, IsOutcome      the same of lists; of the outputs and of the next latches
 use Rattle.std.specs.Prelude.{◌≡◌, ℕ, ◌^◌, ◌<◌, Bool, true, false, not, is_some, if◌then◌else◌, List, length, map}
 use Rattle.std.specs.Prelude.{slice_get, Some}
 use Rattle.ps_label.specs.Truth.{is_in}
@@ -50,3 +50,13 @@ pub record AreTruthsOf (c : CircuitData) (propositions : List ℕ) (latches : Li
   pub one_each : length truths ≡ length literals
   pub each : (k literal : ℕ) (truth : Truth) → slice_get truths k ≡ Some truth → slice_get literals k ≡ Some literal →
       IsTruthOf c propositions latches t truth literal
+
+-- what truths are at a letter
+abbrev pub bits_of : Table → List Truth → ℕ → List Bool
+bits_of t truths letter = map (λ truth. truth_at t truth letter) truths
+
+-- the truths of the outputs and of the next latches
+pub record IsOutcome (c : CircuitData) (propositions : List ℕ) (latches : List Bool) (t : Table)
+    (outputs nexts : List Truth) : Type 0 where
+  pub outputs_are : AreTruthsOf c propositions latches t outputs c.outputs
+  pub nexts_are : AreTruthsOf c propositions latches t nexts (map (λ l. l.next) c.latches)

@@ -3,7 +3,7 @@
 ghost use Rattle.std.specs.Prelude.{◌≡◌, ◌<◌, length, map, All, IfOk};
 ghost use Rattle.ps_diagram.specs.Table.{Keeps};
 ghost use Rattle.ps_product.specs.Inner.Knowing.{AreTruthsAlong, IsSite, Knows};
-ghost use Rattle.ps_product.specs.Truths.{AreTruthsOf};
+ghost use Rattle.ps_product.specs.Truths.{IsOutcome};
 ghost use Rattle.ps_simulate.specs.Plans.{variables};
 
 use crate::known::Known;
@@ -81,10 +81,8 @@ impl<'a> Evaluator<'a> {
         requires latches { length latches.now ≡ length self.old.latches }
         ensures circuit { self.new ≡ self.old }
         ensures keeps { Keeps truths.old truths.new }
-        ensures outputs { IfOk result (λ o. AreTruthsOf self.old propositions.now latches.now truths.new
-            o.outputs.items self.old.outputs) }
-        ensures nexts { IfOk result (λ o. AreTruthsOf self.old propositions.now latches.now truths.new o.nexts.items
-            (map (λ l. l.next) self.old.latches)) }
+        ensures outcome { IfOk result (λ o. IsOutcome self.old propositions.now latches.now truths.new
+            o.outputs.items o.nexts.items) }
     {
         self.known.forget();
         let site = Site {

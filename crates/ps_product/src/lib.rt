@@ -8,6 +8,8 @@
 //! | `Truths::new(propositions)`, `proposition`, `both`, `negated` | truths over letters, in a store of their own |
 //! | `Evaluator::new(circuit)`, `at(propositions, latches, truths)` | the truths of outputs and next latches |
 //!
+//! The law `outcome_is_the_step` says that these truths at a letter are the step of the circuit.
+//!
 //! A truth that holds never, or always, is no diagram and costs no call of the store: almost all gates have one of
 //! these. At given latches a gate is worked out once, and only where its truth is needed: the side that lies lower goes
 //! first, and none is followed beside one that never holds.
@@ -15,9 +17,11 @@
 
 mod evaluator;
 mod known;
+mod laws;
 mod net;
 mod site;
 mod truth;
 
 pub use evaluator::{Evaluator, Outcome};
+pub use laws::outcome_is_the_step;
 pub use truth::{Truth, Truths};

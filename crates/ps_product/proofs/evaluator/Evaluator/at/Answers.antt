@@ -26,13 +26,14 @@ pub truths_of-requires-2-clause-within : goal.truths_of-requires-2-clause-within
 truths_of-requires-2-clause-within c = rw (c.nexts.ensures, wires_of_nexts c.self.inside.net c.self.inside.net.latches)
     (wires_within c.outputs.ensures.well_formed _ (nexts_known c.outputs.ensures.well_formed))
 
-pub returns-clause-outputs : goal.returns-clause-outputs
-returns-clause-outputs c = rw (← c.self.view_is) (truths_of_literals _ c.outputs.ensures.well_formed
-    c.self.inside.net.outputs c.in_ok-outputs.outputs.items (output_known c.outputs.ensures.well_formed)
-    (along_kept _ _ c.in_ok-outputs.outputs.items c.truths_of-2.ensures.keeps
-    (rw c.outputs.ensures.wires at c.in_ok-outputs.ensures.truths)))
-
-pub returns-clause-nexts : goal.returns-clause-nexts
-returns-clause-nexts c = rw (← c.self.view_is) (truths_of_literals _ c.outputs.ensures.well_formed _
-    c.in_ok-nexts.nexts.items (nexts_known c.outputs.ensures.well_formed)
-    (rw (c.nexts.ensures, wires_of_nexts c.self.inside.net c.self.inside.net.latches) at c.in_ok-nexts.ensures.truths))
+pub returns-clause-outcome : goal.returns-clause-outcome
+returns-clause-outcome c = rw (← c.self.view_is) (record {
+  outputs_are = truths_of_literals _ c.outputs.ensures.well_formed c.self.inside.net.outputs
+      c.in_ok-outputs.outputs.items (output_known c.outputs.ensures.well_formed)
+      (along_kept _ _ c.in_ok-outputs.outputs.items c.truths_of-2.ensures.keeps
+      (rw c.outputs.ensures.wires at c.in_ok-outputs.ensures.truths));
+  nexts_are = truths_of_literals _ c.outputs.ensures.well_formed _ c.in_ok-nexts.nexts.items
+      (nexts_known c.outputs.ensures.well_formed)
+      (rw (c.nexts.ensures, wires_of_nexts c.self.inside.net c.self.inside.net.latches) at
+      c.in_ok-nexts.ensures.truths);
+})

@@ -40,8 +40,9 @@ rest c =
     c.pop.ensures.value c.pop.ensures.items
 
 pub loop-top-smaller-in_default-2 : goal.loop-top-smaller-in_default-2
-loop-top-smaller-in_default-2 c = less_left c.args.self.net.now c.order-order.result.now c.in-Some.field-0.now c.pop.new.self.items
-    c.loop-top.invariant.waits (rest c) c.loop-top.invariant.knows.size (rw c.in_default-2.is at c.in_ok-lower.ensures.step)
+loop-top-smaller-in_default-2 c = less_left c.args.self.net.now c.order-order.result.now c.in-Some.field-0.now
+    c.pop.new.self.items c.loop-top.invariant.waits (rest c) c.loop-top.invariant.knows.size
+    (rw c.in_default-2.is at c.in_ok-lower.ensures.step)
 
 pub loop-top-preserved-in_default-2 : goal.loop-top-preserved-in_default-2
 loop-top-preserved-in_default-2 c = record {
