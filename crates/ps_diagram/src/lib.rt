@@ -29,6 +29,7 @@
 #![tactic(auto)]
 
 mod classes;
+mod cofactors;
 mod fault;
 mod labels;
 mod letter;
