@@ -1,7 +1,6 @@
 -- Diagrams that have leaves at a common letter.
-use Rattle.std.proofs.Common.{arith, ◌≡◌, ℕ, ◌^◌, ◌<◌, inl, inr, Bool, length, Option, Some, None, IsTrue, refl, sym}
+use Rattle.std.proofs.Common.{arith, ◌≡◌, ℕ, ◌^◌, ◌<◌, inl, inr, Bool, Option, Some, None, IsTrue, refl, sym}
 use Rattle.std.proofs.Common.{ap, ◌∙◌}
-use Rattle.std.specs.List.{slice_get}
 use Rattle.std.specs.Option.{option_map}
 use Rattle.ps_text.proofs.Simple.{none_is_some}
 use Rattle.ps_label.specs.Expression.{Expression}
@@ -11,7 +10,6 @@ use Rattle.ps_diagram.specs.Tree.{Tree, leaf_at}
 use Rattle.ps_diagram.specs.Table.{Table, IsNode, Keeps, leaf_of}
 use Rattle.ps_hoa.specs.Edges.{IsOpen}
 use Rattle.ps_hoa.specs.Files.{EdgeData, RowData, FileData, of_state}
-use Rattle.ps_automaton.specs.Answers.{AreAlike, AreClashing}
 use Rattle.ps_automaton.specs.Inner.Drafts.{IsLabelNode, IsWhere, Meet, ShowsEdge}
 
 pub kept_leaf : {t u : Table} → Keeps t u → {node : ℕ} (letter : ℕ) → IsNode t node →

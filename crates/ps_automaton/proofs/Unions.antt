@@ -11,7 +11,7 @@ use Rattle.ps_hoa.specs.Files.{EdgeData, RowData, FileData}
 use Rattle.ps_hoa.specs.Sound.{IsSoundFile, IsSoundRow}
 use Rattle.ps_hoa.proofs.Soundness.SoundLaws.{sound_edge}
 use Rattle.ps_automaton.specs.Answers.{AreAlike, AreClashing}
-use Rattle.ps_automaton.specs.Inner.Drafts.{AreJoined, IsFirstOfRow, IsTargetAt, IsUnion, IsWhere, ShowsEdge, TakenEdge}
+use Rattle.ps_automaton.specs.Inner.Drafts.{AreJoined, IsFirstOfRow, IsTargetAt, IsUnion, ShowsEdge, TakenEdge}
 use Rattle.ps_automaton.specs.Inner.Places.{AreDistinct}
 use Rattle.ps_automaton.specs.Inner.Targets.{IsTargetOf}
 use Rattle.ps_automaton.specs.declared.targets.Target.{Target}

@@ -8,6 +8,7 @@ pub mod Letters
 pub mod Clashing
 pub mod Literals
 pub mod Seeing
+pub mod Spreading
 pub mod Mapping
 pub mod Alone
 pub mod Truths

@@ -17,6 +17,9 @@ use crate::view::{Node, View};
 use indexmap::IndexMap;
 use std::alloc::{AllocError, Global};
 
+/// So many propositions are few: each letter over them is gone through.
+const FEW: u32 = 4;
+
 /// Letters over some propositions that each letter over the others leads to the same leaves.
 #[derive(Debug, Clone, Copy, PartialEq, Eq)]
 pub struct Class {
@@ -86,6 +89,9 @@ impl Store {
         ensures leaf { IfOk result
             (λ made. IsDivided self.new split (tree_of other.now node) (tree_of self.new made)) }
     {
+        if split.count_ones() <= FEW {
+            return self.spread(other, node, split, 0, 0);
+        }
         let alloc = self.allocator();
         let mut known = Memo::new(alloc);
         let mut tests = Memo::new(alloc);

@@ -36,6 +36,7 @@
 mod both;
 mod choose;
 mod classes;
+mod cofactors;
 mod fault;
 mod labels;
 mod letter;

@@ -1,6 +1,7 @@
 -- What is left of a diagram once the propositions of a mask are read: diagrams whose leaves are nodes.
-use Rattle.std.specs.Prelude.{◌≡◌, ℕ, Bool, ◌&&◌, nat_eq, cond, Option, Some}
+use Rattle.std.specs.Prelude.{◌≡◌, ℕ, ◌<◌, Bool, true, ◌&&◌, nat_eq, cond, Option, Some}
 use Rattle.ps_label.specs.Truth.{is_in}
+use Rattle.ps_diagram.specs.Letters.{assignment}
 use Rattle.ps_diagram.specs.Tree.{Tree, leaf_at, IsBlind}
 use Rattle.ps_diagram.specs.Table.{Table, IsNode, tree_of}
 
@@ -13,6 +14,18 @@ mixed mask f g p = cond (is_in p mask) (f p) (g p)
 abbrev pub IsDivided : Table → ℕ → Tree → Tree → Type 0
 IsDivided t mask a d =
     (f : ℕ → Bool) → (rest : ℕ) × (leaf_at d f ≡ Some rest) × IsNode t rest ×
+    ((g : ℕ → Bool) → leaf_at (tree_of t rest) g ≡ leaf_at a (mixed mask f g))
+
+-- The same of one letter over the propositions of the mask: the second tree has, at each letter, the leaf of the first
+-- at the two mixed.
+abbrev pub IsCofactor : ℕ → ℕ → Tree → Tree → Type 0
+IsCofactor mask letter a d = (g : ℕ → Bool) → leaf_at d g ≡ leaf_at a (mixed mask (assignment letter) g)
+
+-- the same as of a divided tree, of letters that have the propositions of the mask below a level as one has them
+abbrev pub IsSpread : Table → (mask level letter : ℕ) → Tree → Tree → Type 0
+IsSpread t mask level letter a d =
+    (f : ℕ → Bool) → ((q : ℕ) → q < level → is_in q mask ≡ true → f q ≡ is_in q letter) →
+    (rest : ℕ) × (leaf_at d f ≡ Some rest) × IsNode t rest ×
     ((g : ℕ → Bool) → leaf_at (tree_of t rest) g ≡ leaf_at a (mixed mask f g))
 
 -- the leaf is a node, and that heeds propositions from the level on alone

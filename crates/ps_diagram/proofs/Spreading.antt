@@ -1,0 +1,119 @@
+-- What is left of a diagram behind each letter over some propositions.
+use Rattle.std.proofs.Common.{◌≡◌, ℕ, ◌+◌, ◌^◌, ◌<◌, Bool, true, false, cond, refl, sym, ◌∙◌}
+use Rattle.std.proofs.Common.{arith, inl, inr}
+use Rattle.std.proofs.lemmas.Bool.{cases_lt}
+use Rattle.ps_label.specs.Truth.{is_in}
+use Rattle.ps_diagram.specs.Letters.{assignment}
+use Rattle.ps_diagram.specs.Tree.{Tree, final, IsBlind, IsFrom, IsTestOf}
+use Rattle.ps_diagram.specs.Table.{Table, IsNode, Keeps, tree_of}
+use Rattle.ps_diagram.specs.Inner.Rests.{mixed, IsCofactor, IsDivided, IsSpread}
+use Rattle.ps_diagram.proofs.Canon.{from-blind}
+use Rattle.ps_diagram.proofs.Cells.{bool_cases}
+use Rattle.ps_diagram.proofs.Letters.{lower_bit, no_bit, top_bit}
+
+-- ## One letter
+
+cond_same : (b x y z : Bool) → (b ≡ false → x ≡ y) → cond b z x ≡ cond b z y
+cond_same true x y z h = refl
+cond_same false x y z h = h refl
+
+pub cofactor_blind : (mask letter level : ℕ) (a d : Tree) → IsCofactor mask letter a d → IsBlind level a →
+    IsBlind level d
+cofactor_blind mask letter level a d h b f g e = h f
+    ∙ b (mixed mask (assignment letter) f) (mixed mask (assignment letter) g)
+    (λ q le. cond_same (is_in q mask) (f q) (g q) (is_in q letter) (λ _. e q le)) ∙ sym (h g)
+
+-- a proposition of the mask is as in the letter
+pub cofactor_in : (mask letter p : ℕ) (v : Bool) (a al ah d : Tree) → is_in p mask ≡ true → is_in p letter ≡ v →
+    IsTestOf p al ah a → IsCofactor mask letter (cond v ah al) d → IsCofactor mask letter a d
+cofactor_in mask letter p true a al ah d is bit test h g =
+    rw (test (mixed mask (assignment letter) g), is, bit) (h g)
+cofactor_in mask letter p false a al ah d is bit test h g =
+    rw (test (mixed mask (assignment letter) g), is, bit) (h g)
+
+-- another one is tested
+pub cofactor_out : (mask letter p : ℕ) (a al ah d dl dh : Tree) → is_in p mask ≡ false → IsTestOf p al ah a →
+    IsTestOf p dl dh d → IsCofactor mask letter al dl → IsCofactor mask letter ah dh → IsCofactor mask letter a d
+cofactor_out mask letter p a al ah d dl dh isnt ta td l h g =
+    rw (ta (mixed mask (assignment letter) g), td g, isnt, l g, h g) refl
+
+-- the same of sides that are made one after the other, as the table grows
+pub cofactor_sides : {t u : Table} (v : Table) (mask letter p : ℕ) (a al ah : Tree) {low : ℕ} (high made : ℕ) →
+    is_in p mask ≡ false → IsTestOf p al ah a → Keeps t u → IsNode t low →
+    IsCofactor mask letter al (tree_of t low) → IsCofactor mask letter ah (tree_of u high) →
+    IsTestOf p (tree_of u low) (tree_of u high) (tree_of v made) → IsCofactor mask letter a (tree_of v made)
+cofactor_sides {t} {u} v mask letter p a al ah {low} high made isnt ta k held l h td =
+    cofactor_out mask letter p a al ah (tree_of v made) (tree_of u low) (tree_of u high) isnt ta td
+    (rw (k.same low held) l) h
+
+-- ## All letters
+
+-- letters that have the propositions of the mask as one has them leave the same
+pub spread_here : (t : Table) (n mask letter : ℕ) (a : Tree) {d : Tree} {rest : ℕ} → IsFrom 0 n a → IsNode t rest →
+    IsCofactor mask letter a (tree_of t rest) → d ≡ final rest → IsSpread t mask n letter a d
+spread_here t n mask letter a {d} {rest} o held h is f agree = (
+  rest,
+  rw is refl,
+  held,
+  λ g. h g ∙ from-blind 0 n a o (mixed mask (assignment letter) g) (mixed mask f g)
+      (λ q le lt. elim (bool_cases (is_in q mask)) [
+        | inl in_mask ↦ rw in_mask (sym (agree q lt in_mask))
+        | inr not ↦ rw not refl
+      ]),
+)
+
+pub spread_kept : {t u : Table} → Keeps t u → (mask level letter : ℕ) (a d : Tree) →
+    IsSpread t mask level letter a d → IsSpread u mask level letter a d
+spread_kept k mask level letter a d h f agree =
+    let r = h f agree in (r.0, r.1, k.held r.0 r.2, λ g. rw (k.same r.0 r.2) (r.3 g))
+
+below_next : (level q : ℕ) → q < level + 1 → (q < level → ⊥) → q ≡ level
+below_next level q lt not = omega arith
+
+-- a proposition that is not in the mask
+pub spread_on : (t : Table) (mask level letter : ℕ) (a d : Tree) → is_in level mask ≡ false →
+    IsSpread t mask (level + 1) letter a d → IsSpread t mask level letter a d
+spread_on t mask level letter a d isnt h f agree = h f (λ q lt is. elim (cases_lt q level) [
+  | inl below ↦ agree q below is
+  | inr at ↦
+      let same : q ≡ level = omega arith in
+      let here = rw same at is in
+      cc
+])
+
+-- one that is
+spread_test : (t : Table) (mask level letter : ℕ) (a dl dh d : Tree) → letter < 2 ^ level →
+    IsSpread t mask (level + 1) letter a dl → IsSpread t mask (level + 1) (letter + 2 ^ level) a dh →
+    IsTestOf level dl dh d → IsSpread t mask level letter a d
+spread_test t mask level letter a dl dh d small low high test f agree = elim (bool_cases (f level)) [
+  | inl is ↦
+      let r = high f (λ q lt in_mask. elim (cases_lt q level) [
+        | inl below ↦ agree q below in_mask ∙ sym (lower_bit level letter q below)
+        | inr at ↦ let same : q ≡ level = omega arith in rw same (is ∙ sym (top_bit level letter small))
+      ]) in
+      (r.0, rw (test f, is) r.1, r.2, r.3)
+  | inr isnt ↦
+      let r = low f (λ q lt in_mask. elim (cases_lt q level) [
+        | inl below ↦ agree q below in_mask
+        | inr at ↦
+            let same : q ≡ level = omega arith in
+            rw same (isnt ∙ sym (no_bit level letter level small (omega arith)))
+      ]) in
+      (r.0, rw (test f, isnt) r.1, r.2, r.3)
+]
+
+-- the same of sides that are made one after the other, as the table grows
+pub spread_sides : {t u v : Table} (mask level letter next : ℕ) (a : Tree) {low : ℕ} (high made : ℕ) →
+    letter < 2 ^ level → next ≡ letter + 2 ^ level → Keeps t u → Keeps u v → IsNode t low →
+    IsSpread t mask (level + 1) letter a (tree_of t low) → IsSpread u mask (level + 1) next a (tree_of u high) →
+    IsTestOf level (tree_of u low) (tree_of u high) (tree_of v made) →
+    IsSpread v mask level letter a (tree_of v made)
+spread_sides {t} {u} {v} mask level letter next a {low} high made small is k m held l h test =
+    spread_test v mask level letter a (tree_of u low) (tree_of u high) (tree_of v made) small
+    (spread_kept m mask (level + 1) letter a (tree_of u low)
+    (rw (k.same low held) (spread_kept k mask (level + 1) letter a (tree_of t low) l)))
+    (spread_kept m mask (level + 1) (letter + 2 ^ level) a (tree_of u high) (rw is at h)) test
+
+-- all letters are divided
+pub spread_divides : (t : Table) (mask : ℕ) (a d : Tree) → IsSpread t mask 0 0 a d → IsDivided t mask a d
+spread_divides t mask a d h f = h f (λ q lt is. absurd (omega arith))

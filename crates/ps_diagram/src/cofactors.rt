@@ -1,0 +1,114 @@
+//! What is left of a diagram behind each letter over a few propositions.
+
+ghost use Rattle.std.specs.Prelude.{◌≡◌, ℕ, ◌+◌, ◌^◌, ◌<◌, ◌≤◌, IfOk, nat_eq};
+ghost use Rattle.indexmap.specs.IndexMap.{get};
+ghost use Rattle.ps_diagram.specs.Tree.{IsBlind};
+ghost use Rattle.ps_diagram.specs.Table.{IsNode, Keeps, tree_of};
+ghost use Rattle.ps_diagram.specs.Inner.Known.{Knows};
+ghost use Rattle.ps_diagram.specs.Inner.Rests.{IsCofactor, IsSpread};
+
+use crate::memo::Memo;
+use crate::store::Store;
+use crate::view::{Node, View};
+use std::alloc::AllocError;
+
+impl Store {
+    /// The diagram over the propositions of `split` whose leaf at a letter is the place of what is left there of a node
+    /// of another store. Those below the level are as in the letter. Each letter is gone through: they are to be few.
+    pub(crate) fn spread(
+        &mut self,
+        other: &Store,
+        node: Node,
+        split: u64,
+        level: u32,
+        letter: u64,
+    ) -> Result<Node, AllocError>
+        requires held { IsNode other.now node }
+        requires letters { self.old.propositions ≡ other.now.propositions }
+        requires within { level ≤ self.old.propositions }
+        requires begun { letter < 2 ^ level }
+        ensures keeps { Keeps self.old self.new }
+        ensures held { IfOk result (λ made. IsNode self.new made) }
+        ensures blind { IfOk result (λ made. IsBlind level (tree_of self.new made)) }
+        ensures leaf { IfOk result (λ made. IsSpread self.new split level letter (tree_of other.now node)
+            (tree_of self.new made)) }
+    {
+        let propositions = self.propositions();
+        if level == propositions {
+            return self.spread_leaf(other, node, split, letter);
+        }
+        if split >> level & 1 == 1 {
+            let low = self.spread(other, node, split, level + 1, letter)?;
+            let high = self.spread(other, node, split, level + 1, letter + (1 << level))?;
+            return self.test(level, low, high);
+        }
+        self.spread(other, node, split, level + 1, letter)
+    }
+
+    /// The diagram that leads each letter to the place of what is left behind that letter.
+    fn spread_leaf(
+        &mut self,
+        other: &Store,
+        node: Node,
+        split: u64,
+        letter: u64,
+    ) -> Result<Node, AllocError>
+        requires held { IsNode other.now node }
+        requires letters { self.old.propositions ≡ other.now.propositions }
+        ensures keeps { Keeps self.old self.new }
+        ensures held { IfOk result (λ made. IsNode self.new made) }
+        ensures blind { IfOk result (λ made. (level : ℕ) → IsBlind level (tree_of self.new made)) }
+        ensures leaf { IfOk result (λ made. IsSpread self.new split self.old.propositions letter
+            (tree_of other.now node) (tree_of self.new made)) }
+    {
+        let _ = other.allocator();
+        let mut known = Memo::new(self.allocator());
+        let rest = self.cofactor(other, node, split, letter, &mut known)?;
+        self.intern(View::Leaf(rest.place as u64))
+    }
+
+    /// The diagram that has, at each letter, the leaf that the other store's node has where the propositions of `split`
+    /// are as in another letter.
+    fn cofactor(
+        &mut self,
+        other: &Store,
+        node: Node,
+        split: u64,
+        letter: u64,
+        known: &mut Memo<Node>,
+    ) -> Result<Node, AllocError>
+        requires held { IsNode other.now node }
+        requires letters { self.old.propositions ≡ other.now.propositions }
+        requires known { Knows (IsCofactor split letter) other.now self.old (get nat_eq known.old.table) }
+        ensures keeps { Keeps self.old self.new }
+        ensures known { Knows (IsCofactor split letter) other.now self.new (get nat_eq known.new.table) }
+        ensures held { IfOk result (λ made. IsNode self.new made) }
+        ensures leaf { IfOk result
+            (λ made. IsCofactor split letter (tree_of other.now node) (tree_of self.new made)) }
+    {
+        match other.cell(node) {
+            View::Nothing => self.constant(None),
+            View::Leaf(value) => self.constant(Some(value)),
+            View::Test {
+                proposition,
+                low,
+                high,
+            } => {
+                if split >> proposition & 1 == 1 {
+                    if letter >> proposition & 1 == 1 {
+                        return self.cofactor(other, high, split, letter, known);
+                    }
+                    return self.cofactor(other, low, split, letter, known);
+                }
+                if let Some(made) = known.get(node) {
+                    return Ok(made);
+                }
+                let low = self.cofactor(other, low, split, letter, known)?;
+                let high = self.cofactor(other, high, split, letter, known)?;
+                let made = self.test(proposition, low, high)?;
+                known.put(node, made)?;
+                Ok(made)
+            }
+        }
+    }
+}
