@@ -13,7 +13,7 @@ pub record IsRun (file : FileData) (w : ℕ → ℕ) (count : ℕ) (states : ℕ
   pub begins : states 0 ≡ file.start
   pub goes : (t : ℕ) → t < count → Goes file (states t) (w t) (sets t) (states (t + 1))
 
--- what stands at so many places from one on
+-- a number of values, from one place on
 abbrev pub part : (ℕ → ℕ → Bool) → ℕ → ℕ → List (ℕ → Bool)
 part sets from zero = []
 part sets from (suc count) = sets from ∷ part sets (from + 1) count

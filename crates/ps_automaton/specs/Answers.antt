@@ -1,10 +1,10 @@
 -- Which answer of `build` is right: the automaton of a file, or the first of three causes for which there is none.
 --     AreAlike row one other      two edges of a row have the same target and the same joined sets
---     Clash file q first second      these edges of the state q, by their places, are both taken at some letter and not
---               alike
+--     Clash file q first second      these edges of the state q, by their places, are both taken at some letter and
+--               differ
 --     IsDeterministic file      no edges clash
---     IsAdmitted file      none of the three causes stands
---     IsRefused file fault      that one stands, and none before it
+--     IsAdmitted file      none of the three causes holds
+--     IsRefused file fault      that cause holds, and none before it
 use Rattle.std.specs.Prelude.{◌≡◌, ℕ, ◌^◌, ◌<◌, ◌≤◌, true, false, length, None, Some, slice_get}
 use Rattle.ps_hoa.specs.Files.{EdgeData, RowData, FileData}
 use Rattle.ps_hoa.specs.Edges.{row_of, IsTaken, is_marked}
@@ -17,7 +17,7 @@ use Rattle.ps_automaton.specs.declared.fault.AutomatonFault.TheVariants.{OutOfMe
 abbrev pub AreAlike : RowData → EdgeData → EdgeData → Type 0
 AreAlike row one other = (one.target ≡ other.target) × ((set : ℕ) → is_marked row one set ≡ is_marked row other set)
 
--- an earlier and a later edge of a row are both taken at some letter, and not alike
+-- an earlier and a later edge of a row are both taken at some letter, and differ
 pub record AreClashing (file : FileData) (row : RowData) (first second : ℕ) : Type 0 where
   pub earlier : first < second
   pub one : EdgeData

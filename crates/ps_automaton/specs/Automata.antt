@@ -1,4 +1,4 @@
--- What is seen of an automaton that was built: its steps stand in diagrams, one for each state and one for the sink.
+-- What clauses see of an automaton that was built: its steps are in diagrams, one for each state and one for the sink.
 --     step_of a q letter      the step from the state q (or the sink) by that letter
 --     auto_of a      the same as functions
 --     IsBuiltFrom file chain a      it is that of the file, whose condition is that chain

@@ -46,7 +46,7 @@ state_at a w (suc t) = a.next (state_at a w t) (w t)
 abbrev pub priority_at : Auto → (ℕ → ℕ) → ℕ → ℕ
 priority_at a w t = a.priority (state_at a w t) (w t)
 
--- the greatest value at so many places from one on
+-- the greatest of a number of values, from one place on
 abbrev pub greatest_from : (ℕ → ℕ) → ℕ → ℕ → ℕ
 greatest_from f from zero = 0
 greatest_from f from (suc count) = max (f from) (greatest_from f (from + 1) count)
@@ -61,7 +61,7 @@ abbrev pub greatest_along : Auto → ℕ → List ℕ → ℕ
 greatest_along a q [] = 0
 greatest_along a q (letter ∷ letters) = max (a.priority q letter) (greatest_along a (a.next q letter) letters)
 
--- so many laps
+-- after a number of laps
 abbrev pub state_after : Auto → ℕ → List ℕ → ℕ → ℕ
 state_after a q lap zero = q
 state_after a q lap (suc laps) = state_behind a (state_after a q lap laps) lap

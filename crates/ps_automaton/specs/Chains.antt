@@ -69,7 +69,7 @@ abbrev mutual
 
 -- ## Complemented sets
 
--- somewhere in the condition a complemented set stands
+-- the condition contains a complemented set
 abbrev mutual
   pub has_complement : Condition → Bool
   has_complement (constant b) = false
@@ -115,7 +115,7 @@ is_even n = nat_eq (n % 2) 0
 abbrev pub base_number : Bool → ℕ
 base_number base = if base then 0 else 1
 
--- the next one's number if it accepts alike, else one more
+-- the next link's number if both accept or neither does, else one more
 abbrev pub raised : Bool → ℕ → ℕ
 raised true next = if is_even next then next else next + 1
 raised false next = if is_even next then next + 1 else next

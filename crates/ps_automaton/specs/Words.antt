@@ -5,6 +5,6 @@ abbrev pub word : List ℕ → List ℕ → ℕ → ℕ
 word stem lap t =
     if nat_lt t (length stem) then slice_index stem t else slice_index lap ((t - length stem) % length lap)
 
--- from that place on, each value comes again after so many places
+-- from that place on, each value comes again after the given number of places
 abbrev pub Repeats : (ℕ → ℕ) → ℕ → ℕ → Type 0
 Repeats w from count = (t : ℕ) → from ≤ t → w (t + count) ≡ w t

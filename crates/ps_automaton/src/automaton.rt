@@ -1,4 +1,4 @@
-//! Automata whose steps stand in decision diagrams.
+//! Automata whose steps are in decision diagrams.
 
 ghost use Rattle.std.specs.Prelude.{◌≡◌, ◌+◌, ◌^◌, ◌<◌, ◌≤◌, ◌↔◌, All, IfErr, IfOk, IsTrue, OnOk, Some, length, map};
 ghost use Rattle.ps_diagram.specs.Table.{IsNode};
@@ -26,9 +26,9 @@ use ps_hoa::HoaFile;
 use std::alloc::{AllocError, Global};
 use std::marker::Model;
 
-/// A total, deterministic automaton with a priority on each edge. Where the text has no edge a step leads to the
-/// sink, which is the state numbered by the count of states. Each leaf of its diagrams names a pair of a state and a
-/// priority, and no two leaves name the same one.
+/// A total, deterministic automaton with a priority on each edge. If the text has no edge, a step leads to the sink,
+/// whose number is the count of states. Each leaf of its diagrams names a pair of a state and a priority, and no two
+/// leaves name the same one.
 #[derive(Drop)]
 pub struct Automaton {
     alloc: Global,
@@ -70,12 +70,12 @@ impl Model for Automaton {
 }
 
 impl Automaton {
-    /// The automaton of a file. Letters are numbers below 2 to the number of propositions: bit p is proposition p.
+    /// The automaton of a file. Letters are numbers less than 2 to the number of propositions: bit p is proposition p.
     ///
     /// # Errors
     ///
-    /// Fails where the condition has a complemented set; else where it is no chain; else where two edges of a state
-    /// share a letter and differ, at the first such; and where a growth was refused.
+    /// Fails if the condition has a complemented set; else if it is not a chain; else if two edges of a state share a
+    /// letter and differ, at the first such pair; or if out of memory.
     pub fn build(alloc: Global, file: &HoaFile) -> Result<Automaton, AutomatonFault>
         ensures built { IfOk result (λ automaton. (chain : Chain) × IsBuiltFrom file.now chain automaton) }
         ensures admitted { OnOk result (IsAdmitted file.now) }
@@ -125,7 +125,7 @@ impl Automaton {
         self.controllable.as_slice()
     }
 
-    /// The number of states; the sink is none of them.
+    /// The number of states, not counting the sink.
     pub fn states(&self) -> u32
         ensures states { result ≡ self.now.states }
         ensures whole { IsWhole self.now }
@@ -180,11 +180,7 @@ impl Automaton {
         }
     }
 
-    /// Whether the word of a stem and then a lap again and again is accepted.
-    ///
-    /// # Errors
-    ///
-    /// Fails where a growth was refused.
+    /// Whether the word of a stem and a repeated lap is accepted. Fails if out of memory.
     pub fn accepts(&self, stem: &[u64], lap: &[u64]) -> Result<bool, AllocError>
         requires some { 0 < length lap.now }
         requires stem { All (λ letter. letter < 2 ^ length self.now.names) stem.now }
@@ -197,7 +193,7 @@ impl Automaton {
         Ok(self.greatest_of_laps(orbit.state, lap, orbit.laps) % 2 == 0)
     }
 
-    /// The state behind letters, and the greatest priority along them.
+    /// The state after letters, and the greatest priority along them.
     fn read(&self, state: u32, letters: &[u64]) -> Step
         requires { state ≤ self.now.states }
         ensures state { result.state ≡ state_behind (auto_of self.now) state letters.now }
@@ -237,7 +233,7 @@ impl Automaton {
         })
     }
 
-    /// The greatest priority along so many laps.
+    /// The greatest priority along `laps` laps.
     fn greatest_of_laps(&self, state: u32, lap: &[u64], laps: usize) -> u64
         requires { state ≤ self.now.states }
         ensures { result ≡ greatest_of_laps (auto_of self.now) state lap.now laps }

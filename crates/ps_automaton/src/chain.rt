@@ -19,16 +19,16 @@ pub(crate) struct Link {
     pub accepts: bool,
 }
 
-/// The first link whose set is met decides; where none is, the base does.
+/// The first link whose set is met decides; if none is met, the base does.
 #[derive(Drop)]
 pub(crate) struct Chain {
     /// The links, from the first on.
     pub links: Vec<Link>,
-    /// What holds where no set of a link is met.
+    /// What holds if no set of a link is met.
     pub base: bool,
 }
 
-/// Whether a complemented set stands in a condition.
+/// Whether a condition contains a complemented set.
 pub(crate) fn is_complemented(condition: &Cond) -> bool
     ensures { result ≡ has_complement (condition_of condition.now) }
 {
@@ -56,7 +56,7 @@ pub(crate) fn is_complemented(condition: &Cond) -> bool
     }
 }
 
-/// The chain that a condition is, if it is one.
+/// The chain of a condition, if it is a chain.
 pub(crate) fn chain_of(alloc: Global, condition: &Cond) -> Result<Option<Chain>, AllocError>
     ensures { IfOk result (λ chain. option_map chain_data chain ≡ chains.chain_of (condition_of condition.now)) }
 {
@@ -65,7 +65,7 @@ pub(crate) fn chain_of(alloc: Global, condition: &Cond) -> Result<Option<Chain>,
     Ok(base.map(|base| Chain { links, base }))
 }
 
-/// Puts the links of a condition behind others, and gives its base, if it is a chain.
+/// Appends the links of a condition to others, and returns its base, if it is a chain.
 fn base_behind(condition: &Cond, links: &mut Vec<Link>) -> Result<Option<bool>, AllocError>
     ensures { IfOk result (λ base. with_base links.new.items base ≡ in_front (Some (map link_data links.old.items))
         (chains.chain_of (condition_of condition.now))) }
@@ -95,11 +95,11 @@ enum Gathered {
     All,
     /// All but the one at that place.
     AllBut(usize),
-    /// At least two are none.
+    /// At least two are not links.
     TooFew,
 }
 
-/// Puts the links that the operands of a disjunction (or of a conjunction) are behind others.
+/// Appends the links of the operands of a disjunction (or of a conjunction) to others.
 fn gather(operands: &[Cond], accepts: bool, links: &mut Vec<Link>) -> Result<Gathered, AllocError>
     ensures { IfOk result (λ gathered. IsGathered accepts operands.now links.old.items links.new.items gathered) }
 {
@@ -117,7 +117,7 @@ fn gather(operands: &[Cond], accepts: bool, links: &mut Vec<Link>) -> Result<Gat
     })
 }
 
-/// The link that an operand of a disjunction (or of a conjunction) is.
+/// The link of an operand of a disjunction (or of a conjunction).
 fn link_of(operand: &Cond, accepts: bool) -> Option<Link>
     ensures { option_map link_data result ≡ chains.link_of accepts (condition_of operand.now) }
 {
@@ -128,7 +128,7 @@ fn link_of(operand: &Cond, accepts: bool) -> Option<Link>
     }
 }
 
-/// Puts the link to a set behind others, and gives the base behind it.
+/// Appends the link to a set to others, and returns the base after it.
 fn one_link(
     set: u32,
     complemented: bool,

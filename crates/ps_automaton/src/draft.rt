@@ -28,7 +28,7 @@ use ps_diagram::{Node, Store};
 use ps_hoa::{Guard, HoaFile, Row};
 use std::alloc::{AllocError, Global};
 
-/// The diagrams of the states, and that of the sink behind them.
+/// The diagrams of the states, and after them that of the sink.
 #[derive(Drop)]
 pub(crate) struct Draft {
     /// The store and the steps.
@@ -225,7 +225,7 @@ fn node_by_labels(
     Ok(node_of_union(pairs, levels, &union)?)
 }
 
-/// The diagram of the steps to the targets of joined edges, and of that to the sink where no edge is taken.
+/// The diagram of the steps to the targets of joined edges, and of the step to the sink where no edge is taken.
 fn node_of_union(pairs: &mut Pairs, levels: &Levels, union: &Union) -> Result<Node, AllocError>
     requires levels { AreLevels levels.now }
     requires held { IsNode pairs.old.store union.now.node }

@@ -1,4 +1,4 @@
-//! Why there is no automaton of a file.
+//! Why a file has no automaton.
 
 ghost use Rattle.std.specs.Prelude.{◌≡◌};
 ghost use Rattle.ps_automaton.specs.declared.fault.AutomatonFault.TheVariants.{OutOfMemory};
@@ -7,13 +7,13 @@ use ps_hoa::HoaFault;
 use std::alloc::{AllocError, AllocFailed};
 use thiserror::Error;
 
-/// Why there is no automaton of a file.
+/// Why a file has no automaton.
 #[derive(Debug, Clone, Copy, PartialEq, Eq, Error)]
 pub enum AutomatonFault {
-    /// A complemented set stands in the condition.
+    /// The condition has a complemented set.
     #[error("the condition has a complemented set")]
     ComplementedSet,
-    /// The condition is no chain.
+    /// The condition is not a chain.
     #[error("the condition is no chain")]
     NonParity,
     /// Two edges of a state, counted from 0, share a letter and differ in target or in sets.

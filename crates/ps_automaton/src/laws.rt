@@ -10,8 +10,8 @@ ghost use Rattle.ps_automaton.specs.Chains.{Chain, chain_of, greatest_level, hol
 ghost use Rattle.ps_automaton.specs.declared.fault.AutomatonFault.{AutomatonFault};
 ghost use Rattle.ps_automaton.specs.declared.fault.AutomatonFault.TheVariants.{OutOfMemory};
 
-/// Of edges that a part of a run takes, at least one, the greatest number is even exactly where the condition is
-/// true of the sets that are met.
+/// The greatest number of one or more edges that a part of a run takes is even exactly if the condition is true of the
+/// sets that are met.
 pub fn greatest_level_decides()
     ensures { (condition : Condition) (chain : Chain) (edges : List (ℕ → Bool)) → chain_of condition ≡ Some chain →
         0 < length edges → is_even (greatest_level chain edges) ≡ holds (is_met edges) condition }
@@ -23,7 +23,7 @@ pub fn automaton_is_there()
         (chain : Chain) × (auto : Auto) × (chain_of file.condition ≡ Some chain) × IsAutoOf file chain auto }
 {}
 
-/// A file has one answer: it is admitted, or refused for one cause. Memory may be wanting for any.
+/// A file has one answer: it is admitted, or refused for one cause. Memory may run out for any file.
 pub fn refusal_is_one()
     ensures some { (file : FileData) → IsAdmitted file ⊎ ((fault : AutomatonFault) × (fault ≢ OutOfMemory) ×
         IsRefused file fault) }

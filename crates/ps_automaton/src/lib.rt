@@ -1,24 +1,29 @@
 //! Parity automata: when a lasso is accepted, and total, deterministic automata with a priority on each edge.
 //!
-//! A word is a stem and then a lap again and again. An automaton accepts it where some run reads the stem and some laps
-//! to a state, and some more laps back to it, with the condition true of the sets that are met in that last part
-//! (`IsAccepted`, over the data of a file alone: HOA v1, acceptance). A condition that is a chain gives each edge a
-//! number, and along a part of a run the greatest number is even exactly where the condition is true of the sets met:
+//! A word is a stem and then a lap, which is repeated for ever. An automaton accepts it if some run reads the stem and
+//! some laps to a state, and some more laps back to it, with the condition true of the sets that are met in that last
+//! part (`IsAccepted`, which only uses the data of a file: HOA v1, acceptance). A condition that is a chain gives each
+//! edge a number. Along a part of a run the greatest number is even exactly if the condition is true of the sets met:
 //! that is `greatest_level_decides`. An `Automaton` has its steps in decision diagrams, with a sink where the text has
 //! no edge.
 //!
 //! | Call | What it gives |
 //! |---|---|
-//! | `Automaton::build(file)` | the automaton of a file, or the `AutomatonFault` for which there is none |
-//! | `names`, `controllable`, `states`, `start` | what the file's header says |
-//! | `step(state, letter)` | the next state, and the priority of the edge that leads there |
-//! | `store`, `node(state)`, `pair(leaf)` | the diagram of a state's steps, and the step that each leaf names |
-//! | `accepts(stem, lap)` | whether each file that it is built from accepts the word |
-//! | `AutomatonFault::number`, `name` | a fault as psyn's list has it |
-//! | `greatest_level_decides`, `refusal_is_one` | the laws: what a chain's numbers say; a file has one answer |
+//! | `Automaton::build(file)` | the automaton of a file, or the first `AutomatonFault` for which there is none |
+//! | `Automaton::names`, `controllable`, `states`, `start` | what the file's header says |
+//! | `Automaton::step(state, letter)` | the next state, and the priority of the edge that leads there; no memory |
+//! | `Automaton::store`, `node(state)`, `pair(leaf)` | the diagram of a state's steps; the step that a leaf names |
+//! | `Automaton::accepts(stem, lap)` | exactly whether the file accepts the word of a stem and a lap |
+//! | `AutomatonFault::number`, `name` | a fault in psyn's list of faults |
 //!
-//! `build` joins the edges of a state one after another, as diagrams: an edge's label may speak of a few of many
-//! propositions without making all letters. `accepts` reads the lap at most twice for each state and the sink.
+//! | Law | What it says |
+//! |---|---|
+//! | `automaton_is_there` | a file that was read and is admitted has an automaton: a step for each state and letter |
+//! | `refusal_is_one` | each file is either admitted or refused, and for one cause |
+//! | `greatest_level_decides` | a run's greatest number is even exactly if the condition is true of its sets |
+//!
+//! `build` joins the edges of a state one after another, as diagrams. So a label that uses a few of many propositions
+//! does not need all letters. `accepts` reads the lap at most twice for each state and the sink.
 #![tactic(auto)]
 
 mod automaton;

@@ -12,7 +12,7 @@ use crate::chain::Chain;
 /// How many sets there may be.
 const SETS: usize = 64;
 
-/// The number of an edge that has none of a chain's sets, and that of an edge with one set alone.
+/// The number of an edge that has none of a chain's sets, and that of an edge with a single set.
 #[derive(Clone, Copy)]
 pub(crate) struct Numbers {
     base: u64,

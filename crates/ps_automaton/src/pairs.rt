@@ -12,7 +12,7 @@ use std::alloc::Global;
 pub(crate) struct Pairs {
     /// The allocator.
     pub alloc: Global,
-    /// Where the diagrams stand.
+    /// The store of the diagrams.
     pub store: Store,
     /// The steps, each at the place that its leaves have.
     pub steps: IndexSet<Step>,

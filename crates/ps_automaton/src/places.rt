@@ -10,7 +10,7 @@ use std::alloc::{AllocError, Global};
 use std::collections::BTreeMap;
 use std::marker::Model;
 
-/// Different targets in order. Their places stand in a tree, so that no choice of targets makes a search long.
+/// Different targets in order. Their places are in a tree, so that no choice of targets makes a search long.
 #[derive(Drop)]
 pub(crate) struct Places {
     list: Vec<Target>,
@@ -43,7 +43,7 @@ impl Places {
         self.list.as_slice()
     }
 
-    /// The place of a target. One that is new goes behind the others.
+    /// The place of a target. A new one is appended to the others.
     pub(crate) fn place_of(&mut self, target: Target) -> Result<usize, AllocError>
         ensures placed { IfOk result (IsPlaced self.old self.new target) }
         ensures distinct { OnOk result (AreDistinct self.new) }

@@ -69,7 +69,7 @@ abbrev pub IsTargetAt : RowData → EdgeData → List Target → ℕ → Type 0
 IsTargetAt row edge targets place =
     (target : Target) × (slice_get targets place ≡ Some target) × IsTargetOf row edge target
 
--- an edge of a row, among so many, that is taken at a letter
+-- one of the first `count` edges of a row, which is taken at a letter
 pub record TakenEdge (file : FileData) (row : RowData) (count letter : ℕ) : Type 0 where
   pub place : ℕ
   pub within : place < count
@@ -77,7 +77,7 @@ pub record TakenEdge (file : FileData) (row : RowData) (count letter : ℕ) : Ty
   pub at_place : slice_get row.edges place ≡ Some edge
   pub taken : IsTaken file row edge letter
 
--- the first so many edges, letter by letter: the place of the target of the edge that is taken there, or none
+-- the first `count` edges, letter by letter: the place of the target of the edge that is taken there, or none
 pub record AreJoined (file : FileData) (row : RowData) (count : ℕ) (targets : List Target)
     (place_at : ℕ → Option ℕ) : Type 0 where
   pub there : (letter : ℕ) → letter < 2 ^ length file.names → (e : TakenEdge file row count letter) →

@@ -8,7 +8,7 @@ use Rattle.ps_automaton.specs.declared.targets.Target.{Target}
 abbrev pub pair_cmp : ℕ × ℕ → ℕ × ℕ → Ordering
 pair_cmp p q = ordering_then (nat_cmp p.0 q.0) (nat_cmp p.1 q.1)
 
--- each target stands at one place
+-- each target has only one place
 abbrev pub AreDistinct : List Target → Type 0
 AreDistinct targets =
     (i j : ℕ) (target : Target) → slice_get targets i ≡ Some target → slice_get targets j ≡ Some target → i ≡ j
@@ -20,7 +20,7 @@ pub record IsTableOf (targets : List Target) (table : ℕ → ℕ → Option ℕ
   pub whole : (target : Target) (place : ℕ) → slice_get targets place ≡ Some target →
       table target.state target.sets ≡ Some place
 
--- a target stands at that place; a new one goes behind the others
+-- a target is at that place; a new one is appended to the others
 pub record IsPlaced (old new : List Target) (target : Target) (place : ℕ) : Type 0 where
   pub list : (new ≡ old) ⊎ (new ≡ old ++ target ∷ [])
   pub stored : slice_get new place ≡ Some target

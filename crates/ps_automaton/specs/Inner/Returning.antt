@@ -2,7 +2,7 @@
 use Rattle.std.specs.Prelude.{◌≡◌, ℕ, ◌+◌, ◌<◌, List}
 use Rattle.ps_automaton.specs.Autos.{Auto, state_after}
 
--- some laps lead from q to a state, and so many more, at least one, back to it
+-- some laps lead from q to a state, and `laps` more, at least one, back to it
 pub record Returns (a : Auto) (q : ℕ) (lap : List ℕ) (state laps : ℕ) : Type 0 where
   pub before : ℕ
   pub some : 0 < laps
