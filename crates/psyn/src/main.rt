@@ -44,5 +44,11 @@ fn answered<R: Source, W: Sink>(alloc: Global, reader: &mut R, writer: &mut W) -
         (sink_state W.contents W.has_failed W.has_stalled W.is_flushed writer.new)
         reply result }
 {
-    run_by(alloc, reader, writer, &mut BuiltIn::new(alloc), &mut Replay::new(alloc))
+    run_by(
+        alloc,
+        reader,
+        writer,
+        &mut BuiltIn::new(alloc),
+        &mut Replay::new(alloc),
+    )
 }
