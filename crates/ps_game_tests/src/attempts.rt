@@ -64,12 +64,12 @@ fn attempts_end_with_their_fuel(rt: HostRuntime) -> Result<(), Fail> {
     Ok(())
 }
 
-/// A path of 800 vertices of player 0, each of a greater even priority than the next, has rows of 320,000 cells.
+/// A path of 1,000 vertices of player 0, each of a greater even priority than the next, has rows of 500,000 cells.
 #[test]
 fn attempts_end_where_there_is_no_room(rt: HostRuntime) -> Result<(), Fail> {
     let mut text = String::new(rt.alloc());
     text.push_str("0 1 0 0;")?;
-    for vertex in 1..800u64 {
+    for vertex in 1..1000u64 {
         let line = format!(in rt.alloc(); "{vertex} {} 0 {};", 2 * vertex, vertex - 1)?;
         text.push_str(&line)?;
     }

@@ -18,8 +18,11 @@ use std::alloc::{AllocError, Global};
 /// How many cells may be held in any game.
 const ROOM: u64 = 1 << 18;
 
-/// How many more may be held for each vertex and edge.
-const ROOM_EACH: u64 = 16;
+/// For how many cells of the fuel one more may be held.
+const FUEL_EACH: u64 = 256;
+
+/// How many more may be held for each vertex and edge at most.
+const ROOM_EACH: u64 = 64;
 
 /// What an attempt comes to.
 #[derive(Drop)]
@@ -33,7 +36,7 @@ pub enum Attempted {
         /// Moves by which player 1 may win the others.
         second: Strategy,
     },
-    /// The fuel ended first.
+    /// The fuel ended first, or the room that goes with it.
     OutOfFuel,
     /// There was no room for a row. With more fuel it would come to the same.
     OutOfRoom,
@@ -50,25 +53,27 @@ pub fn attempt<A: Arena>(alloc: Global, arena: &A, fuel: u64) -> Result<Attempte
     if !has_room::<A, usize>(arena) {
         return Ok(Attempted::OutOfRoom);
     }
+    let most = most_room(arena);
+    let room = (fuel / FUEL_EACH).min(most);
     let mut fuel = Fuel {
         left: fuel,
-        room: room_of(arena),
+        room: room.saturating_add(ROOM),
         is_full: false,
     };
     let ground = Ground::of(alloc, arena)?;
     let mut plan = Plan::new(alloc, arena.count())?;
     if settle_all(alloc, &ground, &mut plan, &mut fuel)? {
         answer_of(alloc, arena, plan)
-    } else if fuel.is_full {
+    } else if fuel.is_full && room == most {
         Ok(Attempted::OutOfRoom)
     } else {
         Ok(Attempted::OutOfFuel)
     }
 }
 
-/// How many cells may be held.
-fn room_of<A: Arena>(arena: &A) -> u64 {
-    let mut room = ROOM;
+/// How many cells may be held at most for the vertices and edges of a game.
+fn most_room<A: Arena>(arena: &A) -> u64 {
+    let mut room: u64 = 0;
     for vertex in 0..arena.count() {
         let size = (arena.degree(vertex) as u64).saturating_add(1);
         room = room.saturating_add(size.saturating_mul(ROOM_EACH));

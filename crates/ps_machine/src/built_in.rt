@@ -18,10 +18,10 @@ use ps_zielonka::{regions, regions_within};
 use std::alloc::{AllocError, Global};
 
 /// How often a budget is tried before there is none.
-const ROUNDS: u64 = 12;
+const ROUNDS: u64 = 8;
 
 /// How many times the budget before each one is.
-const GROWTH: u64 = 16;
+const GROWTH: u64 = 64;
 
 /// How many vertices the first recursion may place for each vertex of the game. A game that people meet has each placed
 /// some ten times.
