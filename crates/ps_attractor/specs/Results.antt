@@ -25,7 +25,7 @@ pub record AreLaidOut (subgame target : List Bool) (n : ℕ) (tables : TablesDat
 abbrev pub aim_of : ℕ → Aim
 aim_of player = record { player = player; begin = 0; mark = PLACED; free = FREE }
 
--- the tables grew from those in which only the target is placed, to the attractor
+-- the tables began with only the target placed, and were extended until they had the whole attractor
 pub record AreAttracted (game : ParityGame) (player : ℕ) (subgame target : List Bool) (tables : TablesData) : Type 0
   where
     pub old : TablesData

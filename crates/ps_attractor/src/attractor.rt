@@ -33,7 +33,7 @@ const FREE: usize = 2;
 pub struct Attracted {
     /// The vertices from where the player can.
     pub region: Region,
-    /// A move at each of the player's vertices in the region outside the target.
+    /// A move at each vertex of the player that is in the region but not in the target.
     pub moves: Strategy,
     /// For each vertex of the region a number that falls along the moves.
     pub rank: Vec<usize>,

@@ -12,6 +12,6 @@ no_pairs = record { last = None; count = λ _. 0 }
 abbrev pub with_pair : Pairs → ℕ → ℕ → Pairs
 with_pair pairs p m = record { last = Some p; count = λ q. if q == p then m else pairs.count q }
 
--- the priority is not above the last one
+-- the priority is not greater than that of the last pair
 abbrev pub DoesNotRise : Pairs → ℕ → Type 0
 DoesNotRise pairs p = IsSomeAnd pairs.last (λ last. p ≤ last)

@@ -27,7 +27,7 @@ pub struct Sides {
 
 /// Makes and-gates over some given variables. An existing gate is used again, and a new one takes the next variable.
 ///
-/// The gates stay through every call, failed ones too. A call fails only if out of memory, or if 2147483647 variables
+/// Every call, even one that fails, leaves the existing gates unchanged. A call fails only if out of memory, or if 2147483647 variables
 /// exist and another gate is needed.
 #[derive(Drop)]
 pub struct Builder {

@@ -14,7 +14,7 @@ fn written(alloc: Global, text: &[u8]) -> Option<Vec<u8>> {
     }
 }
 
-/// Whether the game of a text is written as a text.
+/// Whether writing the game that is read from the first text gives the second text.
 fn is_written_as(alloc: Global, text: &[u8], wanted: &[u8]) -> bool {
     match written(alloc, text) {
         Some(again) => again.as_slice() == wanted,

@@ -22,7 +22,7 @@ pub enum HoaCause {
     HeaderTwice,
     /// There is no `Acceptance:` (acceptance).
     MissingAcceptance,
-    /// An unknown header item whose name begins with a capital (header).
+    /// In the header: an unknown item whose name begins with a capital.
     UnknownHeader,
     /// A limit is exceeded.
     Limit,

@@ -1,4 +1,4 @@
--- The answer of reading a game text: the text's game, or its first cause and its place.
+-- The result of reading a game text: the game, or the first cause of refusal and its offset.
 use Rattle.std.specs.Prelude.{◌≡◌, ℕ, ◌<◌, ◌≤◌, List, length, None, Some, Result, Ok, Err}
 use Rattle.ps_text.specs.Answers.{Stream, Found}
 use Rattle.ps_text.specs.Parts.{PartAnswers}

@@ -372,7 +372,7 @@ fn successor_of(token: Token, known: Option<&Ids>) -> Result<u64, PgFault>
     if_known(id, token.start, known)
 }
 
-/// The successor that a token is, if it must be the first one of a node.
+/// Takes a token as the first successor of a node.
 fn first_of(token: Token, known: Option<&Ids>) -> Result<u64, PgFault>
     requires { IsPlain token.kind }
     ensures { result ≡ first_answer (option_copied known.entry) (sign_of token.entry.kind) token.entry.start }

@@ -57,7 +57,7 @@ impl Plan {
         Plan::by_places(alloc, circuit, &places)
     }
 
-    /// The plan of a circuit whose variables have these places.
+    /// The plan of a circuit, given the place of each of its variables.
     fn by_places(alloc: Global, circuit: &Circuit, places: &Places) -> Result<Self, AllocError>
         requires { places.now ≡ circuit.now }
         ensures plan { IfOk result (IsPlan circuit.now) }

@@ -96,7 +96,7 @@ fn entries(alloc: Global, tokens: &mut Tokens, ids: &Ids) -> Result<Solved, Cert
     Ok(solved)
 }
 
-/// Reads an entry after those that were read.
+/// Reads the next entry.
 fn entry(tokens: &mut Tokens, ids: &Ids, solved: &mut Solved) -> Result<(), CertFault>
     requires { length solved.old.named ≡ length ids.now }
     ensures part { ReadsAs (λ _. solved.new) (parts.entry ids.now solved.old) tokens.old result tokens.new }

@@ -23,7 +23,7 @@ pub record Leaves (game : ParityGame) (certificate : CertificateData) (v w : ℕ
   pub remains : Remains game certificate v w
   pub other_winner : winner_of certificate w ≢ winner_of certificate v
 
--- the first such edge of a vertex
+-- the vertex's first edge that leaves its winner's region
 pub record IsFirstEscape (game : ParityGame) (certificate : CertificateData) (v w : ℕ) : Type 0 where
   pub leaves : Leaves game certificate v w
   pub first : (other : ℕ) → Leaves game certificate v other → (w ≡ other) ⊎ StandsBefore (successors_of game v) w other

@@ -34,7 +34,7 @@ abbrev pub is_known : Option (List ℕ) → ℕ → Bool
 is_known None n = true
 is_known (Some ids) n = is_member ids n
 
--- what is answered to a sign, or to the end, at an offset
+-- the answer of a reader that wants a number and meets this sign, or the end, at an offset
 abbrev pub number_answer : Option Sign → ℕ → Result ℕ PgFault
 number_answer (Some (Number n)) at = if nat_lt n too_large then Ok n else Err (faults.Text causes.Number at)
 number_answer _ at = Err (faults.Text causes.Syntax at)
