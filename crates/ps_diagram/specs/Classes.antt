@@ -11,8 +11,8 @@ abbrev pub LeadAlike : Table → ℕ → ℕ → ℕ → ℕ → Type 0
 LeadAlike t node mask x y =
     (u v : ℕ) → AgreeOn mask x u → AgreeOn mask y v → AgreeOff mask u v → leaf_of t node u ≡ leaf_of t node v
 
--- The class at the place k: its letter is the least in it and has propositions of the mask alone; its diagram heeds the
--- others alone, and has the leaf of the first table's node at each letter in it.
+-- The class at the place k: its letter is the least in it and has only propositions of the mask; its diagram depends
+-- only on the others, and has the leaf of the first table's node at each letter in it.
 pub record IsClass (s t : Table) (node mask places k : ℕ) (c : Class) : Type 0 where
   pub least : IsLeast (LeadsTo t places k) c.letter
   pub masked : (p : ℕ) → is_in p mask ≡ false → is_in p c.letter ≡ false
@@ -20,9 +20,9 @@ pub record IsClass (s t : Table) (node mask places k : ℕ) (c : Class) : Type 0
   pub others : (x y : ℕ) → AgreeOff mask x y → leaf_of t c.rest x ≡ leaf_of t c.rest y
   pub shared : (x : ℕ) → leaf_of t places x ≡ Some k → leaf_of t c.rest x ≡ leaf_of s node x
 
--- The node is one of the first table, the diagrams of its classes stand in the second. The diagram of places heeds the
--- mask alone and leads each letter to the place of its class in the list; two letters are in one class exactly where
--- they lead alike; and the classes rise by their letters.
+-- The node is one of the first table; the diagrams of its classes are in the second. The diagram of places depends only
+-- on the mask and leads each letter to the place of its class in the list. Two letters are in one class exactly if they
+-- lead alike. The classes ascend by their letters.
 pub record AreClasses (s t : Table) (node mask places : ℕ) (list : List Class) : Type 0 where
   pub held : IsNode t places
   pub read : (x y : ℕ) → AgreeOn mask x y → leaf_of t places x ≡ leaf_of t places y

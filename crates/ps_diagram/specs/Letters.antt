@@ -6,7 +6,7 @@ use Rattle.ps_label.specs.Truth.{is_in}
 abbrev pub assignment : ℕ → ℕ → Bool
 assignment letter p = is_in p letter
 
--- the number, below 2 ^ n, of a letter over n propositions
+-- the number, less than 2 ^ n, of a letter over n propositions
 abbrev pub letter_of : ℕ → (ℕ → Bool) → ℕ
 letter_of zero f = 0
 letter_of (suc n) f = letter_of n f + cond (f n) (2 ^ n) 0

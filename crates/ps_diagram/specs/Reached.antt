@@ -20,13 +20,13 @@ pub record AreLeaves (t : Table) (node : ℕ) (found : List (ℕ × ℕ)) : Type
   pub each : (leaf letter : ℕ) → LeadsTo t node leaf letter → Any (λ pair. pair.0 ≡ leaf) found
   pub rising : AllPairs (λ a b. IsBefore a.1 b.1) found
 
--- ## As they are gathered: below a node to which the beginning of a letter leads
+-- ## While they are gathered: below a node to which the beginning of a letter leads
 
 abbrev pub IsFound : List (ℕ × ℕ) → ℕ → Type 0
 IsFound found leaf = (letter : ℕ) × (lookup (nat_eq leaf) found ≡ Some letter)
 
--- The place leads to the leaf. It begins as the letter does; and what comes before it and leads there too differs
--- first where the letter is true.
+-- The place leads to the leaf. It begins as the letter does. Any place before it that leads there too differs first
+-- where the letter is true.
 pub record IsFirst (n : ℕ) (t : Tree) (letter leaf place : ℕ) : Type 0 where
   pub within : place < 2 ^ n
   pub there : leaf_at t (assignment place) ≡ Some leaf

@@ -14,7 +14,7 @@ root_of n (choice p low high) = p
 abbrev pub IsConstant : Tree → Type 0
 IsConstant t = (x : Option ℕ) × ((f : ℕ → Bool) → leaf_at t f ≡ x)
 
--- the node is a test of the proposition between these two nodes, which heed greater ones alone
+-- the node is a test of the proposition between these two nodes, which depend only on greater ones
 pub record IsSides (t : Table) (node p low high : ℕ) : Type 0 where
   pub low_held : IsNode t low
   pub high_held : IsNode t high
@@ -24,7 +24,7 @@ pub record IsSides (t : Table) (node p low high : ℕ) : Type 0 where
   pub high_later : IsBlind (p + 1) (tree_of t high)
   pub leaf : IsTestOf p (tree_of t low) (tree_of t high) (tree_of t node)
 
--- two nodes are split at one proposition, and what is left of them are earlier nodes
+-- two nodes are split at one proposition, and their sides are earlier nodes
 pub record IsSplit (t : Table) (first second : ℕ) (s : Split) : Type 0 where
   pub named : s.proposition < t.propositions
   pub first_sides : IsSides t first s.proposition s.left.low s.left.high

@@ -1,11 +1,11 @@
 -- A store of diagrams as a table of cells, and the tree of each node.
 --
---     Table              how many propositions, and the cells; a node is the place of its cell
+--     Table              the number of propositions, and the cells; a node is the place of its cell
 --     IsNode t node      the node is held
 --     tree_of t node     its tree
 --     leaf_of t node x   its leaf at the letter x
 --     Keeps old new      each node that was held is held, with the same tree, so with the same leaf at each letter
---     IsSoundTable            what is true of every store
+--     IsSoundTable            what holds of every store
 use Rattle.std.specs.Prelude.{◌≡◌, ℕ, ◌<◌, ◌≤◌, Option, List, [], ◌∷◌, ◌++◌, length, fold, slice_index_or}
 use Rattle.ps_diagram.specs.declared.view.View.{View}
 use Rattle.ps_diagram.specs.declared.view.View.TheVariants.{Nothing, Leaf, Test}
@@ -16,7 +16,7 @@ pub record Table : Type 0 where
   pub propositions : ℕ
   pub cells : List View
 
--- the tree of a cell, where the trees of earlier cells are given
+-- the tree of a cell, given the trees of earlier cells
 abbrev pub tree_by : List Tree → View → Tree
 tree_by known Nothing = empty
 tree_by known (Leaf k) = final k
@@ -48,13 +48,13 @@ pub record Keeps (old new : Table) : Type 0 where
   pub held : (node : ℕ) → IsNode old node → IsNode new node
   pub same : (node : ℕ) → IsNode old node → tree_of new node ≡ tree_of old node
 
--- the nodes of a cell are below that number
+-- the nodes of a cell are less than that number
 abbrev pub IsWithin : ℕ → View → Type 0
 IsWithin count Nothing = Unit {0}
 IsWithin count (Leaf k) = Unit {0}
 IsWithin count (Test p low high) = (low < count) × (high < count)
 
--- Each tree is that of its cell, made of earlier ones, ordered and reduced; and equal trees are one node.
+-- Each tree is that of its cell, made of earlier ones, ordered and reduced. Equal trees are one node.
 pub record IsSoundTable (t : Table) : Type 0 where
   pub few : t.propositions ≤ 64
   pub built : (node : ℕ) → IsNode t node → tree_of t node ≡ tree_in t.cells (slice_index_or t.cells node Nothing)

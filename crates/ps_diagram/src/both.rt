@@ -1,4 +1,4 @@
-//! Two diagrams as one of pairs.
+//! Two diagrams as one diagram of pairs.
 
 ghost use Rattle.std.specs.Prelude.{◌≡◌, ℕ, ◌+◌, IfOk, Some};
 ghost use Rattle.indexmap.specs.IndexMap.{get};
@@ -16,12 +16,8 @@ use indexmap::IndexSet;
 use std::alloc::AllocError;
 
 impl Store {
-    /// The diagram whose leaf at a letter is the place in the list of the pair of both leaves there, and that has no
-    /// leaf where one of the two has none. A pair that is not listed yet is put at the end of the list.
-    ///
-    /// # Errors
-    ///
-    /// Fails where a growth was refused.
+    /// The diagram whose leaf at a letter is the place in the list of the pair of both leaves there. It has no leaf
+    /// where one of the two has none. A new pair is appended to the list.
     pub fn both(
         &mut self,
         first: Node,
@@ -41,7 +37,7 @@ impl Store {
         self.paired(first, second, pairs, &mut known)
     }
 
-    /// The same, where the table has what was paired already.
+    /// The same, with a table of what was paired already.
     fn paired(
         &mut self,
         first: Node,

@@ -1,4 +1,4 @@
-//! Of two diagrams the one or the other, letter by letter.
+//! One of two diagrams, letter by letter.
 
 ghost use Rattle.std.specs.Prelude.{◌≡◌, ℕ, ◌+◌, ◌<◌, IfOk, Some};
 ghost use Rattle.indexmap.specs.IndexMap.{get};
@@ -19,20 +19,16 @@ use std::alloc::AllocError;
 pub(crate) struct Cut {
     /// The proposition.
     pub proposition: u32,
-    /// The sides of the truth.
+    /// The sides of the truth, which decides.
     pub truth: Sides,
-    /// Those of the node that is chosen where it holds.
+    /// The sides of the node that is chosen where the truth has a leaf.
     pub one: Sides,
-    /// Those of the node that is chosen elsewhere.
+    /// The sides of the node that is chosen elsewhere.
     pub other: Sides,
 }
 
 impl Store {
     /// The diagram that has the leaf of `one`, or none, where the truth has a leaf, and that of `other` elsewhere.
-    ///
-    /// # Errors
-    ///
-    /// Fails where a growth was refused.
     pub fn choose(&mut self, truth: Node, one: Node, other: Node) -> Result<Node, AllocError>
         requires truth { IsNode self.old truth }
         requires one { IsNode self.old one }
@@ -47,7 +43,7 @@ impl Store {
         self.chosen(truth, one, other, &mut known)
     }
 
-    /// The same, where the table has what was chosen already.
+    /// The same, with a table of what was chosen already.
     fn chosen(
         &mut self,
         truth: Node,
@@ -90,7 +86,7 @@ impl Store {
         Ok(made)
     }
 
-    /// Three nodes cut at the first proposition that one of them tests, where the truth tests `first`.
+    /// Three nodes cut at the first proposition that one of them tests; the truth tests `first`.
     fn cut(&self, first: u32, truth: Node, one: Node, other: Node) -> Cut
         requires truth { IsNode self.now truth }
         requires one { IsNode self.now one }

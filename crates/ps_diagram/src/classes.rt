@@ -17,10 +17,10 @@ use crate::view::{Node, View};
 use indexmap::IndexMap;
 use std::alloc::{AllocError, Global};
 
-/// So many propositions are few: each letter over them is gone through.
+/// Up to this number of propositions are few: each letter over them is tried.
 const FEW: u32 = 4;
 
-/// Letters over some propositions that each letter over the others leads to the same leaves.
+/// Letters over some propositions that lead, with each letter over the others, to the same leaf, or to none.
 #[derive(Debug, Clone, Copy, PartialEq, Eq)]
 pub struct Class {
     /// The least of them.
@@ -32,20 +32,16 @@ pub struct Class {
 /// The classes of the letters over some propositions.
 #[derive(Debug, Drop)]
 pub struct Classes {
-    /// Each class, rising by letters.
+    /// Each class, ascending by letters.
     pub list: Vec<Class>,
     /// The diagram whose leaf at a letter is the place of its class in the list.
     pub places: Node,
 }
 
 impl Store {
-    /// The classes of the letters over the propositions of `split`: two are in one class exactly where each letter over
-    /// the others leads both to the same leaf, or both to none. The node is looked at in a copy of the store;
-    /// `classes_from` reads one that is lent.
-    ///
-    /// # Errors
-    ///
-    /// Fails where a growth was refused.
+    /// The classes of the letters over the propositions of `split`: two are in one class exactly if each letter over
+    /// the others leads both to the same leaf, or both to none. The node is read in a copy of the store; `classes_from`
+    /// reads one that is lent.
     pub fn classes(&mut self, node: Node, split: u64) -> Result<Classes, AllocError>
         requires held { IsNode self.old node }
         ensures keeps { Keeps self.old self.new }
@@ -56,11 +52,7 @@ impl Store {
         Ok(classes)
     }
 
-    /// The same classes, where a node of another store leads the letters. Their diagrams are made in this store.
-    ///
-    /// # Errors
-    ///
-    /// Fails where a growth was refused.
+    /// The same classes, of a node of another store. Their diagrams are made in this store.
     pub fn classes_from(
         &mut self,
         other: &Store,
@@ -118,8 +110,8 @@ impl Store {
         Ok(Classes { list, places })
     }
 
-    /// The diagram over the propositions of `split` whose leaf at a letter is the place of a node: of the one that
-    /// has, at each letter over the others, the leaf that the other store's node has at the two together. The tables
+    /// The diagram over the propositions of `split` whose leaf at a letter is the place of a node. That node has, at
+    /// each letter over the others, the leaf that the other store's node has at the two letters together. The tables
     /// have what was made already.
     fn divided(
         &mut self,
@@ -172,7 +164,7 @@ impl Store {
         self.intern(View::Leaf(node.place as u64))
     }
 
-    /// The same of a test, its two sides being divided.
+    /// The same for a test whose two sides are divided.
     fn divided_test(
         &mut self,
         proposition: u32,
@@ -247,7 +239,7 @@ impl Store {
         Ok(made)
     }
 
-    /// The same of two diagrams that test nothing.
+    /// The same for two diagrams that test nothing.
     fn tested_leaves(&mut self, proposition: u32, low: Node, high: Node) -> Result<Node, AllocError>
         requires named { proposition < self.old.propositions }
         requires low_held { IsNode self.old low }
@@ -268,7 +260,7 @@ impl Store {
         self.intern(View::Leaf(made.place as u64))
     }
 
-    /// The node to whose place a diagram leads that tests nothing.
+    /// The node to whose place a diagram leads; the diagram tests nothing.
     fn node_at(&self, node: Node) -> Node
         requires held { IsNode self.now node }
         requires constant { IsConstant (tree_of self.now node) }

@@ -1,4 +1,4 @@
-//! What is left of a diagram behind each letter over a few propositions.
+//! What is left of a diagram after each letter over a few propositions.
 
 ghost use Rattle.std.specs.Prelude.{◌≡◌, ℕ, ◌+◌, ◌^◌, ◌<◌, ◌≤◌, IfOk, nat_eq};
 ghost use Rattle.indexmap.specs.IndexMap.{get};
@@ -14,7 +14,8 @@ use std::alloc::AllocError;
 
 impl Store {
     /// The diagram over the propositions of `split` whose leaf at a letter is the place of what is left there of a node
-    /// of another store. Those below the level are as in the letter. Each letter is gone through: they are to be few.
+    /// of another store. The propositions below the level are as in the letter. Each letter is tried, so `split` should
+    /// be small.
     pub(crate) fn spread(
         &mut self,
         other: &Store,
@@ -45,7 +46,7 @@ impl Store {
         self.spread(other, node, split, level + 1, letter)
     }
 
-    /// The diagram that leads each letter to the place of what is left behind that letter.
+    /// The diagram that leads each letter to the place of what is left after that letter.
     fn spread_leaf(
         &mut self,
         other: &Store,
@@ -67,7 +68,7 @@ impl Store {
         self.intern(View::Leaf(rest.place as u64))
     }
 
-    /// The diagram that has, at each letter, the leaf that the other store's node has where the propositions of `split`
+    /// The diagram that has, at each letter, the leaf that the other store's node has if the propositions of `split`
     /// are as in another letter.
     fn cofactor(
         &mut self,

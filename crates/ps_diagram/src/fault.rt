@@ -1,4 +1,4 @@
-//! What can go wrong where two diagrams are joined.
+//! What can go wrong when two diagrams are joined.
 
 ghost use Rattle.ps_diagram.specs.declared.fault.OverlayError.TheVariants.{OutOfMemory};
 ghost use Rattle.std.specs.Prelude.{◌≡◌};
@@ -6,10 +6,10 @@ ghost use Rattle.std.specs.Prelude.{◌≡◌};
 use std::alloc::{AllocError, AllocFailed};
 use thiserror::Error;
 
-/// Two diagrams are not joined.
+/// Why two diagrams are not joined.
 #[derive(Debug, Drop, Error)]
 pub enum OverlayError {
-    /// At some letter the first has the one leaf, the second the other.
+    /// At some letter the two have different leaves.
     #[error("two different leaves, {first} and {second}, at one letter")]
     Clash {
         /// The leaf of the first.
@@ -17,7 +17,7 @@ pub enum OverlayError {
         /// The leaf of the second.
         second: u64,
     },
-    /// A growth was refused.
+    /// Memory ran out.
     #[error("out of memory")]
     OutOfMemory,
 }

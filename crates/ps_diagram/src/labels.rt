@@ -15,12 +15,8 @@ use ps_label::{Label, Labels};
 use std::alloc::AllocError;
 
 impl Store {
-    /// The diagram with the leaf 1 at the letters at which the label is true, and without a leaf elsewhere. Each
-    /// alias is gone through once; where many labels have the same aliases, make those once, by `of_aliases`.
-    ///
-    /// # Errors
-    ///
-    /// Fails where a growth was refused.
+    /// The diagram with the leaf 1 at the letters at which the label is true, and without a leaf elsewhere. Each alias
+    /// is visited once. If many labels have the same aliases, make those once, by `of_aliases`.
     pub fn of_label(&mut self, labels: &Labels, label: &Label) -> Result<Node, AllocError>
         requires aliases { AreOverFrom 0 self.old.propositions (expressions labels.now) }
         requires within { IsOver (length labels.now) self.old.propositions (expression label.now) }
@@ -35,10 +31,6 @@ impl Store {
     }
 
     /// The diagrams of the aliases, in their order.
-    ///
-    /// # Errors
-    ///
-    /// Fails where a growth was refused.
     pub fn of_aliases(&mut self, labels: &Labels) -> Result<Vec<Node>, AllocError>
         requires aliases { AreOverFrom 0 self.old.propositions (expressions labels.now) }
         ensures keeps { Keeps self.old self.new }
@@ -53,10 +45,6 @@ impl Store {
     }
 
     /// The diagram of a label, from the nodes of its aliases.
-    ///
-    /// # Errors
-    ///
-    /// Fails where a growth was refused.
     pub fn of_label_by(&mut self, aliases: &[Node], label: &Label) -> Result<Node, AllocError>
         requires aliases { (names : List Expression) × AreNodesOf self.old names aliases.now }
         requires within { IsOver (length aliases.now) self.old.propositions (expression label.now) }
@@ -72,12 +60,8 @@ impl Store {
         }
     }
 
-    /// The diagram with that leaf where a label is true, from the nodes of its aliases. It is `guard` of the one by
+    /// The diagram with that leaf where a label is true, from the nodes of its aliases. It equals the `guard` of
     /// `of_label_by`, but a product of literals is made at once.
-    ///
-    /// # Errors
-    ///
-    /// Fails where a growth was refused.
     pub fn of_label_as(
         &mut self,
         aliases: &[Node],
@@ -139,8 +123,8 @@ impl Store {
         }
     }
 
-    /// The diagram that has the leaf 1 wherever one of the nodes has it. The halves are joined first, so that a node
-    /// takes part in as many joins as the logarithm of their number.
+    /// The diagram that has the leaf 1 wherever one of the nodes has it. The halves are joined first, so that the
+    /// number of joins of which a node is a part is the logarithm of the number of nodes.
     fn union_of(&mut self, nodes: &[Node]) -> Result<Node, AllocError>
         requires truths { All (IsTruth self.old) nodes.now }
         ensures keeps { Keeps self.old self.new }
@@ -172,10 +156,6 @@ impl Store {
     }
 
     /// The diagram with the leaf 1 at the letters at which the proposition is true, and without a leaf elsewhere.
-    ///
-    /// # Errors
-    ///
-    /// Fails where a growth was refused.
     pub fn of_proposition(&mut self, proposition: u32) -> Result<Node, AllocError>
         requires named { proposition < self.old.propositions }
         ensures keeps { Keeps self.old self.new }

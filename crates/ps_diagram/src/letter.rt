@@ -9,11 +9,7 @@ use crate::view::Node;
 use std::alloc::AllocError;
 
 impl Store {
-    /// The diagram with the leaf 1 at that letter alone.
-    ///
-    /// # Errors
-    ///
-    /// Fails where a growth was refused.
+    /// The diagram with the leaf 1 only at that letter.
     pub fn of_letter(&mut self, letter: u64) -> Result<Node, AllocError>
         requires within { letter < 2 ^ self.old.propositions }
         ensures keeps { Keeps self.old self.new }

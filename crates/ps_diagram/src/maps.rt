@@ -77,7 +77,7 @@ impl LeafRule for Relabelled<'_> {
     }
 }
 
-/// The leaf at its place in a table, and another one wherever there is none.
+/// The leaf at its place in a table, and another leaf wherever there is none.
 #[derive(Drop)]
 struct Replaced<'a> {
     values: &'a [u64],
@@ -137,10 +137,6 @@ impl Store {
     ghost use Rattle.ps_diagram.specs.Leaves.{opposite};
 
     /// The diagram with that leaf wherever the node has one.
-    ///
-    /// # Errors
-    ///
-    /// Fails where a growth was refused.
     pub fn guard(&mut self, node: Node, value: u64) -> Result<Node, AllocError>
         requires held { IsNode self.old node }
         ensures keeps { Keeps self.old self.new }
@@ -153,10 +149,6 @@ impl Store {
     }
 
     /// The diagram with the node's leaves, and with that leaf wherever it has none.
-    ///
-    /// # Errors
-    ///
-    /// Fails where a growth was refused.
     pub fn fill(&mut self, node: Node, value: u64) -> Result<Node, AllocError>
         requires held { IsNode self.old node }
         ensures keeps { Keeps self.old self.new }
@@ -169,10 +161,6 @@ impl Store {
     }
 
     /// The diagram with `values[k]` wherever the node has the leaf k.
-    ///
-    /// # Errors
-    ///
-    /// Fails where a growth was refused.
     pub fn relabel(&mut self, node: Node, values: &[u64]) -> Result<Node, AllocError>
         requires held { IsNode self.old node }
         requires within { (letter : ℕ) → letter < 2 ^ self.old.propositions →
@@ -188,10 +176,6 @@ impl Store {
     }
 
     /// The diagram with `values[k]` wherever the node has the leaf k, and with another leaf wherever it has none.
-    ///
-    /// # Errors
-    ///
-    /// Fails where a growth was refused.
     pub fn relabel_or(&mut self, node: Node, values: &[u64], other: u64) -> Result<Node, AllocError>
         requires held { IsNode self.old node }
         requires within { (letter : ℕ) → letter < 2 ^ self.old.propositions →
@@ -207,10 +191,6 @@ impl Store {
     }
 
     /// The diagram with `values[k]` wherever a node of another store has the leaf k.
-    ///
-    /// # Errors
-    ///
-    /// Fails where a growth was refused.
     pub fn relabel_from(
         &mut self,
         other: &Store,
@@ -232,10 +212,6 @@ impl Store {
     }
 
     /// The diagram with 1 wherever the node has no leaf, and with no leaf wherever it has one.
-    ///
-    /// # Errors
-    ///
-    /// Fails where a growth was refused.
     pub fn negated(&mut self, node: Node) -> Result<Node, AllocError>
         requires held { IsNode self.old node }
         ensures keeps { Keeps self.old self.new }
@@ -283,7 +259,7 @@ impl Store {
         self.mapped_by(other, node, rule, &mut known)
     }
 
-    /// The same, where the table has what was changed already.
+    /// The same, with a table of what was changed already.
     fn mapped_by<R: LeafRule>(
         &mut self,
         other: Option<&Store>,

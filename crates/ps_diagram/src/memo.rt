@@ -1,4 +1,4 @@
-//! What was made already, by what it was made of.
+//! What was made already, by what it was made from.
 
 ghost use Rattle.std.specs.Prelude.{◌≡◌, ◌⊎◌, [], OnErr, Some, true};
 ghost use Rattle.indexmap.specs.IndexMap.{get};
@@ -8,16 +8,16 @@ use indexmap::IndexMap;
 use std::alloc::{AllocError, Global};
 use std::hash::Hash;
 
-/// How many nodes are made before they are kept.
+/// The number of nodes that are made before nodes are kept.
 const PASSED: u32 = 64;
 
-/// The nodes that were made of keys. The first few are not kept, so that a small diagram needs no table; those that
-/// were made before are made again where their keys come again.
+/// The nodes that were made for keys. The first few are not kept, so that a small diagram needs no table. Those nodes
+/// are made again if their keys occur again.
 #[derive(Drop)]
 pub(crate) struct Memo<K: Eq + Hash> {
     /// The node of each key that is kept.
     pub table: IndexMap<K, Node>,
-    /// How many were not kept.
+    /// The number of nodes that were not kept.
     passed: u32,
 }
 

@@ -19,7 +19,7 @@ impl Store {
     ///
     /// # Errors
     ///
-    /// Fails at a letter at which they have two different leaves, or where a growth was refused.
+    /// Fails at a letter at which they have two different leaves, or if memory runs out.
     pub fn overlay(&mut self, first: Node, second: Node) -> Result<Node, OverlayError>
         requires first { IsNode self.old first }
         requires second { IsNode self.old second }
@@ -36,7 +36,7 @@ impl Store {
         self.overlaid(first, second, &mut known)
     }
 
-    /// The same, where the table has what was joined already.
+    /// The same, with a table of what was joined already.
     fn overlaid(
         &mut self,
         first: Node,
@@ -77,7 +77,7 @@ impl Store {
         Ok(node)
     }
 
-    /// The same of two diagrams that test nothing.
+    /// The same for two diagrams that test nothing.
     fn overlaid_leaves(&self, first: Node, second: Node) -> Result<Node, OverlayError>
         requires first { IsNode self.now first }
         requires second { IsNode self.now second }

@@ -15,10 +15,6 @@ use std::alloc::{AllocError, Global};
 
 impl Store {
     /// The different leaves of a node, each with the least letter that leads to it, in the order of those letters.
-    ///
-    /// # Errors
-    ///
-    /// Fails where a growth was refused.
     pub fn leaves(&self, node: Node) -> Result<Vec<(u64, u64)>, AllocError>
         requires held { IsNode self.now node }
         ensures { IfOk result (λ found. AreLeaves self.now node found.items) }
@@ -27,10 +23,6 @@ impl Store {
     }
 
     /// The least letter that leads from a node to the leaf, if one does.
-    ///
-    /// # Errors
-    ///
-    /// Fails where a growth was refused.
     pub fn path_to(&self, node: Node, leaf: u64) -> Result<Option<u64>, AllocError>
         requires held { IsNode self.now node }
         ensures { IfOk result
@@ -51,8 +43,8 @@ impl Store {
         Ok(found)
     }
 
-    /// Gathers the leaves behind a letter's beginning: those that were not found before. The leaves of the nodes that
-    /// were seen are found.
+    /// Gathers the leaves that were not found before, of the letters that begin like `letter`. The leaves of the nodes
+    /// that were seen are already found.
     fn gather(
         &self,
         node: Node,

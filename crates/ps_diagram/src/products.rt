@@ -110,7 +110,7 @@ impl Store {
     }
 }
 
-/// The first node where the proposition is among some, and else the second.
+/// The first node if the proposition is one of some, and else the second.
 fn side(some: u64, proposition: u32, first: Node, second: Node) -> Node
     requires named { proposition < 64 }
     ensures { result ≡ cond (is_in proposition some) first second }
@@ -122,7 +122,7 @@ fn side(some: u64, proposition: u32, first: Node, second: Node) -> Node
     }
 }
 
-/// The proposition that a label is, if it is one.
+/// The proposition of a label, if it is one.
 fn atom_of(label: &Label) -> Option<u32>
     ensures { IfSome result (λ p. expression label.now ≡ proposition p) }
 {

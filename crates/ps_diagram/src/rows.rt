@@ -10,12 +10,8 @@ use crate::view::Node;
 use std::alloc::AllocError;
 
 impl Store {
-    /// The diagram whose leaf at a letter stands at the letter's place in the list, with no leaf at letters behind its
-    /// end. Each letter is looked at once.
-    ///
-    /// # Errors
-    ///
-    /// Fails where a growth was refused.
+    /// The diagram whose leaf at a letter is at the letter's place in the list. Letters after the end of the list have
+    /// no leaf. Each letter is read once.
     pub fn of_leaves(&mut self, leaves: &[u64]) -> Result<Node, AllocError>
         ensures keeps { Keeps self.old self.new }
         ensures held { IfOk result (λ node. IsNode self.new node) }
@@ -69,14 +65,14 @@ impl Store {
     }
 }
 
-/// The node at a place, or another where the row ends before it.
+/// The node at a place, or another if the row ends before it.
 fn node_or(nodes: &[Node], place: usize, other: Node) -> Node
     ensures { result ≡ slice_index_or nodes.now place other }
 {
     nodes.get(place).copied().unwrap_or(other)
 }
 
-/// How many letters there are over that many propositions.
+/// The number of letters over `propositions` propositions.
 fn power(propositions: u32) -> usize
     requires few { propositions < 64 }
     ensures value { result ≡ 2 ^ propositions }

@@ -7,7 +7,7 @@ ghost use Rattle.ps_diagram.specs.Table.{IsNode, IsSoundTable, tree_of};
 use crate::store::Store;
 use crate::view::{Node, View};
 
-/// The two sides of a node for a proposition: the diagrams for it false and true.
+/// The two sides of a node for a proposition: the diagrams for it false and for it true.
 #[derive(Clone, Copy)]
 pub(crate) struct Sides {
     /// For the proposition false.
@@ -23,14 +23,14 @@ pub(crate) struct Split {
     pub proposition: u32,
     /// The sides of the first node.
     pub left: Sides,
-    /// Those of the second.
+    /// The sides of the second.
     pub right: Sides,
 }
 
 impl Store {
     ghost use Rattle.ps_diagram.specs.Split.{IsConstant, IsSides, IsSplit, root_of};
 
-    /// The first proposition that a node tests, or how many there are.
+    /// The first proposition that a node tests, or the number of propositions.
     pub(crate) fn level(&self, node: Node) -> u32
         requires held { IsNode self.now node }
         ensures root { result ≡ root_of self.now.propositions (tree_of self.now node) }
@@ -43,7 +43,7 @@ impl Store {
         }
     }
 
-    /// The sides of a node for a proposition that none which it tests comes before.
+    /// The sides of a node for a proposition. The node tests no proposition before it.
     pub(crate) fn sides(&self, node: Node, proposition: u32) -> Sides
         requires held { IsNode self.now node }
         requires later { proposition ≤ root_of self.now.propositions (tree_of self.now node) }

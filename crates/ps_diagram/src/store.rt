@@ -13,8 +13,8 @@ use indexmap::IndexSet;
 use std::alloc::{AllocError, Global};
 use std::marker::Model;
 
-/// Reduced ordered decision diagrams over at most 64 propositions, with numbers as leaves. Equal diagrams are
-/// one node.
+/// Reduced ordered decision diagrams over at most 64 propositions, with numbers as leaves. Equal diagrams are one node.
+/// Calls that return a `Result` fail if memory runs out; `overlay` also fails at two different leaves.
 #[derive(Debug, Drop)]
 pub struct Store {
     alloc: Global,
@@ -33,7 +33,7 @@ impl Model for Store {
 }
 
 impl Store {
-    /// A store without nodes, over that many propositions.
+    /// A store without nodes, over that number of propositions.
     pub fn new(alloc: Global, propositions: u32) -> Self
         requires few { propositions ≤ 64 }
         ensures propositions { result.propositions ≡ propositions }
@@ -46,7 +46,7 @@ impl Store {
         }
     }
 
-    /// How many propositions there are.
+    /// The number of propositions.
     pub fn propositions(&self) -> u32
         ensures value { result ≡ self.now.propositions }
         ensures few { result ≤ 64 }
@@ -56,10 +56,6 @@ impl Store {
     }
 
     /// The diagram with that leaf at each letter.
-    ///
-    /// # Errors
-    ///
-    /// Fails where a growth was refused.
     pub fn leaf(&mut self, value: u64) -> Result<Node, AllocError>
         ensures keeps { Keeps self.old self.new }
         ensures held { IfOk result (λ node. IsNode self.new node) }
@@ -70,10 +66,6 @@ impl Store {
     }
 
     /// The diagram without leaves.
-    ///
-    /// # Errors
-    ///
-    /// Fails where a growth was refused.
     pub fn none(&mut self) -> Result<Node, AllocError>
         ensures keeps { Keeps self.old self.new }
         ensures held { IfOk result (λ node. IsNode self.new node) }
@@ -133,10 +125,6 @@ impl Store {
     }
 
     /// A store with the same nodes.
-    ///
-    /// # Errors
-    ///
-    /// Fails where a growth was refused.
     pub fn copy(&self) -> Result<Self, AllocError>
         ensures same { IfOk result (λ store. store ≡ self.now) }
         ensures sound { IsSoundTable self.now }
@@ -149,7 +137,7 @@ impl Store {
         })
     }
 
-    /// The cell of a node, its nodes being earlier ones.
+    /// The cell of a node, whose nodes are earlier ones.
     pub(crate) fn cell(&self, node: Node) -> View
         requires held { IsNode self.now node }
         ensures sound { IsSoundTable self.now }
@@ -186,7 +174,7 @@ impl Store {
         })
     }
 
-    /// The node of a cell, which is made where there is none.
+    /// The node of a cell, which is made if there is none.
     pub(crate) fn intern(&mut self, cell: View) -> Result<Node, AllocError>
         requires within { IsWithin (length self.old.cells) cell }
         requires ordered { IsFrom 0 self.old.propositions (tree_in self.old.cells cell) }

@@ -1,4 +1,4 @@
-//! Nodes of a store, and what is seen of one.
+//! Nodes of a store, and what a caller sees of one.
 
 use std::marker::Model;
 

@@ -1,3 +1,3 @@
--- What private functions say of each other; no public clause cites these.
+-- What private functions promise each other; no public clause cites these.
 
 pub mod Edges

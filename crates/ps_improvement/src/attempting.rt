@@ -15,19 +15,19 @@ use ps_attractor::has_room;
 use ps_game::{Arena, Region, Strategy};
 use std::alloc::{AllocError, Global};
 
-/// How many cells may be held in any game.
+/// The number of cells that may be held in any game.
 const ROOM: u64 = 1 << 18;
 
-/// For how many cells of the fuel one more may be held.
+/// The number of cells of the fuel for which one more cell may be held.
 const FUEL_EACH: u64 = 256;
 
-/// How many more may be held for each vertex and edge at most.
+/// The greatest number of further cells that may be held for each vertex and edge.
 const ROOM_EACH: u64 = 64;
 
-/// What an attempt comes to.
+/// The result of an attempt.
 #[derive(Drop)]
 pub enum Attempted {
-    /// Nothing improves any more: so the players may win. That they do is not promised.
+    /// Nothing improves any more, so the players may win. It is not promised that they do.
     Found {
         /// The vertices that player 0 may win.
         won: Region,
@@ -38,15 +38,11 @@ pub enum Attempted {
     },
     /// The fuel ended first, or the room that goes with it.
     OutOfFuel,
-    /// There was no room for a row. With more fuel it would come to the same.
+    /// There was no room for a row. With more fuel the result would be the same.
     OutOfRoom,
 }
 
-/// Which vertices player 0 may win, and by which moves.
-///
-/// # Errors
-///
-/// Fails where a growth was refused.
+/// Which vertices player 0 may win, and by which moves. Fails if memory runs out.
 pub fn attempt<A: Arena>(alloc: Global, arena: &A, fuel: u64) -> Result<Attempted, AllocError>
     ensures { IfOk result (HasPlaces (vertex_count (A.game arena.now))) }
 {
@@ -71,7 +67,7 @@ pub fn attempt<A: Arena>(alloc: Global, arena: &A, fuel: u64) -> Result<Attempte
     }
 }
 
-/// How many cells may be held at most for the vertices and edges of a game.
+/// The greatest number of cells that may be held for the vertices and edges of a game.
 fn most_room<A: Arena>(arena: &A) -> u64 {
     let mut room: u64 = 0;
     for vertex in 0..arena.count() {
@@ -81,7 +77,7 @@ fn most_room<A: Arena>(arena: &A) -> u64 {
     room
 }
 
-/// Improves the plan until nothing improves in any component, those without a way out first. Answers whether the fuel
+/// Improves the plan until nothing improves in any component, those without a way out first. Returns whether the fuel
 /// was enough.
 fn settle_all<A: Arena>(
     alloc: Global,
@@ -104,7 +100,7 @@ fn settle_all<A: Arena>(
     Ok(true)
 }
 
-/// How many vertices at the front are of one component.
+/// The number of vertices at the front that are of one component.
 fn length_of_part<A: Arena>(ground: &Ground<'_, A>, rest: &[usize]) -> usize
     requires { All (λ v. v < vertex_count (A.game ground.now.arena.now)) rest.now }
     ensures { result ≤ length rest.now }
@@ -118,7 +114,7 @@ fn length_of_part<A: Arena>(ground: &Ground<'_, A>, rest: &[usize]) -> usize
     }
 }
 
-/// Improves the plan until nothing improves in a component. Answers whether the fuel was enough.
+/// Improves the plan until nothing improves in a component. Returns whether the fuel was enough.
 fn settle<A: Arena>(
     ground: &Ground<'_, A>,
     part: &[usize],
@@ -144,7 +140,7 @@ fn settle<A: Arena>(
     Ok(false)
 }
 
-/// The answer that a plan has: player 0 wins where plays go on for ever.
+/// The result of a plan: player 0 wins where plays go on for ever.
 fn answer_of<A: Arena>(alloc: Global, arena: &A, plan: Plan) -> Result<Attempted, AllocError>
     requires { length plan.rows.items ≡ vertex_count (A.game arena.now) }
     ensures { IfOk result (HasPlaces (vertex_count (A.game arena.now))) }

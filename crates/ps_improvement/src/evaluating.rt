@@ -10,11 +10,8 @@ use crate::waiting::Waiting;
 use ps_game::Arena;
 use std::alloc::AllocError;
 
-/// Works out the values of the vertices of a component: all are endless at first, and fall.
-///
-/// # Errors
-///
-/// Fails where a growth was refused.
+/// Computes the values of the vertices of a component: all are endless at first, and decrease. Fails if memory runs
+/// out.
 pub fn evaluate<A: Arena>(
     ground: &Ground<'_, A>,
     part: &[usize],
@@ -43,7 +40,7 @@ pub fn evaluate<A: Arena>(
     Ok(())
 }
 
-/// Takes the values of these vertices for endless, and has them wait.
+/// Sets the values of these vertices to endless, and lets them wait.
 fn forget_all(
     part: &[usize],
     plan: &mut Plan,
@@ -62,7 +59,7 @@ fn forget_all(
     Ok(())
 }
 
-/// Has those of the same component wait whose value may fall with that of a vertex.
+/// Lets the vertices of the same component wait whose value may decrease with that of a vertex.
 fn wake<A: Arena>(
     ground: &Ground<'_, A>,
     vertex: usize,

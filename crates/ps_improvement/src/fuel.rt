@@ -1,23 +1,23 @@
 //! What bounds the work.
 
-/// How many cells may still be read or written, and how many more may be held at one time.
+/// The number of cells that may still be read or written, and of further cells that may be held at one time.
 #[derive(Drop)]
 pub struct Fuel {
     /// Cells to be read or written.
     pub left: u64,
-    /// Cells that may be held besides those that are.
+    /// Cells that may be held besides those that are held now.
     pub room: u64,
     /// Whether there was no room for a row.
     pub is_full: bool,
 }
 
 impl Fuel {
-    /// Counts so many cells, and one more, as read or written.
+    /// Counts `cells` cells, and one more, as read or written.
     pub fn burn(&mut self, cells: usize) {
         self.left = self.left.saturating_sub(cells as u64).saturating_sub(1);
     }
 
-    /// Counts a row of so many cells as held in place of another one. Where there is no room for it no fuel is left.
+    /// Counts a row of `cells` cells as held instead of another one. If there is no room for it, no fuel is left.
     pub fn hold(&mut self, cells: usize, instead: usize) {
         let room = self.room.saturating_add(instead as u64);
         if room < cells as u64 {
@@ -27,7 +27,7 @@ impl Fuel {
         self.room = room.saturating_sub(cells as u64);
     }
 
-    /// Whether none is left.
+    /// Whether no fuel is left.
     pub fn is_spent(&self) -> bool {
         self.left == 0
     }

@@ -1,4 +1,4 @@
-//! The game, turned round and in its components.
+//! The game with its edges reversed, and its components.
 
 ghost use Rattle.std.specs.Prelude.{◌≡◌, ◌<◌, ℕ, All, IfOk, length};
 ghost use Rattle.ps_attractor.specs.Room.{HasRoom};
@@ -34,7 +34,7 @@ impl<'a, A: Arena> Graph for Edges<'a, A> {
     }
 }
 
-/// A game, with the edges to each vertex and the component of each.
+/// A game, with the edges to each vertex and the component of each vertex.
 #[derive(Drop)]
 pub struct Ground<'a, A: Arena> {
     /// The game.
@@ -48,11 +48,7 @@ pub struct Ground<'a, A: Arena> {
 }
 
 impl<'a, A: Arena> Ground<'a, A> {
-    /// That of a game.
-    ///
-    /// # Errors
-    ///
-    /// Fails where a growth was refused.
+    /// The ground of a game. Fails if memory runs out.
     pub fn of(alloc: Global, arena: &'a A) -> Result<Ground<'a, A>, AllocError>
         requires { HasRoom (A.game arena.now) usize.MAX }
         ensures { IfOk result (λ ground. A.game ground.arena.now ≡ A.game arena.now) }

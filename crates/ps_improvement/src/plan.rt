@@ -1,4 +1,4 @@
-//! What the players do so far, and what it is worth.
+//! What the players do so far, and the values that follow from it.
 
 ghost use Rattle.std.specs.Prelude.{◌≡◌, ◌<◌, ℕ, IfOk, IfSome, OnOk, length};
 ghost use Rattle.std.specs.Option.{ForSome};
@@ -15,11 +15,11 @@ use std::cmp::Ordering;
 #[derive(Drop)]
 pub struct Plan {
     alloc: Global,
-    /// Where player 0 goes on to. Without a move it stops.
+    /// Where player 0 goes on to. It stops if it has no move.
     pub first: Strategy,
     /// The vertices of player 1 that are open.
     pub opened: Region,
-    /// The row of each vertex, or none where its value is endless.
+    /// The row of each vertex, or none if its value is endless.
     pub rows: Vec<Option<Row>>,
     ghost moves: { length first ≡ length rows.items },
     ghost opens: { length opened ≡ length rows.items },
@@ -27,11 +27,7 @@ pub struct Plan {
 }
 
 impl Plan {
-    /// Player 0 stops everywhere, and no vertex of player 1 is open.
-    ///
-    /// # Errors
-    ///
-    /// Fails where a growth was refused.
+    /// Player 0 stops everywhere, and no vertex of player 1 is open. Fails if memory runs out.
     pub fn new(alloc: Global, count: usize) -> Result<Plan, AllocError>
         ensures { IfOk result (λ plan. length plan.rows.items ≡ count) }
     {
@@ -59,7 +55,7 @@ impl Plan {
         self.opened.insert(vertex);
     }
 
-    /// Has player 0 go from a vertex to another.
+    /// Lets player 0 go from a vertex to another.
     pub fn go(&mut self, vertex: usize, to: usize)
         requires vertex { vertex < length self.old.rows.items }
         requires to { to < length self.old.rows.items }
@@ -78,7 +74,7 @@ impl Plan {
         }
     }
 
-    /// What it is worth to go to a vertex, or to stop where there is none.
+    /// What it is worth to go to a vertex, or to stop if there is none.
     pub fn seen<A: Arena>(&self, arena: &A, to: Option<usize>) -> Value<'_>
         requires places { length self.now.rows.items ≡ vertex_count (A.game arena.now) }
         requires to { IfSome to (λ vertex. vertex < length self.now.rows.items) }
@@ -89,7 +85,7 @@ impl Plan {
         }
     }
 
-    /// How many cells the row of a vertex has.
+    /// The number of cells in the row of a vertex.
     fn cells(&self, vertex: usize) -> usize
         requires { vertex < length self.now.rows.items }
     {
@@ -99,7 +95,7 @@ impl Plan {
         }
     }
 
-    /// Takes the value of a vertex for endless.
+    /// Sets the value of a vertex to endless.
     pub fn forget(&mut self, vertex: usize, fuel: &mut Fuel)
         requires { vertex < length self.old.rows.items }
         ensures { length self.new.rows.items ≡ length self.old.rows.items }
@@ -108,11 +104,8 @@ impl Plan {
         self.rows[vertex] = None;
     }
 
-    /// Lowers the value of a vertex to what follows from where its player goes, if that is less. Answers whether it is.
-    ///
-    /// # Errors
-    ///
-    /// Fails where a growth was refused.
+    /// Lowers the value of a vertex to what follows from where its player goes, if that is less. Returns whether it is.
+    /// Fails if memory runs out.
     pub fn lower<A: Arena>(
         &mut self,
         arena: &A,
@@ -197,7 +190,7 @@ impl Plan {
         least
     }
 
-    /// Where it is worth most to go from a vertex, its own move where none is worth more.
+    /// Where it is worth most to go from a vertex; its own move if none is worth more.
     #[tactic(auto, using(crate::proofs::Within::successor_within))]
     pub fn best<A: Arena>(&self, arena: &A, vertex: usize, fuel: &mut Fuel) -> Option<usize>
         requires places { length self.now.rows.items ≡ vertex_count (A.game arena.now) }
@@ -217,7 +210,7 @@ impl Plan {
     }
 }
 
-/// Endless values for so many vertices.
+/// Endless values for `count` vertices.
 fn endless(alloc: Global, count: usize) -> Result<Vec<Option<Row>>, AllocError>
     ensures { IfOk result (λ rows. length rows.items ≡ count) }
 {

@@ -13,15 +13,15 @@ pub struct Cell {
     pub count: u64,
 }
 
-/// The priorities that are met before a play stops, falling, each with how often it is met: never 0 times.
+/// The priorities that are met before a play stops, decreasing, each with how often it is met, which is never 0 times.
 pub type Row = Vec<Cell>;
 
 /// What a play is worth to player 0.
 #[derive(Clone, Copy)]
 pub enum Value<'a> {
-    /// It goes on for ever: that is worth most.
+    /// It goes on for ever, which is worth most.
     Endless,
-    /// It stops behind these.
+    /// It stops after these.
     Stops(&'a [Cell]),
 }
 
@@ -37,7 +37,7 @@ impl Value<'_> {
     }
 }
 
-/// Which of two rows is worth more: the first place where they differ tells.
+/// Which of two rows is worth more: the first place where they differ decides.
 fn order_of_rows(row: &[Cell], other: &[Cell], fuel: &mut Fuel) -> Ordering {
     let same = row
         .iter()
@@ -53,7 +53,7 @@ fn order_of_rows(row: &[Cell], other: &[Cell], fuel: &mut Fuel) -> Ordering {
     }
 }
 
-/// Which of two cells is worth more: the greater priority tells, and where it is the same, how often it is met.
+/// Which of two cells is worth more: the greater priority decides; if they have the same, how often it is met.
 fn order_of_cells(cell: Cell, beside: Cell) -> Ordering {
     match cell.priority.cmp(&beside.priority) {
         Ordering::Greater => worth_of(cell.priority),
@@ -81,7 +81,7 @@ pub struct Raised<'a> {
 }
 
 impl<'a> Raised<'a> {
-    /// That of a row.
+    /// The raised row of a row.
     pub fn of(row: &'a [Cell], priority: u64) -> Raised<'a> {
         let (front, back) = row.split_at(row.partition_point(|cell| cell.priority > priority));
         let (count, rest) = match back.split_first() {
@@ -114,11 +114,7 @@ impl<'a> Raised<'a> {
         }
     }
 
-    /// The row as a whole.
-    ///
-    /// # Errors
-    ///
-    /// Fails where a growth was refused.
+    /// The whole row. Fails if memory runs out.
     pub fn row(&self, alloc: Global) -> Result<Row, AllocError> {
         let cells = self.front.len().saturating_add(1);
         let mut row = Vec::with_capacity(alloc, cells.saturating_add(self.rest.len()))?;

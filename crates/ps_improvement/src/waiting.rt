@@ -16,11 +16,7 @@ pub struct Waiting {
 }
 
 impl Waiting {
-    /// None of so many vertices.
-    ///
-    /// # Errors
-    ///
-    /// Fails where a growth was refused.
+    /// None of `count` vertices. Fails if memory runs out.
     pub fn none(alloc: Global, count: usize) -> Result<Waiting, AllocError>
         ensures { IfOk result (λ waiting. length waiting.waits ≡ count) }
     {
@@ -30,11 +26,7 @@ impl Waiting {
         })
     }
 
-    /// Has a vertex wait, if it does not yet.
-    ///
-    /// # Errors
-    ///
-    /// Fails where a growth was refused.
+    /// Lets a vertex wait, if it does not yet. Fails if memory runs out.
     pub fn put(&mut self, vertex: usize) -> Result<(), AllocError>
         requires { vertex < length self.old.waits }
         ensures { length self.new.waits ≡ length self.old.waits }
@@ -46,7 +38,7 @@ impl Waiting {
         Ok(())
     }
 
-    /// The first one, which waits no longer.
+    /// The first one, which no longer waits.
     pub fn take(&mut self) -> Option<usize>
         ensures places { length self.new.waits ≡ length self.old.waits }
         ensures within { IfSome result (λ vertex. vertex < length self.old.waits) }

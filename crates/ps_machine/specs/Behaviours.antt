@@ -1,11 +1,11 @@
 -- What the finite machine of a player does, in the order of moves that it is made for; and the words that it makes.
 --     Behaviour      its propositions, whose it is, whether that player moves first; and, by memory and the other
---               player's letter, the memory behind a step and the letter that is played
---     IsMachine b      it is a finite machine's
---     IsLasso b stem lap      letters of a run of the machine from memory 0 that goes back, behind the lap, to the
+--               player's letter, the memory after a step and the letter that is played
+--     IsMachine b      it is the behaviour of a finite machine
+--     IsLasso b stem lap      letters of a run of the machine from memory 0 that returns, after the lap, to the
 --               memory before it
 --     LassosWon file b      the automaton accepts each of these words if the machine is the controller's (player 0),
---               and else none
+--               and otherwise none
 use Rattle.std.specs.Prelude.{◌≡◌, ◌≢◌, ℕ, ◌+◌, ◌^◌, ◌<◌, ◌≤◌, ◌⊎◌, ◌↔◌, Bool, false, IsTrue, List, ◌++◌, length}
 use Rattle.std.specs.Prelude.{slice_index}
 use Rattle.std.specs.List.{AllPairs}
@@ -45,8 +45,8 @@ AreSameOn list x y = (p : ℕ) → IsTrue (is_among p list) → is_in p x ≡ is
 
 -- ## Machines
 
--- Each proposition is read or played, and none both. A step leads to a memory, plays a letter, and heeds what is read
--- alone; a player who moves first plays the same whatever the letter.
+-- Each proposition is read or played, and none is both. A step leads to a memory, plays a letter, and depends only on
+-- what is read; a player who moves first plays the same whatever the letter.
 pub record IsMachine (b : Behaviour) : Type 0 where
   pub few_names : length b.names ≤ 64
   pub are_names : AreNames b.names

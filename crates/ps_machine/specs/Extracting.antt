@@ -1,8 +1,8 @@
 -- The machine of a certificate: what it remembers, what it plays, and which memory comes next.
 --     IsUsed game certificate v      v ends a path from vertex 0 that follows the table of the winner of vertex 0
 --     IsKept .. v      of the used first-mover vertices, v is the least of those that share a memory with it
---     IsMachineOf board mover keys game certificate m      the machine: its memories are the kept vertices, rising
--- A winner who moves first remembers the vertex. One who moves second remembers its state alone.
+--     IsMachineOf board mover keys game certificate m      the machine: its memories are the kept vertices, ascending
+-- A winner who moves first remembers the vertex. One who moves second remembers only its state.
 use Rattle.std.specs.Prelude.{◌≡◌, ℕ, ◌+◌, ◌-◌, ◌<◌, ◌==◌, Bool, true, false, not, List, length, Some, slice_index}
 use Rattle.std.specs.Prelude.{slice_get}
 use Rattle.std.specs.List.{All, AllPairs, Contains}
@@ -30,7 +30,7 @@ pub record IsUsedFirst (keys : List Key) (game : ParityGame) (certificate : Cert
   pub used : IsUsed game certificate v
   pub stands : StandsAt keys v (First q p)
 
--- a machine whose player moves first stands at one vertex; another one at all those of a state
+-- a memory belongs to one vertex if the player moves first, and otherwise to all vertices of a state
 abbrev pub Shares : Bool → ℕ → ℕ → ℕ → ℕ → Type 0
 Shares true v q w r = v ≡ w
 Shares false v q w r = q ≡ r
@@ -42,7 +42,7 @@ pub record IsKept (is_first : Bool) (keys : List Key) (game : ParityGame) (certi
   pub here : IsUsedFirst keys game certificate v state priority
   pub least : (w r p : ℕ) → w < v → IsUsedFirst keys game certificate w r p → ¬ Shares is_first v state w r
 
--- the memory stands at the vertex w, whose state is r
+-- the memory belongs to the vertex w, whose state is r
 pub record StandsFor (is_first : Bool) (keys : List Key) (kept : List ℕ) (memory w r : ℕ) : Type 0 where
   pub vertex : ℕ
   pub state : ℕ
@@ -74,7 +74,7 @@ pub record StepsSecond (board : Board) (keys : List Key) (certificate : Certific
     pub choice : choice_of certificate at ≡ Some chosen
     pub least : IsLeast (λ y. IsSecondLetter board y × GoesTo keys board q (class + y) chosen) letter
 
--- what is played at the vertex v of the state q, where the other player's letter is x
+-- what is played at the vertex v of the state q, if the other player's letter is x
 abbrev pub IsPlayed : Bool → Board → List Key → CertificateData → ℕ → ℕ → ℕ → ℕ → Type 0
 IsPlayed true board keys certificate v q x letter = StepsFirst board keys certificate v q x letter
 IsPlayed false board keys certificate v q x letter = StepsSecond board keys certificate v q x letter

@@ -1,4 +1,4 @@
--- The game of a file: of the automaton that it has.
+-- The game of a file: that of its automaton.
 --     board_of_file order file auto      an automaton of the file, and who plays which of its propositions
 --     IsGameOfFile order file game      the game that the automaton of a file defines, in that order of moves
 use Rattle.std.specs.Prelude.{◌≡◌, List, length, Some}
@@ -21,7 +21,7 @@ board_of_file order file auto =
       is_first = is_first_of order file.controllable;
     }
 
--- its vertices stand for these keys, of which they have the names
+-- its vertices stand for these keys, and have the names of the keys
 pub record IsGameOfFile (order : Order) (file : FileData) (game : NamedGameData) : Type 0 where
   pub chain : Chain
   pub is_chain : chain_of file.condition ≡ Some chain

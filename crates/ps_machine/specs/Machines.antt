@@ -1,6 +1,6 @@
--- The finite machine of a player as it is held: its rows stand in diagrams.
+-- The finite machine of a player in its representation: its rows are in diagrams.
 --     MachineData      its propositions, whose it is, whether that player moves first, and its rows in diagrams
---     step_of m memory x      the row of a memory, where x is the other player's letter
+--     step_of m memory x      the row of a memory, if x is the other player's letter
 --     behaviour m      what it does
 --     IsWholeMachine m      its behaviour is a machine's, and its diagrams have a row for each memory and letter
 use Rattle.std.specs.Prelude.{◌≡◌, ℕ, ◌<◌, Bool, List, length, slice_index, slice_index_or, IsSomeAnd}
@@ -40,8 +40,8 @@ behaviour m =
       plays = λ memory x. (step_of m memory x).letter;
     }
 
--- each memory and letter leads to a leaf that names a row, by what is read alone; each row leads to a memory, and plays
--- a letter
+-- each memory and letter leads to a leaf that names a row, which depends only on what is read; each row leads to a
+-- memory, and plays a letter
 pub record IsWholeMachine (m : MachineData) : Type 0 where
   pub is_machine : IsMachine (behaviour m)
   pub letters : m.store.propositions ≡ length m.names

@@ -1,10 +1,10 @@
 -- What is known of a solver.
 --     MayAnswer      what a solver may answer for a game
 --     SolverData      what is known of a solver
---     once_fed text solver      the solver once it was fed that text
+--     once_fed text solver      the solver after it was fed that text
 --     answers_now solver      what it may answer, by what it was fed
 --     Answered old new      what it might answer, and gave
---     IsKept old new      what a call leaves as it was: all but what was given last
+--     IsKept old new      what a call keeps: all but what was given last
 use Rattle.std.specs.Prelude.{◌≡◌, ℕ, Bool, List, Option, None, Some, Result}
 use Rattle.ps_certificate.specs.Certificates.{CertificateData}
 use Rattle.ps_game.specs.Games.{NamedGameData}
@@ -14,16 +14,16 @@ abbrev pub MayAnswer : Type 1
 MayAnswer = NamedGameData → Result CertificateData SolveFault → Type 0
 
 pub record SolverData : Type 1 where
-  -- what it gives fits the game and is valid, and it fails for want of memory alone
+  -- what it gives fits the game and is valid, and it fails only if memory runs out
   pub is_sure : Bool
   -- the text that it was fed last, the empty one before any; none for a solver that ignores what it is fed
   pub fed : Option (List ℕ)
-  -- what it may answer for a game, where it was fed that
+  -- what it may answer for a game, if it was fed that
   pub may_answer : Option (List ℕ) → MayAnswer
-  -- what it gave last, and for which game; of a solver that keeps no record of that, anything
+  -- what it gave last, and for which game; anything, if the solver keeps no record of that
   pub gave : MayAnswer
 
--- what a solver holds once it was fed a text, by what it held before
+-- what a solver holds after it was fed a text, by what it held before
 abbrev pub fed_with : List ℕ → Option (List ℕ) → Option (List ℕ)
 fed_with text None = None
 fed_with text (Some old) = Some text

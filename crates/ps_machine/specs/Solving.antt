@@ -1,13 +1,13 @@
--- What a solver's answer for a game is worth.
+-- What holds of a solver's answer for a game.
 --     IsCertified game c      the certificate fits the game and is valid
 --     winner c      who wins vertex 0
 --     AnswersSurely game r      what a sure solver answers: such a certificate, or that memory ran out
 --     AnswersLeast game r      what psyn's own solver answers: such a certificate with the least counts, or that memory
 --               ran out
---     NamesVertices game r      a cycle that is answered has vertices, and of the game only
+--     NamesVertices game r      a cycle that is answered is not empty, and has only vertices of the game
 --     Replays game fed r      the answer is that of reading the text that was fed
 --     own_solver      what is known of psyn's own solver
---     replay_of text      what is known of the solver that answers what it was fed, where that is this text
+--     replay_of text      what is known of the solver that answers what it was fed, if that is this text
 use Rattle.std.specs.Prelude.{◌≡◌, ℕ, ◌<◌, true, false, List, length, Option, None, Some, Result, Ok, Err}
 use Rattle.std.specs.List.{All}
 use Rattle.ps_game.specs.Games.{NamedGameData, vertex_count}

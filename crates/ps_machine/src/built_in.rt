@@ -1,4 +1,4 @@
-//! The solver that psyn has of its own.
+//! psyn's own solver.
 
 ghost use Rattle.std.specs.Prelude.{◌≡◌, true, None, IfOk, IfErr, IfNone, IfSome, length};
 ghost use Rattle.ps_certificate.specs.Certificates.{Fits, IsValid};
@@ -17,34 +17,35 @@ use ps_referee::{JudgeFault, certificate_of_solution, judge};
 use ps_zielonka::{regions, regions_within};
 use std::alloc::{AllocError, Global};
 
-/// How often a budget is tried before there is none.
+/// The number of rounds with a budget. The round after them has none.
 const ROUNDS: u64 = 8;
 
-/// How many times the budget before each one is.
+/// The factor by which the budget grows from round to round.
 const GROWTH: u64 = 64;
 
-/// How many vertices the first recursion may place for each vertex of the game. A game that people meet has each placed
-/// some ten times.
+/// The number of vertices that the first recursion may place for each vertex of the game. In games from practice each
+/// vertex is placed some ten times.
 const PLACED_EACH: u64 = 256;
 
-/// How many it may place besides.
+/// The number of vertices that it may place besides.
 const PLACED_BESIDE: u64 = 1024;
 
-/// How many cells an attempt may read or write for each vertex that the recursion may place. That takes longer, and less
-/// long than what the recursion may place next.
+/// The number of cells that an attempt may read or write for each vertex that the recursion may place. An attempt then
+/// takes longer than the recursion before it, and less long than the recursion after it.
 const CELLS_EACH: u64 = 64;
 
-/// How much work the two may do in a round.
+/// The amount of work that the two may do in a round.
 #[derive(Drop)]
 struct Budget {
-    /// How many vertices the recursion may place.
+    /// The number of vertices that the recursion may place.
     placed: u64,
-    /// How many cells an attempt may read or write: none where one has failed in a way that more of them do not change.
+    /// The number of cells that an attempt may read or write: none after one has failed for a reason that more cells do
+    /// not change.
     cells: u64,
 }
 
 impl Budget {
-    /// That of the first round.
+    /// The budget of the first round.
     fn first<A: Arena>(arena: &A) -> Budget {
         let count = arena.count() as u64;
         let placed = count
@@ -56,7 +57,7 @@ impl Budget {
         }
     }
 
-    /// That of the round after this one.
+    /// The budget of the next round.
     fn grow(&mut self) {
         self.placed = self.placed.saturating_mul(GROWTH);
         self.cells = self.cells.saturating_mul(GROWTH);
@@ -99,7 +100,7 @@ impl Solver for BuiltIn {
     }
 }
 
-/// The certificate of a game, worked out on flat arrays with numbers of a stated width.
+/// The certificate of a game, computed on flat arrays with numbers of a stated width.
 fn certificate_in<W: Width>(alloc: Global, game: &Game) -> Result<Certificate, SolveFault>
     requires { FitsWithin game.now W.LIMIT }
     ensures fits { IfOk result (Fits game.now) }
@@ -111,9 +112,9 @@ fn certificate_in<W: Width>(alloc: Global, game: &Game) -> Result<Certificate, S
     certificate_of(alloc, &flat)
 }
 
-/// The certificate of a game. The recursion has a budget of vertices that it may place, which games that people meet do
-/// not spend. Where it is spent, an attempt that promises nothing is judged. Then both have more, and so on; at last the
-/// recursion has no bound.
+/// The certificate of a game. The recursion has a budget of vertices that it may place, which games from practice do
+/// not spend. If the budget is spent, an attempt, which promises nothing, is made and judged. Then both get more, and
+/// so on. In the last round the recursion has no bound.
 fn certificate_of<A: Arena>(alloc: Global, arena: &A) -> Result<Certificate, SolveFault>
     ensures fits { IfOk result (Fits (A.game arena.now)) }
     ensures valid { IfOk result (IsValid (A.game arena.now)) }
@@ -130,7 +131,7 @@ fn certificate_of<A: Arena>(alloc: Global, arena: &A) -> Result<Certificate, Sol
     certificate_without_bound(alloc, arena)
 }
 
-/// The certificate of a game, or none where neither the recursion nor the attempt has found one within the budget.
+/// The certificate of a game, or none if neither the recursion nor the attempt has found one within the budget.
 fn certificate_within<A: Arena>(
     alloc: Global,
     arena: &A,
@@ -148,7 +149,7 @@ fn certificate_within<A: Arena>(
     }
 }
 
-/// The certificate by the recursion, or none where the budget is spent first.
+/// The certificate by the recursion, or none if the budget is spent first.
 fn solved_within<A: Arena>(
     alloc: Global,
     arena: &A,
@@ -167,8 +168,8 @@ fn solved_within<A: Arena>(
     Ok(Some(certificate))
 }
 
-/// The certificate by an attempt, or none where the cells do not suffice or what it answers is refused. The budget has no
-/// cells left where more of them would not help.
+/// The certificate by an attempt, or none if the cells do not suffice or its result is refused. The budget has no cells
+/// left if more of them would not help.
 fn attempted<A: Arena>(
     alloc: Global,
     arena: &A,
@@ -192,8 +193,8 @@ fn attempted<A: Arena>(
     }
 }
 
-/// The certificate by a region and tables of which nothing is known, or none: just where a player does not hold its
-/// vertices by its table.
+/// The certificate by a region and tables of which nothing is known. There is none exactly if a player does not hold
+/// its vertices by its table.
 fn tried<A: Arena>(
     alloc: Global,
     arena: &A,

@@ -7,7 +7,8 @@ use indexmap::IndexMap;
 use ps_diagram::{Classes, Store};
 use std::alloc::Global;
 
-/// The classes of the letters of the player who moves first, for each state that was divided: letters that lead alike.
+/// The classes of the letters of the player who moves first, for each state that was divided. Letters of one class lead
+/// to the same steps.
 #[derive(Drop)]
 pub struct Divided {
     /// The diagrams of the classes.
@@ -17,7 +18,7 @@ pub struct Divided {
 }
 
 impl Divided {
-    /// No state is divided yet. There are that many propositions.
+    /// No state is divided yet. There are `propositions` propositions.
     pub fn new(alloc: Global, propositions: u32) -> Self
         requires few { propositions ≤ 64 }
         ensures propositions { result.store.propositions ≡ propositions }

@@ -1,4 +1,4 @@
-//! The diagrams of a machine: for each memory one that leads each letter of the other player to a row.
+//! The diagrams of a machine: each memory has one that leads each letter of the other player to a row.
 
 ghost use Rattle.std.specs.Prelude.{◌≡◌, ◌≢◌, ℕ, ◌<◌, true, false, Any, IfOk, OnOk, Some, length, slice_get};
 ghost use Rattle.std.specs.List.{All, Contains};
@@ -21,9 +21,9 @@ use ps_certificate::Certificate;
 use ps_diagram::{Class, Node, Store};
 use std::alloc::{AllocError, Global};
 
-/// What a machine is made from. The certificate has the moves of its player, the keys say what the vertices stand for
-/// that the moves lead to, the automaton where its steps lead from there, and the memories at which vertices the
-/// machine has to remember something of its own. None of it changes while the diagrams are made.
+/// What a machine is made from. The certificate has the moves of the machine's player. The keys say what the vertices
+/// stand for to which the moves lead. The automaton says where its steps lead from there. The memories say at which
+/// vertices the machine remembers something of its own. None of this changes while the diagrams are made.
 #[derive(Drop)]
 pub(crate) struct Plan<'a> {
     /// Who moves first.
@@ -42,20 +42,19 @@ pub(crate) struct Plan<'a> {
     pub memories: &'a Memories,
 }
 
-/// The machine's diagrams and rows as far as they are made: `node` adds the diagram of one memory, and the rows that it
-/// names.
+/// The machine's diagrams and rows so far: `node` adds the diagram of one memory, and the rows that it names.
 #[derive(Drop)]
 pub(crate) struct Drawing {
     /// The diagrams.
     pub store: Store,
     /// The rows, each at the place that its leaves have.
     pub rows: IndexSet<Row>,
-    /// The places of the rows of the automaton's leaves. Only those of the leaves that were noted last count.
+    /// The places of the rows of the automaton's leaves. Only those of the leaves noted last are valid.
     pub places: Vec<u64>,
 }
 
 impl Plan<'_> {
-    /// The memory in which the machine is behind a step of the automaton, to that state by an edge of that priority.
+    /// The memory of the machine after a step of the automaton, to that state by an edge of that priority.
     pub fn memory_behind(&self, state: u32, priority: u64) -> usize
         requires { CanEnterBy self.now state priority }
         ensures within { result < length self.now.memories.now.kept.items }
@@ -86,11 +85,7 @@ impl Plan<'_> {
 }
 
 impl Drawing {
-    /// The diagram of the memory that is kept at a vertex.
-    ///
-    /// # Errors
-    ///
-    /// Fails where a growth was refused.
+    /// The diagram of the memory that is kept at a vertex. Fails if memory runs out.
     pub fn node(
         &mut self,
         alloc: Global,
@@ -140,7 +135,7 @@ impl Drawing {
             .relabel_from(&plan.divided.store, rest, &self.places)
     }
 
-    /// Notes the places of the rows of leaves, where that letter is played.
+    /// Notes the places of the rows of leaves, if that letter is played.
     fn place_rows(
         &mut self,
         plan: &Plan<'_>,
@@ -166,7 +161,7 @@ impl Drawing {
     }
 }
 
-/// What is left of the steps behind the letter of one of the classes.
+/// The rest of the steps after the letter of one of the classes.
 fn rest_of(classes: &[Class], letter: u64) -> Node
     requires { Any (λ class. class.letter ≡ letter) classes.now }
     ensures { Any (λ class. (class.letter ≡ letter) × (class.rest ≡ result)) classes.now }
@@ -177,7 +172,7 @@ fn rest_of(classes: &[Class], letter: u64) -> Node
     }
 }
 
-/// Notes the place of a leaf's row, where there may be none yet for lesser leaves.
+/// Notes the place of a leaf's row. Lesser leaves may not have one yet.
 fn note(places: &mut Vec<u64>, leaf: u64, place: u64) -> Result<(), AllocError>
     ensures noted { OnOk result (slice_get places.new.items leaf ≡ Some place) }
     ensures others { OnOk result ((other n : ℕ) → other ≢ leaf → slice_get places.old.items other ≡ Some n →

@@ -34,14 +34,14 @@ use ps_diagram::{Node, Store};
 use ps_game::{Game, NamedGame};
 use std::alloc::{AllocError, Global};
 
-/// The machine of the winner of vertex 0 in the game of an automaton: it plays by a valid certificate's moves, from
-/// what is reached by them. A winner who moves first remembers the vertex; one who moves second its state. Each word of
-/// the machine is accepted by the automaton where the winner is player 0, and none is where it is player 1. The game is
-/// made again for its keys: `machine_of_certificate` takes them.
+/// The machine of the winner of vertex 0 in the game of an automaton. It plays by a valid certificate's moves, from the
+/// vertices that are reached by them. A winner who moves first remembers the vertex; one who moves second remembers its
+/// state. If the winner is player 0, the automaton accepts each word of the machine; if it is player 1, none of them.
+/// The game is made again for its keys; `machine_of_certificate` takes them.
 ///
 /// # Errors
 ///
-/// Fails where a growth was refused.
+/// Fails if memory runs out.
 pub fn extract(
     alloc: Global,
     automaton: &Automaton,
@@ -64,11 +64,7 @@ pub fn extract(
     machine_of_certificate(alloc, automaton, order, &keyed, certificate)
 }
 
-/// The same machine, of an automaton's game with its keys.
-///
-/// # Errors
-///
-/// Fails where a growth was refused.
+/// The same machine, of an automaton's game with its keys. Fails if memory runs out.
 pub fn machine_of_certificate(
     alloc: Global,
     automaton: &Automaton,
@@ -182,7 +178,8 @@ fn nodes_of(alloc: Global, plan: &Plan<'_>, drawing: &mut Drawing) -> Result<Vec
     Ok(nodes)
 }
 
-/// The propositions of an automaton, as they are read and played by the player who moves first, or by the other one.
+/// The propositions of an automaton that a player reads and those that it plays, for the player who moves first or for
+/// the other one.
 fn roles(
     alloc: Global,
     automaton: &Automaton,

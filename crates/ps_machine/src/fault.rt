@@ -15,12 +15,12 @@ pub enum SolveFault {
     /// A strategy that was found leaves a cycle that its player loses. The vertices are those of the game, by place.
     #[error("a cycle that its player loses")]
     BadCycle(Vec<usize>),
-    /// The text that was fed is no certificate of the game.
+    /// The text that was fed is not a certificate of the game.
     #[error("{} at byte {offset}", .cause.name())]
     Text {
         /// What is wrong.
         cause: CertCause,
-        /// The byte at which it stands, from 0.
+        /// The byte at which it occurs, from 0.
         offset: usize,
     },
     /// Memory ran out.

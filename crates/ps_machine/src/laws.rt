@@ -18,8 +18,8 @@ ghost use Rattle.ps_machine.specs.Keys.{mover_of};
 ghost use Rattle.ps_machine.specs.declared.key.Key.{Key};
 ghost use Rattle.ps_machine.specs.declared.key.Order.{Order};
 
-/// Of the machine of a valid certificate of an automaton's game each word is won by the winner of vertex 0: the
-/// automaton accepts all of them if that is player 0, and else none.
+/// Each word of the machine of a valid certificate of an automaton's game is won by the winner of vertex 0: the
+/// automaton accepts all of them if that is player 0, and otherwise none.
 pub fn lassos_won()
     ensures { (file : FileData) (chain : Chain) (a : AutomatonData) (order : Order) (keys : List Key)
         (game : ParityGame) (certificate : CertificateData) (m : Behaviour) →
@@ -29,14 +29,14 @@ pub fn lassos_won()
         IsMachineOf (board_of order a) (mover_of order) keys game certificate m → LassosWon file m }
 {}
 
-/// A board has one game at most: two games of it have the same keys, and are the same.
+/// A board has at most one game: two games of it have the same keys, and are equal.
 pub fn one_game()
     ensures { (board : Board) (mover : ℕ) (keys others : List Key) (game other : ParityGame) →
         IsGameOf board mover keys game → IsGameOf board mover others other → (keys ≡ others) × (game ≡ other) }
 {}
 
-/// A file has one game at most in each order of moves, names and ids too: its automata may differ only where no play
-/// comes.
+/// A file has at most one game in each order of moves, including names and ids: its automata may differ only where no
+/// play comes.
 pub fn one_game_of_file()
     ensures { (order : Order) (file : FileData) (game other : NamedGameData) → IsGameOfFile order file game →
         IsGameOfFile order file other → game ≡ other }
@@ -58,8 +58,8 @@ pub fn machine_is_there()
         IsMachineOf board mover keys game certificate m }
 {}
 
-/// A certificate has one machine at most: any two of a board's game and one certificate have the same propositions and
-/// player, and do the same at each memory, whatever is read.
+/// A certificate has at most one machine: any two machines of a board's game and one certificate have the same
+/// propositions and player, and do the same at each memory, whatever is read.
 pub fn one_machine()
     ensures { (names : List (List ℕ)) (board : Board) (mover : ℕ) (keys : List Key) (game : ParityGame)
         (certificate : CertificateData) → IsGameOf board mover keys game → (m o : Behaviour) →
@@ -68,7 +68,7 @@ pub fn one_machine()
         BehavesAs m o }
 {}
 
-/// So has one of a file's game, although the automata of a file may differ where no play comes.
+/// The same for a certificate of a file's game, although the automata of a file may differ where no play comes.
 pub fn one_machine_of_file()
     ensures { (order : Order) (file : FileData) (game : NamedGameData) (first second : IsGameOfFile order file game)
         (certificate : CertificateData) (m o : Behaviour) → IsMachine m → IsMachine o →

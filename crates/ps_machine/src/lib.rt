@@ -1,17 +1,17 @@
-//! The game of an automaton, what solves it, and the machine of a certificate of it.
+//! The game of an automaton, solvers for it, and the machine of a certificate of it.
 //!
-//! The game's vertices are numbered breadth first from its start: a state with the priority by which it is entered,
-//! where the first player moves, and a state with a class of the first player's letters, where the second one does.
-//! Classes are letters that lead alike, and come from the automaton's decision diagrams, so that a vertex stands for
-//! all letters of its class.
+//! The game's vertices are numbered breadth first from its start. A vertex at which the first player moves is a state
+//! with the priority by which it is entered. A vertex at which the second player moves is a state with a class of the
+//! first player's letters. Letters of a class lead to the same steps. Classes come from the automaton's decision
+//! diagrams, so that a vertex stands for all letters of its class.
 //!
 //! | Call | What it gives |
 //! |---|---|
 //! | `game_of(automaton, order)` | the game with ids and names; `Order` says who moves first |
 //! | `AutomatonGame::build(automaton, order)` | the same game with the key of each vertex |
 //! | `game_by_keys(source, order, first)` | the game of the keys to which a first one leads, by any `Successors` |
-//! | `Solver::feed`, `solve` | what any solver owes, a box of one too, and what it means that one is sure |
-//! | `BuiltIn::new` | the solver of psyn's own: regions, moves and least counts; it is sure |
+//! | `Solver::feed`, `solve` | what any solver promises, also in a box, and what it means that it is sure |
+//! | `BuiltIn::new` | psyn's own solver: regions, moves and least counts; it is sure |
 //! | `Replay::new` | the solver that answers the certificate whose text it was fed; it is not sure |
 //! | `machine_of_certificate`, `extract` | the machine of vertex 0's winner, by a valid certificate |
 //! | `Machine::step(memory, letter)` | the next memory, and the letter that is played |
@@ -21,10 +21,10 @@
 //! | Law | What it says |
 //! |---|---|
 //! | `lassos_won` | each word of the machine of a valid certificate is won by the winner of vertex 0 |
-//! | `one_game`, `one_game_of_file` | an automaton, and a file, have one game at most in each order of moves |
+//! | `one_game`, `one_game_of_file` | an automaton, and a file, have at most one game in each order of moves |
 //! | `game_is_there` | a file that is admitted has one |
 //! | `machine_is_there` | a valid certificate of an automaton's game has a machine |
-//! | `one_machine`, `one_machine_of_file` | and one only; so has one of a file's game |
+//! | `one_machine`, `one_machine_of_file` | it has at most one; so has a certificate of a file's game |
 #![tactic(auto)]
 
 mod boxed;

@@ -10,7 +10,7 @@ use indexmap::IndexSet;
 use ps_diagram::{Node, Store};
 use std::marker::Model;
 
-/// One row of a machine: the memory behind a step, and the letter that is played.
+/// One row of a machine: the memory after a step, and the letter that is played.
 #[derive(Debug, Clone, Copy, PartialEq, Eq, Hash)]
 pub struct Row {
     /// The next memory.
@@ -24,16 +24,16 @@ pub struct Row {
 pub(crate) struct Propositions {
     /// Their names.
     pub names: Vec<Vec<u8>>,
-    /// Those that are read, rising.
+    /// Those that are read, ascending.
     pub inputs: Vec<u32>,
-    /// Those that are played, rising.
+    /// Those that are played, ascending.
     pub outputs: Vec<u32>,
 }
 
 /// The diagrams of a machine.
 #[derive(Drop)]
 pub(crate) struct Diagrams {
-    /// Where they stand.
+    /// The store of the diagrams.
     pub store: Store,
     /// One for each memory.
     pub nodes: Vec<Node>,
@@ -42,7 +42,7 @@ pub(crate) struct Diagrams {
 }
 
 /// A player's finite machine. It begins in memory 0. In each step it reads a letter of the other player, its input
-/// letter, and goes by the row of its memory at that letter: it plays the row's letter, its output letter, and goes on
+/// letter, and takes the row of its memory at that letter: it plays the row's letter, its output letter, and goes on
 /// with the row's memory. A player who moves first plays the same letter whatever it reads. Each leaf of the diagrams
 /// names a row.
 #[derive(Drop)]
@@ -89,7 +89,7 @@ impl Model for Machine {
 }
 
 impl Machine {
-    /// The machine of a player, of its parts.
+    /// The machine of a player, from its parts.
     pub(crate) fn new(
         player: u8,
         moves_first: bool,
@@ -111,7 +111,7 @@ impl Machine {
         }
     }
 
-    /// The names of the propositions, at most 64. They differ, are not empty and have no control byte.
+    /// The names of the propositions, at most 64. They differ, are not empty and contain no control bytes.
     pub fn names(&self) -> &[Vec<u8>]
         ensures names { map bytes_of result.now ≡ self.now.names }
         ensures machine { IsWholeMachine self.now }
@@ -119,7 +119,7 @@ impl Machine {
         self.names.as_slice()
     }
 
-    /// The propositions that it reads, rising: those of the other player.
+    /// The propositions that it reads, ascending: those of the other player.
     pub fn inputs(&self) -> &[u32]
         ensures inputs { result.now ≡ self.now.inputs }
         ensures machine { IsWholeMachine self.now }
@@ -127,7 +127,7 @@ impl Machine {
         self.inputs.as_slice()
     }
 
-    /// The propositions that it plays, rising.
+    /// The propositions that it plays, ascending.
     pub fn outputs(&self) -> &[u32]
         ensures outputs { result.now ≡ self.now.outputs }
         ensures machine { IsWholeMachine self.now }
@@ -151,7 +151,7 @@ impl Machine {
         self.moves_first
     }
 
-    /// How many memories there are, at least one. It begins in memory 0.
+    /// The number of memories, at least one. It begins in memory 0.
     pub fn memories(&self) -> usize
         ensures memories { result ≡ (behaviour self.now).memories }
         ensures machine { IsWholeMachine self.now }

@@ -10,13 +10,13 @@ use std::alloc::{AllocError, Global};
 /// The memories of a machine.
 #[derive(Drop)]
 pub(crate) struct Memories {
-    /// For each memory the least used vertex of the first player at which the machine is in that memory; they rise.
+    /// For each memory the least used vertex of the first player at which the machine is in that memory, ascending.
     pub kept: Vec<usize>,
-    /// What each memory stands for: such a vertex, where the player moves first, and else the state.
+    /// What each memory stands for: such a vertex if the player moves first, and else the state.
     pub marks: IndexSet<usize>,
 }
 
-/// A memory for each used vertex of the first player, or, where the player moves second, for each of their states.
+/// A memory for each used vertex of the first player, or, if the player moves second, for each of their states.
 pub(crate) fn remembered(
     alloc: Global,
     keys: &[Key],
@@ -41,7 +41,7 @@ pub(crate) fn remembered(
     Ok(memories)
 }
 
-/// What a player remembers at a vertex of the first player: the vertex, or, where the player moves second, its state.
+/// What a player remembers at a vertex of the first player: the vertex, or, if the player moves second, its state.
 pub(crate) fn mark(moves_first: bool, vertex: usize, state: u32) -> usize
     ensures { result ≡ mark_of moves_first vertex state }
 {

@@ -8,7 +8,7 @@ use ps_certificate::{CertFault, Certificate, read};
 use ps_game::NamedGame;
 use std::alloc::{AllocError, Global};
 
-/// Reads the text of a certificate that it was fed, and is not sure: what it gives fits the game, and may be wrong.
+/// Reads the text of a certificate that it was fed. It is not sure: what it returns fits the game, but may be wrong.
 #[derive(Drop)]
 pub struct Replay {
     alloc: Global,

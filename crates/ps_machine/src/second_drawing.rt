@@ -19,7 +19,7 @@ use ps_diagram::{Class, Node};
 use std::alloc::{AllocError, Global};
 
 impl Plan<'_> {
-    /// The step to which the move of a winner who moves second leads, behind the least letter of a class.
+    /// The step to which the move of a winner who moves second leads, after the least letter of a class.
     fn reply(&self, state: u32, letter: u64) -> Step
         requires turn { self.now.moves_first ≡ false }
         requires entered { (p : ℕ) × CanEnterBy self.now state p }
@@ -39,7 +39,7 @@ impl Plan<'_> {
         }
     }
 
-    /// The row of what is played behind a class of the first player's letters, and of the memory that comes next.
+    /// The row of what is played after a class of the first player's letters, and of the memory that comes next.
     fn row_of_class(&self, state: u32, class: Class) -> Result<Row, AllocError>
         requires turn { self.now.moves_first ≡ false }
         requires entered { (p : ℕ) × CanEnterBy self.now state p }
@@ -58,11 +58,7 @@ impl Plan<'_> {
 
 impl Drawing {
     /// The diagram of the memory of a player who moves second: the places of the classes of the first player's letters,
-    /// with its rows.
-    ///
-    /// # Errors
-    ///
-    /// Fails where a growth was refused.
+    /// with its rows. Fails if memory runs out.
     pub fn second_node(
         &mut self,
         alloc: Global,

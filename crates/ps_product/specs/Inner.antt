@@ -1,4 +1,4 @@
--- What private functions say of each other; no public clause cites these.
+-- What private functions promise each other; no public clause cites these.
 
 pub mod Constants
 pub mod Entries

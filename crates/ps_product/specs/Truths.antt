@@ -1,9 +1,9 @@
 -- Truths over letters, in a store of diagrams.
---     truth_at t truth letter      whether it holds at the letter
+--     truth_at t truth letter      whether the truth holds at the letter
 --     IsTruth t truth      it is never, always, or a node that is neither
 --     bits_at propositions letter      the bits of these propositions at a letter
 --     IsTruthOf c propositions latches t truth literal      at each letter of these propositions, which the circuit
---               reads as its inputs, it is the bit of the literal at these latches
+--               reads as its inputs, the truth is the bit of the literal at these latches
 --     AreTruthsOf, IsOutcome      the same of lists; of the outputs and of the next latches
 use Rattle.std.specs.Prelude.{◌≡◌, ℕ, ◌^◌, ◌<◌, Bool, true, false, not, is_some, if◌then◌else◌, List, length, map}
 use Rattle.std.specs.Prelude.{slice_get, Some}
@@ -32,7 +32,7 @@ IsTruth t Never = Unit {0}
 IsTruth t Always = Unit {0}
 IsTruth t (Sometimes node) = IsVarying t node
 
--- the bit that a wire makes of that of its place
+-- the bit of a wire, from the bit at its place
 abbrev pub wired : Wire → Bool → Bool
 wired w b = if w.is_negated then not b else b
 
@@ -51,7 +51,7 @@ pub record AreTruthsOf (c : CircuitData) (propositions : List ℕ) (latches : Li
   pub each : (k literal : ℕ) (truth : Truth) → slice_get truths k ≡ Some truth → slice_get literals k ≡ Some literal →
       IsTruthOf c propositions latches t truth literal
 
--- what truths are at a letter
+-- the bits of truths at a letter
 abbrev pub bits_of : Table → List Truth → ℕ → List Bool
 bits_of t truths letter = map (λ truth. truth_at t truth letter) truths
 

@@ -24,7 +24,7 @@ pub struct Outcome {
     pub nexts: Vec<Truth>,
 }
 
-/// Works out what a circuit does at given latches, at all letters at once.
+/// Computes what a circuit does at given latches, at all letters at once.
 #[derive(Drop)]
 pub struct Evaluator<'a> {
     alloc: Global,
@@ -46,11 +46,7 @@ impl<'a> Model for Evaluator<'a> {
 }
 
 impl<'a> Evaluator<'a> {
-    /// An evaluator of a circuit.
-    ///
-    /// # Errors
-    ///
-    /// Fails where a growth was refused.
+    /// An evaluator of a circuit. Fails if memory runs out.
     pub fn new(alloc: Global, circuit: &'a Circuit) -> Result<Self, AllocError>
         ensures { IfOk result (λ evaluator. evaluator ≡ circuit.now) }
     {
@@ -64,12 +60,8 @@ impl<'a> Evaluator<'a> {
         })
     }
 
-    /// The truths of the outputs and of the next latches, at given latches, over the letters of the propositions that
-    /// the inputs are.
-    ///
-    /// # Errors
-    ///
-    /// Fails where a growth was refused.
+    /// The truths of the outputs and of the next latches, at given latches, over the letters of the propositions of the
+    /// inputs. Fails if memory runs out.
     pub fn at(
         &mut self,
         propositions: &[u32],
@@ -97,7 +89,7 @@ impl<'a> Evaluator<'a> {
     }
 }
 
-/// The truths of literals by their wires.
+/// The truths of literals, from their wires.
 fn truths_of(
     alloc: Global,
     site: Site,

@@ -1,4 +1,4 @@
-//! The truths that are known, by places.
+//! The known truths, by place.
 
 ghost use Rattle.std.specs.Prelude.{◌≡◌, ℕ, ◌<◌, length, slice_index_or, slice_set, IfOk, None, Some};
 ghost use Rattle.ps_product.specs.Inner.Knowing.{IsForgotten};
@@ -7,20 +7,20 @@ use crate::truth::Truth;
 use std::alloc::{AllocError, Global};
 use std::marker::Model;
 
-/// A truth, which counts while the table has that stamp.
+/// A truth, which is valid while the table has that stamp.
 #[derive(Clone, Copy)]
 struct Entry {
     stamp: u64,
     truth: Truth,
 }
 
-/// What never counts.
+/// An entry that is never valid.
 const FORGOTTEN: Entry = Entry {
     stamp: 0,
     truth: Truth::Never,
 };
 
-/// For each place the truth that is known of it, or none. All are forgotten at once, in no time.
+/// For each place the truth that is known of it, or none. Forgetting all of them takes constant time.
 #[derive(Drop)]
 pub(crate) struct Known {
     entries: Vec<Entry>,
@@ -40,7 +40,7 @@ impl Model for Known {
 }
 
 impl Known {
-    /// A table of so many places, of which nothing is known.
+    /// A table of `places` places, of which nothing is known.
     pub fn new(alloc: Global, places: usize) -> Result<Self, AllocError>
         ensures size { IfOk result (λ known. length known ≡ places) }
         ensures none { IfOk result IsForgotten }
@@ -62,7 +62,7 @@ impl Known {
         }
     }
 
-    /// Puts what is known of a place.
+    /// Sets what is known of a place.
     pub fn put(&mut self, place: u32, truth: Truth)
         requires { place < length self.old }
         ensures { self.new ≡ slice_set self.old place (Some truth) }

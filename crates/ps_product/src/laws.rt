@@ -1,4 +1,4 @@
-//! What truths of outputs and next latches say of steps.
+//! What the truths of outputs and next latches say about steps.
 
 ghost use Rattle.std.specs.Prelude.{◌≡◌, ℕ, ◌^◌, ◌<◌, Bool, List, length};
 ghost use Rattle.ps_circuit.specs.Circuits.{CircuitData, IsCircuit};
@@ -9,7 +9,7 @@ ghost use Rattle.ps_product.specs.declared.truth.Truth.{Truth};
 
 use ps_simulate::circuit_has_one_values;
 
-/// The truths of outputs and next latches are at each letter the step of the circuit: there is that one, and no other.
+/// The truths of outputs and next latches are, at each letter, the only step of the circuit.
 pub fn outcome_is_the_step()
     ensures there { (c : CircuitData) (propositions : List ℕ) (latches : List Bool) (t : Table)
         (outputs nexts : List Truth) (letter : ℕ) → IsCircuit c → length propositions ≡ length c.inputs →

@@ -1,7 +1,8 @@
-//! The product of a circuit and an automaton: what the two do together, as a game in which one player moves alone.
+//! The product of a circuit and an automaton: what the two do together, as a game in which only one player moves.
 //!
 //! A vertex of the product is a value of the latches, a state, and the priority of the edge by which it was entered
-//! (`IsProductOf`). So far there is what its edges are found by: truths over the letters that the circuit reads.
+//! (`IsProductOf`). So far the crate has only the truths from which its edges are found: truths over the letters that
+//! the circuit reads.
 //!
 //! | Call | What it gives |
 //! |---|---|
@@ -10,9 +11,9 @@
 //!
 //! The law `outcome_is_the_step` says that these truths at a letter are the step of the circuit.
 //!
-//! A truth that holds never, or always, is no diagram and costs no call of the store: almost all gates have one of
-//! these. At given latches a gate is worked out once, and only where its truth is needed: the side that lies lower goes
-//! first, and none is followed beside one that never holds.
+//! A truth that never holds, or always holds, has no diagram and costs no call of the store; almost all gates have such
+//! a truth. At given latches a gate is computed once, and only if its truth is needed. Its lower side is computed
+//! first; if that never holds, the other side is not computed.
 #![tactic(auto)]
 
 mod evaluator;

@@ -1,4 +1,4 @@
-//! A circuit whose literals are found by places.
+//! A circuit whose literals are found by place.
 
 ghost use Rattle.std.specs.Prelude.{◌≡◌, ℕ, ◌<◌, length, map, IfOk, IsTrue, MatchOption};
 ghost use Rattle.ps_circuit.specs.Circuits.{CircuitData, IsCircuit};
@@ -20,7 +20,7 @@ pub(crate) struct Sides {
 }
 
 impl Sides {
-    /// The same with the one that lies lower first.
+    /// The same two, with the lower one first.
     pub fn lower_first(self) -> Self
         ensures { (c : CircuitData) (place : ℕ) → IsGateAt c place self → IsGateAt c place result }
     {
@@ -90,7 +90,7 @@ impl<'a> Net<'a> {
         self.circuit
     }
 
-    /// How many places there are.
+    /// The number of places.
     pub fn size(&self) -> usize
         ensures { result ≡ length (variables self.now) }
     {

@@ -49,7 +49,7 @@ impl<'s, 'c> Site<'s, 'c> {
         stack.clear();
         stack.push(place)?;
         while let Some(&top) = stack.last() {
-            // what a gate reads stands before it there, so this comes to an end
+            // a gate comes after what it reads in that order, so the loop ends
             let _ = order;
             let Some(lower) = self.step(known, truths, top)? else {
                 let _ = stack.pop();
@@ -60,8 +60,8 @@ impl<'s, 'c> Site<'s, 'c> {
         Ok(())
     }
 
-    /// What is done for a place of which nothing is known: it becomes known, or the answer is a lower place that has to
-    /// be known before.
+    /// One step for a place of which nothing is known. Either the place becomes known, or the result is a lower place
+    /// that has to be known before.
     fn step(
         self,
         known: &mut Known,
@@ -97,7 +97,7 @@ impl<'s, 'c> Site<'s, 'c> {
         Ok(None)
     }
 
-    /// The truth at a place that is no gate's: the constant, an input or a latch.
+    /// The truth at a place that is not a gate's: the constant, an input or a latch.
     fn given(self, truths: &mut Truths, place: u32) -> Result<Truth, AllocError>
         requires site { IsSite self truths.old }
         requires front { place < front_of self.net.now }
@@ -117,7 +117,7 @@ impl<'s, 'c> Site<'s, 'c> {
     }
 }
 
-/// Whether the truth, negated or not, is seen to hold never.
+/// Whether it is known that the truth, negated or not, never holds.
 fn is_never(truth: &Truth, is_negated: bool) -> bool
     ensures { IsTrue result → (table : Table) (letter : ℕ) →
         (if is_negated then not (truth_at table truth.now letter) else truth_at table truth.now letter) ≡ false }

@@ -23,7 +23,7 @@ pub enum Truth {
 }
 
 impl Truth {
-    /// The truth that is that bit at every letter.
+    /// The truth that has that bit at every letter.
     pub fn constant(bit: bool) -> Self
         ensures truth { (table : Table) (letter : ℕ) → truth_at table result letter ≡ bit }
         ensures is_truth { (table : Table) → IsTruth table result }
@@ -32,7 +32,8 @@ impl Truth {
     }
 }
 
-/// Truths over the letters of so many propositions, in a store of their own.
+/// Truths over the letters of a number of propositions, in a store of their own. Calls that make truths fail if memory
+/// runs out.
 #[derive(Drop)]
 pub struct Truths {
     store: Store,
@@ -53,10 +54,6 @@ impl Model for Truths {
 
 impl Truths {
     /// No truths yet.
-    ///
-    /// # Errors
-    ///
-    /// Fails where a growth was refused.
     pub fn new(alloc: Global, propositions: u32) -> Result<Self, AllocError>
         requires few { propositions ≤ 64 }
         ensures { IfOk result (λ truths. truths.propositions ≡ propositions) }
@@ -67,7 +64,7 @@ impl Truths {
         Ok(Truths { store, none, one })
     }
 
-    /// The store in which the nodes of truths stand.
+    /// The store of the nodes of truths.
     pub fn store(&self) -> &Store
         ensures { result.now ≡ self.now }
     {
@@ -75,10 +72,6 @@ impl Truths {
     }
 
     /// The truth of a proposition.
-    ///
-    /// # Errors
-    ///
-    /// Fails where a growth was refused.
     pub fn proposition(&mut self, proposition: u32) -> Result<Truth, AllocError>
         requires named { proposition < self.old.propositions }
         ensures keeps { Keeps self.old self.new }
@@ -91,10 +84,6 @@ impl Truths {
     }
 
     /// The truth that holds where both do.
-    ///
-    /// # Errors
-    ///
-    /// Fails where a growth was refused.
     pub fn both(&mut self, first: Truth, second: Truth) -> Result<Truth, AllocError>
         requires first { IsTruth self.old first }
         requires second { IsTruth self.old second }
@@ -118,10 +107,6 @@ impl Truths {
     }
 
     /// The truth that holds where this one does not.
-    ///
-    /// # Errors
-    ///
-    /// Fails where a growth was refused.
     pub fn negated(&mut self, truth: Truth) -> Result<Truth, AllocError>
         requires held { IsTruth self.old truth }
         ensures keeps { Keeps self.old self.new }
@@ -139,7 +124,7 @@ impl Truths {
         }
     }
 
-    /// The truth, negated where the wire is.
+    /// The truth, negated if the wire is.
     pub(crate) fn along(&mut self, truth: Truth, wire: Wire) -> Result<Truth, AllocError>
         requires held { IsTruth self.old truth }
         ensures keeps { Keeps self.old self.new }

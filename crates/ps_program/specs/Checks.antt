@@ -7,12 +7,12 @@ use Rattle.ps_program.specs.Outcomes.{Then}
 use Rattle.ps_program.specs.Replies.{Reply, line_reply}
 use Rattle.ps_program.specs.Texts.{ReadsCertified, flaw_text}
 
--- that word where a test found nothing wrong, and else the line of the flaw that it found
+-- that word if a test found nothing wrong, and else the line of the flaw that it found
 abbrev pub test_told : List ℕ → NamedGameData → Result (Unit {0}) Flaw → Result Reply (List ℕ)
 test_told word named (Ok done) = Ok (line_reply word)
 test_told word named (Err flaw) = Err (flaw_text named flaw)
 
--- one word where the certificate is good, and else its first flaw in the game
+-- one word if the certificate is good, and else its first flaw in the game
 abbrev pub Tests : (ParityGame → CertificateData → Type 0) → List ℕ → NamedGameData → CertificateData →
     Result Reply (List ℕ) → Type 0
 Tests IsGood word named certificate (Ok reply) = IsGood named.game certificate × (reply ≡ line_reply word)

@@ -21,13 +21,13 @@ use Rattle.ps_program.specs.declared.command_line.Line.TheVariants.{Refused, Hel
 use Rattle.ps_program.specs.declared.command_line.Line.TheVariants.{Solve, Game, Cert, Synth}
 use Rattle.ps_program.specs.declared.command_line.SynthLine.{SynthLine}
 
--- what stands between runs of spaces
+-- the words between runs of spaces
 abbrev pub words_of : List ℕ → List Text
 words_of line = filter (λ word. not (length word == 0)) (slice_split (λ byte. byte == 32) line)
 
 -- ---- the commands, each with its flags
 
--- a flag by its name, behind `--`
+-- a flag by its name, which follows `--`
 abbrev pub flag : Text → Rule
 flag name = record (new_rule name) { long = Some name; action = Some SetTrue }
 
@@ -35,16 +35,16 @@ flag name = record (new_rule name) { long = Some name; action = Some SetTrue }
 abbrev pub command_with : Text → List Text → Shape
 command_with name flags = record (new_shape name) { rules = map flag flags }
 
--- the command has these flags, and none of them is for other commands too
+-- the command has these flags, and only flags of its own
 pub record HasFlags (name : Text) (flags : List Text) (command : Command) : Type 0 where
   pub shape : (app_of command).top ≡ command_with name flags
   pub local : (out-Command command).has_globals ≡ false
 
--- the words of a line are a command and its flags, and no name of a program stands before them
+-- the words of a line are a command and its flags, without the name of a program before them
 abbrev pub program : App
 program = on_top (λ top. record top { no_binary_name = true; disable_help_subcommand = true }) (new_app (codes "psyn"))
 
--- each command behind those before it
+-- each command after those before it
 abbrev pub with_commands : App → List (Text × List Text) → App
 with_commands app [] = app
 with_commands app (command ∷ more) = with_commands (with_subcommand app (command_with command.0 command.1)) more
@@ -64,7 +64,7 @@ table = with_commands program commands
 abbrev pub is_given : Text → List Row → Bool
 is_given name rows = option_map_or (λ text. bytes_eq text (codes "true")) (first_of name rows) false
 
--- the part that a lasso's circuit plays
+-- the role of a lasso's circuit
 abbrev pub role_said : List Row → Role
 role_said rows = if is_given (codes "env") rows then Environment else Controller
 
@@ -100,7 +100,7 @@ abbrev pub line_said : Option (Text × List Row) → Line
 line_said (Some command) = line_named command.0 command.1
 line_said None = Refused
 
--- the answer to words that are no line of the table: `--help` and `-h` ask for help
+-- the answer to words that are not a line of the table: `--help` and `-h` ask for help
 abbrev pub line_refused : ErrorKind → Line
 line_refused DisplayHelp = Help
 line_refused _ = Refused
@@ -110,7 +110,7 @@ abbrev pub Says : List Text → Line → Type 0
 Says words line = ((fault_of table words ≡ []) × (line ≡ line_said (subcommand_of table words)))
     ⊎ ((kind : ErrorKind) × IsAmong kind (fault_of table words) × (line ≡ line_refused kind))
 
--- the word is longer than each command, and begins with no hyphen (45)
+-- the word is longer than each command, and does not begin with a hyphen (45)
 abbrev pub NamesNothing : Text → Type 0
 NamesNothing word = (6 < length word) × (slice_index word 0 ≢ 45)
 
@@ -121,7 +121,7 @@ IsLine first_line line = (IsUtf8 first_line × Says (words_of first_line) line)
 
 -- ---- the lines that are read
 
--- a command, its flags, and its line where some of them are given
+-- a command, its flags, and its line if some of them are given
 pub record Usage : Type 0 where
   pub name : Text
   pub flags : List Text
@@ -195,7 +195,7 @@ abbrev pub arrangements : List Text → List (List Text)
 arrangements [] = [] ∷ []
 arrangements (x ∷ xs) = arrangements xs ++ flat_map (insertions x) (arrangements xs)
 
--- a command and some flags, as a line has them
+-- a command and some flags, as they occur in a line
 abbrev pub words_with : Text → List Text → List Text
 words_with name flags = name ∷ map (λ flag. codes "--" ++ flag) flags
 
@@ -209,7 +209,7 @@ LinesAreRead =
     AllByRecursion (λ usage. AllByRecursion (λ flags. AreRead (words_with usage.name flags) (usage.line flags))
     (arrangements usage.flags)) usages
 
--- words that ask for help, and are nothing else
+-- words that ask for help, and for nothing else
 abbrev pub AskForHelp : Type 0
 AskForHelp =
     (fault_of table (codes "--help" ∷ []) ≡ DisplayHelp ∷ []) × (fault_of table (codes "-h" ∷ []) ≡ DisplayHelp ∷ [])

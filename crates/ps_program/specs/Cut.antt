@@ -1,4 +1,4 @@
--- How the input falls into its first line and its texts.
+-- How the input is divided into its first line and its texts.
 use Rattle.std.specs.Prelude.{◌≡◌, ◌⊎◌, ◌+◌, ◌-◌, ◌<◌, ◌==◌, ◌&&◌, ◌||◌, ℕ, zero, suc, Bool, true, false, List, [], ◌∷◌}
 use Rattle.std.specs.Prelude.{length, take, drop, slice_index, nat_le}
 use Rattle.std.specs.List.{before_first, after_first}
@@ -28,7 +28,7 @@ is_mark text place = begins_line text place
 abbrev pub HasNoMark : List ℕ → Type 0
 HasNoMark text = (place : ℕ) → place < length text → is_mark text place ≡ false
 
--- the first line `%%` stands between the two, which are without it
+-- the first line `%%` is between the two, which are without it
 pub record Cuts (text first second : List ℕ) : Type 0 where
   pub mark : ℕ
   pub within : mark < length text
@@ -37,13 +37,13 @@ pub record Cuts (text first second : List ℕ) : Type 0 where
   pub before : first ≡ take mark text
   pub behind : second ≡ drop (mark + 3) text
 
--- the texts of an input, parted by its first lines `%%`; further such lines belong to the last text
+-- the texts of an input, separated by its first lines `%%`; further such lines belong to the last text
 abbrev pub AreTexts : List ℕ → List (List ℕ) → Type 0
 AreTexts input [] = ⊥
 AreTexts input (last ∷ []) = last ≡ input
 AreTexts input (first ∷ second ∷ more) = (rest : List ℕ) × Cuts input first rest × AreTexts rest (second ∷ more)
 
--- fewer lines `%%` than that
+-- the number of lines `%%` is less than that
 abbrev pub HasFewerMarks : ℕ → List ℕ → Type 0
 HasFewerMarks zero input = ⊥
 HasFewerMarks (suc count) input =

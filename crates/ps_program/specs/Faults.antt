@@ -1,24 +1,24 @@
--- The lines that stand in the place of an answer where there is a fault: `fault`, its number, its name, and where it
--- stands. Number and name are said once, where the fault arises; the program's own is that of a text that is missing.
+-- The lines that the program writes instead of a result if there is a fault: `fault`, its number, its name, and where
+-- it occurs. Number and name are given once, where the fault arises; the program's own fault is a missing text.
 use Rattle.std.specs.Prelude.{ℕ, List, [], ◌++◌, Option, Some, None, codes, decimal, flat_map}
 use Rattle.ps_program.specs.declared.fault.FaultLine.{FaultLine}
 use Rattle.ps_program.specs.declared.fault.Place.{Place}
 use Rattle.ps_program.specs.declared.fault.Place.TheVariants.{Nowhere, Byte, Edges, Cycle, Move, Edge, Count}
 
--- a number in decimal digits, behind a space
+-- a number in decimal digits, after a space
 abbrev pub spaced : ℕ → List ℕ
 spaced n = codes " " ++ decimal n
 
--- numbers, each behind a space
+-- numbers, each after a space
 abbrev pub ids_text : List ℕ → List ℕ
 ids_text ids = flat_map spaced ids
 
--- the id of a move, or a dash where there is none, behind a space
+-- the id of a move, or a dash if there is none, after a space
 abbrev pub choice_text : Option ℕ → List ℕ
 choice_text (Some id) = spaced id
 choice_text None = codes " -"
 
--- places, each as it stands behind the name of a fault
+-- places, each as it follows the name of a fault
 abbrev pub byte_text : ℕ → List ℕ
 byte_text offset = codes " at" ++ spaced offset
 

@@ -9,15 +9,15 @@ use Rattle.ps_program.specs.declared.reading.InputFault.TheVariants.{Unreadable,
 abbrev pub input_limit : ℕ
 input_limit = 67108864
 
--- the bytes are what the source has left, where that is known
+-- the bytes are what the source has left, if that is known
 abbrev pub AgreesWith : Option (List ℕ) → List ℕ → Type 0
 AgreesWith known bytes = IfSome known (λ left. left ≡ bytes)
 
--- what is left, where that is known, has more bytes than an input may have
+-- what is left, if that is known, has more bytes than an input may have
 abbrev pub IsTooLong : Option (List ℕ) → Type 0
 IsTooLong known = (bytes : List ℕ) × AgreesWith known bytes × (input_limit < length bytes)
 
--- the source gave these many bytes at most
+-- the source gave at most that number of bytes
 abbrev pub ConsumesAtMost : Option (List ℕ) → Option (List ℕ) → ℕ → Type 0
 ConsumesAtMost before after most =
     (taken : List ℕ) × Consumes before after taken × (length taken ≤ most)

@@ -31,7 +31,7 @@ ReadsSolved texts =
     Then (CutsInTwo texts) (λ parts. Then (ReadsGameText parts.0) (λ named.
     Then (ReadsSolutionText named parts.1) (λ given outcome. outcome ≡ Ok (named, given))))
 
--- what is claimed, as a certificate without counts: each winner moves by the one list of moves
+-- what is claimed, as a certificate without counts: each winner moves by the same list of moves
 abbrev pub claim : NamedGameData → SolutionData → CertificateData
 claim named given = claimed named.game given.won given.moves given.moves
 
@@ -70,18 +70,18 @@ pub record HasPlaces (named : NamedGameData) (given : SolutionData) : Type 0 whe
   pub moves : length given.moves ≡ vertex_count named.game
   pub within : AreMoves (vertex_count named.game) given.moves
 
--- the fault speaks of vertices below a number
+-- the fault names vertices less than a number
 abbrev pub Names : ℕ → JudgeFault → Type 0
 Names count (Unclosed flaw) = NamesVertices count flaw
 Names count (BadCycle player cycle) = All (λ v. v < count) cycle.items
 Names count OutOfMemory = ⊤
 
--- the refusal is the line of the cycle, or want of memory
+-- the refusal is the line of the cycle, or out of memory
 abbrev pub IsCycleTold : NamedGameData → List ℕ → Refusal → Type 0
 IsCycleTold named cycle (refusal.Fault line) = fault_text line ≡ cycle_text named cycle
 IsCycleTold named cycle refusal.OutOfMemory = ⊤
 
--- the refusal is the line of the fault, or want of memory
+-- the refusal is the line of the fault, or out of memory
 abbrev pub IsTold : NamedGameData → JudgeFault → Refusal → Type 0
 IsTold named (Unclosed flaw) (refusal.Fault line) = fault_text line ≡ flaw_text named flaw
 IsTold named (BadCycle player cycle) refused = IsCycleTold named cycle.items refused

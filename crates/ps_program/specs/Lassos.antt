@@ -26,8 +26,7 @@ verdict_text v =
 abbrev pub lasso_line : LassoFault → List ℕ
 lasso_line fault = line_text (fault_number fault) (fault_name fault) []
 
--- the verdict, where the lap has a letter and the symbols are those of the role, or else the first of these that is
--- wrong
+-- the verdict, if the lap has a letter and the symbols are those of the role; else the first of these that is wrong
 abbrev pub TellsVerdict : Role → FileData → CircuitData → StimulusData → Result Reply (List ℕ) → Type 0
 TellsVerdict role file c s (Ok reply) =
     IsCircuit c × (0 < length s.lap) × HasSymbols role file.names file.controllable c

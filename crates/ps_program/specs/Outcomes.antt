@@ -1,4 +1,4 @@
--- What a step towards an answer gives: a value, or the line of the first fault, without the newline that ends it.
+-- The result of a step towards an answer: a value, or the line of the first fault, without the newline that ends it.
 use Rattle.std.specs.Prelude.{◌≡◌, ◌⊎◌, ⊤, ℕ, List, Result, Ok, Err}
 use Rattle.ps_text.specs.Answers.{Found}
 use Rattle.ps_program.specs.declared.answer.Answer.{Answer}
@@ -13,7 +13,7 @@ abbrev pub Then : {V W : Type 0} → (Result V (List ℕ) → Type 0) → (V →
 Then {V} {W} step next outcome = ((line : List ℕ) × step (Err line) × (outcome ≡ Err line))
     ⊎ ((value : V) × step (Ok value) × next value outcome)
 
--- a text as its reader answers it, with the line of a fault: the number and the name of its cause, and where it stands
+-- a text as its reader answers it, with the line of a fault: the number and the name of its cause, and where it occurs
 abbrev pub Reading : {V C : Type 0} → (C → ℕ) → (C → List ℕ) → (Result V (Found C) → Type 0) →
     Result V (List ℕ) → Type 0
 Reading number name reads (Ok value) = reads (Ok value)
@@ -25,7 +25,7 @@ abbrev pub printed : Result Reply (List ℕ) → Reply
 printed (Ok reply) = reply
 printed (Err line) = fault_reply line
 
--- what a function of the code gives is what the step may give, unless a growth was refused
+-- a function of the code returns what the step may give, unless memory runs out
 abbrev pub Gives : {X V : Type 0} → (X → V) → (Result V (List ℕ) → Type 0) → Result X Refusal → Type 0
 Gives view step (Ok value) = step (Ok (view value))
 Gives view step (Err (refusal.Fault fault)) = step (Err (fault_text fault))

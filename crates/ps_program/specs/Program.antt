@@ -1,4 +1,4 @@
--- What the program answers to an input, and what it writes of that.
+-- What the program answers to an input, and what it writes of that answer.
 use Rattle.std.specs.Prelude.{◌≡◌, ◌≤◌, ◌<◌, ◌⊎◌, ℕ, Bool, true, false, List, length, Option, Result, Ok}
 use Rattle.std.specs.Io.KnownBytes.{Appends}
 use Rattle.ps_program.specs.declared.command_line.Line.{Line}
@@ -19,7 +19,7 @@ use Rattle.ps_program.specs.Solving.{AnswersSolve}
 use Rattle.ps_program.specs.Streams.{SinkState, AppendsSome, Breaks}
 use Rattle.ps_program.specs.Synthesis.{AnswersSynth}
 
--- the answer to a line, with what stands behind it; a line that asks a solver goes by what is known of it
+-- the answer to a line, with what follows it; if the line asks a solver, the answer depends on what is known of it
 abbrev pub AnswersLine : Solvers → Line → List ℕ → Result Reply (List ℕ) → Type 0
 AnswersLine solvers Refused texts outcome = outcome ≡ Ok usage
 AnswersLine solvers Help texts outcome = outcome ≡ Ok help
@@ -45,11 +45,11 @@ abbrev pub AnswersWhole : Solvers → List ℕ → Reply → Type 0
 AnswersWhole solvers input reply = ((input_limit < length input) × (reply ≡ read_fault))
     ⊎ ((length input ≤ input_limit) × AnswersInput solvers input reply)
 
--- the same, where any growth may have been refused
+-- the same, but memory may have run out
 abbrev pub RepliesTo : Solvers → List ℕ → Reply → Type 0
 RepliesTo solvers input reply = (reply ≡ out_of_memory) ⊎ AnswersWhole solvers input reply
 
--- the answer to what a source has, where a read failed or none did: any growth may have been refused
+-- the answer to what a source has, whether a read failed or not: memory may have run out
 abbrev pub Replies : Solvers → Option (List ℕ) → Bool → Reply → Type 0
 Replies solvers known true reply = reply ≡ read_fault
 Replies solvers known false reply = (reply ≡ out_of_memory)
@@ -63,7 +63,7 @@ pub record WritesAll (before after : SinkState) (reply : Reply) (status : ℕ) :
   pub flushed : after.is_flushed ≡ true
   pub answered : status ≡ reply.status
 
--- a write or the flush failed, or a write took no bytes: a beginning of the answer went out
+-- a write or the flush failed, or a write took no bytes: the first part of the answer went out
 pub record WritesPart (before after : SinkState) (reply : Reply) (status : ℕ) : Type 0 where
   pub broken : Breaks after.has_failed after.has_stalled
   pub text : AppendsSome before.contents after.contents reply.text

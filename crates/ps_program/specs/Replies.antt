@@ -11,7 +11,7 @@ pub record Reply : Type 0 where
 abbrev pub reply_of : Answer → Reply
 reply_of answer = record { text = answer.text.items; status = answer.status }
 
--- an answer of some text
+-- an answer with that text
 abbrev pub text_reply : List ℕ → Reply
 text_reply text = record { text = text; status = 0 }
 

@@ -8,7 +8,7 @@ use Rattle.ps_program.specs.Outcomes.{Then}
 use Rattle.ps_program.specs.Replies.{Reply, text_reply}
 use Rattle.ps_program.specs.Texts.{ReadsSimulated}
 
--- the bits of one step, the latches' before it
+-- the bits of one step, with the latches' bits before it
 abbrev pub moment_line : Moment → List ℕ
 moment_line m = digits_of m.latches ++ codes "|" ++ digits_of m.inputs ++ codes "|" ++ digits_of m.outputs ++ codes "\n"
 
@@ -26,7 +26,7 @@ AnswersSim texts = Then (ReadsSimulated texts) (λ both outcome. IsCircuit both.
 
 -- ---- while it runs
 
--- the letters so far, their lines, and the latches behind them
+-- the letters so far, their lines, and the latches after them
 pub record HasPrinted (c : CircuitData) (letters : List (List Bool)) (text : List ℕ) (latches : List Bool) : Type 0
   where
     pub moments : List Moment
@@ -34,7 +34,7 @@ pub record HasPrinted (c : CircuitData) (letters : List (List Bool)) (text : Lis
     pub inputs_are : map (λ m. m.inputs) moments ≡ letters
     pub text_is : text ≡ flat_map moment_line moments
 
--- a letter was taken, and its line stands behind the text
+-- a letter was taken, and its line was appended to the text
 pub record PrintsStep (before after : Simulation) (inputs : List Bool) (text_before text_after : List ℕ) : Type 0 where
   pub outputs : List Bool
   pub steps : Steps before.circuit before.latches inputs outputs after.latches

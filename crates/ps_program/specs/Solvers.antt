@@ -1,4 +1,4 @@
--- The solvers that are handed in, as the program's answer goes by them.
+-- The solvers that are given, as the program's answer depends on them.
 use Rattle.ps_machine.specs.Solvers.{SolverData}
 
 -- the first solver solves games, and the second is for certificates that the input holds

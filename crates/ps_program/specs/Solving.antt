@@ -1,4 +1,4 @@
--- The command that solves a game, by a solver that was handed in.
+-- The command that solves a game, by a solver that is given.
 use Rattle.std.specs.Prelude.{◌≡◌, ℕ, Bool, false, List, Some, Result, Ok, Err}
 use Rattle.ps_game.specs.Games.{NamedGameData}
 use Rattle.ps_certificate.specs.Certificates.{CertificateData}
@@ -12,8 +12,8 @@ use Rattle.ps_program.specs.Replies.{Reply, text_reply}
 use Rattle.ps_program.specs.StageFaults.{stage_line}
 use Rattle.ps_program.specs.Texts.{ReadsGameText}
 
--- a certificate that the solver may answer, which fits the game and is valid; or the line of its fault, which a sure
--- solver has not
+-- a certificate that the solver may answer, which fits the game and is valid; or the line of the solver's fault, which
+-- a sure solver does not have
 abbrev pub Certifies : SolverData → NamedGameData → Result CertificateData (List ℕ) → Type 0
 Certifies solver named (Ok certificate) = IsCertified named certificate × answers_now solver named (Ok certificate)
 Certifies solver named (Err line) = (fault : SynthFault) × IsSolverFault (answers_now solver) named fault

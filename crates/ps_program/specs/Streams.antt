@@ -3,12 +3,12 @@ use Rattle.std.specs.Prelude.{◌≡◌, ◌⊎◌, ◌==◌, ◌&&◌, ℕ, Boo
 use Rattle.std.specs.Io.{StartsWith}
 use Rattle.std.specs.Io.KnownBytes.{Appends}
 
--- the write answered that it took no bytes, and was given some
+-- the write returned that it took no bytes, and was given some
 abbrev pub stalls : {E : Type 0} → Result ℕ E → List ℕ → Bool
 stalls (Ok n) bytes = n == 0 && nat_lt 0 (length bytes)
 stalls (Err e) bytes = false
 
--- known bytes stay at the front and grow by a beginning of the text
+-- known bytes stay at the front, and the first part of the text is appended to them
 abbrev pub AppendsSome : Option (List ℕ) → Option (List ℕ) → List ℕ → Type 0
 AppendsSome before after text = (sent : List ℕ) × StartsWith text sent × Appends before after sent
 
@@ -17,7 +17,7 @@ abbrev pub Breaks : (has_failed has_stalled : Bool) → Type 0
 Breaks has_failed has_stalled =
     ((has_failed ≡ true) × (has_stalled ≡ false)) ⊎ ((has_failed ≡ false) × (has_stalled ≡ true))
 
--- what a sink tells of itself
+-- what a sink reports about itself
 pub record SinkState : Type 0 where
   pub contents : Option (List ℕ)
   pub has_failed : Bool

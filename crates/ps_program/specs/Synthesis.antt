@@ -16,7 +16,7 @@ use Rattle.ps_program.specs.Texts.{CutsInTwo}
 
 -- ---- what is printed
 
--- the game and its certificate, each behind a line `%%`
+-- the game and its certificate, each after a line `%%`
 abbrev pub proof_text : Report → List ℕ
 proof_text report = codes "%%\n" ++ report.game_text.items ++ codes "%%\n" ++ report.certificate_text.items
 
@@ -41,7 +41,7 @@ report_reply full report = record { text = report_text full report; status = ver
 
 -- ---- the answer
 
--- a report, or the line of the fault for which there is none; no such fault lies with a solver that is sure
+-- a report, or the line of the fault for which there is none; a sure solver has no such fault
 abbrev pub Synthesises : SolverData → Order → Bool → List ℕ → Result Report (List ℕ) → Type 0
 Synthesises solver order compact text (Ok report) = IsReport (answers_now solver) order compact text report
 Synthesises solver order compact text (Err line) =
@@ -54,12 +54,12 @@ AnswersReport solver asked text =
     Then (Synthesises solver asked.order asked.compact text) (λ report outcome.
     outcome ≡ Ok (report_reply asked.full report))
 
--- the same, by this solver once it was fed the certificate that stands behind the text
+-- the same, by this solver after it was fed the certificate that follows the text
 abbrev pub AnswersCertified : SolverData → SynthLine → List ℕ → Result Reply (List ℕ) → Type 0
 AnswersCertified solver asked texts =
     Then (CutsInTwo texts) (λ parts. AnswersReport (once_fed parts.1 solver) asked parts.0)
 
--- `synth`: by the second solver where a certificate is given, and else by the first
+-- `synth`: by the second solver if a certificate is given, and else by the first
 abbrev pub AnswersBy : (cert : Bool) → Solvers → SynthLine → List ℕ → Result Reply (List ℕ) → Type 0
 AnswersBy false solvers asked texts = AnswersReport solvers.built_in asked texts
 AnswersBy true solvers asked texts = AnswersCertified solvers.replay asked texts

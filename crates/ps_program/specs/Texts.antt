@@ -30,7 +30,7 @@ abbrev pub CutsInTwo : List ℕ → Result (List ℕ × List ℕ) (List ℕ) →
 CutsInTwo texts (Ok parts) = AreTexts texts (parts.0 ∷ parts.1 ∷ [])
 CutsInTwo texts (Err line) = HasFewerMarks 1 texts × (line ≡ missing_text)
 
--- three texts; each missing one is told before any is read
+-- three texts; a missing one is reported before any is read
 abbrev pub CutsInThree : List ℕ → Result (List ℕ × List ℕ × List ℕ) (List ℕ) → Type 0
 CutsInThree texts (Ok parts) = AreTexts texts (parts.0 ∷ parts.1 ∷ parts.2 ∷ [])
 CutsInThree texts (Err line) = HasFewerMarks 2 texts × (line ≡ missing_text)
@@ -59,12 +59,12 @@ ReadsCertified texts =
 abbrev pub ReadsCircuitText : List ℕ → Result CircuitData (List ℕ) → Type 0
 ReadsCircuitText text = Reading circuit.cause_number circuit_names.cause_name (circuit_text.ReadsCircuit text)
 
--- the text of a stimulus for so many inputs, with a divider or without
+-- the text of a stimulus for that number of inputs, with a divider or without
 abbrev pub ReadsStimulusText : ℕ → Bool → List ℕ → Result StimulusData (List ℕ) → Type 0
 ReadsStimulusText width split text =
     Reading stimulus.cause_number stimulus.cause_name (stimulus_text.ReadsStimulus text width split)
 
--- the text of a circuit, and that of a stimulus that is all stem
+-- the text of a circuit, and that of a stimulus with only a stem
 abbrev pub ReadsSimulated : List ℕ → Result (CircuitData × StimulusData) (List ℕ) → Type 0
 ReadsSimulated texts =
     Then (CutsInTwo texts) (λ parts. Then (ReadsCircuitText parts.0) (λ c.
@@ -75,7 +75,7 @@ ReadsSimulated texts =
 abbrev pub id_of : NamedGameData → ℕ → ℕ
 id_of named v = slice_index named.ids v
 
--- where a flaw stands: vertices are named by their ids
+-- where a flaw occurs: vertices are named by their ids
 abbrev pub flaw_place : NamedGameData → Flaw → List ℕ
 flaw_place named (flaw.Move v choice) = spaced (id_of named v) ++ choice_text (option_map (id_of named) choice)
 flaw_place named (flaw.Escape v w) = spaced (id_of named v) ++ spaced (id_of named w)
@@ -85,7 +85,7 @@ flaw_place named (flaw.Rank v w p) = spaced (id_of named v) ++ spaced (id_of nam
 abbrev pub flaw_text : NamedGameData → Flaw → List ℕ
 flaw_text named flaw = line_text (certificate.flaw_number flaw) (certificate.flaw_name flaw) (flaw_place named flaw)
 
--- the flaw speaks of vertices below a number
+-- the flaw names vertices less than a number
 abbrev pub NamesVertices : ℕ → Flaw → Type 0
 NamesVertices count (flaw.Move v choice) = (v < count) × IfSome choice (λ w. w < count)
 NamesVertices count (flaw.Escape v w) = (v < count) × (w < count)

@@ -1,4 +1,4 @@
--- What a watched reader or writer holds, and what a call answered.
+-- What a watched reader or writer holds, and what a call returned.
 use Rattle.std.specs.Prelude.{◌≤◌, ℕ, List, length, Bool, Option, IfSome, None, Some, Result, Ok, Err}
 use Rattle.ps_program.specs.declared.watched.Watched.{Watched}
 
@@ -14,11 +14,11 @@ watched_failed watched = watched.has_failed
 abbrev pub watched_stalled : {T : Type 0} → Watched T → Bool
 watched_stalled watched = watched.has_stalled
 
--- what a call answered, and nothing where it failed
+-- what a call returned, and nothing if it failed
 abbrev pub answered : {T E : Type 0} → Result T E → Option T
 answered (Ok value) = Some value
 answered (Err error) = None
 
--- the count that a call answered is at most that of the bytes that it was lent
+-- the count that a call returned is at most the number of bytes that it was lent
 abbrev pub CountsWithin : List ℕ → Option ℕ → Type 0
 CountsWithin bytes count = IfSome count (λ n. n ≤ length bytes)

@@ -19,7 +19,7 @@ pub const REALIZABLE: u8 = 10;
 /// The status of an environment's circuit.
 pub const UNREALIZABLE: u8 = 20;
 
-/// The status of a refused command line.
+/// The status of a command line that is refused.
 const REFUSED: u8 = 2;
 
 /// The line of a command line that is refused.
@@ -28,10 +28,10 @@ const USAGE: &str = "fault usage\n";
 /// The line of an input that can't be read.
 pub const READ_FAULT: &[u8] = b"fault 25 ReadFault\n";
 
-/// The line of a growth that was refused.
+/// The line for out of memory.
 pub const OUT_OF_MEMORY: &[u8] = b"fault 24 OutOfMemory\n";
 
-/// What is written where help is asked for.
+/// What is written if help is asked for.
 pub const HELP: &str = "\
 psyn answers one command, which it reads from standard input.
 
@@ -126,7 +126,7 @@ lists the faults, with an example of each and how to mend it; tools/psyn, which
 takes files by name, explains them.
 ";
 
-/// What the program writes, and its exit status.
+/// What the program writes, and its exit status. The calls that make an answer of a line fail if memory runs out.
 #[derive(Drop)]
 pub struct Answer {
     /// The bytes.
@@ -140,18 +140,14 @@ impl Answer {
     ghost use Rattle.ps_program.specs.Replies.{reply_of, fault_reply, line_reply};
     ghost use Rattle.ps_program.specs.Replies as reply;
 
-    /// A text.
+    /// An answer of that text.
     pub fn text(text: Vec<u8>) -> Answer
         ensures { reply_of result ≡ reply.text_reply text.items }
     {
         Answer { text, status: DONE }
     }
 
-    /// One line.
-    ///
-    /// # Errors
-    ///
-    /// Fails where a growth was refused.
+    /// An answer of one line.
     pub fn line(alloc: Global, line: &str) -> Result<Answer, AllocError>
         ensures { IfOk result (λ answer. reply_of answer ≡ line_reply line.now) }
     {
@@ -160,10 +156,6 @@ impl Answer {
     }
 
     /// The line of a fault.
-    ///
-    /// # Errors
-    ///
-    /// Fails where a growth was refused.
     pub fn fault(alloc: Global, fault: &FaultLine) -> Result<Answer, AllocError>
         ensures { IfOk result (λ answer. reply_of answer ≡ fault_reply (fault_text fault.now)) }
     {
@@ -174,11 +166,7 @@ impl Answer {
         })
     }
 
-    /// The command line is refused.
-    ///
-    /// # Errors
-    ///
-    /// Fails where a growth was refused.
+    /// The answer to a command line that is refused.
     pub fn usage(alloc: Global) -> Result<Answer, AllocError>
         ensures { IfOk result (λ answer. reply_of answer ≡ reply.usage) }
     {
@@ -190,10 +178,6 @@ impl Answer {
     }
 
     /// What psyn can do.
-    ///
-    /// # Errors
-    ///
-    /// Fails where a growth was refused.
     pub fn help(alloc: Global) -> Result<Answer, AllocError>
         ensures { IfOk result (λ answer. reply_of answer ≡ reply.help) }
     {
@@ -205,9 +189,9 @@ impl Answer {
 /// Why a command has no answer.
 #[derive(Drop)]
 pub enum Refusal {
-    /// A fault, which is answered in its place.
+    /// A fault; its line is the answer.
     Fault(FaultLine),
-    /// A growth was refused.
+    /// Memory ran out.
     OutOfMemory,
 }
 
@@ -221,7 +205,7 @@ impl From<AllocError> for Refusal {
     }
 }
 
-/// A text's fault is answered by the number and the name of its cause.
+/// The answer to a text's fault is the number and the name of its cause.
 impl<C: Cause> From<Fault<C>> for Refusal {
     ghost use Rattle.ps_program.specs.Refusals.{IsRefusalOf};
 
@@ -239,11 +223,7 @@ impl<C: Cause> From<Fault<C>> for Refusal {
     }
 }
 
-/// A command's answer, or the line of its fault.
-///
-/// # Errors
-///
-/// Fails where a growth was refused.
+/// A command's answer, or the line of its fault. Fails if memory runs out.
 pub fn settle(alloc: Global, outcome: Result<Answer, Refusal>) -> Result<Answer, AllocError>
     ensures { IfOk result (Settles outcome) }
 {

@@ -10,8 +10,7 @@ use std::alloc::Global;
 ///
 /// # Errors
 ///
-/// Fails with the first cause for which the text is refused, else where its file has no automaton; and where a growth
-/// was refused.
+/// Fails with the first cause for which the text is refused; else if its file has no automaton; or if memory runs out.
 pub fn read_automaton(alloc: Global, text: &[u8]) -> Result<Automaton, Refusal>
     ensures { GivesAutomaton text.now result }
 {

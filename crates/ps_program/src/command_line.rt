@@ -15,7 +15,7 @@ use std::alloc::{AllocError, Global};
 /// What the first line asks for.
 #[derive(Clone, Copy)]
 pub enum Line {
-    /// It is no command with flags of its own, each given at most once.
+    /// It is not a command with flags of its own, each given at most once.
     Refused,
     /// What psyn can do.
     Help,
@@ -55,7 +55,7 @@ pub enum Line {
 pub struct SynthLine {
     /// With the game and its certificate.
     pub full: bool,
-    /// By the certificate that stands behind the automaton.
+    /// By the certificate that follows the automaton.
     pub cert: bool,
     /// Who moves first.
     pub order: Order,
@@ -63,11 +63,7 @@ pub struct SynthLine {
     pub compact: bool,
 }
 
-/// Reads the first line.
-///
-/// # Errors
-///
-/// Fails where a growth was refused.
+/// Reads the first line. Fails if memory runs out.
 pub fn read_line(alloc: Global, line: &[u8]) -> Result<Line, AllocError>
     ensures { IfOk result (IsLine line.now) }
 {
@@ -77,14 +73,14 @@ pub fn read_line(alloc: Global, line: &[u8]) -> Result<Line, AllocError>
     }
 }
 
-/// A law: a command with different flags of its own, in any order, is read as that command, and
-/// `--help` and `-h` ask for help.
+/// A law: a command with different flags of its own, in any order, is read as that command, and `--help` and `-h` ask
+/// for help.
 pub fn lines_are_read()
     ensures lines { LinesAreRead }
     ensures help { AskForHelp }
 {}
 
-/// What stands between runs of spaces.
+/// The words between runs of spaces.
 fn split_words(alloc: Global, text: &str) -> Result<Vec<&str>, AllocError>
     ensures { IfOk result (λ words. map (λ word. word.now) words.items ≡ words_of text.now) }
 {
@@ -96,14 +92,14 @@ fn split_words(alloc: Global, text: &str) -> Result<Vec<&str>, AllocError>
 /// The length of the longest name of a command.
 const LONGEST: usize = 6;
 
-/// Whether a first word is too long for a command, and no flag.
+/// Whether a first word is too long for a command, and is not a flag.
 fn names_nothing(word: &str) -> bool
     ensures { IsTrue result → words.NamesNothing word.now }
 {
     word.len() > LONGEST && word.as_bytes()[0] != b'-'
 }
 
-/// Reads the words of a line. A first word that names nothing is not sought among names like it.
+/// Reads the words of a line. A first word that names nothing is not looked up among similar names.
 fn read_words(alloc: Global, words: &[&str]) -> Result<Line, AllocError>
     ensures { IfOk result (Says (map (λ word. word.now) words.now)) }
 {
@@ -129,7 +125,7 @@ fn parse_words(alloc: Global, words: &[&str]) -> Result<Line, AllocError>
     }
 }
 
-/// A flag by its name, behind `--`.
+/// A flag by its name, which follows `--`.
 fn flag<'a>(alloc: Global, name: &'a str) -> Arg<'a>
     ensures rule { rule_of result ≡ words.flag name.now }
     ensures local { result.global ≡ false }
@@ -163,7 +159,7 @@ fn commands<'a>(alloc: Global) -> Result<Command<'a>, AllocError>
     Ok(psyn)
 }
 
-/// The program with no command. No name of a program stands before the words of a line.
+/// The program with no command. The words of a line don't begin with the name of a program.
 fn program<'a>(alloc: Global) -> Command<'a>
     ensures { app_of result ≡ words.program }
 {
@@ -172,7 +168,7 @@ fn program<'a>(alloc: Global) -> Command<'a>
         .disable_help_subcommand(true)
 }
 
-/// The commands, and behind them one more with flags of its own.
+/// The commands, and after them one more with flags of its own.
 fn with_command<'a>(
     alloc: Global,
     psyn: Command<'a>,
@@ -236,7 +232,7 @@ fn line_named(name: &str, flags: &ArgMatches) -> Line
     }
 }
 
-/// The part that a lasso's circuit plays.
+/// The role of a lasso's circuit.
 fn role_said(flags: &ArgMatches) -> Role
     ensures { result ≡ words.role_said (rows_of (found_of flags.now)) }
 {

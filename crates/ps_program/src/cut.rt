@@ -4,7 +4,7 @@ ghost use Rattle.std.specs.Prelude.{◌≡◌, ◌==◌, ◌≤◌, ◌<◌, len
 ghost use Rattle.std.specs.List.{before_first, after_first, position_or_len};
 ghost use Rattle.ps_program.specs.Cut.{is_mark, ends_line, Cuts, HasNoMark};
 
-/// The first line without its newline, and what follows that.
+/// The first line without its newline, and what follows the newline.
 pub fn first_line(input: &[u8]) -> (&[u8], &[u8])
     ensures line { result.0.now ≡ before_first (λ byte. byte == 10) input.now }
     ensures rest { result.1.now ≡ after_first (λ byte. byte == 10) input.now }
@@ -14,7 +14,7 @@ pub fn first_line(input: &[u8]) -> (&[u8], &[u8])
     (&input[..end], &input[behind..])
 }
 
-/// How many bytes stand before the first newline, or in all where there is none.
+/// The number of bytes before the first newline, or of all bytes if there is none.
 fn line_length(input: &[u8]) -> usize
     ensures within { result ≤ length input.now }
     ensures length { result ≡ position_or_len (λ byte. byte == 10) input.now }
@@ -27,7 +27,7 @@ fn line_length(input: &[u8]) -> usize
     input.len()
 }
 
-/// What stands before the first line `%%`, and what stands behind it.
+/// What is before the first line `%%`, and what follows it.
 pub fn cut(texts: &[u8]) -> Option<(&[u8], &[u8])>
     ensures found { IfSome result (λ parts. Cuts texts.now parts.0.now parts.1.now) }
     ensures missing { IfNone result (HasNoMark texts.now) }
@@ -53,7 +53,7 @@ fn stands_mark(texts: &[u8], place: usize) -> bool
         && is_line_end(texts, place + 2)
 }
 
-/// Whether the byte stands at `place`.
+/// Whether the byte is at `place`.
 fn is_byte(text: &[u8], place: usize, byte: u8) -> bool
     requires { 0 < byte }
     ensures { result ≡ (slice_index text.now place == byte) }

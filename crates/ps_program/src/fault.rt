@@ -1,18 +1,18 @@
 //! The faults that the program answers, each in one line.
 
-/// What the program answers in place of an answer: a fault's number and name, as docs/FAULTS.md lists them, and where
-/// it stands.
+/// What the program answers instead of a result: a fault's number and name, as docs/FAULTS.md lists them, and where it
+/// occurs.
 #[derive(Drop)]
 pub struct FaultLine {
     /// The number.
     pub number: u8,
     /// The name.
     pub name: &'static str,
-    /// Where it stands.
+    /// Where it occurs.
     pub place: Place,
 }
 
-/// Where a fault stands. Vertices are named by the game's ids.
+/// Where a fault occurs. Vertices are named by the game's ids.
 #[derive(Drop)]
 pub enum Place {
     /// In no place.

@@ -6,7 +6,7 @@ ghost use Rattle.ps_program.specs.Faults.{fault_text, ids_text, place_text};
 use crate::fault::{FaultLine, Place};
 use std::fmt;
 
-/// Numbers, each behind a space.
+/// Numbers, each after a space.
 #[derive(Clone, Copy)]
 struct Ids<'a>(&'a [u64]);
 
@@ -21,7 +21,7 @@ impl fmt::Display for Ids<'_> {
     }
 }
 
-/// The place, behind a space where there is one.
+/// The place, after a space if there is one.
 impl fmt::Display for Place {
     ghost output = { λ place. Some (place_text place) };
 

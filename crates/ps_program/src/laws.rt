@@ -1,16 +1,16 @@
-//! The law that the program's answer is determined, but for the choice of a solver.
+//! The law that the program's answer is determined, except for the choice of a solver.
 
 ghost use Rattle.ps_program.specs.Determined.{HasOneAnswer, HasOneCertified};
 ghost use Rattle.ps_program.specs.Solvers.{solvers_of};
 
 use ps_machine::Solver;
 
-/// An input has one answer at most, whatever the solvers, unless its line is `solve`, `cert` or `synth` and its text is
-/// accepted, or its line is `judge` and a player loses a cycle, where it is open which one is told: whoever meets the
-/// definitions writes the same bytes and ends with the same status, or wants memory. Where a text is
-/// accepted, two answers that are no lines of faults have the same winners: `synth` the same status, first line and
-/// game, `solve` and `cert` the same regions. With `synth --cert` there is one answer too, to the last byte, where the
-/// second solver answers only what reading the certificate that it was fed answers.
+/// An input has at most one answer, whatever the solvers: each program that meets the definitions writes the same bytes
+/// and ends with the same status, or runs out of memory. There are two exceptions. If the line is `judge` and a player
+/// loses a cycle, it is open which such cycle the answer names. If the line is `solve`, `cert` or `synth` and its text
+/// is accepted, two answers that are not lines of faults have the same winners: `synth` has the same status, first line
+/// and game, `solve` and `cert` the same regions. With `synth --cert` there is only one answer, to the last byte, if
+/// the second solver answers only what reading the certificate that it was fed answers.
 pub fn one_answer<S: Solver, T: Solver>(built_in: &S, replay: &T)
     ensures answer { HasOneAnswer (solvers_of (S.known built_in.now) (T.known replay.now)) }
     ensures certified { HasOneCertified (solvers_of (S.known built_in.now) (T.known replay.now)) }

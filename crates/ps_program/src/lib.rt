@@ -1,17 +1,17 @@
-//! The program: what it reads, what it answers by the solvers that are handed in, and what it writes.
+//! The program: what it reads, what it answers by the solvers that it is given, and what it writes.
 //!
 //! | Call | What it gives |
 //! |---|---|
 //! | `read_input(source)` | the whole input, at most `INPUT_LIMIT` bytes, or the `InputFault` for which there is none |
-//! | `send(sink, text)` | writes a text and flushes, or a `WriteFault`: nothing is written behind that |
+//! | `send(sink, text)` | writes a text and flushes, or a `WriteFault`, after which nothing is written |
 //! | `Watched::new` | a [`Source`] or a [`Sink`] of a reader or a writer of std |
 //! | `first_line`, `read_line` | the first line of an input and the rest; the [`Line`] that is asked for |
 //! | `answer_to(input, built_in, replay)` | the [`Answer`] to an input: what is written, with its exit status |
 //! | `closed`, `check`, `judge`, `sim`, `lasso`, `game` | that of a command that asks no solver, to its texts |
-//! | `solve`, `cert`, `synth` | that of a command that does |
-//! | `lines_are_read`, `one_answer` | laws: how command lines are read; one answer, but for a solver's choice |
+//! | `solve`, `cert`, `synth` | that of a command that asks a solver |
+//! | `lines_are_read`, `one_answer` | laws: how command lines are read; one answer, except for a solver's choice |
 //!
-//! What an input's answer is stands in the specs, for all commands: `Program` gives one case to each.
+//! The specs define the answer to an input, for all commands: `Program` has one case for each.
 #![tactic(auto)]
 
 mod answer;

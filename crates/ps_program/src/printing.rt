@@ -8,14 +8,10 @@ use crate::answer::{Answer, REALIZABLE, UNREALIZABLE};
 use ps_synthesis::Report;
 use std::alloc::{AllocError, Global};
 
-/// What stands between the parts of an answer.
+/// The line between the parts of an answer.
 const DIVIDER: &[u8] = b"%%\n";
 
-/// What is printed of a report.
-///
-/// # Errors
-///
-/// Fails where a growth was refused.
+/// What is printed of a report. Fails if memory runs out.
 pub fn print(alloc: Global, report: &Report, full: bool) -> Result<Answer, AllocError>
     ensures { IfOk result (λ answer. reply_of answer ≡ report_reply full report.now) }
 {
@@ -40,7 +36,7 @@ fn verdict(realizable: bool) -> (&'static str, u8)
     }
 }
 
-/// The game and its certificate, each behind a line `%%`.
+/// The game and its certificate, each after a line `%%`.
 fn add_proof(text: &mut Vec<u8>, report: &Report) -> Result<(), AllocError>
     ensures { IfOk result (λ _. text.new.items ≡ text.old.items ++ proof_text report.now) }
 {

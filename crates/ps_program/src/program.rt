@@ -20,12 +20,12 @@ use crate::cut::first_line;
 use ps_machine::Solver;
 use std::alloc::{AllocError, Global};
 
-/// The answer to an input: to its first line, and to the texts behind it. The second solver is for certificates that
+/// The answer to an input: to its first line, and to the texts that follow. The second solver is for certificates that
 /// the input holds.
 ///
 /// # Errors
 ///
-/// Fails where a growth was refused. Every other fault is an answer.
+/// Fails if memory runs out. Every other fault is an answer.
 pub fn answer_to<S: Solver, T: Solver>(
     alloc: Global,
     input: &[u8],
@@ -40,7 +40,7 @@ pub fn answer_to<S: Solver, T: Solver>(
     settle(alloc, answer_line(alloc, line, texts, built_in, replay))
 }
 
-/// The answer to a line, with what stands behind it.
+/// The answer to a line, with what follows it.
 fn answer_line<S: Solver, T: Solver>(
     alloc: Global,
     line: Line,

@@ -19,7 +19,7 @@ pub enum InputFault {
     /// A read failed, or the input has more than `INPUT_LIMIT` bytes.
     #[error("the input can't be read, or is too long")]
     Unreadable,
-    /// A growth was refused.
+    /// Memory ran out.
     #[error("out of memory")]
     OutOfMemory,
 }
@@ -38,7 +38,7 @@ impl From<AllocError> for InputFault {
 ///
 /// # Errors
 ///
-/// [`InputFault::Unreadable`] at the first read that fails and at the byte past the limit; else want of memory.
+/// [`InputFault::Unreadable`] at the first read that fails and at the byte past the limit; else out of memory.
 pub fn read_input<R: Source>(alloc: Global, reader: &mut R) -> Result<Vec<u8>, InputFault>
     requires { R.has_failed reader.old ≡ false }
     ensures read { ReadsInput (R.remaining reader.old) (R.has_failed reader.new) result }

@@ -11,12 +11,11 @@ use crate::stream::Sink;
 #[error("the answer could not be written whole")]
 pub struct WriteFault;
 
-/// Writes all of `text`, then flushes. Nothing is written after a fault, or after a write that
-/// took no bytes.
+/// Writes all of `text`, then flushes. Nothing is written after a fault, or after a write that took no bytes.
 ///
 /// # Errors
 ///
-/// Fails where a write or the flush fails, and where a write takes no bytes.
+/// Fails if a write or the flush fails, or if a write takes no bytes.
 pub fn send<W: Sink>(writer: &mut W, text: &[u8]) -> Result<(), WriteFault>
     requires sound { W.has_failed writer.old ≡ false }
     requires moving { W.has_stalled writer.old ≡ false }

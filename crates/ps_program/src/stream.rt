@@ -1,5 +1,5 @@
-//! What the program reads from and writes to, and what each of the two tells of its faults. Nothing is read or written
-//! after a fault, nor written after a write that took no bytes.
+//! What the program reads from and writes to, and what each of the two reports about its faults. Nothing is read or
+//! written after a fault, nor written after a write that took no bytes.
 
 ghost use Rattle.std.specs.Prelude.{◌≡◌, ℕ, Bool, List, Option, true, false, is_err, IsOk, OnOk};
 ghost use Rattle.std.specs.Io.{ReadsAtMost, WritesAtMost};
@@ -8,16 +8,15 @@ ghost use Rattle.ps_program.specs.Streams.{stalls};
 
 use std::io;
 
-/// A reader that tells whether a call has failed.
+/// A reader that reports whether a call has failed.
 pub trait Source {
-    // The bytes that reads will give from here on, where they are known.
+    // The bytes that reads will give from here on, if they are known.
     ghost remaining: { Self → Option (List ℕ) };
 
-    // A call answered a fault.
+    // Whether a call answered a fault.
     ghost has_failed: { Self → Bool };
 
-    /// Reads some of what is left into the front of `buf`: none only at the end, or where `buf`
-    /// has no room.
+    /// Reads some of what is left into the front of `buf`: none only at the end, or if `buf` has no room.
     fn read(&mut self, buf: &mut [u8]) -> io::Result<usize>
         requires { has_failed self.old ≡ false }
         ensures bound { ReadsAtMost result buf.new }
@@ -29,21 +28,21 @@ pub trait Source {
         ensures { result ≡ has_failed self.now };
 }
 
-/// A writer that tells whether a call has failed.
+/// A writer that reports whether a call has failed.
 pub trait Sink {
-    // The bytes that have gone out, where they are known.
+    // The bytes that have gone out, if they are known.
     ghost contents: { Self → Option (List ℕ) };
 
-    // A call answered a fault.
+    // Whether a call answered a fault.
     ghost has_failed: { Self → Bool };
 
-    // A write took none of the bytes that it was given.
+    // Whether a write took none of the bytes that it was given.
     ghost has_stalled: { Self → Bool };
 
-    // The last call was a flush that succeeded.
+    // Whether the last call was a flush that succeeded.
     ghost is_flushed: { Self → Bool };
 
-    /// Writes some of `buf`, from its front, and answers how many bytes went out.
+    /// Writes some of `buf`, from its front, and returns how many bytes went out.
     fn write(&mut self, buf: &[u8]) -> io::Result<usize>
         requires sound { has_failed self.old ≡ false }
         requires moving { has_stalled self.old ≡ false }
@@ -53,7 +52,7 @@ pub trait Sink {
         ensures stalled { has_stalled self.new ≡ stalls result buf.now }
         ensures unflushed { is_flushed self.new ≡ false };
 
-    /// Sends on what the writer keeps back.
+    /// Sends on what the writer has buffered.
     fn flush(&mut self) -> io::Result<()>
         requires sound { has_failed self.old ≡ false }
         requires moving { has_stalled self.old ≡ false }

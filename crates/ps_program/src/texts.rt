@@ -31,11 +31,7 @@ fn missing_text() -> FaultLine
     }
 }
 
-/// Two texts.
-///
-/// # Errors
-///
-/// Fails where a text is missing.
+/// Two texts. Fails if one is missing.
 pub fn two_texts(texts: &[u8]) -> Result<(&[u8], &[u8]), Refusal>
     ensures { Gives (λ parts. (parts.0.now, parts.1.now)) (CutsInTwo texts.now) result }
 {
@@ -45,11 +41,7 @@ pub fn two_texts(texts: &[u8]) -> Result<(&[u8], &[u8]), Refusal>
     }
 }
 
-/// Three texts. A missing one is told before any text is read.
-///
-/// # Errors
-///
-/// Fails where a text is missing.
+/// Three texts. Fails if one is missing, before any text is read.
 pub fn three_texts(texts: &[u8]) -> Result<(&[u8], &[u8], &[u8]), Refusal>
     ensures { Gives (λ parts. (parts.0.now, parts.1.now, parts.2.now)) (CutsInThree texts.now) result }
 {
@@ -61,11 +53,7 @@ pub fn three_texts(texts: &[u8]) -> Result<(&[u8], &[u8], &[u8]), Refusal>
     Err(Refusal::Fault(missing_text()))
 }
 
-/// A game.
-///
-/// # Errors
-///
-/// Fails with the first cause in the text, and where a growth was refused.
+/// A game. Fails with the first cause in the text, or if memory runs out.
 pub fn read_game(alloc: Global, text: &[u8]) -> Result<NamedGame, Refusal>
     ensures { Gives (λ game. game) (ReadsGameText text.now) result }
 {
@@ -90,8 +78,7 @@ fn read_certificate(alloc: Global, game: &NamedGame, text: &[u8]) -> Result<Cert
 ///
 /// # Errors
 ///
-/// Fails where a text is missing, else with the first cause in the game, else in the certificate; and where a growth
-/// was refused.
+/// Fails if a text is missing; else with the first cause in the game, else in the certificate; or if memory runs out.
 pub fn read_certified(alloc: Global, texts: &[u8]) -> Result<(NamedGame, Certificate), Refusal>
     ensures read { Gives (λ both. (both.0, both.1)) (ReadsCertified texts.now) result }
     ensures fits { IfOk result (λ both. Fits both.0.game both.1) }
@@ -102,11 +89,7 @@ pub fn read_certified(alloc: Global, texts: &[u8]) -> Result<(NamedGame, Certifi
     Ok((game, certificate))
 }
 
-/// A circuit.
-///
-/// # Errors
-///
-/// Fails with the first cause in the text, and where a growth was refused.
+/// A circuit. Fails with the first cause in the text, or if memory runs out.
 pub fn read_circuit(alloc: Global, text: &[u8]) -> Result<Circuit, Refusal>
     ensures { Gives (λ circuit. circuit) (ReadsCircuitText text.now) result }
 {
@@ -116,11 +99,11 @@ pub fn read_circuit(alloc: Global, text: &[u8]) -> Result<Circuit, Refusal>
     }
 }
 
-/// A stimulus for so many inputs, with a line `-` or without.
+/// A stimulus for that number of inputs, with or without a line `-`.
 ///
 /// # Errors
 ///
-/// Fails with the first cause in the text, and where a growth was refused.
+/// Fails with the first cause in the text, or if memory runs out.
 pub fn read_stimulus(
     alloc: Global,
     text: &[u8],
@@ -135,7 +118,7 @@ pub fn read_stimulus(
     }
 }
 
-/// A stimulus for so many inputs, of a stem alone.
+/// A stimulus for that number of inputs, with only a stem.
 fn read_letters(alloc: Global, text: &[u8], width: usize) -> Result<Letters, Refusal>
     ensures { Gives stem_of (ReadsStimulusText width false text.now) result }
 {
@@ -149,8 +132,7 @@ fn read_letters(alloc: Global, text: &[u8], width: usize) -> Result<Letters, Ref
 ///
 /// # Errors
 ///
-/// Fails where a text is missing, else with the first cause in the circuit, else in the stimulus; and where a growth
-/// was refused.
+/// Fails if a text is missing; else with the first cause in the circuit, else in the stimulus; or if memory runs out.
 pub fn read_simulated(alloc: Global, texts: &[u8]) -> Result<(Circuit, Letters), Refusal>
     ensures read { Gives (λ both. (both.0, stem_of both.1)) (ReadsSimulated texts.now) result }
     ensures fits { IfOk result (λ both. All (λ letter. length letter ≡ length both.0.inputs) both.1) }
@@ -163,7 +145,7 @@ pub fn read_simulated(alloc: Global, texts: &[u8]) -> Result<(Circuit, Letters),
     Ok((circuit, letters))
 }
 
-/// The line of a flaw, which names vertices by their ids.
+/// The line of a flaw. It names vertices by their ids.
 pub fn flaw_line(game: &NamedGame, flaw: Flaw) -> FaultLine
     requires { NamesVertices (vertex_count game.now.game) flaw }
     ensures { fault_text result ≡ flaw_text game.now flaw }

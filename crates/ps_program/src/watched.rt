@@ -10,10 +10,10 @@ use crate::stream::{Sink, Source};
 use std::io;
 use std::io::{Read, Write};
 
-/// A reader of std, with what a call of it may do: since that may be anything, only who makes the call knows what it
+/// A reader of std, and what its calls may do. Since that may be anything, only the caller of a reader knows what it
 /// did.
 pub trait Reader: Read {
-    // A call may answer that, and leave that of the reader and of its buffer; nothing is answered where it fails.
+    // Whether a call may return that count and leave that reader and that buffer. A call that fails returns no count.
     ghost read_gives: { Self → List ℕ → Option ℕ → Self → List ℕ → Type 0 };
 
     /// Reads once.
@@ -25,10 +25,10 @@ pub trait Reader: Read {
 
 /// A writer of std, with what a call of it may do.
 pub trait Writer: Write {
-    // A write may answer that, and leave that of the writer; nothing is answered where it fails.
+    // Whether a write may return that count and leave that writer. A write that fails returns no count.
     ghost write_gives: { Self → List ℕ → Option ℕ → Self → Type 0 };
 
-    // The same of a flush.
+    // The same for a flush.
     ghost flush_gives: { Self → Option (Unit {0}) → Self → Type 0 };
 
     /// Writes once.
@@ -43,7 +43,7 @@ pub trait Writer: Write {
         ensures call { flush_gives self.old (answered result) self.new };
 }
 
-/// Each reader of std is one. That a call counts no more bytes than it was lent is all that `read_gives` says of it.
+/// Each reader of std is a `Reader`. `read_gives` says only that a call counts no more bytes than it was lent.
 impl<R: Read> Reader for R {
     ghost read_gives = { λ _ _ count _ after. CountsWithin after count };
 
@@ -52,7 +52,7 @@ impl<R: Read> Reader for R {
     }
 }
 
-/// Each writer of std is one. That a write counts no more bytes than it was lent is all that `write_gives` says of it.
+/// Each writer of std is a `Writer`. `write_gives` says only that a write counts no more bytes than it was lent.
 impl<W: Write> Writer for W {
     ghost write_gives = { λ _ buf count _. CountsWithin buf count };
 
@@ -67,7 +67,7 @@ impl<W: Write> Writer for W {
     }
 }
 
-/// A reader or a writer of std, with what the program has to know of the calls made on it.
+/// A reader or a writer of std, with what the program has to know about the calls made on it.
 #[derive(Drop)]
 pub struct Watched<T> {
     inner: T,

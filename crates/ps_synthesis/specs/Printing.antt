@@ -1,4 +1,4 @@
--- What a report prints. Each text is that of its value, and is read again as that value.
+-- What a report prints. Each text is that of its value, and reading it gives that value again.
 --     PrintsGame text game      the text of a game
 --     PrintsCertificate compact text game certificate      the text of a certificate, with all counts or as a compact
 --               one

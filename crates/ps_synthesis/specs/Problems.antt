@@ -2,7 +2,7 @@
 --     ProblemData      these, with what each vertex of the game stands for
 --     IsProblem p      the game is that of the automaton in that order of moves
 --     IsProblemOf order text p      the automaton is that of the text
---     Gives game certificate      'may answer' of who gives this certificate for this game, and nothing else
+--     Gives game certificate      'may answer' of a solver that gives only this certificate, for this game
 --     IsReportFault p certificate fault      why a problem gets no report of a certificate
 use Rattle.std.specs.Prelude.{◌≡◌, ℕ, ◌<◌, List, Ok}
 use Rattle.ps_automaton.specs.Automata.{AutomatonData}

@@ -1,8 +1,8 @@
--- What a report promises of the text that it is made of.
+-- What a report promises about the text that it is made of.
 --     IsAcceptedText text file      the text is that of a file that has an automaton
 --     KeepsPromise May order compact text report      the printed game is the automaton's; the printed certificate
---               parts its vertices in two regions, each won by the moves that are printed; the printed circuit is the
---               answer of the player who wins vertex 0
+--               divides its vertices into two regions, each won by the moves that are printed; the printed circuit
+--               is that of the player who wins vertex 0
 use Rattle.std.specs.Prelude.{◌≡◌, ◌↔◌, ℕ, Bool, IsTrue, List, Ok}
 use Rattle.ps_automaton.specs.Answers.{IsAdmitted}
 use Rattle.ps_certificate.specs.Certificates.{CertificateData}
@@ -39,7 +39,7 @@ pub record KeepsPromise (May : MayAnswer) (order : Order) (compact : Bool) (text
     -- each player wins every loop of every play from its region by the moves that are printed, and nothing outside it
     pub both_hold : BothHold game.game certificate
     pub none_wins_outside : NoneWinsOutside game.game certificate
-    -- the circuit that is printed, a controller's where player 0 wins vertex 0, and else an environment's
+    -- the circuit that is printed: a controller's if player 0 wins vertex 0, and else an environment's
     pub realizable : IsTrue report.realizable ↔ (winner certificate ≡ 0)
     pub circuit : CircuitData
     pub circuit_text : PrintsCircuit report.circuit_text.items circuit

@@ -1,7 +1,7 @@
--- What is known of a report: what it promises, and how its circuit comes about.
+-- What is known of a report: what it promises, and how its circuit is made.
 --     IsWinners order file game is_game certificate m      the machine of the winner by that certificate
 --     IsWinnersCircuit order file game is_game certificate circuit      the circuit is that of such a machine, with
---               just the gates that it has
+--               exactly the gates that it has
 --     IsReport May order compact text report      both
 use Rattle.std.specs.Prelude.{ℕ, Bool, List}
 use Rattle.ps_aiger.specs.Encoded.{Encodes, IsTidy}

@@ -2,10 +2,10 @@
 --     IsAutomatonOf text a      the automaton of the file of a text that is accepted
 --     IsTextFault text fault      why there is none
 --     IsSolverFault May game fault      why a solver's answer is no certificate
---     IsRefusedAs game given fault      what a solver's fault is; memory may run out where vertices are named
+--     IsRefusedAs game given fault      the fault for a solver's fault; memory may run out while vertices are named
 --     IsCircuitOf order a game certificate circuit      the circuit of the machine of the certificate
---     HasNoCircuit order a game certificate      the machine of the certificate has no circuit of so many variables as
---               can be named
+--     HasNoCircuit order a game certificate      the machine of the certificate needs more variables for its circuit
+--               than can be named
 --     IsCircuitFault order a game certificate fault      why there is no circuit
 --     of_text, of_automaton, of_circuit      the faults of the layers below
 use Rattle.std.specs.Prelude.{◌≡◌, ℕ, List, Err, map, slice_index}

@@ -1,13 +1,12 @@
 -- Why a text gets no report. Each fault has its cause.
 --     HasNoAutomaton text fault      the text is that of a file that has no automaton
---     OfGame order text P      a text that is accepted has a game for which P stands
+--     OfGame order text P      a text that is accepted has a game for which P holds
 --     IsLost May game ids      the solver gave a cycle of the game's vertices, which have these ids
 --     IsNotCertified May game      the solver gave a certificate that does not fit, or is not valid
---     IsTooLarge May order file game      the machine of a valid certificate has no circuit of so many variables as can
---               be named
+--     IsTooLarge May order file game      the machine of a valid certificate needs more variables for its circuit than
+--               can be named
 --     IsSynthFault May order text fault      the cause of that fault
---     IsOutcome May order compact text answer      what is answered to a text that is accepted, where the solver is
---               sure
+--     IsOutcome May order compact text answer      what is answered to a text that is accepted, if the solver is sure
 use Rattle.std.specs.Prelude.{◌≡◌, ◌≢◌, ℕ, ◌<◌, Bool, List, length, map, slice_index, Option, None, Some, Result, Ok}
 use Rattle.std.specs.Prelude.{Err}
 use Rattle.std.specs.List.{All}
@@ -46,7 +45,7 @@ pub record OfGame (order : Order) (text : List ℕ) (P : FileData → NamedGameD
   pub is_game : IsGameOfFile order file game
   pub holds : P file game
 
--- the cycle that a solver's fault tells
+-- the cycle that a solver's fault names
 abbrev pub cycle_of : SolveFault → Option (List ℕ)
 cycle_of (solver.BadCycle cycle) = Some cycle.items
 cycle_of fault = None

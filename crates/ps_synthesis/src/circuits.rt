@@ -25,7 +25,7 @@ use std::alloc::Global;
 ///
 /// # Errors
 ///
-/// Fails where the circuit would need more than 2147483647 variables, or a growth was refused.
+/// Fails if the circuit would need more than 2147483647 variables, or if memory runs out.
 pub fn circuit_of_certificate(
     alloc: Global,
     automaton: &Automaton,
@@ -43,7 +43,7 @@ pub fn circuit_of_certificate(
 {
     one_game();
     let machine = machine_of_certificate(alloc, automaton, order, game, certificate)?;
-    // Told while it is there: that it is a machine. Only its circuit is needed behind that.
+    // The call states, while the machine is still there, that it is a machine. After that only its circuit is needed.
     let _ = machine.player();
     let circuit = encode(alloc, &machine);
     drop(machine);

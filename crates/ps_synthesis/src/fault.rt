@@ -19,7 +19,7 @@ pub enum SynthFault {
     Text {
         /// What is wrong.
         cause: HoaCause,
-        /// The byte at which it stands, from 0.
+        /// The byte at which it occurs, from 0.
         offset: usize,
     },
     /// The text has no automaton.
@@ -28,12 +28,12 @@ pub enum SynthFault {
     /// The solver left a cycle that its player loses. The vertices are named by their ids.
     #[error("a cycle that its player loses")]
     BadCycle(Vec<u64>),
-    /// The text that the solver was fed is no certificate of the game.
+    /// The text that the solver was fed is not a certificate of the game.
     #[error("{} of the certificate at byte {offset}", .cause.name())]
     Certificate {
         /// What is wrong.
         cause: CertCause,
-        /// The byte at which it stands, from 0.
+        /// The byte at which it occurs, from 0.
         offset: usize,
     },
     /// The solver's certificate does not fit the game, or is not valid.

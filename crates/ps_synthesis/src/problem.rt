@@ -36,7 +36,7 @@ use std::alloc::Global;
 use std::marker::Model;
 
 /// A synthesis problem: the automaton of a text, who moves first, and the game that they define. It is solved by a
-/// certificate of the game: that says who wins, and how.
+/// certificate of the game, which says who wins, and how.
 #[derive(Drop)]
 pub struct Problem {
     order: Order,
@@ -67,8 +67,7 @@ impl Problem {
     ///
     /// # Errors
     ///
-    /// The first cause for which the text is refused, or else why its file has no automaton. Fails also where a growth
-    /// was refused.
+    /// The first cause for which the text is refused, or else why its file has no automaton; or out of memory.
     pub fn read(alloc: Global, text: &[u8], order: Order) -> Result<Problem, SynthFault>
         ensures problem { IfOk result (IsProblemOf order text.now) }
         ensures refused { IfErr result (IsTextFault text.now) }
@@ -92,7 +91,7 @@ impl Problem {
         &self.game.game
     }
 
-    /// Lets the problem go. What becomes of its parts is proved here once, and not by each who had it.
+    /// Frees the problem. The proof about its parts is here, so that callers need not repeat it.
     pub fn close(self) {
         drop(self);
     }
@@ -102,8 +101,8 @@ impl Problem {
     ///
     /// # Errors
     ///
-    /// `NotCertified` where the certificate does not fit the game or is not valid, and else that the circuit is too
-    /// large. Fails also where a growth was refused.
+    /// `NotCertified` if the certificate does not fit the game or is not valid; else that the circuit is too large; or
+    /// out of memory.
     pub fn report(
         &self,
         alloc: Global,
@@ -129,7 +128,7 @@ impl Problem {
     ///
     /// # Errors
     ///
-    /// Fails where the circuit would need more variables than can be named, or a growth was refused.
+    /// Fails if the circuit would need more variables than can be named, or if memory runs out.
     pub fn report_of_certified(
         &self,
         alloc: Global,

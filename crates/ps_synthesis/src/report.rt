@@ -11,7 +11,7 @@ use ps_certificate::Certificate;
 use ps_game::NamedGame;
 use std::alloc::{AllocError, Global};
 
-/// What is told of a text: who wins, and the three texts that show it.
+/// The result for a text: who wins, and the three texts that show it.
 #[derive(Debug, Drop)]
 pub struct Report {
     /// Whether the controller wins.
@@ -24,11 +24,7 @@ pub struct Report {
     pub certificate_text: Vec<u8>,
 }
 
-/// The report of a circuit, a game and a certificate, with all counts or as a compact text.
-///
-/// # Errors
-///
-/// Fails where a growth was refused.
+/// The report of a circuit, a game and a certificate, with all counts or as a compact text. Fails if memory runs out.
 pub fn report_of(
     alloc: Global,
     game: &NamedGame,
@@ -52,11 +48,7 @@ pub fn report_of(
     })
 }
 
-/// A certificate as one of its two texts: with all counts, or the compact one.
-///
-/// # Errors
-///
-/// Fails where a growth was refused.
+/// A certificate as one of its two texts: with all counts, or the compact one. Fails if memory runs out.
 pub fn certificate_text(
     alloc: Global,
     certificate: &Certificate,

@@ -1,4 +1,4 @@
-//! The whole way from a text to a report, by a solver that is handed in.
+//! The whole way from a text to a report, by a solver that is given.
 
 ghost use Rattle.std.specs.Prelude.{◌≡◌, ℕ, true, List, IfOk, IfErr};
 ghost use Rattle.ps_hoa.specs.Files.{FileData};
@@ -16,13 +16,13 @@ use crate::report::Report;
 use ps_machine::{Order, Solver};
 use std::alloc::Global;
 
-/// The report of an HOA text: the game of its automaton in that order of moves, a certificate of it by the solver that
-/// is handed in, with all counts or as a compact text, and the circuit of the player who wins the start.
+/// The report of an HOA text: the game of its automaton in that order of moves, a certificate of the game by the solver
+/// that is given, with all counts or as a compact text, and the circuit of the player who wins the start.
 ///
 /// # Errors
 ///
-/// In this order: the first cause for which the text is refused; why its automaton is; the solver's fault, or that its
-/// certificate does not fit or is not valid; that the circuit is too large. Fails also where a growth was refused.
+/// In this order: the first cause for which the text is refused; why it has no automaton; the solver's fault, or that
+/// its certificate does not fit or is not valid; that the circuit is too large. At any time: out of memory.
 pub fn synthesise_by<S: Solver>(
     alloc: Global,
     text: &[u8],
@@ -30,15 +30,15 @@ pub fn synthesise_by<S: Solver>(
     compact: bool,
     solver: &mut S,
 ) -> Result<Report, SynthFault>
-    // The report is right, whatever solver is handed in; each fault has its cause. Both are of what the solver gave.
+    // The report is right, whatever the solver; each fault has its cause. Both are about what the solver returned.
     ensures report { IfOk result (IsReport (Answered (S.known solver.old) (S.known solver.new)) order compact
         text.now) }
     ensures refused { IfErr result (IsSynthFault (Answered (S.known solver.old) (S.known solver.new)) order
         text.now) }
-    // With a sure solver, a text that is accepted gets a report; or memory ran out, or the circuit is too large.
+    // With a sure solver, a text that is accepted gets a report, unless memory ran out or the circuit is too large.
     ensures sure { (S.known solver.old).is_sure ≡ true → (file : FileData) → IsAcceptedText text.now file →
         IsOutcome (Answered (S.known solver.old) (S.known solver.new)) order compact text.now result }
-    // The solver stays as it was.
+    // The solver stays the same.
     ensures kept { IsKept (S.known solver.old) (S.known solver.new) }
 {
     let problem = Problem::read(alloc, text, order)?;
@@ -47,7 +47,7 @@ pub fn synthesise_by<S: Solver>(
     report
 }
 
-/// The report of a problem by a solver that is handed in.
+/// The report of a problem by a solver that is given.
 fn report_by<S: Solver>(
     alloc: Global,
     problem: &Problem,

@@ -11,11 +11,7 @@ use ps_program::{Answer, Sink, Source};
 use std::alloc::{AllocError, Global};
 use std::io;
 
-/// What the program answers to an input, or the want of memory for it.
-///
-/// # Errors
-///
-/// Fails where a growth was refused.
+/// What the program answers to an input. Fails if memory runs out.
 pub fn run_in_memory(
     alloc: Global,
     input: &[u8],
@@ -60,7 +56,7 @@ impl Source for Bytes<'_> {
     }
 }
 
-/// What was written; a write fails where it can't grow.
+/// What was written. A write fails if it can't grow.
 #[derive(Drop)]
 struct Page {
     text: Vec<u8>,

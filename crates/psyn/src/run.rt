@@ -13,11 +13,11 @@ use ps_program::{
 };
 use std::alloc::Global;
 
-/// Reads the whole input, writes the answer to it, and gives the exit status.
+/// Reads the whole input, writes the answer to it, and returns the exit status.
 ///
 /// It stops reading at the first read that fails and at the byte past `INPUT_LIMIT`. Nothing is written after a write
-/// or a flush that failed, or after a write that took no bytes; the status is then 1, and what went out is a beginning
-/// of the answer. The first solver solves games; the second is for certificates that the input holds.
+/// or a flush that failed, or after a write that took no bytes; the status is then 1, and only the first part of the
+/// answer went out. The first solver solves games; the second is for certificates that the input holds.
 pub fn run<R: Source, W: Sink>(
     alloc: Global,
     reader: &mut R,
@@ -69,7 +69,7 @@ pub fn run_by<R: Source, W: Sink, S: Solver, T: Solver>(
     }
 }
 
-/// Writes an answer, and gives the exit status.
+/// Writes an answer, and returns the exit status.
 fn write_reply<W: Sink>(writer: &mut W, text: &[u8], status: u8) -> u8
     requires sound { W.has_failed writer.old ≡ false }
     requires moving { W.has_stalled writer.old ≡ false }

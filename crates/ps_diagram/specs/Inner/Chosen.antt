@@ -1,4 +1,4 @@
--- How the trees that `choose` and `both` make stand to those that they are made of. (Of private functions.)
+-- How the trees that `choose` and `both` make are related to those from which they are made. (For private functions.)
 use Rattle.std.specs.Prelude.{◌≡◌, ℕ, ◌+◌, ◌<◌, Bool, List, Option, Some}
 use Rattle.ps_diagram.specs.declared.choose.Cut.{Cut}
 use Rattle.ps_diagram.specs.Leaves.{chosen}
@@ -11,14 +11,14 @@ use Rattle.ps_diagram.specs.Table.{Table, IsNode, tree_of}
 abbrev pub IsChosen : Tree → Tree → Tree → Tree → Type 0
 IsChosen a b c d = (f : ℕ → Bool) → leaf_at d f ≡ chosen (leaf_at a f) (leaf_at b f) (leaf_at c f)
 
--- each known triple of nodes is held, and so is the one made of it, whose tree is chosen by theirs
+-- each known triple of nodes is held, and so is the node made of it, whose tree is chosen by theirs
 abbrev pub KnowsTriples : Table → (ℕ × ℕ × ℕ → Option ℕ) → Type 0
 KnowsTriples t known =
     (truth one other made : ℕ) → known (truth, one, other) ≡ Some made →
     IsNode t truth × IsNode t one × IsNode t other × IsNode t made ×
     IsChosen (tree_of t truth) (tree_of t one) (tree_of t other) (tree_of t made)
 
--- three nodes are cut at one proposition, and what is left of them are earlier nodes
+-- three nodes are cut at one proposition, and their sides are earlier nodes
 pub record IsCut (t : Table) (truth one other : ℕ) (c : Cut) : Type 0 where
   pub named : c.proposition < t.propositions
   pub truth_sides : IsSides t truth c.proposition c.truth.low c.truth.high

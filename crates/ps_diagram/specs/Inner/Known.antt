@@ -1,4 +1,4 @@
--- What a table of diagrams made already knows, and how a new diagram stands to those that it is made of.
+-- What a table of diagrams made already knows, and how a new diagram is related to those from which it is made.
 use Rattle.std.specs.Prelude.{◌≡◌, ◌≢◌, ℕ, Bool, ◌&&◌, nat_eq, Option, Some}
 use Rattle.ps_diagram.specs.declared.fault.OverlayError.{OverlayError}
 use Rattle.ps_diagram.specs.declared.fault.OverlayError.TheVariants.{Clash, OutOfMemory}
@@ -6,12 +6,12 @@ use Rattle.ps_diagram.specs.Leaves.{joined, AreAlike}
 use Rattle.ps_diagram.specs.Tree.{Tree, leaf_at}
 use Rattle.ps_diagram.specs.Table.{Table, IsNode, tree_of}
 
--- each known node is held in the first table, the one made of it in the second, and their trees stand in the relation
+-- each known node is held in the first table, the one made of it in the second, and their trees are in the relation
 abbrev pub Knows : (Tree → Tree → Type 0) → Table → Table → (ℕ → Option ℕ) → Type 0
 Knows R s t known =
     (node made : ℕ) → known node ≡ Some made → IsNode s node × IsNode t made × R (tree_of s node) (tree_of t made)
 
--- the same of pairs of nodes
+-- the same for pairs of nodes
 abbrev pub KnowsPairs : (Tree → Tree → Tree → Type 0) → Table → (ℕ × ℕ → Option ℕ) → Type 0
 KnowsPairs R t known =
     (first second made : ℕ) → known (first, second) ≡ Some made →
@@ -29,7 +29,7 @@ abbrev pub IsOverlay : Tree → Tree → Tree → Type 0
 IsOverlay a b c =
     (f : ℕ → Bool) → AreAlike (leaf_at a f) (leaf_at b f) × (leaf_at c f ≡ joined (leaf_at a f) (leaf_at b f))
 
--- a clash is told of two leaves at one letter
+-- a clash reports two leaves at one letter
 abbrev pub IsClash : Tree → Tree → OverlayError → Type 0
 IsClash a b (Clash x y) = (f : ℕ → Bool) × (leaf_at a f ≡ Some x) × (leaf_at b f ≡ Some y) × (x ≢ y)
 IsClash a b OutOfMemory = Unit {0}

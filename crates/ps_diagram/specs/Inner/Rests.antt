@@ -1,4 +1,4 @@
--- What is left of a diagram once the propositions of a mask are read: diagrams whose leaves are nodes.
+-- What is left of a diagram after the propositions of a mask are read: diagrams whose leaves are nodes.
 use Rattle.std.specs.Prelude.{◌≡◌, ℕ, ◌<◌, Bool, true, ◌&&◌, nat_eq, cond, Option, Some}
 use Rattle.ps_label.specs.Truth.{is_in}
 use Rattle.ps_diagram.specs.Letters.{assignment}
@@ -9,35 +9,36 @@ use Rattle.ps_diagram.specs.Table.{Table, IsNode, tree_of}
 abbrev pub mixed : ℕ → (ℕ → Bool) → (ℕ → Bool) → ℕ → Bool
 mixed mask f g p = cond (is_in p mask) (f p) (g p)
 
--- The leaf of the second tree at each letter is a node; and that has, at each letter, the leaf of the first tree at
+-- The leaf of the second tree at each letter is a node. That node has, at each letter, the leaf of the first tree at
 -- the two letters mixed.
 abbrev pub IsDivided : Table → ℕ → Tree → Tree → Type 0
 IsDivided t mask a d =
     (f : ℕ → Bool) → (rest : ℕ) × (leaf_at d f ≡ Some rest) × IsNode t rest ×
     ((g : ℕ → Bool) → leaf_at (tree_of t rest) g ≡ leaf_at a (mixed mask f g))
 
--- The same of one letter over the propositions of the mask: the second tree has, at each letter, the leaf of the first
+-- The same for one letter over the propositions of the mask: the second tree has, at each letter, the leaf of the first
 -- at the two mixed.
 abbrev pub IsCofactor : ℕ → ℕ → Tree → Tree → Type 0
 IsCofactor mask letter a d = (g : ℕ → Bool) → leaf_at d g ≡ leaf_at a (mixed mask (assignment letter) g)
 
--- the same as of a divided tree, of letters that have the propositions of the mask below a level as one has them
+-- the same as for a divided tree, for letters that have the propositions of the mask below a level as one letter has
+-- them
 abbrev pub IsSpread : Table → (mask level letter : ℕ) → Tree → Tree → Type 0
 IsSpread t mask level letter a d =
     (f : ℕ → Bool) → ((q : ℕ) → q < level → is_in q mask ≡ true → f q ≡ is_in q letter) →
     (rest : ℕ) × (leaf_at d f ≡ Some rest) × IsNode t rest ×
     ((g : ℕ → Bool) → leaf_at (tree_of t rest) g ≡ leaf_at a (mixed mask f g))
 
--- the leaf is a node, and that heeds propositions from the level on alone
+-- the leaf is a node that depends only on propositions from the level on
 abbrev pub IsPlace : Table → ℕ → Option ℕ → Type 0
 IsPlace t level leaf = (node : ℕ) × (leaf ≡ Some node) × IsNode t node × IsBlind level (tree_of t node)
 
--- so is each leaf of the tree
+-- the same for each leaf of the tree
 abbrev pub LeadsToNodes : Table → ℕ → Tree → Type 0
 LeadsToNodes t level d = (f : ℕ → Bool) → IsPlace t level (leaf_at d f)
 
--- three leaves are nodes, and the third has the leaf of the second at letters where the test is true, else that of the
--- first
+-- three leaves are nodes, and the third has the leaf of the second at letters at which the test is true, else that of
+-- the first
 pub record AreTested (t : Table) (test : (ℕ → Bool) → Bool) (x y z : Option ℕ) : Type 0 where
   pub low : ℕ
   pub high : ℕ
@@ -55,12 +56,13 @@ pub record AreTested (t : Table) (test : (ℕ → Bool) → Bool) (x y z : Optio
 abbrev pub IsTested : Table → ℕ → Tree → Tree → Tree → Type 0
 IsTested t p a b d = (f : ℕ → Bool) → AreTested t (λ g. g p) (leaf_at a f) (leaf_at b f) (leaf_at d f)
 
--- the same, where the proposition is read if it is in the mask
+-- the same, but the proposition is read if it is in the mask
 abbrev pub IsDividedTest : Table → ℕ → ℕ → Tree → Tree → Tree → Type 0
 IsDividedTest t mask p a b d =
     (f : ℕ → Bool) → AreTested t (λ g. mixed mask f g p) (leaf_at a f) (leaf_at b f) (leaf_at d f)
 
--- what is known of a proposition and two nodes is held, and of nodes that test the proposition between those of the two
+-- each known node is held, and so are the two nodes of its key; the nodes at its leaves test the key's proposition
+-- between those at the leaves of the two
 abbrev pub KnowsTests : Table → (ℕ × ℕ × ℕ → Option ℕ) → Type 0
 KnowsTests t known =
     (p low high made : ℕ) → known (p, low, high) ≡ Some made →

@@ -1,4 +1,4 @@
--- Rows of nodes, from which the diagram of a list of leaves is made, proposition by proposition. (Of private
+-- Rows of nodes, from which the diagram of a list of leaves is made, proposition by proposition. (For private
 -- functions.)
 use Rattle.std.specs.Prelude.{◌≡◌, ℕ, ◌%◌, ◌^◌, ◌<◌, Bool, List, length, Option, None, slice_get, slice_index}
 use Rattle.std.specs.Prelude.{slice_index_or}
@@ -9,12 +9,12 @@ use Rattle.ps_diagram.specs.Table.{Table, IsNode, leaf_of, tree_of}
 abbrev pub HasLeaf : Table → ℕ → Option ℕ → Type 0
 HasLeaf t node leaf = IsNode t node × ((f : ℕ → Bool) → leaf_at (tree_of t node) f ≡ leaf)
 
--- the nodes are those of the first so many leaves
+-- the nodes are those of the first `count` leaves
 pub record AreLeafNodes (t : Table) (leaves : List ℕ) (count : ℕ) (nodes : List ℕ) : Type 0 where
   pub one_each : length nodes ≡ count
   pub each : (i : ℕ) → i < count → HasLeaf t (slice_index nodes i) (slice_get leaves i)
 
--- the nodes of a row, and the one without leaves that stands behind its end, heed propositions from the level on alone
+-- the nodes of a row, and the one without leaves that follows its end, depend only on propositions from the level on
 pub record IsRow (t : Table) (level none : ℕ) (nodes : List ℕ) : Type 0 where
   pub nothing : HasLeaf t none None
   pub held : (i : ℕ) → IsNode t (slice_index_or nodes i none)

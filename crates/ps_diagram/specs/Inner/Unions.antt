@@ -1,4 +1,4 @@
--- Diagrams of truths, joined. (Of private functions.)
+-- Diagrams of truths, joined. (For private functions.)
 use Rattle.std.specs.Prelude.{ℕ, List, [], ◌∷◌, Option, None, map}
 use Rattle.ps_diagram.specs.Labels.{IsOneOrNone}
 use Rattle.ps_diagram.specs.Leaves.{joined}

@@ -1,6 +1,6 @@
--- The parts of which a machine is put together. (Of private functions.)
+-- The parts from which a machine is assembled. (For private functions.)
 --     AreDrawn .. t rows nodes n      n memories have their diagrams, and each row is one of the player's
---     AreListedBelow n is list      the numbers below n that are so, rising
+--     AreListedBelow n is list      the numbers less than n with that property, ascending
 --     IsAssembled .. m      its propositions, diagrams and rows are right
 --     machine_of player is_first propositions diagrams      the machine of these parts
 --     HasRoles is_first board inputs outputs      who plays which propositions

@@ -1,5 +1,5 @@
--- What is known while the machine of a certificate is made: its plan is what it is made from, and its diagrams are
--- drawn one after another, for each memory one that leads each letter of the other player to a row. (Of private
+-- What is known while the machine of a certificate is made. A plan has what the machine is made from. Its diagrams are
+-- drawn one after another; each memory has one that leads each letter of the other player to a row. (For private
 -- functions.)
 --     AreUsed game certificate found      the used vertices
 --     GoesOn game certificate v w      how a path goes on that follows the table of the winner of vertex 0
@@ -7,8 +7,8 @@
 --     IsPlan ..      what the machine is made from
 --     IsDrawn .. v node      the diagram leads each letter of the other player to the row of the memory that is kept at
 --               v
---     IsReply .. q x r p, IsReplyRow .. q x row      where a player who moves second goes on behind the letter x, and
---               the row of that
+--     IsReply .. q x r p, IsReplyRow .. q x row      where a player who moves second goes on after the letter x, and
+--               the row for that
 use Rattle.std.specs.Prelude.{◌≡◌, ◌≢◌, ℕ, ◌+◌, ◌<◌, ◌≤◌, ◌↔◌, ◌==◌, Bool, true, false, List, [], ◌∷◌, length, Some}
 use Rattle.std.specs.Prelude.{◌++◌, slice_get, slice_index}
 use Rattle.std.specs.List.{All, AllPairs, Contains}
@@ -36,7 +36,7 @@ AreUsed game certificate found = (v : ℕ) → Contains found v ↔ IsUsed game 
 abbrev pub GoesOn : ParityGame → CertificateData → ℕ → ℕ → Type 0
 GoesOn game certificate v w = RemainsFor game (winner certificate) (choice_of certificate) v w
 
--- a list that grew by numbers of one kind, so that it has all of them; different ones stay different
+-- a list that grew by numbers of one kind, so that it has all of them; if its numbers differed, they still differ
 pub record Adds (IsNext : ℕ → Type 0) (old new : List ℕ) : Type 0 where
   pub added : List ℕ
   pub grown : new ≡ old ++ added
@@ -46,13 +46,12 @@ pub record Adds (IsNext : ℕ → Type 0) (old new : List ℕ) : Type 0 where
 
 -- ## Memories
 
--- what a player remembers at the vertex v of the state q: one who moves first the vertex, one who moves second the
--- state
+-- what a player remembers at the vertex v of the state q: the vertex if it moves first, the state if it moves second
 abbrev pub mark_of : Bool → ℕ → ℕ → ℕ
 mark_of true v q = v
 mark_of false v q = q
 
--- a mark that has come has its memory; with another one a memory is kept at the vertex
+-- a mark that has occurred has its memory; for another one a memory is kept at the vertex
 pub data KeepsAt (old_kept old_marks : List ℕ) (v mark : ℕ) (kept marks : List ℕ) : Type 0 where
   Stays : Contains old_marks mark → kept ≡ old_kept → marks ≡ old_marks → KeepsAt old_kept old_marks v mark kept marks
   Grows : ¬ Contains old_marks mark → kept ≡ old_kept ++ v ∷ [] → marks ≡ old_marks ++ mark ∷ [] →
@@ -104,7 +103,7 @@ pub record IsRow (is_first : Bool) (board : Board) (kept : List ℕ) (row : Row)
   pub memory : row.memory < length kept
   pub letter : IsOwn is_first board row.letter
 
--- at the vertex v of the state q, where the other player's letter is x, the row has what is played and where that leads
+-- at the vertex v of the state q, if the other player's letter is x, the row has what is played and where that leads
 pub record IsRowAt (is_first : Bool) (board : Board) (keys : List Key) (kept : List ℕ) (certificate : CertificateData)
     (v q x : ℕ) (row : Row) : Type 0 where
   pub played : IsPlayed is_first board keys certificate v q x row.letter
@@ -128,11 +127,11 @@ pub record IsDrawn (is_first : Bool) (board : Board) (keys : List Key) (kept : L
   pub priority : ℕ
   pub stands : StandsAt keys v (First state priority)
   pub leads : (x : ℕ) → IsOther is_first board x → LeadsToRow is_first board keys kept certificate t rows node v state x
-  -- it heeds the other player's propositions alone
+  -- it depends only on the other player's propositions
   pub heeds : (x y : ℕ) → ((p : ℕ) → p < board.propositions → is_others is_first board p ≡ true → is_in p x ≡ is_in p y)
       → leaf_of t node x ≡ leaf_of t node y
 
--- the rows that were there are there, at their places
+-- the rows that were there are still at their places
 pub record KeepsRows (old new : List Row) : Type 0 where
   pub same : (leaf : ℕ) (row : Row) → slice_get old leaf ≡ Some row → slice_get new leaf ≡ Some row
 
@@ -146,7 +145,7 @@ pub record CanEnter (order : Order) (a : AutomatonData) (keys : List Key) (certi
 
 -- ## Of a player who moves second
 
--- behind the letter x of the state q the winner's move leads to the pair of r and p, to which some letter leads
+-- after the letter x of the state q the winner's move leads to the pair of r and p, to which some letter leads
 pub record IsReply (board : Board) (keys : List Key) (certificate : CertificateData) (q x r p : ℕ) : Type 0 where
   pub at : ℕ
   pub stands : StandsAt keys at (Second q x)
@@ -158,7 +157,7 @@ pub record IsReply (board : Board) (keys : List Key) (certificate : CertificateD
   pub state : board.auto.next q (x + letter) ≡ r
   pub priority : board.auto.priority q (x + letter) ≡ p
 
--- at each vertex of the state q the row has what is played where the first player's letter is x
+-- at each vertex of the state q the row has what is played if the first player's letter is x
 abbrev pub IsReplyRow : Board → List Key → List ℕ → CertificateData → ℕ → ℕ → Row → Type 0
 IsReplyRow board keys kept certificate q x row = (v : ℕ) → IsRowAt false board keys kept certificate v q x row
 

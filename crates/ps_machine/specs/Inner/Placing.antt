@@ -1,6 +1,6 @@
--- Steps of a player who moves first, and the rows that are noted for them: each leaf of the automaton's diagram that
--- such a player's move can lead to has the place of its row, so that the machine's diagram is the automaton's with
--- these places as leaves. (Of private functions.)
+-- Steps of a player who moves first, and the rows that are noted for them. Each leaf of the automaton's diagram to
+-- which such a player's move can lead has the place of its row. So the machine's diagram is the automaton's with these
+-- places as leaves. (For private functions.)
 --     PlaysClass board keys certificate v q letter      the letter that is played at the vertex v of the state q
 --     IsEntered .. leaf      the step that the leaf names can be taken
 --     IsPlaced .. letter leaf      the leaf's row is noted

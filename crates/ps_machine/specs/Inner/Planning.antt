@@ -1,4 +1,4 @@
--- What is known of a plan: the definitions of `Drawing`, `Placing` and `Dividing` for what a plan holds. (Of private
+-- What is known of a plan: the definitions of `Drawing`, `Placing` and `Dividing` for what a plan holds. (For private
 -- functions.)
 --     IsPlanned plan      the machine can be made from it
 --     AreDividedBy plan      each state of its keys has its classes
@@ -40,7 +40,7 @@ IsEnteredBy p =
     IsEntered p.order p.automaton.now p.keys.now.keys p.certificate.now p.moves_first p.memories.now.kept.items
     p.memories.now.marks.keys
 
--- the diagram of the steps from q behind the letter x of the first player
+-- the diagram of the steps from q after the letter x of the first player
 abbrev pub IsRestBy : Plan → ℕ → ℕ → ℕ → Type 0
 IsRestBy p q x rest =
     (mask : ℕ) × IsFit p.order p.automaton.now mask p.divided.now.store

@@ -1,4 +1,4 @@
--- The nodes of the truths that hold never and always.
+-- The nodes of the truths that never hold and that always hold.
 use Rattle.std.specs.Prelude.{◌≡◌, ℕ, None, Some}
 use Rattle.ps_diagram.specs.Table.{Table, IsNode, leaf_of}
 

@@ -1,4 +1,4 @@
--- Truths with stamps, of which those of one stamp count.
+-- Truths with stamps; those with one stamp are valid.
 use Rattle.std.specs.Prelude.{ℕ, ◌==◌, Option, None, Some, if◌then◌else◌}
 use Rattle.ps_product.specs.declared.known.Entry.{Entry}
 use Rattle.ps_product.specs.declared.truth.Truth.{Truth}

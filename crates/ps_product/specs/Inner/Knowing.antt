@@ -40,7 +40,7 @@ IsStep c place old new None = (truth : Truth) × (new ≡ slice_set old place (S
 IsStep c place old new (Some lower) =
     (new ≡ old) × IsBelow c place lower × (slice_index_or old lower None ≡ None)
 
--- the truth is that of what the wire reads
+-- the truth is that of the literal that the wire reads
 pub record IsTruthAlong (s : Site) (t : Table) (w : Wire) (truth : Truth) : Type 0 where
   pub is_truth : IsTruth t truth
   pub holds : (letter : ℕ) (values : List Bool) → letter < 2 ^ t.propositions →

@@ -29,7 +29,7 @@ value_at c values place = value_of values (slice_index_or (variables c) place 0)
 abbrev pub read_at : CircuitData → List Bool → Wire → Bool
 read_at c values w = wired w (value_at c values w.place)
 
--- the place is a gate's, and the other one stands in front of the gates', or is that of a gate which it reads
+-- the place is a gate's, and the other one is before the gates' places, or is that of a gate which it reads
 pub record IsBelow (c : CircuitData) (place lower : ℕ) : Type 0 where
   pub behind : front_of c ≤ place
   pub within : lower < length (variables c)

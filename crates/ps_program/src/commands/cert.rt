@@ -14,7 +14,7 @@ use std::alloc::Global;
 ///
 /// # Errors
 ///
-/// Fails with the first cause for which the text is refused, else where its file has no automaton, else as `certify`.
+/// Fails with the first cause for which the text is refused; else if its file has no automaton; else as `certify`.
 pub fn cert<S: Solver>(
     alloc: Global,
     order: Order,

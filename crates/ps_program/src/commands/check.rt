@@ -17,8 +17,8 @@ use std::alloc::Global;
 ///
 /// # Errors
 ///
-/// Fails where a text is missing, else with the first cause in the game, else in the certificate, else with its first
-/// flaw; and where a growth was refused.
+/// Fails if a text is missing; else with the first cause in the game, else in the certificate; else with its first
+/// flaw; or if memory runs out.
 pub fn closed(alloc: Global, texts: &[u8]) -> Result<Answer, Refusal>
     ensures { Gives reply_of (AnswersClosed texts.now) result }
 {
@@ -40,7 +40,7 @@ pub fn check(alloc: Global, texts: &[u8]) -> Result<Answer, Refusal>
     tell(alloc, &game, "valid", outcome)
 }
 
-/// The word where a test found nothing wrong, or else the line of the flaw that it found.
+/// A word if a test found nothing wrong, or else the line of the flaw that it found.
 fn tell(
     alloc: Global,
     game: &NamedGame,

@@ -32,8 +32,7 @@ pub fn game(alloc: Global, order: Order, text: &[u8]) -> Result<Answer, Refusal>
 ///
 /// # Errors
 ///
-/// Fails with the first cause for which the text is refused, else where its file has no automaton; and where a growth
-/// was refused.
+/// Fails with the first cause for which the text is refused; else if its file has no automaton; or if memory runs out.
 pub fn read_game_of(alloc: Global, order: Order, text: &[u8]) -> Result<NamedGame, Refusal>
     ensures game { Gives (λ game. game) (ReadsGameOf order text.now) result }
     ensures some { IfOk result (λ game. 0 < vertex_count game.game) }

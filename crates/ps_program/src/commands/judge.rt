@@ -22,8 +22,8 @@ use std::alloc::Global;
 ///
 /// # Errors
 ///
-/// Fails where a text is missing, else with the first cause in the game, else in the solution, else with the first
-/// wrong move or edge, else with a cycle that a player loses; and where a growth was refused.
+/// Fails if a text is missing; else with the first cause in the game, else in the solution; else with the first wrong
+/// move or edge, else with a cycle that a player loses; or if memory runs out.
 pub fn judge(alloc: Global, compact: bool, texts: &[u8]) -> Result<Answer, Refusal>
     ensures { Gives reply_of (AnswersJudge compact texts.now) result }
 {
@@ -52,8 +52,7 @@ fn judged(
 ///
 /// # Errors
 ///
-/// Fails where a text is missing, else with the first cause in the game, else in the solution; and where a growth was
-/// refused.
+/// Fails if a text is missing; else with the first cause in the game, else in the solution; or if memory runs out.
 fn read_solved(alloc: Global, texts: &[u8]) -> Result<(NamedGame, Solution), Refusal>
     ensures read { Gives (λ both. (both.0, both.1)) (ReadsSolved texts.now) result }
     ensures places { IfOk result (λ both. HasPlaces both.0 both.1) }
@@ -75,7 +74,7 @@ fn read_solution(alloc: Global, game: &NamedGame, text: &[u8]) -> Result<Solutio
     }
 }
 
-/// The line of a fault, which names vertices by their ids.
+/// The line of a fault. It names vertices by their ids.
 fn refused(alloc: Global, game: &NamedGame, fault: JudgeFault) -> Refusal
     requires { Names (vertex_count game.now.game) fault }
     ensures { IsTold game.now fault result }

@@ -18,12 +18,12 @@ use ps_circuit::Circuit;
 use ps_simulate::{LassoFault, Role, Stimulus, Verdict};
 use std::alloc::{AllocError, Global};
 
-/// Whether an automaton accepts what a circuit of that role does on a stem and on a lap that comes again and again.
+/// Whether an automaton accepts what a circuit of that role does on a stem and a repeated lap.
 ///
 /// # Errors
 ///
-/// Fails where a text is missing, else with the first fault of the automaton, else of the circuit, else of the
-/// stimulus, else of the lasso; and where a growth was refused.
+/// Fails if a text is missing; else with the first fault of the automaton, else of the circuit, else of the stimulus,
+/// else of the lasso; or if memory runs out.
 pub fn lasso(alloc: Global, role: Role, texts: &[u8]) -> Result<Answer, Refusal>
     ensures { Gives reply_of (AnswersLasso role texts.now) result }
 {

@@ -16,8 +16,7 @@ use std::alloc::{AllocError, Global};
 ///
 /// # Errors
 ///
-/// Fails where a text is missing, else with the first cause in the circuit, else in the stimulus; and where a growth
-/// was refused.
+/// Fails if a text is missing; else with the first cause in the circuit, else in the stimulus; or if memory runs out.
 pub fn sim(alloc: Global, texts: &[u8]) -> Result<Answer, Refusal>
     ensures { Gives reply_of (AnswersSim texts.now) result }
 {
@@ -59,7 +58,7 @@ fn write_step(
     write_bits(text, outputs, b'\n')
 }
 
-/// Writes a digit for each bit, and what stands behind them.
+/// Writes a digit for each bit, and then the byte `end`.
 fn write_bits(text: &mut Vec<u8>, bits: &[bool], end: u8) -> Result<(), AllocError>
     ensures { OnOk result (text.new.items ≡ text.old.items ++ digits_of bits.now ++ end ∷ []) }
 {

@@ -32,8 +32,7 @@ pub fn solve<S: Solver>(
 ///
 /// # Errors
 ///
-/// Fails with the solver's fault, else where its certificate does not fit or is not valid; and where a growth was
-/// refused.
+/// Fails with the solver's fault; else if its certificate does not fit or is not valid; or if memory runs out.
 pub fn certify<S: Solver>(
     alloc: Global,
     game: &NamedGame,

@@ -13,11 +13,11 @@ use ps_machine::Solver;
 use ps_synthesis::synthesise_by;
 use std::alloc::Global;
 
-/// The circuit of the automaton of a text. The second solver is fed the certificate that stands behind the text.
+/// The circuit of the automaton of a text. The second solver is fed the certificate that follows the text.
 ///
 /// # Errors
 ///
-/// Fails where a text is missing, else with the fault for which there is no report; and where a growth was refused.
+/// Fails if a text is missing; else with the fault for which there is no report; or if memory runs out.
 pub fn synth<S: Solver, T: Solver>(
     alloc: Global,
     asked: SynthLine,
@@ -35,7 +35,7 @@ pub fn synth<S: Solver, T: Solver>(
     }
 }
 
-/// The circuit of the automaton of a text, by that solver, which is fed the certificate behind the text.
+/// The circuit of the automaton of a text, by that solver, which is fed the certificate that follows the text.
 fn report_by_certificate<S: Solver>(
     alloc: Global,
     asked: SynthLine,
