@@ -96,7 +96,7 @@ fn rows_of(alloc: Global, circuit: &Circuit, places: &Places) -> Result<Vec<Row>
 ///
 /// # Errors
 ///
-/// Fails where a growth was refused.
+/// Fails if memory runs out.
 pub fn output_wires(
     alloc: Global,
     circuit: &Circuit,
@@ -116,7 +116,7 @@ pub fn output_wires(
 ///
 /// # Errors
 ///
-/// Fails where a growth was refused.
+/// Fails if memory runs out.
 pub fn next_wires(
     alloc: Global,
     circuit: &Circuit,
