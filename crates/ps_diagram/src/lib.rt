@@ -8,6 +8,7 @@
 //! | `leaf(value)` | `value` |
 //! | `none()` | none |
 //! | `of_label(labels, label)` | 1 where the label is true, else none |
+//! | `of_label_as(aliases, label, value)` | `value` where the label is true, else none |
 //! | `of_proposition(proposition)` | 1 where the proposition is true, else none |
 //! | `of_letter(letter)` | 1 only at that letter |
 //! | `of_leaves(leaves)` | the one at the letter's place in the list, or none after its end |
@@ -18,7 +19,8 @@
 //! | `guard(node, value)` | `value` where the node has a leaf, else none |
 //! | `fill(node, value)` | that of the node, or else `value` |
 //! | `relabel(node, values)` | `values[k]` where the node has k, else none |
-//! | `relabel_from(other, node, values)` | the same of a node of another store |
+//! | `relabel_or(node, values, other)` | the same, and `other` where the node has none |
+//! | `relabel_from(other, node, values)` | `values[k]` where a node of another store has k, else none |
 //!
 //! Each of these calls keeps each node that was held, with the same leaf at each letter, also if it fails (`Keeps`).
 //! `eval`, `same` and `view` read a node and use no memory. `leaves` lists the leaves of a node with the least letter
