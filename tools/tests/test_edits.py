@@ -35,7 +35,6 @@ NAMED = (
     "overlap_accepted",
     "raises_not_counted",
     "region_too_small",
-    "solvers_exchanged",
     "stem_sets_counted",
     "unknown_names_skipped",
     "wrong_polarity_or_reset",
