@@ -18,6 +18,8 @@ class Text:
         self.kind, self.name, self.original = kind, name, original
         self.bytes = original
         self.told = []
+        # whether the file has the binary form of AIGER, and the text is its ASCII form
+        self.was_binary = False
         # places from which on the text is shifted in the file, with the distance
         self.shifts = [(0, 0)]
 
@@ -122,13 +124,15 @@ class Reader:
 
     def mended(self, kind, name, original):
         """The text of some bytes, mended as the settings say."""
-        if kind is Kind.CIRCUIT and original.startswith(b"aig "):
+        was_binary = kind is Kind.CIRCUIT and original.startswith(b"aig ")
+        if was_binary:
             original = self.converted(name, original)
         elif original.startswith(OTHER_MARKS):
             raise Refused(f"{name}: this is text in UTF-16: write it in UTF-8")
         elif b"\0" in original[:4096]:
             raise Refused(f"{name}: this is no text (it holds a byte 0)")
         text = Text(kind, name, original)
+        text.was_binary = was_binary
         text.drop_mark()
         if not self.settings.keep_returns:
             text.drop_returns()

@@ -1,6 +1,7 @@
 """The tool's own readings of texts: automata and their labels, circuits, certificates, solutions."""
 import glob
 import os
+import random
 import subprocess
 import unittest
 
@@ -19,6 +20,37 @@ def read(body, names=3, extra=""):
 
 def is_met(label, true, made):
     return labels.first_met([label], {number: number in true for number in range(len(made.names))}, made.aliases) == 0
+
+
+def a_circuit(chance):
+    """The text of a circuit, its variables and its gates in any order."""
+    counts = inputs, latches, outputs, gates = [chance.randrange(5) for _ in range(4)]
+    variables = chance.sample(range(1, 40), inputs + latches + gates)
+    literals = [2 * variable for variable in variables]
+    rows = [[literal, *(chance.choice([0, 1, *literals[:place]]) ^ chance.randrange(2) for _ in range(2))] for place, literal in enumerate(literals)]
+    gate_rows = chance.sample(rows[inputs + latches :], gates)
+    latch_rows = [[literal, chance.choice([0, 1, *literals]), chance.randrange(2)] for literal in literals[inputs : inputs + latches]]
+    ends = [[chance.choice([0, 1, *literals]) ^ chance.randrange(2)] for _ in range(outputs)]
+    lines = [["aag", 40, *counts], *([literal] for literal in literals[:inputs]), *latch_rows, *ends, *gate_rows]
+    return "".join(" ".join(map(str, line)) + "\n" for line in lines)
+
+
+def outputs_of(made, letters):
+    """What a circuit answers to letters, worked out gate by gate from the outputs back."""
+    gates = {gate.literal // 2: gate.sides for gate in made.gates}
+    held, answers = {latch.literal // 2: latch.reset for latch in made.latches}, []
+    for letter in letters:
+        known = {0: 0, **held, **{literal // 2: bit for literal, bit in zip(made.inputs, letter)}}
+
+        def bit(literal, known=known):
+            variable = literal // 2
+            if variable not in known:
+                known[variable] = bit(gates[variable][0]) & bit(gates[variable][1])
+            return known[variable] ^ literal % 2
+
+        answers.append([bit(literal) for literal in made.outputs])
+        held = {latch.literal // 2: bit(latch.next) for latch in made.latches}
+    return answers
 
 
 class Files(unittest.TestCase):
@@ -154,6 +186,40 @@ class Others(unittest.TestCase):
     def test_a_binary_circuit_has_its_ascii_form(self):
         made = binary.ascii_form(b"aig 3 1 1 1 1\n6\n7\n\x02\x02i0 a\nc\nnote\n")
         self.assertEqual(made, b"aag 3 1 1 1 1\n2\n4 6\n7\n6 4 2\ni0 a\nc\nnote\n")
+
+    def test_a_circuit_has_its_binary_form(self):
+        made = binary.binary_form(circuit.read("aag 9 1 1 1 2\n4\n10 6 1\n7\n6 14 11\n14 4 10\ni0 a\nc\nnote\n"))
+        self.assertEqual(made, b"aig 4 1 1 1 2\n8 1\n9\n\x02\x02\x02\x01i0 a\nc\nnote\n")
+        self.assertEqual(binary.ascii_form(made), b"aag 4 1 1 1 2\n2\n4 8 1\n9\n6 4 2\n8 6 5\ni0 a\nc\nnote\n")
+
+    def test_circuits_come_back_from_the_binary_form(self):
+        chance = random.Random("binary form")
+        for _ in range(200):
+            text = a_circuit(chance)
+            made = binary.binary_form(circuit.read(text))
+            again = binary.ascii_form(made).decode()
+            self.assertEqual(circuit.read(again).text(), again)
+            self.assertEqual(binary.binary_form(circuit.read(again)), made)
+            letters = [[chance.randrange(2) for _ in circuit.read(text).inputs] for _ in range(8)]
+            self.assertEqual(outputs_of(circuit.read(again), letters), outputs_of(circuit.read(text), letters))
+
+    def test_what_has_no_binary_form(self):
+        for text, said in (
+            ("aag 3 1 0 1 2\n2\n4\n4 6 2\n6 4 2\n", "depends on itself"),
+            ("aag 2 1 0 1 0\n2\n4\n", "defined exactly once"),
+            ("aag 2 1 0 1 2\n2\n4\n4 2 2\n4 3 3\n", "defined exactly once"),
+            ("aag 2 1 0 1 1\n2\n2\n2 0 0\n", "defined exactly once"),
+            ("aag 2 1 0 1 1\n2\n4\n5 2 2\n", "defined exactly once"),
+        ):
+            with self.subTest(text), self.assertRaisesRegex(Unreadable, said):
+                binary.binary_form(circuit.read(text))
+
+    def test_an_input_that_nothing_reads_is_dropped(self):
+        made = circuit.read("aag 4 3 0 1 1\n2\n4\n6\n8\n8 2 6\ni0 a\ni1 clk\ni2 b\no0 c\n")
+        self.assertEqual(made.without_input("clk").text(), "aag 4 2 0 1 1\n2\n6\n8\n8 2 6\ni0 a\ni1 b\no0 c\n")
+        for name, said in (("a", "the circuit reads it"), ("c", "no input"), ("reset", "no input")):
+            with self.subTest(name), self.assertRaisesRegex(Unreadable, said):
+                made.without_input(name)
 
     def test_a_stimulus(self):
         lasso = stimulus.read("1\n-\n0\n1\n")

@@ -91,6 +91,15 @@ class Commands(OnFiles):
         self.assertEqual(done.stdout, b"0|1|0\n1|0|1\n")
         self.assertIn(b"converted from the binary form", done.stderr)
 
+    def test_a_circuit_is_converted_to_the_other_form_and_back(self):
+        clocked = self.file("clocked", b"aag 3 2 1 1 0\n2\n4\n6 4\n6\ni0 clk\ni1 push\no0 lamp\n")
+        made = self.tool("convert", "--drop", "clk", clocked)
+        self.assertEqual((made.stdout, made.stderr, made.returncode), (b"aig 2 1 1 1 0\n2\n4\ni0 push\no0 lamp\n", b"", 0))
+        back = self.tool("convert", "--quiet", self.file("made", made.stdout))
+        self.assertEqual((back.stdout, back.returncode), (b"aag 2 1 1 1 0\n2\n4 2\n4\ni0 push\no0 lamp\n", 0))
+        read = self.tool("convert", clocked, "--drop=push")
+        self.assertEqual((read.stdout, read.stderr, read.returncode), (b"", b"psyn: the input 'push' can't be dropped: the circuit reads it\n", 2))
+
     def test_quiet_explains_nothing(self):
         game = self.file("game", b"0 1 0 ;")
         self.assertEqual(self.tool("--quiet", "closed", game, self.file("certificate", b"")).stderr, b"")

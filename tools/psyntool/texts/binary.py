@@ -1,5 +1,5 @@
-"""The ASCII form of a circuit in the binary form of AIGER 1.9."""
-from psyntool.texts import is_number
+"""The binary form of AIGER 1.9: from it to the ASCII form, and back."""
+from psyntool.texts import Unreadable, is_number
 
 
 class Broken(Exception):
@@ -50,3 +50,61 @@ def ascii_form(data):
         second, at = number_at(data, at)
         lines.append(b"%d %d %d" % (2 * variable, 2 * variable - first, 2 * variable - first - second))
     return b"\n".join(lines) + b"\n" + data[at:]
+
+
+def binary_form(circuit):
+    """A circuit in the binary form. Its variables are numbered anew: inputs, latches, then gates, each after those that it reads."""
+    ordered = in_order(circuit.gates)
+    defined = [*circuit.inputs, *(latch.literal for latch in circuit.latches), *(gate.literal for gate in ordered)]
+    numbers = {0: 0, **{literal // 2: number for number, literal in enumerate(defined, 1)}}
+    twice = len(ordered) < len(circuit.gates) or len(numbers) <= len(defined)
+    if twice or any(literal % 2 for literal in defined) or not circuit.read_variables <= numbers.keys():
+        raise Unreadable("a variable of the circuit is not defined exactly once: run `sim` to see where it goes wrong")
+
+    def renumbered(literal):
+        return 2 * numbers[literal // 2] + literal % 2
+
+    head = ("aig", len(defined), len(circuit.inputs), len(circuit.latches), len(circuit.outputs), len(ordered))
+    rows = [head]
+    for latch in circuit.latches:
+        reset = renumbered(latch.reset) if latch.reset > 1 else latch.reset
+        rows.append((renumbered(latch.next), reset) if reset else (renumbered(latch.next),))
+    rows += [(renumbered(literal),) for literal in circuit.outputs]
+    written = bytearray("".join(" ".join(map(str, row)) + "\n" for row in rows).encode())
+    for gate in ordered:
+        lower, upper = sorted(map(renumbered, gate.sides))
+        written += number_bytes(renumbered(gate.literal) - upper) + number_bytes(upper - lower)
+    return bytes(written) + circuit.ending.encode("utf-8", "surrogateescape")
+
+
+def number_bytes(value):
+    """A number as seven bits a byte, the low ones first."""
+    written = bytearray()
+    while value > 127:
+        written.append(value & 127 | 128)
+        value >>= 7
+    written.append(value)
+    return bytes(written)
+
+
+def in_order(gates):
+    """The gates in the order of the text, except that each one comes after the gates that it reads."""
+    by_variable = {gate.literal // 2: gate for gate in gates}
+    ordered, opened, done = [], set(), set()
+    for first in gates:
+        stack = [first]
+        while stack:
+            gate = stack[-1]
+            variable = gate.literal // 2
+            waiting = [by_variable[side // 2] for side in gate.sides if side // 2 in by_variable and side // 2 not in done]
+            if variable in done or not waiting:
+                stack.pop()
+                if variable not in done:
+                    done.add(variable)
+                    ordered.append(gate)
+            elif variable in opened:
+                raise Unreadable("a gate of the circuit depends on itself: run `sim` to see where")
+            else:
+                opened.add(variable)
+                stack += waiting
+    return ordered

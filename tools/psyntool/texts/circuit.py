@@ -1,6 +1,6 @@
 """Circuits, as ASCII AIGER texts have them. A literal is twice a variable, and one more where it is negated."""
 import re
-from dataclasses import dataclass
+from dataclasses import dataclass, replace
 
 from psyntool.texts import NUMBER, Unreadable, is_number
 
@@ -31,6 +31,8 @@ class Circuit:
     outputs: tuple
     gates: tuple
     symbols: dict
+    # The lines after the symbols: a `c`, and what is written about the circuit.
+    comment: str = ""
 
     def name_of(self, kind, number):
         return self.symbols.get((kind, number), f"{kind}{number}")
@@ -39,6 +41,43 @@ class Circuit:
         """The names of all latches, inputs or outputs."""
         count = len({"i": self.inputs, "l": self.latches, "o": self.outputs}[kind])
         return [self.name_of(kind, number) for number in range(count)]
+
+    @property
+    def read_variables(self):
+        """The variables of the literals that a latch, an output or a gate reads."""
+        sides = [side for gate in self.gates for side in gate.sides]
+        return {literal // 2 for literal in [*(latch.next for latch in self.latches), *self.outputs, *sides]}
+
+    def without_input(self, name):
+        """The circuit without the input of that name, which nothing may read; the inputs after it move up."""
+        dropped = next((number for number in range(len(self.inputs)) if self.symbols.get(("i", number)) == name), None)
+        if dropped is None:
+            raise Unreadable(f"no input of the circuit is called {name!r}")
+        if self.inputs[dropped] // 2 in self.read_variables:
+            raise Unreadable(f"the input {name!r} can't be dropped: the circuit reads it")
+        symbols = {}
+        for (kind, number), symbol in self.symbols.items():
+            if kind != "i" or number < dropped:
+                symbols[kind, number] = symbol
+            elif number > dropped:
+                symbols[kind, number - 1] = symbol
+        inputs = self.inputs[:dropped] + self.inputs[dropped + 1 :]
+        return replace(self, inputs=inputs, symbols=symbols)
+
+    @property
+    def ending(self):
+        """The symbols, a line each, and the comment."""
+        return "".join(f"{kind}{number} {name}\n" for (kind, number), name in self.symbols.items()) + self.comment
+
+    def text(self):
+        """The circuit in the ASCII form of AIGER."""
+        defined = [*self.inputs, *(latch.literal for latch in self.latches), *(gate.literal for gate in self.gates)]
+        most = max([0, *defined, *(2 * variable for variable in self.read_variables)]) // 2
+        head = ("aag", most, len(self.inputs), len(self.latches), len(self.outputs), len(self.gates))
+        rows = [head, *((literal,) for literal in self.inputs)]
+        rows += [(latch.literal, latch.next, latch.reset) if latch.reset else (latch.literal, latch.next) for latch in self.latches]
+        rows += [*((literal,) for literal in self.outputs), *((gate.literal, *gate.sides) for gate in self.gates)]
+        return "".join(" ".join(map(str, row)) + "\n" for row in rows) + self.ending
 
 
 def numbers(lines, count, least):
@@ -62,9 +101,10 @@ def read(text):
     for count, least in zip(counts, (1, 2, 1, 3)):
         parts.append(numbers(lines[at : at + count], count, least))
         at += count
-    symbols = {}
-    for line in lines[at:]:
+    symbols, comment = {}, ""
+    for place, line in enumerate(lines[at:], at):
         if line.startswith("c"):
+            comment = "\n".join(lines[place:])
             break
         found = re.fullmatch(rf"([ilo])({NUMBER}) (.+)", line)
         if found:
@@ -76,4 +116,5 @@ def read(text):
         tuple(row[0] for row in outputs),
         tuple(Gate(row[0], row[1:3]) for row in gates),
         symbols,
+        comment,
     )
