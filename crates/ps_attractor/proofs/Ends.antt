@@ -1,4 +1,4 @@
--- The end of the walk: what is no longer free is the attractor.
+-- The end of the walk: the vertices that are no longer free are the attractor.
 use Rattle.std.proofs.Common.{◌≡◌, ◌≢◌, ℕ, ◌+◌, ◌-◌, ◌<◌, ◌≤◌, ◌⊎◌, inl, inr, Bool, IsTrue, length, get_or, drop, rules}
 use Rattle.std.proofs.Common.{sym, ◌∙◌, arith}
 use Rattle.std.proofs.lemmas.Bool.{cases_eq, cases_lt}
@@ -14,7 +14,7 @@ use Rattle.ps_attractor.proofs.PlaceIn.{place_in-le, place_in-at}
 use Rattle.ps_attractor.proofs.Reaching.{stands_now}
 use Rattle.ps_attractor.proofs.Least.{falls_least}
 
--- the walk has come to the end of the trail
+-- the walk has reached the end of the trail
 pub record Ended (game : ParityGame) (aim : Aim) (old new : TablesData) (subgame target set : ℕ → Bool) : Type 0 where
   pub is_game : IsGame game
   pub marks : aim.mark ≢ aim.free
@@ -31,7 +31,7 @@ was_there w posed inside = elim (posed.split w inside) [
   | inr there ↦ inr (posed.target_stands w there)
 ]
 
--- the rank of what is before a place of the trail is less than the place
+-- the rank of a vertex that is in the trail before an index is less than this index
 rank_before : (aim : Aim) (new : TablesData) (end w : ℕ) → end ≤ length new.trail → StandsBefore aim new end w →
     aim.begin + rank_of aim new w < end
 rank_before aim new end w within stands =
@@ -39,7 +39,7 @@ rank_before aim new end w within stands =
     let there : aim.begin + (stands.place - aim.begin) ≡ stands.place = omega arith in
     grind (arith, place_in-le, length-drop, get_or-drop)
 
--- the rank of a vertex gives its place
+-- the rank of a vertex determines its index in the trail
 rank_at : (aim : Aim) {new : TablesData} {v : ℕ} → StandsFrom new aim.begin v →
     (aim.begin + rank_of aim new v < length new.trail) × (get_or new.trail (aim.begin + rank_of aim new v) 0 ≡ v)
 rank_at aim {new} {v} stands =
@@ -54,19 +54,19 @@ rank_at aim {new} {v} stands =
 
 module _ {game : ParityGame} {aim : Aim} {old new : TablesData} {subgame target set : ℕ → Bool}
     (ended : Ended game aim old new subgame target set) where
-  -- a vertex that is free now was free
+  -- a vertex that is free now was free before
   was_free : (v : ℕ) → level_of new v ≡ aim.free → level_of old v ≡ aim.free
   was_free v is_free = search rules
 
   target_in : IsWithin target set
   target_in v there = search (rules, was_free)
 
-  -- what is in the set is in the trail
+  -- each vertex of the set is in the trail
   in_trail : (v : ℕ) → IsTrue (set v) → StandsFrom new aim.begin v
   in_trail v inside = stands_now v ended.begins ended.reached.grown (ended.taken.placed v inside)
       (was_there v ended.posed (ended.taken.within v inside))
 
-  -- what is in the trail is in the set
+  -- each vertex of the trail is in the set
   trail_in : {w : ℕ} → w < vertex_count game → StandsFrom new aim.begin w → IsTrue (set w)
   trail_in {w = w} is_vertex stands = search (rules, cases_lt, target_in)
 
@@ -117,7 +117,7 @@ module _ {game : ParityGame} {aim : Aim} {old new : TablesData} {subgame target 
     ]
   ]
 
-  -- a vertex of the set outside the target leads back from the place of its rank
+  -- a vertex of the set outside the target leads to earlier vertices of the trail
   leads_from : (v : ℕ) → IsTrue (set v) → ¬ IsTrue (target v) →
       (aim.begin + rank_of aim new v < length new.trail) × LeadsBack game aim old new (aim.begin + rank_of aim new v) v
   leads_from v inside outside =
@@ -132,7 +132,7 @@ module _ {game : ParityGame} {aim : Aim} {old new : TablesData} {subgame target 
         ],
       )
 
-  -- an edge to what is before the place of a vertex leads down
+  -- an edge to a vertex before the index of v leads to a smaller rank
   leads_down : (v w : ℕ) → aim.begin + rank_of aim new v < length new.trail → HasEdge game v w →
       StandsBefore aim new (aim.begin + rank_of aim new v) w → LeadsDown game subgame set (rank_of aim new) v w
   leads_down v w within edge stands = grind (

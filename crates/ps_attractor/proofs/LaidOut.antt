@@ -1,4 +1,5 @@
--- The levels and the trail that the public function begins with, and what is read off at the end.
+-- The levels and the trail with which the public function begins, and the result that is read from the tables at the
+-- end.
 use Rattle.std.proofs.Common.{◌≡◌, ◌≢◌, ℕ, ◌+◌, ◌<◌, ◌≤◌, ◌⊎◌, inl, inr, List, [], ◌∷◌, ◌++◌, Bool, false, IsTrue}
 use Rattle.std.proofs.Common.{Option, None, IsSome, length, get_or, drop, refl, rules, sym, ◌∙◌, arith}
 use Rattle.std.specs.Prelude.{slice_set}
@@ -19,7 +20,7 @@ use Rattle.ps_attractor.specs.Results.{AreLaidOut, AreAttracted, IsAttractor, Is
 use Rattle.ps_attractor.specs.Results.{rank_at}
 use Rattle.ps_attractor.proofs.Placing.{stands_after, stands_longer}
 
--- one vertex more has its level, and the trail is of vertices of the target up to it
+-- the level of one more vertex is set, and the trail has exactly the vertices of the target up to this vertex
 laid_more : {subgame target : List Bool} {n : ℕ} {old new : TablesData} → AreLaidOut subgame target n old →
     ((v : ℕ) → v ≢ n → level_of new v ≡ level_of old v) → (IsTrue (has target n) → level_of new n ≡ PLACED) →
     (has target n ≡ false → IsTrue (has subgame n) → level_of new n ≡ FREE) →
@@ -51,14 +52,14 @@ laid_placed {target = target} {n = n} {old = old} within there laid =
     (λ v. search (rules, stands_longer, get_or_append_left))
     (λ j low. grind (arith, cases_lt, get_or_append_left, get_or_push))
 
--- the vertex is not of the target, and gets its level or keeps it
+-- a vertex outside the target gets the level `FREE` or keeps the level `OUTSIDE`
 pub laid_kept : {subgame target : List Bool} {n : ℕ} {old : TablesData} (new : TablesData) → has target n ≡ false →
     new.trail ≡ old.trail → ((v : ℕ) → v ≢ n → level_of new v ≡ level_of old v) →
     (IsTrue (has subgame n) → level_of new n ≡ FREE) → (has subgame n ≡ false → level_of new n ≡ OUTSIDE) →
     AreLaidOut subgame target n old → AreLaidOut subgame target (n + 1) new
 laid_kept new not_there trail kept free outside laid = search (rules, laid_more, false≢true, stands_longer)
 
--- the first place, one place further to the front
+-- the first index of each vertex is still correct after one more vertex at the front of the trail is handled
 pub first_place_more : (trail places : List ℕ) (count k : ℕ) → k < length trail → length places ≡ count →
     get_or trail k 0 < count → ((v i : ℕ) → k + 1 ≤ i → i < length trail → get_or trail i 0 ≡ v →
     get_or places v 0 ≡ k + 1 + place_in (drop (k + 1) trail) v) → (v i : ℕ) → k ≤ i → i < length trail →
@@ -68,11 +69,11 @@ first_place_more trail places count k within size low so_far v i after inside is
 
 -- ## The whole
 
--- in, or not
+-- a vertex is in a region, or it is not
 pub in_or_not : (region : List Bool) (v : ℕ) → IsTrue (has region v) ⊎ (has region v ≡ false)
 in_or_not region v = search rules
 
--- the tables are an attractor's, and the region is read off
+-- the tables are those of an attractor, and the region is read from them
 record Answer (game : ParityGame) (player : ℕ) (subgame target : List Bool) (new : TablesData)
     (region : List Bool) : Type 0 where
   is_subgame : IsSubgame game (has subgame)
@@ -82,11 +83,11 @@ record Answer (game : ParityGame) (player : ℕ) (subgame target : List Bool) (n
 
 module _ (game : ParityGame) {subgame target : List Bool} {old : TablesData} (v : ℕ)
     (laid : AreLaidOut subgame target (vertex_count game) old) (is_vertex : v < vertex_count game) where
-  -- a vertex that is free at first is in the subgame, and not of the target
+  -- a vertex that is free at first is in the subgame
   free_inside : level_of old v ≡ FREE → IsTrue (has subgame v)
   free_inside free = search (rules, in_or_not)
 
-  -- a vertex that is placed at first is of the target
+  -- a vertex that is placed at first is in the target
   placed_target : level_of old v ≡ PLACED → IsTrue (has target v)
   placed_target placed = search (rules, in_or_not)
 
@@ -110,11 +111,11 @@ laid_posed {game = game} player {target = target} is_subgame target_within laid 
 
 module _ {game : ParityGame} {player : ℕ} {subgame target : List Bool} {new : TablesData} {region : List Bool}
     (answer : Answer game player subgame target new region) where
-  -- what is in the region is a vertex
+  -- each number in the region is a vertex
   region_vertex : (v : ℕ) → IsTrue (has region v) → v < vertex_count game
   region_vertex v inside = search (rules, cases_lt, false≢true)
 
-  -- what is in the region is in the trail, and in the subgame
+  -- each vertex of the region is in the trail and in the subgame
   stands_inside : (v : ℕ) → IsTrue (has region v) → StandsFrom new 0 v × IsTrue (has subgame v)
   stands_inside v inside =
       let made = answer.made in
@@ -138,7 +139,7 @@ module _ {game : ParityGame} {player : ℕ} {subgame target : List Bool} {new : 
       (rank_of (aim_of player) new)
   region_attracted = answer.made.attracted (has region) taken
 
-  -- the fall in the tables is that by the moves and the ranks that are read off
+  -- the ranks that are read from the tables decrease along the moves that are read from them
   answer_falls : {moves : List (Option ℕ)} (rank : List ℕ) →
       AreMovesTo game new player target (vertex_count game) moves →
       ((v : ℕ) → StandsFrom new 0 v → get_or rank v 0 ≡ place_in new.trail v) →
@@ -174,7 +175,7 @@ module _ {game : ParityGame} {player : ℕ} {subgame target : List Bool} {new : 
         ]
       ]
 
--- what is read off an attractor's tables is the attractor
+-- the result that is read from the tables of an attractor is the attractor
 pub attractor_of : {game : ParityGame} {player : ℕ} {subgame target : List Bool} {new : TablesData} {a : Attracted} →
     IsSubgame game (has subgame) → IsWithin (has target) (has subgame) →
     AreAttracted game player subgame target new → IsReadOff game new player target a →

@@ -1,11 +1,11 @@
--- A set in which ranks fall to the target lies in each closed set.
+-- A set in which ranks decrease to the target is contained in every closed set.
 use Rattle.std.proofs.Common.{◌≡◌, ℕ, zero, suc, ◌<◌, Bool, Option, IsSomeAnd, rules, IsTrue, refl, arith}
 use Rattle.std.proofs.lemmas.Bool.{cases_eq, false≢true}
 use Rattle.ps_game.specs.Games.{ParityGame}
 use Rattle.ps_game.specs.Subgames.{IsWithin}
 use Rattle.ps_game.specs.Attractors.{IsClosed, LeadsDown, Falls, IsLeast}
 
--- what a move that is there says
+-- if a move exists and has a property, some vertex has this property
 some_move : (P : ℕ → Type 0) (o : Option ℕ) → IsSomeAnd o P → (w : ℕ) × P w
 some_move P o h = search rules
 

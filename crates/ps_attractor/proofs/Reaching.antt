@@ -1,4 +1,4 @@
--- The walk along the trail: how it starts, how a place is entered and left, and one look.
+-- The walk along the trail: its start, moving to the next index, and examining one edge.
 use Rattle.std.proofs.Common.{◌≡◌, ◌≢◌, ℕ, ◌+◌, ◌<◌, ◌≤◌, ◌⊎◌, inl, inr, List, length, get_or, refl, sym, ap, rules}
 use Rattle.std.proofs.Common.{◌∙◌, arith}
 use Rattle.std.specs.Prelude.{slice_set}
@@ -15,13 +15,13 @@ use Rattle.ps_attractor.specs.Steps.{Reaching, From, FromSource, with_placed}
 use Rattle.ps_attractor.proofs.Placing.{Places, trail_before, trail_last, trail_length, not_it, still_free, grown_on}
 use Rattle.ps_attractor.proofs.Placing.{leads_back_on, stands_after, stands_longer}
 
--- a vertex can go on where what is pending for P is pending for Q
+-- a vertex that can go on along edges that satisfy P can go on along edges that satisfy Q, if P implies Q
 can_map : {game : ParityGame} {aim : Aim} {new : TablesData} {P Q : ℕ → ℕ → Type 0} {v : ℕ} →
     ((j : ℕ) → aim.begin ≤ j → j < length new.trail → HasEdge game v (get_or new.trail j 0) → P v j → Q v j) →
     CanGoOn game aim new P v → CanGoOn game aim new Q v
 can_map map can = search rules
 
--- what is pending for P at a free vertex is pending for Q
+-- the invariant for P implies the invariant for Q, if P implies Q for every edge of a free vertex
 reaching_map : {game : ParityGame} {aim : Aim} {old new : TablesData} (P Q : ℕ → ℕ → Type 0) →
     ((v j : ℕ) → level_of new v ≡ aim.free → aim.begin ≤ j → j < length new.trail →
     HasEdge game v (get_or new.trail j 0) → P v j → Q v j) →
@@ -60,19 +60,19 @@ pub reaching_leave : {game : ParityGame} {aim : Aim} {old new : TablesData} (lis
 reaching_leave list k n all so_far =
     reaching_map (FromSource k list n) (From (k + 1)) (λ v j is_free after within edge pending. grind arith) so_far
 
--- a look along the list of sources, at the one with number n
+-- examining the edge from the source with index n in the list of sources
 module _ {game : ParityGame} {aim : Aim} {old mid : TablesData} (list : List ℕ) (k n : ℕ) {u : ℕ}
     (at : get_or list n 0 ≡ u) (so_far : Reaching game aim old mid (FromSource k list n)) where
-  -- what is pending for another vertex stays so
+  -- an edge of another vertex that was pending is still pending
   pending_on : (v j : ℕ) → v ≢ u → FromSource k list n v j → FromSource k list (n + 1) v j
   pending_on v j differ pending = search (rules, cases_eq)
 
-  -- a look that changes nothing, at a vertex that is not free
+  -- examining an edge of a vertex that is not free changes nothing
   look_not_free : level_of mid u ≢ aim.free → Reaching game aim old mid (FromSource k list (n + 1))
   look_not_free not_free = reaching_map (FromSource k list n) (FromSource k list (n + 1)) (λ v j is_free after within
       edge. pending_on v j (λ same. not_free (ap (λ x. level_of mid x) (sym same) ∙ is_free))) so_far
 
-  -- a look that changes nothing, at a vertex of the other player with a free successor
+  -- examining an edge of the other player's vertex changes nothing if this vertex has a free successor
   look_escapes : owner_of game u ≢ aim.player → HasFree game aim.free mid u →
       Reaching game aim old mid (FromSource k list (n + 1))
   look_escapes others has_free = record {
@@ -86,7 +86,7 @@ module _ {game : ParityGame} {aim : Aim} {old mid : TablesData} (list : List ℕ
     back = so_far.back;
   }
 
-  -- a look that places the vertex, which then leads back
+  -- examining an edge may place the vertex, which then leads to earlier vertices of the trail
   look_places : {new : TablesData} → aim.mark ≢ aim.free → aim.begin ≤ length mid.trail → k < length mid.trail →
       Places aim mid new u → LeadsBack game aim old new (length mid.trail) u →
       Reaching game aim old new (FromSource k list (n + 1))
@@ -136,7 +136,7 @@ module _ {game : ParityGame} {aim : Aim} {old mid : TablesData} (list : List ℕ
         ];
       }
 
--- each vertex that was free or in the trail, and is not free, is in the trail
+-- a vertex that was free or in the trail, and is not free now, is in the trail now
 pub stands_now : {aim : Aim} {old new : TablesData} (w : ℕ) → aim.begin ≤ length old.trail → IsGrown aim old new →
     level_of new w ≢ aim.free → (level_of old w ≡ aim.free) ⊎ StandsFrom old aim.begin w → StandsFrom new aim.begin w
 stands_now w begins grown not_free there = elim there [
@@ -147,7 +147,7 @@ stands_now w begins grown not_free there = elim there [
   | inr stands ↦ stands_longer grown.longer grown.front stands
 ]
 
--- one look, whatever comes of it
+-- the invariant still holds after one edge is examined, in every case
 pub reaching_look : {game : ParityGame} {aim : Aim} {old mid : TablesData} (new : TablesData) (list : List ℕ)
     (k n u : ℕ) → aim.mark ≢ aim.free → get_or list n 0 ≡ u → aim.begin ≤ length old.trail → aim.begin ≤ k →
     k < length mid.trail → u < length mid.level → u < length mid.moves → HasEdge game u (get_or mid.trail k 0) →

@@ -8,7 +8,7 @@ use Rattle.ps_attractor.specs.Tables.{TablesData, FitsGame}
 use Rattle.ps_attractor.specs.Steps.{Look, Reaching, From, FromSource}
 use Rattle.ps_attractor.proofs.Reaching.{reaching_enter, reaching_look}
 
--- an edge leads from each source
+-- an edge leads from each source to the vertex
 pub source_edge : {game : ParityGame} {sources : List (List ℕ)} (list : List ℕ) (w n source : ℕ) →
     IsSourcesOf game sources → list ≡ sources_of sources w → n < length list → get_or list n 0 ≡ source →
     HasEdge game source w

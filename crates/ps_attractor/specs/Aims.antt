@@ -1,5 +1,5 @@
--- What a player aims at within the tables, and what was reached: the attractor of the vertices of the trail from a
--- place on. A vertex is free if its level is a stated one: it is in the subgame and not yet in the set.
+-- The aim of a player within the tables, and the result: the attractor of the vertices of the trail from an index on. A
+-- free vertex, which has the level `aim.free`, is in the subgame and not yet in the set.
 use Rattle.std.specs.Prelude.{◌≡◌, ◌≢◌, ℕ, ◌<◌, ◌≤◌, ◌⊎◌, length, drop, Option, Bool, IsTrue, slice_index}
 use Rattle.ps_game.specs.Games.{ParityGame, vertex_count}
 use Rattle.ps_game.specs.Subgames.{IsWithin, LeadsInto, IsSubgame}
@@ -7,14 +7,15 @@ use Rattle.ps_game.specs.Attractors.{IsClosed, Falls, IsLeast}
 use Rattle.ps_attractor.specs.declared.aim.Aim.{Aim}
 use Rattle.ps_attractor.specs.Tables.{TablesData, level_of, place_in}
 
--- the vertex is in the trail, from a place on
+-- v is in the trail, at index `from` or later
 pub record StandsFrom (tables : TablesData) (from v : ℕ) : Type 0 where
   pub place : ℕ
   pub after : from ≤ place
   pub within : place < length tables.trail
   pub is : slice_index tables.trail place ≡ v
 
--- the vertices of the subgame are the free ones and those of the target, which are in the trail
+-- the subgame consists of the free vertices and the target, and the trail has the vertices of the target from index
+-- `aim.begin` on
 pub record IsPosed (game : ParityGame) (aim : Aim) (tables : TablesData) (subgame target : ℕ → Bool) : Type 0 where
   pub is_subgame : IsSubgame game subgame
   pub split : (v : ℕ) → IsTrue (subgame v) → (level_of tables v ≡ aim.free) ⊎ IsTrue (target v)
@@ -24,19 +25,20 @@ pub record IsPosed (game : ParityGame) (aim : Aim) (tables : TablesData) (subgam
   pub target_stands : (v : ℕ) → IsTrue (target v) → StandsFrom tables aim.begin v
   pub only_target : (j : ℕ) → aim.begin ≤ j → j < length tables.trail → IsTrue (target (slice_index tables.trail j))
 
--- the set is of the vertices of the subgame that are not free
+-- the set consists of the vertices of the subgame that are not free
 pub record IsTaken (aim : Aim) (tables : TablesData) (subgame set : ℕ → Bool) : Type 0 where
   pub within : IsWithin set subgame
   pub placed : (v : ℕ) → IsTrue (set v) → level_of tables v ≢ aim.free
   pub all : (v : ℕ) → IsTrue (subgame v) → level_of tables v ≢ aim.free → IsTrue (set v)
 
--- a vertex outside the set has a successor in the subgame outside the set
+-- v has a successor in the subgame outside the set
 pub record StaysOut (game : ParityGame) (subgame set : ℕ → Bool) (v : ℕ) : Type 0 where
   pub to : ℕ
   pub leads : LeadsInto game subgame v to
   pub outside : ¬ IsTrue (set to)
 
--- the set is the attractor: closed, falling by the table, and so the least; what is left is a subgame
+-- the set is the attractor: it is closed, its ranks decrease by the table, and it is the least closed set; the rest of
+-- the subgame is a subgame
 pub record IsAttracted (game : ParityGame) (subgame : ℕ → Bool) (player : ℕ) (target set : ℕ → Bool)
     (table : ℕ → Option ℕ) (rank : ℕ → ℕ) : Type 0 where
   pub closed : IsClosed game subgame player target set
@@ -44,24 +46,24 @@ pub record IsAttracted (game : ParityGame) (subgame : ℕ → Bool) (player : �
   pub least : IsLeast game subgame player target set
   pub goes_on : (v : ℕ) → IsTrue (subgame v) → ¬ IsTrue (set v) → StaysOut game subgame set v
 
--- a vertex's level and move stay
+-- the level and the move of v are unchanged
 pub record IsSameAt (old new : TablesData) (v : ℕ) : Type 0 where
   pub level : level_of new v ≡ level_of old v
   pub move : slice_index new.moves v ≡ slice_index old.moves v
 
--- a vertex was free, has its level now, and was appended to the trail
+-- v was free, now has the level `aim.mark`, and was appended to the trail
 pub record IsPlaced (aim : Aim) (old new : TablesData) (v : ℕ) : Type 0 where
   pub was_free : level_of old v ≡ aim.free
   pub level : level_of new v ≡ aim.mark
   pub stands : StandsFrom new (length old.trail) v
 
--- each vertex is as it was, or is placed; only placed vertices were appended to the trail
+-- each vertex is unchanged or was placed, and only placed vertices were appended to the trail
 pub record IsGrown (aim : Aim) (old new : TablesData) : Type 0 where
   pub longer : length old.trail ≤ length new.trail
   pub front : (j : ℕ) → j < length old.trail → slice_index new.trail j ≡ slice_index old.trail j
   pub each : (v : ℕ) → IsSameAt old new v ⊎ IsPlaced aim old new v
   pub behind : (j : ℕ) → length old.trail ≤ j → j < length new.trail → IsPlaced aim old new (slice_index new.trail j)
 
--- the place of a vertex in the trail, counted from where the target begins
+-- the index of v in the trail, counted from index `aim.begin`
 abbrev pub rank_of : Aim → TablesData → ℕ → ℕ
 rank_of aim tables v = place_in (drop aim.begin tables.trail) v

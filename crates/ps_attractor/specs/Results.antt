@@ -1,4 +1,4 @@
--- From tables to a region, moves and ranks: what the public answer has of what the worklist left.
+-- From the tables to a region, moves and ranks: how the public result follows from the tables that the worklist leaves.
 use Rattle.std.specs.Prelude.{◌≡◌, ℕ, ◌<◌, ◌≤◌, List, length, Option, Some, None, IsSome, Bool, false, IsTrue}
 use Rattle.std.specs.Prelude.{slice_index}
 use Rattle.ps_game.specs.Games.{ParityGame, owner_of, vertex_count}
@@ -11,7 +11,7 @@ use Rattle.ps_attractor.specs.declared.attractor.Attracted.{Attracted}
 use Rattle.ps_attractor.specs.Tables.{TablesData, level_of, moves_of, place_in}
 use Rattle.ps_attractor.specs.Aims.{IsAttracted, IsGrown, IsTaken, StandsFrom, rank_of}
 
--- the vertices before n have their levels, and those of the target among them are in the trail
+-- the vertices less than n have their levels, and the trail has exactly those of the target among them
 pub record AreLaidOut (subgame target : List Bool) (n : ℕ) (tables : TablesData) : Type 0 where
   pub targets : (v : ℕ) → v < n → IsTrue (has target v) → level_of tables v ≡ PLACED
   pub frees : (v : ℕ) → v < n → has target v ≡ false → IsTrue (has subgame v) → level_of tables v ≡ FREE
@@ -21,11 +21,11 @@ pub record AreLaidOut (subgame target : List Bool) (n : ℕ) (tables : TablesDat
   pub only : (j : ℕ) → j < length tables.trail → IsTrue (has target (slice_index tables.trail j))
   pub before : (j : ℕ) → j < length tables.trail → slice_index tables.trail j < n
 
--- the player aims from the front of the trail
+-- the player's target begins at the front of the trail
 abbrev pub aim_of : ℕ → Aim
 aim_of player = record { player = player; begin = 0; mark = PLACED; free = FREE }
 
--- the tables began with only the target placed, and were extended until they had the whole attractor
+-- at first only the target was placed in the tables, and they were extended until they had the whole attractor
 pub record AreAttracted (game : ParityGame) (player : ℕ) (subgame target : List Bool) (tables : TablesData) : Type 0
   where
     pub old : TablesData
@@ -34,26 +34,26 @@ pub record AreAttracted (game : ParityGame) (player : ℕ) (subgame target : Lis
     pub attracted : (set : ℕ → Bool) → IsTaken (aim_of player) tables (has subgame) set
         → IsAttracted game (has subgame) player (has target) set (moves_of tables) (rank_of (aim_of player) tables)
 
--- of the vertices before n the region has exactly those that were placed
+-- of the vertices less than n, the region has exactly those that were placed
 pub record IsRegionTo (tables : TablesData) (n : ℕ) (region : List Bool) : Type 0 where
   pub placed : (v : ℕ) → v < n → IsTrue (has region v) → level_of tables v ≡ PLACED
   pub all : (v : ℕ) → v < n → level_of tables v ≡ PLACED → IsTrue (has region v)
   pub later : (v : ℕ) → n ≤ v → has region v ≡ false
 
--- the player's vertices that were placed, outside the target
+-- v belongs to the player, and was placed outside the target
 pub record Moves (game : ParityGame) (tables : TablesData) (player : ℕ) (target : List Bool) (v : ℕ) : Type 0 where
   pub placed : level_of tables v ≡ PLACED
   pub owns : owner_of game v ≡ player
   pub outside : has target v ≡ false
 
--- of the vertices before n exactly those have a move, the one of the tables
+-- of the vertices less than n, exactly those that satisfy `Moves` have a move, which is the move of the tables
 pub record AreMovesTo (game : ParityGame) (tables : TablesData) (player : ℕ) (target : List Bool) (n : ℕ)
     (moves : List (Option ℕ)) : Type 0 where
   pub given : (v : ℕ) → v < n → Moves game tables player target v → move_at moves v ≡ Some (slice_index tables.moves v)
   pub only : (v : ℕ) → v < n → ¬ Moves game tables player target v → move_at moves v ≡ None
   pub later : (v : ℕ) → n ≤ v → move_at moves v ≡ None
 
--- the rank of a vertex by a list
+-- the rank of the vertex v in a list of ranks
 abbrev pub rank_at : List ℕ → ℕ → ℕ
 rank_at rank v = slice_index rank v
 

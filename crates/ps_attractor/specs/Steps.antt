@@ -1,5 +1,5 @@
--- The steps of the worklist: what is known while the trail is walked from the target on. These are the facts on the
--- way; the public contracts speak of `IsGrown` and `IsAttracted`.
+-- The steps of the worklist, and the invariant of the walk along the trail. The public contract of `Tables::attract`
+-- uses `IsGrown` and `IsAttracted` instead.
 use Rattle.std.specs.Prelude.{◌≡◌, ◌≢◌, ℕ, ◌<◌, ◌≤◌, ◌⊎◌, List, ◌∷◌, [], ◌++◌, length, slice_index, slice_set, ◌==◌}
 use Rattle.std.specs.Prelude.{count_by}
 use Rattle.ps_game.specs.Games.{ParityGame, owner_of, HasEdge}
@@ -7,7 +7,7 @@ use Rattle.ps_attractor.specs.declared.aim.Aim.{Aim}
 use Rattle.ps_attractor.specs.Tables.{TablesData, level_of}
 use Rattle.ps_attractor.specs.Aims.{StandsFrom, IsGrown}
 
--- the tables with one more vertex placed
+-- the tables after the vertex v is placed
 abbrev pub with_placed : TablesData → ℕ → ℕ → TablesData
 with_placed tables v level =
     record { level = slice_set tables.level v level; moves = tables.moves; trail = tables.trail ++ v ∷ [] }
@@ -15,14 +15,15 @@ with_placed tables v level =
 abbrev pub with_move : TablesData → ℕ → ℕ → TablesData
 with_move tables v w = record { level = tables.level; moves = slice_set tables.moves v w; trail = tables.trail }
 
--- a successor that is free
+-- v has a free successor
 pub record HasFree (game : ParityGame) (free : ℕ) (tables : TablesData) (v : ℕ) : Type 0 where
   pub to : ℕ
   pub edge : HasEdge game v to
   pub is_free : level_of tables to ≡ free
 
--- the result of an edge from v to w, which is in the set: nothing if v is in it too, or is the other player's and can
--- stay out; otherwise v is placed, and if it is the player's its move is w
+-- the result of examining an edge from v to w, where w is in the set. Nothing changes if v is not free, or if it
+-- belongs to the other player and has a free successor. Otherwise v is placed, with the move w if it belongs to the
+-- player
 pub data Look (game : ParityGame) (aim : Aim) (old new : TablesData) (v w : ℕ) : Type 0 where
   NotFree : level_of old v ≢ aim.free → new ≡ old → Look game aim old new v w
   Escapes : owner_of game v ≢ aim.player → HasFree game aim.free old v → new ≡ old → Look game aim old new v w
@@ -32,13 +33,13 @@ pub data Look (game : ParityGame) (aim : Aim) (old new : TablesData) (v w : ℕ)
       ((x : ℕ) → HasEdge game v x → level_of old x ≢ aim.free) → new ≡ with_placed old v aim.mark →
       Look game aim old new v w
 
--- a successor that is free, or is in the trail from where the target begins
+-- v has a successor that is free, or that is in the trail from index `aim.begin` on
 pub record GoesOn (game : ParityGame) (aim : Aim) (tables : TablesData) (v : ℕ) : Type 0 where
   pub to : ℕ
   pub edge : HasEdge game v to
   pub there : (level_of tables to ≡ aim.free) ⊎ StandsFrom tables aim.begin to
 
--- a place of the trail with an edge that is still to be looked at
+-- w is in the trail, and the edge from v to w is still to be examined, as P states for the index of w
 pub record IsPending (aim : Aim) (tables : TablesData) (P : ℕ → ℕ → Type 0) (v w : ℕ) : Type 0 where
   pub place : ℕ
   pub after : aim.begin ≤ place
@@ -46,27 +47,29 @@ pub record IsPending (aim : Aim) (tables : TablesData) (P : ℕ → ℕ → Type
   pub is : slice_index tables.trail place ≡ w
   pub pending : P v place
 
--- a successor that is free, or to which the edge is still to be looked at
+-- v has a successor that is free, or to which the edge is still to be examined
 pub record CanGoOn (game : ParityGame) (aim : Aim) (tables : TablesData) (P : ℕ → ℕ → Type 0) (v : ℕ) : Type 0 where
   pub to : ℕ
   pub edge : HasEdge game v to
   pub there : (level_of tables to ≡ aim.free) ⊎ IsPending aim tables P v to
 
--- a vertex is in the trail before a place
+-- v is in the trail, from index `aim.begin` on and before index `end`
 pub record StandsBefore (aim : Aim) (tables : TablesData) (end v : ℕ) : Type 0 where
   pub place : ℕ
   pub after : aim.begin ≤ place
   pub before : place < end
   pub is : slice_index tables.trail place ≡ v
 
--- a placed vertex leads to earlier places: by its move if it is the player's, otherwise by each edge that matters
+-- the placed vertex v leads to earlier vertices of the trail: by its move if it belongs to the player, and otherwise by
+-- each edge to a vertex that was free or in the trail
 pub record LeadsBack (game : ParityGame) (aim : Aim) (old new : TablesData) (place v : ℕ) : Type 0 where
   pub own : owner_of game v ≡ aim.player → HasEdge game v (slice_index new.moves v) ×
       StandsBefore aim new place (slice_index new.moves v)
   pub other : owner_of game v ≢ aim.player → (w : ℕ) → HasEdge game v w →
       (level_of old w ≡ aim.free) ⊎ StandsFrom old aim.begin w → StandsBefore aim new place w
 
--- how far the walk has come: P says which edges to places of the trail are still to be looked at
+-- the invariant of the walk: P v j states that the edge from v to the vertex at index j of the trail may still have to
+-- be examined
 pub record Reaching (game : ParityGame) (aim : Aim) (old new : TablesData) (P : ℕ → ℕ → Type 0) : Type 0 where
   pub grown : IsGrown aim old new
   pub own : (v j : ℕ) → level_of new v ≡ aim.free → owner_of game v ≡ aim.player → aim.begin ≤ j →
@@ -76,7 +79,7 @@ pub record Reaching (game : ParityGame) (aim : Aim) (old new : TablesData) (P : 
   pub back : (j : ℕ) → length old.trail ≤ j → j < length new.trail →
       LeadsBack game aim old new j (slice_index new.trail j)
 
--- all edges to the places from k on
+-- all edges to the vertices at index k and later are still to be examined
 abbrev pub From : ℕ → ℕ → ℕ → Type 0
 From k v j = k ≤ j
 
@@ -86,10 +89,11 @@ pub record StandsAmong (list : List ℕ) (from v : ℕ) : Type 0 where
   pub within : number < length list
   pub is : slice_index list number ≡ v
 
--- all edges to the places after k, and those to the place k from the sources with a number from n on
+-- all edges to the vertices after index k are still to be examined, and those to the vertex at index k from its sources
+-- with index n and later
 abbrev pub FromSource : ℕ → List ℕ → ℕ → ℕ → ℕ → Type 0
 FromSource k sources n v j = (k < j) ⊎ ((j ≡ k) × StandsAmong sources n v)
 
--- how many vertices are free
+-- the number of free vertices
 abbrev pub free_count : Aim → TablesData → ℕ
 free_count aim tables = count_by (λ level. level == aim.free) tables.level

@@ -1,5 +1,5 @@
--- The tables of an attractor: a level and a move for each vertex, and the trail of the vertices that were placed, in
--- order.
+-- The tables of an attractor: a level and a move for each vertex, and the trail, which is the list of the placed
+-- vertices in order.
 use Rattle.std.specs.Prelude.{◌≡◌, ℕ, ◌+◌, ◌<◌, List, [], ◌∷◌, length, Option, Some, slice_index, if◌then◌else◌, ◌==◌}
 use Rattle.std.specs.List.{All}
 use Rattle.ps_game.specs.Games.{ParityGame, vertex_count}
@@ -9,7 +9,7 @@ pub record TablesData : Type 0 where
   pub moves : List ℕ
   pub trail : List ℕ
 
--- a level and a move for each vertex; the trail has only vertices
+-- there is a level and a move for each vertex, and the trail has only vertices
 pub record FitsGame (game : ParityGame) (tables : TablesData) : Type 0 where
   pub levels : length tables.level ≡ vertex_count game
   pub choices : length tables.moves ≡ vertex_count game
@@ -18,11 +18,11 @@ pub record FitsGame (game : ParityGame) (tables : TablesData) : Type 0 where
 abbrev pub level_of : TablesData → ℕ → ℕ
 level_of tables v = slice_index tables.level v
 
--- the moves as a table with a move at each vertex
+-- the table of moves, which has a move at each vertex
 abbrev pub moves_of : TablesData → ℕ → Option ℕ
 moves_of tables v = Some (slice_index tables.moves v)
 
--- the first place of a number in a list, or its length
+-- the first index of a number in a list, or the length of the list if the number does not occur
 abbrev pub place_in : List ℕ → ℕ → ℕ
 place_in [] v = 0
 place_in (x ∷ xs) v = if x == v then 0 else place_in xs v + 1

@@ -1,14 +1,14 @@
-//! What an attractor within given tables is for.
+//! The aim of an attractor within given tables.
 
-/// What a player aims at within the tables of an attractor.
+/// The aim of a player within the tables of an attractor.
 #[derive(Clone, Copy)]
 pub struct Aim {
     /// The player, 0 or 1.
     pub player: u8,
-    /// Where the target begins in the trail.
+    /// The index of the trail at which the target begins.
     pub begin: usize,
-    /// The level that a vertex gets when it is placed.
+    /// The level of a vertex after it is placed.
     pub mark: usize,
-    /// The level of free vertices: in the subgame, and not yet in the set.
+    /// The level of the free vertices, which are in the subgame and not yet in the set.
     pub free: usize,
 }

@@ -1,4 +1,4 @@
-//! The attractor within a subgame, by tables of its own.
+//! The attractor within a subgame, computed with tables of its own.
 
 ghost use Rattle.std.specs.Prelude.{◌≡◌, ◌≢◌, ◌+◌, ◌<◌, ◌≤◌, ℕ, List, [], Bool, false, IfOk, OnOk, IsSome, IsTrue};
 ghost use Rattle.std.specs.Prelude.{length, slice_index};
@@ -25,24 +25,27 @@ const OUTSIDE: usize = 0;
 /// The level of the vertices in the set.
 const PLACED: usize = 1;
 
-/// The level of the other vertices of the subgame.
+/// The level of the remaining vertices of the subgame.
 const FREE: usize = 2;
 
-/// From where a player can lead every play within a subgame to a target, by which moves, and how soon.
+/// The vertices from which a player can force every play within a subgame to a target, with moves and ranks.
 #[derive(Drop)]
 pub struct Attracted {
-    /// The vertices from where the player can.
+    /// The vertices from which the player can force every play to the target.
     pub region: Region,
     /// A move at each vertex of the player that is in the region but not in the target.
     pub moves: Strategy,
-    /// For each vertex of the region a number that falls along the moves.
+    /// A rank for each vertex of the region. Outside the target, the rank decreases along the player's moves and along
+    /// every edge of the other player within the subgame.
     pub rank: Vec<usize>,
 }
 
-/// The attractor of a player to a target within a subgame: the least set with the target, each vertex of the player
-/// with an edge into the set, and each vertex of the other player from which all edges within the subgame lead into it.
+/// The attractor of a player to a target within a subgame. The attractor is the least set that contains the target,
+/// each vertex of the player with an edge into the set, and each vertex of the other player with all edges within the
+/// subgame into the set.
 ///
-/// Fails if out of memory, always so if a table for 2^63 - 2 vertices or 2^64 edges is needed.
+/// Fails if out of memory. For 2^63 - 2 vertices or more, and for 2^64 edges or more, the call always fails as out of
+/// memory.
 pub fn attract<A: Arena>(
     alloc: Global,
     arena: &A,
@@ -76,7 +79,7 @@ pub fn attract<A: Arena>(
     }
 }
 
-/// The attractor, found by tables of a stated width.
+/// The attractor, computed with tables of the width `W`. Fails if out of memory.
 fn attract_in<A: Arena, W: Width>(
     alloc: Global,
     arena: &A,
@@ -95,7 +98,7 @@ fn attract_in<A: Arena, W: Width>(
     read_off(alloc, arena, &tables, player, target)
 }
 
-/// The region, the moves and the ranks in the tables.
+/// The region, the moves and the ranks that the tables record. Fails if out of memory.
 fn read_off<A: Arena, W: Width>(
     alloc: Global,
     arena: &A,
@@ -117,7 +120,7 @@ fn read_off<A: Arena, W: Width>(
     })
 }
 
-/// Tables in which the target, and all that is attracted to it, are placed.
+/// Tables in which the target and all vertices attracted to it are placed. Fails if out of memory.
 fn attracted_tables<A: Arena, W: Width>(
     alloc: Global,
     arena: &A,
@@ -145,7 +148,7 @@ fn attracted_tables<A: Arena, W: Width>(
     Ok(tables)
 }
 
-/// Tables in which exactly the vertices of the target are placed.
+/// Tables in which exactly the vertices of the target are placed. Fails if out of memory.
 fn laid_out<W: Width>(
     alloc: Global,
     count: usize,
@@ -164,7 +167,7 @@ fn laid_out<W: Width>(
     Ok(tables)
 }
 
-/// Gives each vertex its level, and puts those of the target on the trail.
+/// Sets the level of each vertex, and appends the vertices of the target to the trail. Fails if out of memory.
 fn lay_out<W: Width>(
     tables: &mut Tables<W>,
     count: usize,
@@ -192,7 +195,7 @@ fn lay_out<W: Width>(
     Ok(())
 }
 
-/// The vertices that were placed.
+/// The set of the vertices that were placed. Fails if out of memory.
 fn placed_region<W: Width>(
     alloc: Global,
     tables: &Tables<W>,
@@ -211,7 +214,7 @@ fn placed_region<W: Width>(
     Ok(region)
 }
 
-/// The moves of the player's vertices that were placed, outside the target.
+/// The moves of the player's vertices that were placed outside the target. Fails if out of memory.
 fn placed_moves<A: Arena, W: Width>(
     alloc: Global,
     arena: &A,
@@ -237,7 +240,7 @@ fn placed_moves<A: Arena, W: Width>(
     Ok(moves)
 }
 
-/// The first place of each vertex of the trail.
+/// The first index of each vertex in the trail. Fails if out of memory.
 fn first_places<W: Width>(
     alloc: Global,
     tables: &Tables<W>,

@@ -1,4 +1,4 @@
-//! Levels, stored at a stated width.
+//! Levels, stored at a given width.
 
 ghost use Rattle.std.specs.Prelude.{◌≡◌, ◌<◌, ◌≤◌, IfOk, length, replicate, slice_index, slice_set};
 ghost use Rattle.ps_attractor.specs.Levels.{IsLevel};
@@ -7,8 +7,8 @@ use ps_game::{Numbers, Width};
 use std::alloc::{AllocError, Global};
 use std::marker::Model;
 
-/// A level for each vertex. The greatest `usize` is a level at every width: it is stored as the greatest number that
-/// fits.
+/// A level for each vertex. The largest `usize` can be stored as a level at every width: it is represented by the
+/// largest number that fits.
 #[derive(Drop)]
 pub struct Levels<W: Width> {
     numbers: Numbers<W>,
@@ -24,7 +24,7 @@ impl<W: Width> Model for Levels<W> {
 }
 
 impl<W: Width> Levels<W> {
-    /// All vertices at one level. Fails if out of memory.
+    /// The same level for all vertices. Fails if out of memory.
     pub fn filled(alloc: Global, level: usize, count: usize) -> Result<Levels<W>, AllocError>
         requires { IsLevel W.LIMIT level }
         ensures { IfOk result (λ levels. levels ≡ replicate count level) }
@@ -46,7 +46,7 @@ impl<W: Width> Levels<W> {
         }
     }
 
-    /// Gives a vertex a level.
+    /// Sets the level of a vertex.
     pub fn set(&mut self, vertex: usize, level: usize)
         requires vertex { vertex < length self.old }
         requires fits { IsLevel W.LIMIT level }

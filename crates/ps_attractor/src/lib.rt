@@ -1,24 +1,26 @@
-//! Attractors: from which vertices of a subgame a player can lead every play to a target, and by which moves.
+//! Attractors: the vertices of a subgame from which a player can force every play to a target, and the moves that do
+//! so.
 //!
-//! The attractor is searched backwards from its target, along the edges into what is reached. A vertex of the player is
-//! reached by its first such edge. A vertex of the other player is reached once none of its successors is free any
-//! more. The search for a free one continues where the last one ended, so each of its edges is looked at a bounded
-//! number of times. That takes time proportional to the edges into what is reached and the edges of the other player's
-//! vertices there, and memory proportional to vertices and edges.
+//! The attractor is computed backwards from its target, along the edges into vertices already reached. A vertex of the
+//! player is reached by its first edge into a reached vertex. A vertex of the other player is reached as soon as it has
+//! no free successor. The search for a free successor continues where the previous one ended, so each edge is examined
+//! a bounded number of times. The time is proportional to the number of edges into reached vertices, plus the number of
+//! edges that leave the other player's vertices among their sources. The memory is proportional to the numbers of
+//! vertices and edges.
 //!
 //! | Call | What it gives |
 //! |---|---|
-//! | `attract` | the attractor of a region in a subgame: the least set, with moves and falling ranks |
-//! | `has_room` | whether numbers of 4 or of 8 bytes are great enough for a game |
-//! | `no_room` | the error if no width is enough: out of memory |
-//! | `Sources::of`, `at` | for each vertex the vertices with an edge to it, each once, ascending |
-//! | `Tables::new`, `place`, `cut` | levels, moves and the trail, for a solver that attracts again and again |
-//! | `Tables::attract` | the attractor on these tables: what is attracted is placed at the end of the trail |
-//! | `Aim` | whose attractor it is, and which levels mark it in the tables |
-//! | `places_by_number` | the places of small numbers, those of the least number first, by counting |
+//! | `attract` | the attractor of a region in a subgame: the least set, with moves and decreasing ranks |
+//! | `has_room` | whether numbers of a width, 4 or 8 bytes, are large enough for a game |
+//! | `no_room` | the error if no width has room: out of memory |
+//! | `Sources::of`, `at` | for each vertex the vertices with an edge to it, each once, in ascending order |
+//! | `Tables::new`, `place`, `cut` | levels, moves and the trail, for a solver that computes attractors repeatedly |
+//! | `Tables::attract` | the attractor on these tables, whose vertices are appended to the trail |
+//! | `Aim` | the player of an attractor, its target, and the levels that mark it in the tables |
+//! | `places_by_number` | the indices of a list of small numbers, sorted by these numbers with a counting sort |
 //!
-//! A level says whether a vertex is outside the subgame, free within it, or placed by the call that marks with that
-//! level.
+//! A level states whether a vertex is outside the subgame, free within it, or placed by the call that uses this level
+//! as its mark.
 #![tactic(auto)]
 
 mod aim;

@@ -1,4 +1,4 @@
-//! Which width has room for the numbers of a game.
+//! The widths that have room for the numbers of a game.
 
 ghost use Rattle.std.specs.Prelude.{◌↔◌, ◌≤◌, IsTrue};
 ghost use Rattle.ps_game.specs.Games.{vertex_count};
@@ -8,7 +8,7 @@ ghost use Rattle.ps_attractor.specs.Room.{HasRoom};
 use ps_game::{Arena, Width};
 use std::alloc::{AllocError, Global};
 
-/// Whether a width has room for the numbers of edges, and for two levels for each vertex and four more.
+/// Whether the numbers of a width suffice for the edges, and for two levels for each vertex and four more levels.
 pub fn has_room<A: Arena, W: Width>(arena: &A) -> bool
     ensures { IsTrue result ↔ HasRoom (A.game arena.now) W.LIMIT }
 {
@@ -16,7 +16,8 @@ pub fn has_room<A: Arena, W: Width>(arena: &A) -> bool
     limit >= 4 && arena.count() <= (limit - 4) / 2 && has_room_for_edges::<A, W>(arena)
 }
 
-/// The error if no width has room: a table of as many numbers is asked for, which no memory holds.
+/// The error if no width has room. The error results from a request for a table of `usize::MAX` numbers, which no
+/// memory can hold.
 pub fn no_room(alloc: Global) -> AllocError {
     match Vec::<usize>::with_capacity(alloc, usize::MAX) {
         Err(refused) => refused,
@@ -24,7 +25,7 @@ pub fn no_room(alloc: Global) -> AllocError {
     }
 }
 
-/// Whether a width has room for the numbers of edges.
+/// Whether the numbers of a width suffice for the edges.
 fn has_room_for_edges<A: Arena, W: Width>(arena: &A) -> bool
     ensures { IsTrue result ↔ (edges_before (A.game arena.now) (vertex_count (A.game arena.now)) ≤ W.LIMIT) }
 {

@@ -1,5 +1,5 @@
-//! Levels, moves and the trail. For each vertex of the other player the tables also remember which successor was last
-//! found free. The view of the tables leaves that out, since no answer depends on it.
+//! Levels, moves and the trail. For each vertex of the other player, the tables also remember the successor that was
+//! last found free. The view of the tables omits the remembered successors, since no result depends on them.
 
 ghost use Rattle.std.specs.Prelude.{◌≡◌, ◌<◌, ◌≤◌, [], IfOk, OnOk, OnErr, length, replicate, take, slice_index};
 ghost use Rattle.std.specs.Prelude.{slice_set};
@@ -11,8 +11,8 @@ use ps_game::{Numbers, Width};
 use std::alloc::{AllocError, Global};
 use std::marker::Model;
 
-/// A level and a move for each vertex, and the trail: the vertices that were placed, in order. All are stored at a
-/// stated width.
+/// A level and a move for each vertex, and the trail: the vertices that were placed, in order. Levels, moves and the
+/// trail are stored at a given width.
 #[derive(Drop)]
 pub struct Tables<W: Width> {
     level: Levels<W>,
@@ -33,7 +33,8 @@ impl<W: Width> Model for Tables<W> {
 }
 
 impl<W: Width> Tables<W> {
-    /// All vertices at one level, and none placed. There is room for each vertex in the trail. Fails if out of memory.
+    /// Tables with all vertices at one level and no vertex placed. The trail has room for each vertex. Fails if out of
+    /// memory.
     pub fn new(alloc: Global, count: usize, level: usize) -> Result<Tables<W>, AllocError>
         requires room { count ≤ W.LIMIT }
         requires fits { IsLevel W.LIMIT level }
@@ -61,7 +62,7 @@ impl<W: Width> Tables<W> {
         self.level.at(vertex)
     }
 
-    /// The move of a vertex.
+    /// The move at a vertex.
     pub fn chosen(&self, vertex: usize) -> usize
         requires { vertex < length self.now.moves }
         ensures { result ≡ slice_index self.now.moves vertex }
@@ -69,14 +70,14 @@ impl<W: Width> Tables<W> {
         self.moves.at(vertex)
     }
 
-    /// How many vertices are in the trail.
+    /// The number of vertices in the trail.
     pub fn placed(&self) -> usize
         ensures { result ≡ length self.now.trail }
     {
         self.trail.len()
     }
 
-    /// The vertex at a place of the trail.
+    /// The vertex at an index of the trail.
     pub fn vertex_at(&self, place: usize) -> usize
         requires { place < length self.now.trail }
         ensures { result ≡ slice_index self.now.trail place }
@@ -84,7 +85,7 @@ impl<W: Width> Tables<W> {
         self.trail.at(place)
     }
 
-    /// Gives a vertex a level.
+    /// Sets the level of a vertex.
     pub fn set_level(&mut self, vertex: usize, level: usize)
         requires vertex { vertex < length self.old.level }
         requires fits { IsLevel W.LIMIT level }
@@ -95,7 +96,7 @@ impl<W: Width> Tables<W> {
         self.level.set(vertex, level);
     }
 
-    /// Gives a vertex a move.
+    /// Sets the move at a vertex.
     pub fn choose(&mut self, vertex: usize, successor: usize)
         requires vertex { vertex < length self.old.moves }
         requires successor { successor < length self.old.level }
@@ -104,7 +105,7 @@ impl<W: Width> Tables<W> {
         self.moves.set(vertex, successor);
     }
 
-    /// Appends a vertex to the trail, and gives it a level. If memory runs out, nothing changes.
+    /// Appends a vertex to the trail and sets its level. Fails if out of memory; then nothing changes.
     pub fn place(&mut self, vertex: usize, level: usize) -> Result<(), AllocError>
         requires vertex { vertex < length self.old.level }
         requires fits { IsLevel W.LIMIT level }
@@ -116,7 +117,7 @@ impl<W: Width> Tables<W> {
         Ok(())
     }
 
-    /// Keeps the first `placed` vertices of the trail, and drops the rest.
+    /// Keeps the first `placed` vertices of the trail and drops the rest.
     pub fn cut(&mut self, placed: usize)
         ensures trail { self.new.trail ≡ take placed self.old.trail }
         ensures level { self.new.level ≡ self.old.level }
@@ -125,15 +126,15 @@ impl<W: Width> Tables<W> {
         self.trail.truncate(placed);
     }
 
-    /// The number of the successor at which the last search from a vertex ended. A number above 32 bits is stored as
-    /// the greatest of 32 bits.
+    /// The index of the successor at which the last search from a vertex ended. An index that does not fit 32 bits is
+    /// stored as the largest 32-bit number.
     pub(crate) fn watched(&self, vertex: usize) -> usize
         requires { vertex < length self.now.level }
     {
         self.watch[vertex] as usize
     }
 
-    /// Remembers the number of the successor at which a search from a vertex ended.
+    /// Remembers the index of the successor at which a search from a vertex ended.
     pub(crate) fn watch(&mut self, vertex: usize, number: usize)
         requires { vertex < length self.old.level }
         ensures { self.new ≡ self.old }

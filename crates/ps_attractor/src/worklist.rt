@@ -1,4 +1,4 @@
-//! The search: the trail is the worklist, and what is reached is appended to it.
+//! The computation of an attractor. The trail is the worklist, and each vertex that is reached is appended to it.
 
 ghost use Rattle.std.specs.Prelude.{◌≡◌, ◌≢◌, ◌+◌, ◌<◌, ◌≤◌, ℕ, Bool, IfSome, IfNone, OnOk, OnErr, IsTrue, false};
 ghost use Rattle.std.specs.Prelude.{length, slice_index};
@@ -16,11 +16,12 @@ use ps_game::{Arena, Width};
 use std::alloc::AllocError;
 
 impl<W: Width> Tables<W> {
-    /// Attracts to the vertices of the trail from a place on. The trail is walked to its end, and each free vertex from
-    /// which the player can lead every play there is appended. Takes time proportional to the edges into these
-    /// vertices, and to the edges of the other player's vertices among their sources.
+    /// Extends the trail by the attractor of the target, whose vertices are in the trail from index `aim.begin` on. The
+    /// trail is walked to its end, and each free vertex from which the player can force every play to the target is
+    /// appended. The time is proportional to the number of edges into the walked vertices, plus the number of edges
+    /// that leave the other player's vertices among their sources.
     ///
-    /// Fails if out of memory; what was placed before stays.
+    /// Fails if out of memory; then vertices that were already placed stay placed.
     pub fn attract<A: Arena>(
         &mut self,
         arena: &A,
@@ -47,7 +48,7 @@ impl<W: Width> Tables<W> {
         Ok(())
     }
 
-    /// Looks at each edge into the vertex at a place of the trail.
+    /// Examines each edge into the vertex at an index of the trail. Fails if out of memory.
     fn spread<A: Arena>(
         &mut self,
         arena: &A,
@@ -77,7 +78,7 @@ impl<W: Width> Tables<W> {
         Ok(())
     }
 
-    /// Handles an edge into a vertex that was reached.
+    /// Examines one edge into a vertex that was reached. Fails if out of memory.
     fn look<A: Arena>(
         &mut self,
         arena: &A,
@@ -104,7 +105,7 @@ impl<W: Width> Tables<W> {
         self.place(source, aim.mark)
     }
 
-    /// Whether a vertex has a free successor. The search begins where the last one ended.
+    /// Whether a vertex has a free successor. The search starts where the previous search from this vertex ended.
     fn has_free<A: Arena>(&mut self, arena: &A, vertex: usize, free: usize) -> bool
         requires game { IsGame (A.game arena.now) }
         requires fits { FitsGame (A.game arena.now) self.old }
@@ -128,7 +129,7 @@ impl<W: Width> Tables<W> {
         }
     }
 
-    /// The first free successor of a vertex among those from a number up to another.
+    /// The index of the first free successor of a vertex, among the indices from `from` up to, but not including, `to`.
     fn first_free<A: Arena>(
         &self,
         arena: &A,

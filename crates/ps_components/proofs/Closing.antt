@@ -1,4 +1,4 @@
--- The last segment, closed, keeps the lists sound.
+-- Closing the last segment preserves the invariant of the search.
 use Rattle.std.proofs.Common.{◌≡◌, ◌≢◌, ℕ, ◌+◌, ◌-◌, ◌<◌, ◌≤◌, ◌⊎◌, inl, inr, List, [], ◌∷◌, ◌++◌, length, take, drop}
 use Rattle.std.proofs.Common.{refl, sym, ◌∙◌, arith, Some, slice_get, set, get_or, suc, zero, rules}
 use Rattle.std.proofs.Common.{length-set, add-zero}
@@ -19,7 +19,7 @@ length-close_all : (marks : List Mark) (vs : List ℕ) (k : ℕ) → length (clo
 length-close_all marks [] k = refl
 length-close_all marks (v ∷ vs) k = length-close_all (set marks v (Closed k)) vs k ∙ length-set marks v (Closed k)
 
--- an item of the list is closed, any other keeps its mark
+-- each item of the list is closed, and all other items keep their marks
 pub close_all_cases : (marks : List Mark) (vs : List ℕ) (k v : ℕ) →
     ((j : ℕ) × (slice_get vs j ≡ Some v) × (v < length marks → slice_get (close_all marks vs k) v ≡ Some (Closed k)))
     ⊎ (((j : ℕ) → slice_get vs j ≢ Some v) × (slice_get (close_all marks vs k) v ≡ slice_get marks v))
@@ -32,7 +32,7 @@ close_all_cases marks (w ∷ vs) k v = elim (close_all_cases (set marks w (Close
     apart : v ≢ w → ((j : ℕ) → slice_get vs j ≢ Some v) → (j : ℕ) → slice_get (w ∷ vs) j ≢ Some v
     apart ne out h3 h = grind arith
 
--- a closed item has no turns left
+-- closing an item does not increase the bound on the remaining turns
 turns-close_one : (g : Digraph) (first : ℕ) (marks : List Mark) (v k : ℕ) →
     turns_from g first (set marks v (Closed k)) ≤ turns_from g first marks
 turns-close_one g first [] v k = omega arith
@@ -60,7 +60,7 @@ module _ {g : Digraph} {marks : List Mark} {active bounds : List ℕ} {pending :
   abbrev order' : List ℕ
   order' = order ++ drop bound active
 
-  -- ---- bounds and places of the path
+  -- ---- bounds and indices of the path
 
   bound_cases : (k b : ℕ) → slice_get bounds k ≡ Some b → (slice_get front k ≡ Some b) ⊎ (bound ≡ b)
   bound_cases k b h = slice_get-but_last bounds is_last k b h
@@ -88,7 +88,7 @@ module _ {g : Digraph} {marks : List Mark} {active bounds : List ℕ} {pending :
 
   -- ---- marks
 
-  -- an item of the segment is closed now, any other keeps its mark
+  -- each item of the segment is closed now, and all other items keep their marks
   mark_cases : (v : ℕ) →
       ((p : ℕ) × (bound ≤ p) × (slice_get active p ≡ Some v) × (slice_get marks' v ≡ Some (Closed number)))
       ⊎ (((p : ℕ) → bound ≤ p → slice_get active p ≢ Some v) × (slice_get marks' v ≡ slice_get marks v))
@@ -97,7 +97,7 @@ module _ {g : Digraph} {marks : List Mark} {active bounds : List ℕ} {pending :
   now_closed : (p v : ℕ) → bound ≤ p → slice_get active p ≡ Some v → slice_get marks' v ≡ Some (Closed number)
   now_closed p v le h = grind (arith, mark_cases v)
 
-  -- a mark of an item that is not in the segment stays
+  -- the mark of an item that is not in the segment is unchanged
   stays : (v : ℕ) (m : Mark) → ((p : ℕ) → m ≡ Active p → p < bound) → slice_get marks v ≡ Some m →
       slice_get marks' v ≡ Some m
   stays v m out h = grind (arith, mark_cases v, s.active_marked)
@@ -109,19 +109,19 @@ module _ {g : Digraph} {marks : List Mark} {active bounds : List ℕ} {pending :
       (slice_get marks v ≡ Some (Closed k)) ⊎ ((k ≡ number) × ((p : ℕ) × (bound ≤ p) × (slice_get active p ≡ Some v)))
   closed_cases v k h = grind (arith, mark_cases v)
 
-  -- nothing active is closed, and each active item has only one place
+  -- no active item is closed, and each active item has only one index
   apart : (p v k : ℕ) → slice_get active p ≡ Some v → slice_get marks v ≡ Some (Closed k) → ⊥
   apart p v k h c = cc (s.active_marked p v h)
 
   one_place : (p q v : ℕ) → slice_get active p ≡ Some v → slice_get active q ≡ Some v → p ≡ q
   one_place p q v hp hq = cc (s.active_marked p v hp, s.active_marked q v hq)
 
-  -- a place of the new order is one of the old order, or one of the segment
+  -- an entry of the new order is an entry of the old order or an item of the segment
   place_cases : (i v : ℕ) → slice_get order' i ≡ Some v → (slice_get order i ≡ Some v) ⊎
       ((j : ℕ) × (i ≡ number + j) × (slice_get active (bound + j) ≡ Some v))
   place_cases i v h = search (rules, slice_get-append_cases, from_segment)
 
-  -- ---- the clauses
+  -- ---- the fields of the invariant
 
   closed-active_marked : (p v : ℕ) → slice_get (take bound active) p ≡ Some v → slice_get marks' v ≡ Some (Active p)
   closed-active_marked p v h = grind (arith, mark_cases v, on_path p v h, s.active_marked p v, one_place)
@@ -143,7 +143,7 @@ module _ {g : Digraph} {marks : List Mark} {active bounds : List ℕ} {pending :
     | inr le ↦ closed number (now_closed q w le (s.marked_active q w a))
   ]
 
-  -- what the segment leads to is closed now, or was before
+  -- each target of the segment is closed now, or was closed before
   led_to : (p w : ℕ) → bound ≤ p → IsSettled marks bounds p w →
       (m : ℕ) × (slice_get marks' w ≡ Some (Closed m)) × (m ≤ number)
   led_to p w le (closed k c) = (k, closed_stays w k c, omega (arith, s.numbered w k c))

@@ -1,4 +1,4 @@
--- The codes of marks, one by one and in lists.
+-- The codes of marks, one at a time and in lists.
 use Rattle.std.proofs.Common.{◌≡◌, ℕ, ◌+◌, ◌-◌, ◌<◌, ◌^◌, List, ◌∷◌, ◌++◌, length, map, replicate, take, refl, ap}
 use Rattle.std.proofs.Common.{zero, suc, arith, Result, OnOk, is_ok, if◌then◌else◌, set, rules}
 use Rattle.std.proofs.lemmas.List.{length-map, map-append, map-set, take-map}
@@ -23,12 +23,12 @@ pub map-replicate : {X Y : Type 0} (f : X → Y) (n : ℕ) (x : X) → map f (re
 map-replicate f zero x = refl
 map-replicate f (suc n) x = ap (λ ys. f x ∷ ys) (map-replicate f n x)
 
--- at either width: a code was written
+-- writing a code changes one mark, at either width
 pub mark_set : (mark_at : ℕ → Mark) (items : List ℕ) {now : List Mark} (item code : ℕ) {mark : Mark} →
     map mark_at items ≡ now → mark_at code ≡ mark → map mark_at (set items item code) ≡ set now item mark
 mark_set mark_at items item code view is = cc (map-set mark_at items item code)
 
--- the codes were resized
+-- resizing the codes resizes the list of marks
 pub resized : {A E : Type 0} (r : Result A E) (mark_at : ℕ → Mark) → mark_at 0 ≡ Unseen → (old : List ℕ)
     {new : List ℕ} {now : List Mark} (count : ℕ) {len : ℕ} → len ≡ length old →
     new ≡ (if is_ok r then take count old ++ replicate (count - len) 0 else old) → map mark_at old ≡ now →

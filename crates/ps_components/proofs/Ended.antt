@@ -1,4 +1,4 @@
--- What the search has found when its path is empty.
+-- The result of the search when its path is empty.
 use Rattle.std.proofs.Common.{◌≡◌, ◌∙◌, ℕ, ◌<◌, ◌⊎◌, inl, inr, List, length, map, refl, ap, arith, Some}
 use Rattle.std.proofs.Common.{get_or, slice_get}
 use Rattle.std.specs.Option.{option_map}
@@ -37,13 +37,13 @@ module _ {g : Digraph} {marks : List Mark} {active bounds : List ℕ} {pending :
     once = s.once;
   }
 
-  -- with an empty path nothing is active
+  -- if the path is empty, no item is active
   none_active : length bounds ≡ 0 → (p v : ℕ) → slice_get marks v ≡ Some (Active p) → ⊥
   none_active none p v at =
       let start = s.bounds_start (omega (arith, slice_get_within active p v (s.marked_active p v at))) in
       omega (arith, none, slice_get_within bounds 0 0 start)
 
-  -- and what was seen is in the order
+  -- if the path is empty, every marked item is in the order
   pub all_listed : length bounds ≡ 0 → AreListed marks order
   all_listed none = grind (arith, slice_get_within, which)
     where
@@ -52,7 +52,7 @@ module _ {g : Digraph} {marks : List Mark} {active bounds : List ℕ} {pending :
       which v (Active p) at = absurd (none_active none p v at)
       which v (Closed k) at = inr (s.listed v k at)
 
-  -- and it has a number
+  -- if the path is empty, every marked vertex has a component
   met : length bounds ≡ 0 → (v : ℕ) → v < g.count → (slice_get marks v ≡ Some Unseen → ⊥) → (k : ℕ) × IsIn found v k
   met none v lt seen = which (get_or marks v Unseen) (slice_get-get_or marks v Unseen (omega (arith, s.marked)))
     where

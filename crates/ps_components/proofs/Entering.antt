@@ -1,4 +1,4 @@
--- An item put at the end of the path keeps the lists sound.
+-- Appending an item to the path preserves the invariant of the search.
 use Rattle.std.proofs.Common.{◌≡◌, ◌≢◌, ℕ, ◌+◌, ◌<◌, ◌≤◌, ◌⊎◌, inl, inr, List, [], ◌∷◌, ◌++◌, length, refl, sym, ap}
 use Rattle.std.proofs.Common.{◌∙◌, arith, Some, Option, slice_get, set, suc, zero, add-zero, rules}
 use Rattle.std.proofs.Common.{length-append, length-set}
@@ -13,7 +13,7 @@ use Rattle.ps_components.specs.Searching.{IsSoundSearch, IsSoundBut, wait_of, wa
 use Rattle.ps_components.proofs.Places.{slice_get-append_left, slice_get-append_cases, slice_get-append_right}
 use Rattle.ps_components.proofs.Places.{slice_get-push, slice_get-push_cases, slice_get-set_cases}
 
--- one more place of an item
+-- one slot adds at most one pending link
 wait_of-length : (n : ℕ) (side : Option ℕ) → length (wait_of n side) ≤ 1
 wait_of-length n side = search rules
 
@@ -29,7 +29,7 @@ waits-length : (g : Digraph) (p item n : ℕ) → length (waits g p item n) ≤ 
 waits-length g p item zero = omega arith
 waits-length g p item (suc n) = search (rules, wait_of-length, length-append, waits-length g p item n)
 
--- what waits comes from a link
+-- each pending link of an item is a link of the graph
 waits-link : (g : Digraph) (p item n : ℕ) → item < g.count → n ≤ g.degree item → (i : ℕ) (e : Pending) →
     slice_get (waits g p item n) i ≡ Some e → (e.from ≡ p) × Link g item e.to
 waits-link g p item zero lt le i e h = cc
@@ -39,7 +39,7 @@ waits-link g p item (suc n) lt le i e h =
       | inr k ↦ search (rules, wait_of-only)
     ]
 
--- each place with a target waits
+-- each slot with a target has a pending link
 waits-there : (g : Digraph) (p item n place w : ℕ) → place < n → g.target item place ≡ Some w →
     (i : ℕ) × (slice_get (waits g p item n) i ≡ Some (record { from = p; to = w }))
 waits-there g p item zero place w lt h = absurd (omega arith)
@@ -51,7 +51,7 @@ waits-there g p item (suc n) place w lt h = elim (cases_lt place n) [
   ))
 ]
 
--- the turns of the marks, with one changed
+-- how the bound on the remaining turns changes when one mark changes
 turns_from-set : (g : Digraph) (first : ℕ) (marks : List Mark) (i : ℕ) (old new : Mark) →
     slice_get marks i ≡ Some old → turns_from g first (set marks i new) + turns_of g (first + i) old ≡ turns_from g
     first marks + turns_of g (first + i) new
@@ -143,12 +143,12 @@ module _ {g : Digraph} {marks : List Mark} {active bounds : List ℕ} {pending :
     | inr kp ↦ grind (arith, path_cases q w hq, slice_get-push bounds place)
   ]
 
-  -- ---- what waits
+  -- ---- the pending links
 
   there_too : (i : ℕ) (e : Pending) → slice_get pending i ≡ Some e → slice_get (pending ++ but.skipped) i ≡ Some e
   there_too i e h = slice_get-append_left pending but.skipped i e h
 
-  -- a link waited before, from an earlier place, or is one of the item
+  -- a pending link was pending before, from an earlier index, or it is a link of the new item
   entry_cases : (i : ℕ) (e : Pending) → slice_get pending' i ≡ Some e →
       ((slice_get pending i ≡ Some e) × (i < length pending) × (e.from < place))
       ⊎ ((length pending ≤ i) × (e.from ≡ place) × Link g item e.to)

@@ -1,4 +1,4 @@
--- Segments joined at the end of the path, and a link taken off, keep the lists sound.
+-- Merging the last segments of the path, or removing a pending link, preserves the invariant of the search.
 use Rattle.std.proofs.Common.{◌≡◌, ℕ, ◌-◌, ◌≤◌, ◌⊎◌, inl, inr, List, length, take, arith, Some, slice_get}
 use Rattle.std.proofs.lemmas.Bool.{cases_lt}
 use Rattle.ps_components.specs.declared.marks.Mark.{Mark}
@@ -11,7 +11,7 @@ use Rattle.ps_components.proofs.Ways.{across}
 
 module _ {g : Digraph} {marks : List Mark} {active bounds : List ℕ} {pending : List Pending} {order : List ℕ}
     (s : IsSoundSearch g marks active bounds pending order) where
-  -- the last segment and those after the place of w are joined, if the last one has a link to w
+  -- if the last segment has a link to w, it can be merged with all segments back to the segment of w
   pub sound-merged : {from place v w : ℕ} {fewer : List ℕ} → slice_get active from ≡ Some v → Link g v w →
       slice_get marks w ≡ Some (Active place) → ((k b : ℕ) → slice_get bounds k ≡ Some b → b ≤ from) →
       IsCut bounds place fewer → IsSoundSearch g marks active fewer pending order
@@ -46,7 +46,7 @@ module _ {g : Digraph} {marks : List Mark} {active bounds : List ℕ} {pending :
       still p w (closed k c) = closed k c
       still p w (settled_active q a later) = settled_active q a (λ k b h. later k b (cut.part k b h))
 
-  -- a link that leads to what is settled need wait no more
+  -- a pending link with a settled target can be removed
   pub sound-taken : {e : Pending} → slice_get pending (length pending - 1) ≡ Some e →
       IsSettled marks bounds e.from e.to → IsSoundSearch g marks active bounds (take (length pending - 1) pending) order
   sound-taken {e} last settled = record {

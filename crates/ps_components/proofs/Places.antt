@@ -35,7 +35,7 @@ slice_get-set_other (x ∷ xs) zero (suc j) y h = refl
 slice_get-set_other (x ∷ xs) (suc i) zero y h = refl
 slice_get-set_other (x ∷ xs) (suc i) (suc j) y h = slice_get-set_other xs i j y (λ e. h (ap suc e))
 
--- after a write the new item is at its place, and every other place is as it was
+-- after a write, the new item is at its index, and all other entries are unchanged
 pub slice_get-set_cases : {X : Type 0} (xs : List X) (i j : ℕ) (y : X) →
     ((j ≡ i) × (i < length xs → slice_get (set xs i y) j ≡ Some y)) ⊎
     ((j ≢ i) × (slice_get (set xs i y) j ≡ slice_get xs j))
@@ -74,13 +74,13 @@ pub length-but_last : {X : Type 0} (xs : List X) {x : X} → slice_get xs (lengt
     length (take (length xs - 1) xs) + 1 ≡ length xs
 length-but_last xs h = omega (arith, slice_get_within xs _ _ h, length-take-le (length xs - 1) xs (omega arith))
 
--- an item of a list is an item of the list without its last, or is the last
+-- an item of a list is the last item, or an item of the list without the last item
 pub slice_get-but_last : {X : Type 0} (xs : List X) {x : X} → slice_get xs (length xs - 1) ≡ Some x → (i : ℕ) (y : X) →
     slice_get xs i ≡ Some y → (slice_get (take (length xs - 1) xs) i ≡ Some y) ⊎ (x ≡ y)
 slice_get-but_last xs {x} last i y h =
     grind (arith, slice_get-push_cases (take (length xs - 1) xs) x i y (rw (last_split xs last) at h))
 
--- an item of two lists joined is an item of the first, or of the second
+-- an item of two joined lists is an item of the first list or of the second list
 pub slice_get-append_cases : {X : Type 0} (xs ys : List X) (i : ℕ) (x : X) → slice_get (xs ++ ys) i ≡ Some x →
     (slice_get xs i ≡ Some x) ⊎ ((j : ℕ) × (i ≡ length xs + j) × (slice_get ys j ≡ Some x))
 slice_get-append_cases [] ys i x h = inr (i, omega arith, h)

@@ -1,4 +1,4 @@
--- What the search meets is what it began at, or what that leads to.
+-- The search visits only the items with which it began and the items reachable from them.
 use Rattle.std.proofs.Common.{◌≡◌, ◌∙◌, ℕ, ◌⊎◌, drop, inl, inr, List, [], ◌∷◌, ◌++◌, length, refl, sym}
 use Rattle.std.proofs.Common.{arith, Some, slice_get, set}
 use Rattle.std.proofs.lemmas.Option.{slice_get_within}
@@ -13,24 +13,24 @@ use Rattle.ps_components.proofs.Knots.{way_falls}
 use Rattle.ps_components.proofs.Places.{slice_get-set_cases, slice_get-drop}
 use Rattle.ps_components.proofs.Closing.{close_all_cases}
 
--- what is closed was on the path
+-- an item that is now closed was on the path
 pub reached-closed : (g : Digraph) (marks : List Mark) (active : List ℕ) (bound k : ℕ) →
     ChangesReached g active marks (close_all marks (drop bound active) k)
 reached-closed g marks active bound k v = grind (arith, close_all_cases, slice_get-drop)
 
--- one item's mark changed, to which an item of the path has a link
+-- only the mark of one item changed, and this item is reachable from the path
 pub reached-entered : {g : Digraph} (marks : List Mark) (active : List ℕ) {item : ℕ} (m : Mark) →
     IsReached g active item → ChangesReached g active marks (set marks item m)
 reached-entered marks active {item} m r v = grind (arith, slice_get-set_cases)
 
--- what a root leads to
+-- a vertex reachable from one root is reachable from the roots
 pub reached-root : {g : Digraph} (roots : List ℕ) (k : ℕ) {root v : ℕ} → slice_get roots k ≡ Some root →
     IsReached g (root ∷ []) v → IsReached g roots v
 reached-root {g} roots k {root} {v} at r = grind arith
 
 module _ {g : Digraph} {marks : List Mark} {active bounds : List ℕ} {pending : List Pending} {order : List ℕ}
     (s : IsSoundSearch g marks active bounds pending order) where
-  -- one step more
+  -- one more step of the search changes only the marks of vertices reachable from the path
   pub reached-more : {marks' : List Mark} {active' bounds' : List ℕ} {pending' : List Pending}
       {order' : List ℕ} (marks'' : List Mark) → IsSoundSearch g marks' active' bounds' pending' order' →
       ChangesReached g active marks marks' → ChangesReached g active' marks' marks'' →
@@ -43,7 +43,7 @@ module _ {g : Digraph} {marks : List Mark} {active bounds : List ℕ} {pending :
   no_path : length bounds ≡ 0 → active ≡ []
   no_path none = nil_from_length active (grind (arith, s.bounds_start, slice_get_within bounds 0 0))
 
-  -- a search that begins at one item
+  -- a search that begins at one item changes only the marks of vertices reachable from this item
   pub reached-begun : length bounds ≡ 0 → (item : ℕ) (m : Mark) (marks' : List Mark) →
       ChangesReached g (active ++ item ∷ []) (set marks item m) marks' → ChangesReached g (item ∷ []) marks marks'
   reached-begun none item m marks' now v = here (rw (no_path none) at (now v))
@@ -56,7 +56,7 @@ module _ {g : Digraph} {marks : List Mark} {active bounds : List ℕ} {pending :
       ]
       here (inr r) = inr r
 
--- what was met when each root was visited
+-- after each root is visited, the visited vertices are those reachable from the roots
 pub met_is_reached : {g : Digraph} (roots : List ℕ) {c : ComponentsData} → AreComponents g c →
     ((i v : ℕ) → slice_get roots i ≡ Some v → (k : ℕ) × IsIn c v k) → ((v k : ℕ) → IsIn c v k → IsReached g roots v) →
     AreMet g roots c

@@ -1,4 +1,4 @@
--- A search that is begun once more: what was seen is unmarked by the order.
+-- A search that starts anew: the items in the order are marked as unseen.
 use Rattle.std.proofs.Common.{◌≡◌, ◌≢◌, ℕ, ◌+◌, ◌<◌, ◌≤◌, ◌⊎◌, List, length, arith, Some, slice_get, set, All}
 use Rattle.std.proofs.lemmas.List.{length-set}
 use Rattle.std.proofs.lemmas.Option.{slice_get_within, slice_get-get_or}
@@ -6,7 +6,7 @@ use Rattle.ps_components.specs.declared.marks.Mark.{Mark}
 use Rattle.ps_components.specs.declared.marks.Mark.TheVariants.{Unseen}
 use Rattle.ps_components.proofs.Places.{slice_get-set_cases}
 
--- what is marked is in the order from place n on
+-- each marked item is in the order from index n on
 pub record AreListedFrom (marks : List Mark) (order : List ℕ) (n : ℕ) : Type 0 where
   pub within : (i v : ℕ) → slice_get order i ≡ Some v → v < length marks
   pub listed : (v : ℕ) (m : Mark) → slice_get marks v ≡ Some m →

@@ -1,4 +1,4 @@
--- What the last link that waits leads to.
+-- Facts about the last bound and the last pending link of a search.
 use Rattle.std.proofs.Common.{◌≡◌, ℕ, ◌-◌, ◌<◌, ◌≤◌, inl, List, length, refl, arith, Some, slice_get}
 use Rattle.std.proofs.lemmas.Option.{slice_get_within}
 use Rattle.ps_components.specs.declared.marks.Mark.{Mark}

@@ -1,8 +1,8 @@
--- The components of a graph: two vertices are in one component if each is reached from the other.
+-- The components of a graph: two vertices are in the same component if each can reach the other.
 use Rattle.std.specs.Prelude.{◌≡◌, ℕ, ◌<◌, ◌≤◌, ◌↔◌, List, length, slice_get, Option, Some}
 use Rattle.ps_components.specs.Graphs.{Digraph, Link, SameOrWay, IsReached}
 
--- for each vertex the number of its component, or none if it was not met; and the vertices that were met, in order
+-- for each vertex the number of its component, or None if the vertex was not visited; and the visited vertices in order
 pub record ComponentsData : Type 0 where
   pub numbers : List (Option ℕ)
   pub order : List ℕ
@@ -11,9 +11,9 @@ pub record ComponentsData : Type 0 where
 abbrev pub IsIn : ComponentsData → ℕ → ℕ → Type 0
 IsIn c v k = slice_get c.numbers v ≡ Some (Some k)
 
--- the vertices that were met are in order, component by component, each once; a component's number is the place where
--- it begins; links lead from what was met to what was met, in the same component or an earlier one; the vertices of a
--- component lead to one another
+-- the visited vertices are in order, component by component, each once. The number of a component is the index at which
+-- the component begins. A link of a visited vertex leads to a visited vertex, in the same component or an earlier one.
+-- The vertices of a component can reach one another
 pub record AreComponents (g : Digraph) (c : ComponentsData) : Type 0 where
   pub counted : length c.numbers ≡ g.count
   pub falls : (v k w : ℕ) → IsIn c v k → Link g v w → (m : ℕ) × IsIn c w m × (m ≤ k)
@@ -27,10 +27,10 @@ pub record AreComponents (g : Digraph) (c : ComponentsData) : Type 0 where
       IsIn c w m → k ≤ m
   pub once : (i j v : ℕ) → slice_get c.order i ≡ Some v → slice_get c.order j ≡ Some v → i ≡ j
 
--- the vertices that were met are these, and those to which they lead
+-- the visited vertices are the roots and the vertices reachable from them
 abbrev pub AreMet : Digraph → List ℕ → ComponentsData → Type 0
 AreMet g roots c = (v : ℕ) → ((k : ℕ) × IsIn c v k) ↔ IsReached g roots v
 
--- each vertex of the graph was met
+-- each vertex of the graph was visited
 abbrev pub AreAllMet : Digraph → ComponentsData → Type 0
 AreAllMet g c = (v : ℕ) → v < g.count → (k : ℕ) × IsIn c v k

@@ -1,24 +1,24 @@
 -- Directed graphs of numbered vertices, and ways through them.
 use Rattle.std.specs.Prelude.{◌≡◌, ℕ, ◌<◌, ◌⊎◌, List, slice_get, Option, Some}
 
--- vertices 0 .. count - 1; each has degree places, and each place a target or none
+-- a graph with the vertices 0 .. count - 1; the vertex v has `degree v` slots, and each slot has a target or is empty
 pub record Digraph : Type 0 where
   pub count : ℕ
   pub degree : ℕ → ℕ
   pub target : ℕ → ℕ → Option ℕ
 
--- a place of v has the target w
+-- a slot of v has the target w
 pub record Link (g : Digraph) (v w : ℕ) : Type 0 where
   pub from : v < g.count
   pub place : ℕ
   pub at : place < g.degree v
   pub target : g.target v place ≡ Some w
 
--- each link leads to a vertex
+-- each link leads to a vertex of the graph
 abbrev pub IsWithin : Digraph → Type 0
 IsWithin g = (v w : ℕ) → Link g v w → w < g.count
 
--- a way of at least one step of R from one number to another
+-- a way: one or more steps of R, from one number to another
 pub data Way (R : ℕ → ℕ → Type 0) : ℕ → ℕ → Type 0 where
   last : {i j : ℕ} → R i j → Way R i j
   next : {i j k : ℕ} → R i j → Way R j k → Way R i k
@@ -27,6 +27,6 @@ pub data Way (R : ℕ → ℕ → Type 0) : ℕ → ℕ → Type 0 where
 abbrev pub SameOrWay : Digraph → ℕ → ℕ → Type 0
 SameOrWay g v w = (v ≡ w) ⊎ Way (Link g) v w
 
--- one of these vertices is w, or leads to it
+-- w is a vertex of the list, or is reachable from a vertex of the list
 abbrev pub IsReached : Digraph → List ℕ → ℕ → Type 0
 IsReached g from w = (i v : ℕ) × (slice_get from i ≡ Some v) × SameOrWay g v w

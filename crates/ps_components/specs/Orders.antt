@@ -1,28 +1,28 @@
--- Orders of numbers along a relation, and vertices with a link into their own component.
+-- Orders of numbers that respect a relation, and vertices with a link into their own component.
 use Rattle.std.specs.Prelude.{◌≡◌, ℕ, ◌<◌, ◌≤◌, List, slice_get, Some}
 use Rattle.ps_components.specs.Graphs.{Digraph, Link, Way}
 use Rattle.ps_components.specs.ComponentLists.{ComponentsData, IsIn}
 use Rattle.ps_components.specs.declared.arranging.Arrangement.{Arrangement}
 use Rattle.ps_components.specs.declared.arranging.Arrangement.TheVariants.{Order, Cyclic}
 
--- the list has each number below n once, each after all those to which R leads it
+-- the list has each number less than n once, after all numbers to which R leads from it
 pub record IsOrder (R : ℕ → ℕ → Type 0) (n : ℕ) (order : List ℕ) : Type 0 where
   pub within : (k i : ℕ) → slice_get order k ≡ Some i → i < n
   pub once : (k l i : ℕ) → slice_get order k ≡ Some i → slice_get order l ≡ Some i → k ≡ l
   pub each : (i : ℕ) → i < n → (k : ℕ) × (slice_get order k ≡ Some i)
   pub behind : (k l i j : ℕ) → slice_get order k ≡ Some i → slice_get order l ≡ Some j → R i j → l < k
 
--- i is the least number that leads back to itself
+-- i is the smallest number that leads back to itself
 pub record IsFirstOnCycle (R : ℕ → ℕ → Type 0) (i : ℕ) : Type 0 where
   pub cyclic : Way R i i
   pub first : (j : ℕ) → Way R j j → i ≤ j
 
--- an order if no vertex leads back to itself, and else the first vertex that does
+-- an order if no vertex leads back to itself, and otherwise the first vertex that does
 abbrev pub IsArrangement : Digraph → Arrangement → Type 0
 IsArrangement g (Order order) = IsOrder (Link g) g.count order.items × ((i : ℕ) → ¬ Way (Link g) i i)
 IsArrangement g (Cyclic i) = IsFirstOnCycle (Link g) i
 
--- a link of the vertex leads into its own component
+-- the vertex i has a link into its own component
 pub record IsKnot (g : Digraph) (c : ComponentsData) (i : ℕ) : Type 0 where
   pub to : ℕ
   pub link : Link g i to

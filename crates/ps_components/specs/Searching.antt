@@ -6,16 +6,16 @@ use Rattle.ps_components.specs.declared.marks.Mark.{Mark}
 use Rattle.ps_components.specs.declared.marks.Mark.TheVariants.{Unseen, Active, Closed}
 use Rattle.ps_components.specs.declared.search.Pending.{Pending}
 
--- each bound up to p is a bound up to q
+-- each bound that is at most p is also at most q
 abbrev pub NoLater : List ℕ → ℕ → ℕ → Type 0
 NoLater bounds p q = (k b : ℕ) → slice_get bounds k ≡ Some b → b ≤ p → b ≤ q
 
--- the target w of a link of the active place p is closed, or active in the same segment or a later one
+-- the target w of a link from index p of the path is closed, or it is on the path in the same segment or a later one
 pub data IsSettled (marks : List Mark) (bounds : List ℕ) (p w : ℕ) : Type 0 where
   closed : (k : ℕ) → slice_get marks w ≡ Some (Closed k) → IsSettled marks bounds p w
   active : (q : ℕ) → slice_get marks w ≡ Some (Active q) → NoLater bounds p q → IsSettled marks bounds p w
 
--- the link of the active place p to w is pending
+-- the link from index p of the path to w is pending
 pub record IsPending (pending : List Pending) (p w : ℕ) : Type 0 where
   pub at : ℕ
   pub step : Pending
@@ -23,8 +23,9 @@ pub record IsPending (pending : List Pending) (p w : ℕ) : Type 0 where
   pub from_is : step.from ≡ p
   pub to_is : step.to ≡ w
 
--- the active places form segments, each beginning at a bound; the items of a segment lead to one another and to those
--- of later segments; closed items are in order, and lead to what was closed before or with them
+-- the path consists of segments, each of which begins at a bound. The items of a segment can reach one another and the
+-- items of later segments. The closed items are in the order, and their links lead to items that were closed earlier or
+-- in the same component
 pub record IsSoundSearch (g : Digraph) (marks : List Mark) (active bounds : List ℕ) (pending : List Pending)
     (order : List ℕ) : Type 0 where
   pub within : IsWithin g
@@ -55,55 +56,55 @@ pub record IsSoundSearch (g : Digraph) (marks : List Mark) (active bounds : List
       slice_get marks v ≡ Some (Closed k) → slice_get marks w ≡ Some (Closed m) → k ≤ m
   pub once : (i j v : ℕ) → slice_get order i ≡ Some v → slice_get order j ≡ Some v → i ≡ j
 
--- the lists would be sound if some more links were pending after the others, and all lead to the item
+-- the lists would satisfy the invariant if some more links, which all lead to `item`, were pending after the others
 pub record IsSoundBut (g : Digraph) (item : ℕ) (marks : List Mark) (active bounds : List ℕ) (pending : List Pending)
     (order : List ℕ) : Type 0 where
   pub skipped : List Pending
   pub lead : (i : ℕ) (e : Pending) → slice_get skipped i ≡ Some e → e.to ≡ item
   pub sound : IsSoundSearch g marks active bounds (pending ++ skipped) order
 
--- what is marked is in the order, whose items have marks
+-- each marked item is in the order, and each item of the order is in the list of marks
 pub record AreListed (marks : List Mark) (order : List ℕ) : Type 0 where
   pub within : (i v : ℕ) → slice_get order i ≡ Some v → v < length marks
   pub listed : (v : ℕ) (m : Mark) → slice_get marks v ≡ Some m →
       (m ≡ Unseen) ⊎ ((i : ℕ) × (slice_get order i ≡ Some v))
 
--- the roots were seen; each closed item is a root, or is reached from one
+-- the roots were seen, and each closed item is a root or is reachable from a root
 pub record HasMet (g : Digraph) (roots : List ℕ) (marks : List Mark) : Type 0 where
   pub seen : (i v : ℕ) → slice_get roots i ≡ Some v → ¬ (slice_get marks v ≡ Some Unseen)
   pub reached : (v k : ℕ) → slice_get marks v ≡ Some (Closed k) → IsReached g roots v
 
--- the mark changed only for vertices to which these lists lead
+-- only the marks of vertices that are reachable from the list `from` have changed
 abbrev pub ChangesReached : Digraph → List ℕ → List Mark → List Mark → Type 0
 ChangesReached g from old new = (v : ℕ) → (slice_get new v ≡ slice_get old v) ⊎ IsReached g from v
 
--- the ascending list up to place, and nothing of it after that
+-- `fewer` has the bounds that are at most `place`, and no others
 pub record IsCut (bounds : List ℕ) (place : ℕ) (fewer : List ℕ) : Type 0 where
   pub part : (k b : ℕ) → slice_get fewer k ≡ Some b → slice_get bounds k ≡ Some b
   pub kept : (k b : ℕ) → slice_get bounds k ≡ Some b → b ≤ place → slice_get fewer k ≡ Some b
   pub below : (k b : ℕ) → slice_get fewer k ≡ Some b → b ≤ place
   pub shorter : length fewer ≤ length bounds
 
--- the marks, with each item of the list closed in the component k
+-- the marks after each item of the list is closed in the component k
 abbrev pub close_all : List Mark → List ℕ → ℕ → List Mark
 close_all marks [] k = marks
 close_all marks (v ∷ vs) k = close_all (slice_set marks v (Closed k)) vs k
 
--- what is marked stays marked
+-- each marked item stays marked
 abbrev pub KeepsMarks : List Mark → List Mark → Type 0
 KeepsMarks old new = (v : ℕ) → slice_get new v ≡ Some Unseen → slice_get old v ≡ Some Unseen
 
--- what is pending for one place of an item that was put at place p of the path
+-- the pending link for one slot of an item at index p of the path, if the slot has a target
 abbrev pub wait_of : ℕ → Option ℕ → List Pending
 wait_of p None = []
 wait_of p (Some to) = record { from = p; to = to } ∷ []
 
--- what is pending for the first n places of the item
+-- the pending links for the first n slots of the item
 abbrev pub waits : Digraph → ℕ → ℕ → ℕ → List Pending
 waits g p item zero = []
 waits g p item (suc n) = waits g p item n ++ wait_of p (g.target item n)
 
--- a bound on the turns that are left
+-- a bound on the number of remaining turns of the search
 abbrev pub turns_of : Digraph → ℕ → Mark → ℕ
 turns_of g item Unseen = g.degree item + 2
 turns_of g item (Active _) = 0

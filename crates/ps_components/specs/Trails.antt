@@ -2,7 +2,8 @@
 use Rattle.std.specs.Prelude.{◌≡◌, ℕ, ◌+◌, ◌-◌, List, length, slice_get, Some}
 use Rattle.ps_components.specs.Graphs.{Digraph, Link}
 
--- a list of different vertices, from this one to that one, each linked to by the next one
+-- a list of distinct vertices from `end` to `start`, in which each vertex after the first has a link to the vertex
+-- before it
 pub record IsTrail (g : Digraph) (items : List ℕ) (end start : ℕ) : Type 0 where
   pub first : slice_get items 0 ≡ Some end
   pub last : slice_get items (length items - 1) ≡ Some start

@@ -1,4 +1,4 @@
-//! Orders of vertices in which each comes after those to which it has a link.
+//! Orders of vertices in which each vertex follows all vertices to which it has a link.
 
 ghost use Rattle.std.specs.Prelude.{◌≡◌, ℕ, ◌<◌, ◌↔◌, IfOk, IfSome, IfNone, IsTrue};
 ghost use Rattle.ps_components.specs.ComponentLists.{AreComponents, AreAllMet};
@@ -8,13 +8,12 @@ use crate::components::{Components, components_of};
 use crate::graph::Graph;
 use std::alloc::{AllocError, Global};
 
-/// An order in which each vertex comes after those to which it has a link, or the first vertex that leads back to
-/// itself.
+/// An order in which each vertex follows all vertices to which it has a link, or the first vertex on a cycle.
 #[derive(Drop)]
 pub enum Arrangement {
-    /// The vertices in such an order.
+    /// The vertices, each after all vertices to which it has a link.
     Order(Vec<usize>),
-    /// The first vertex with a link into its own component.
+    /// The first vertex on a cycle, which is the first with a link into its own component.
     Cyclic(usize),
 }
 

@@ -1,4 +1,4 @@
-//! Components by their numbers.
+//! The components of a graph, and their numbers.
 
 ghost use Rattle.std.specs.Prelude.{◌≡◌, ◌<◌, [], length, slice_get, Some, IfOk, OnOk, OnErr, All};
 ghost use Rattle.ps_components.specs.ComponentLists.{AreComponents, AreMet, AreAllMet};
@@ -9,8 +9,8 @@ use crate::search::Search;
 use std::alloc::{AllocError, Global};
 use std::marker::Model;
 
-/// The components of the vertices of a graph that were met. A component's number is the place where it begins in the
-/// order. One value can serve one graph after another: its memory stays.
+/// The components of the visited vertices of a graph. The number of a component is the index at which the component
+/// begins in the order. One value can be used for several graphs in turn, and keeps its memory.
 #[derive(Drop)]
 pub struct Components {
     search: Search,
@@ -32,7 +32,7 @@ impl Model for Components {
 }
 
 impl Components {
-    /// None, of no graph.
+    /// The components of the empty graph, which has none.
     pub fn new(alloc: Global) -> Self
         ensures numbers { result.numbers ≡ [] }
         ensures order { result.order ≡ [] }
@@ -42,8 +42,9 @@ impl Components {
         }
     }
 
-    /// Replaces the components by those of the roots, and of all vertices to which they lead. The old ones are
-    /// forgotten in the time that it took to list them. Fails if out of memory; then there are none.
+    /// Replaces the components by those of the roots and of all vertices reachable from them. Forgetting the old
+    /// components takes time proportional to the number of their vertices. Fails if out of memory; then there are no
+    /// components.
     pub fn renew<G: Graph>(&mut self, graph: &G, roots: &[usize]) -> Result<(), AllocError>
         requires { All (λ v. v < (G.graph graph.now).count) roots.now }
         ensures components { OnOk result (AreComponents (G.graph graph.now) self.new) }
@@ -59,7 +60,7 @@ impl Components {
         }
     }
 
-    /// The number of a vertex's component, if the vertex was met.
+    /// The number of a vertex's component, or `None` if the vertex was not visited.
     pub fn number(&self, item: usize) -> Option<usize>
         requires { item < length self.now.numbers }
         ensures { slice_get self.now.numbers item ≡ Some result }
@@ -70,14 +71,14 @@ impl Components {
         }
     }
 
-    /// The vertices that were met, component by component, each after those to which it leads outside its component.
+    /// The visited vertices, component by component. Each component follows all other components to which it has links.
     pub fn order(&self) -> &[usize]
         ensures { result.now ≡ self.now.order }
     {
         &self.search.order
     }
 
-    /// Only that order.
+    /// The order of the visited vertices, without the numbers.
     pub fn into_order(self) -> Vec<usize>
         ensures { result.items ≡ self.order }
     {
@@ -97,7 +98,7 @@ pub fn components_of<G: Graph>(alloc: Global, graph: &G) -> Result<Components, A
     Ok(Components { search })
 }
 
-/// The components of the roots, and of all vertices to which they lead. Fails if out of memory.
+/// The components of the roots and of all vertices reachable from them. Fails if out of memory.
 pub fn components_from<G: Graph>(
     alloc: Global,
     graph: &G,

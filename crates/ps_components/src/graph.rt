@@ -3,23 +3,23 @@
 ghost use Rattle.std.specs.Prelude.{◌≡◌, ◌<◌, IfSome};
 ghost use Rattle.ps_components.specs.Graphs.{Digraph, IsWithin};
 
-/// A directed graph whose vertices are numbered from 0. Each vertex has numbered places, and each place has a target or
-/// none.
+/// A directed graph whose vertices are numbered from 0. Each vertex has numbered slots, and each slot has a target or
+/// is empty. A link leads from a vertex to the target of one of its slots.
 pub trait Graph {
-    /// The graph that the value stands for.
+    /// The graph that the value represents.
     ghost graph: { Self → Digraph };
 
-    /// How many vertices there are.
+    /// The number of vertices.
     fn count(&self) -> usize
         ensures count { result ≡ (graph self.now).count }
         ensures within { IsWithin (graph self.now) };
 
-    /// How many places a vertex has.
+    /// The number of slots of a vertex.
     fn degree(&self, item: usize) -> usize
         requires { item < (graph self.now).count }
         ensures { result ≡ (graph self.now).degree item };
 
-    /// The vertex to which a place leads.
+    /// The target of a slot, or `None` if the slot is empty.
     fn target(&self, item: usize, place: usize) -> Option<usize>
         requires item { item < (graph self.now).count }
         requires place { place < (graph self.now).degree item }

@@ -1,20 +1,20 @@
-//! The strong components of a directed graph of numbered vertices, in an order in which links lead back, and trails
-//! through the graph.
+//! The strongly connected components of a directed graph of numbered vertices, ordered so that each link leads to the
+//! same or an earlier component, and trails through the graph.
 //!
-//! The caller gives the graph as an `impl Graph`. Gabow's algorithm finds the components along one path, with a list of
-//! pending links instead of recursion: no function calls itself. Time and memory are proportional to the vertices and
-//! links that are met.
+//! The caller supplies the graph as an `impl Graph`. Gabow's algorithm finds the components along a single path, with a
+//! list of pending links instead of recursion, so no function calls itself. Time and memory are proportional to the
+//! numbers of vertices and links that are visited.
 //!
 //! | Call | What it gives |
 //! |---|---|
-//! | `components_of(graph)` | the components of all vertices; each comes after those to which it leads |
-//! | `components_from(graph, roots)` | those of exactly the roots and the vertices to which they lead |
-//! | `Components::renew(graph, roots)` | as `components_from`, in the memory of components that are no longer needed |
-//! | `Components::number`, `order`, `into_order` | a vertex's component, by where it begins in the order; that order |
-//! | `arrange(graph)` | each vertex after those to which it has a link, or the first vertex on a cycle |
+//! | `components_of(graph)` | the components of all vertices; each follows the components to which it has links |
+//! | `components_from(graph, roots)` | the components of exactly the roots and the vertices reachable from them |
+//! | `Components::renew(graph, roots)` | like `components_from`, but reuses the memory of old components |
+//! | `Components::number`, `order`, `into_order` | the number of a vertex's component; the order of the vertices |
+//! | `arrange(graph)` | an order in which each vertex follows its targets, or the first vertex on a cycle |
 //! | `way_back(graph, start, end)` | a trail from the end of a way back to its start, or none if there is no way |
 //!
-//! The vertices of a component lead to one another. No clause says that a trail is a shortest one.
+//! Each vertex of a component can reach all others of the component. No clause states that a trail is a shortest one.
 #![tactic(auto)]
 
 mod arranging;

@@ -1,4 +1,4 @@
-//! What a search knows about each item.
+//! The marks of a search, which record the state of each item.
 
 ghost use Rattle.std.specs.Prelude.{◌≡◌, ◌+◌, ◌-◌, ◌<◌, ◌^◌, ◌++◌, [], length, replicate, slice_get, slice_set, take};
 ghost use Rattle.std.specs.Prelude.{Some, IfOk, OnOk, OnErr, map};
@@ -8,26 +8,26 @@ ghost use Rattle.ps_components.specs.Codes.{mark_of, narrow_mark_of};
 use std::alloc::{AllocError, Global};
 use std::marker::Model;
 
-/// What the search knows about an item.
+/// The state of an item in the search.
 #[derive(Clone, Copy)]
 pub enum Mark {
-    /// Not met yet.
+    /// Not visited yet.
     Unseen,
-    /// On the path, at this place.
+    /// On the path, with its index.
     Active(usize),
-    /// Finished, in the component with this number.
+    /// Finished, with the number of its component.
     Closed(usize),
 }
 
-/// The greatest code of a closed item at 8 bytes.
+/// The largest 8-byte code of a closed item.
 const LAST_CLOSED: usize = 1 << 63;
 
-/// The greatest code of a closed item at 4 bytes.
+/// The largest 4-byte code of a closed item.
 const LAST_NARROW: usize = 1 << 31;
 
-/// A mark for each item, as a code: 0 if it is unseen, then the numbers of components plus one, and after them the
-/// places on the path. The codes take 4 bytes each as long as numbers and places are less than 2^31 - 1, and 8 from
-/// then on. Calls fail if out of memory; then nothing changes.
+/// A mark for each item, stored as a code. The code 0 means unseen. The next codes are numbers of components plus one,
+/// and the largest codes are indices on the path. A code takes 4 bytes until an index of 2^31 - 1 or a number of 2^31
+/// has to be stored, and 8 bytes from then on. A call fails if out of memory; then nothing changes.
 #[derive(Drop)]
 pub struct Marks {
     alloc: Global,
@@ -47,7 +47,7 @@ impl Model for Marks {
 }
 
 impl Marks {
-    /// The marks of no items.
+    /// An empty list of marks.
     pub fn new(alloc: Global) -> Self
         ensures { result ≡ [] }
     {
@@ -85,7 +85,7 @@ impl Marks {
         }
     }
 
-    /// Makes an item unseen.
+    /// Marks an item as unseen.
     #[inline(always)]
     pub fn clear_at(&mut self, item: usize)
         requires { item < length self.old }
@@ -98,7 +98,7 @@ impl Marks {
         }
     }
 
-    /// Puts an item on the path, at this place.
+    /// Marks an item as active, at index `place` of the path.
     pub fn put(&mut self, item: usize, place: usize) -> Result<(), AllocError>
         requires item { item < length self.old }
         requires place { place + 1 < 2 ^ 63 }
@@ -120,7 +120,7 @@ impl Marks {
         Ok(())
     }
 
-    /// Closes an item, in the component with this number.
+    /// Marks an item as closed, in the component with the given number.
     pub fn close(&mut self, item: usize, number: usize) -> Result<(), AllocError>
         requires item { item < length self.old }
         requires number { number < 2 ^ 63 }
@@ -142,7 +142,7 @@ impl Marks {
         Ok(())
     }
 
-    /// Keeps the marks of the first `count` items; new items are unseen.
+    /// Keeps the marks of the first `count` items. Additional items are unseen.
     pub fn resize(&mut self, count: usize) -> Result<(), AllocError>
         ensures { OnOk result (self.new ≡ take count self.old ++ replicate (count - length self.old) Unseen) }
     {
@@ -153,7 +153,7 @@ impl Marks {
         }
     }
 
-    /// Forgets all items.
+    /// Removes all marks.
     pub fn clear(&mut self)
         ensures { self.new ≡ [] }
     {
@@ -162,7 +162,7 @@ impl Marks {
     }
 }
 
-/// The same codes at 8 bytes each.
+/// The marks of the same items in 8-byte codes. Fails if out of memory.
 #[inline(never)]
 fn widened(alloc: Global, narrow: &[u32]) -> Result<Vec<usize>, AllocError>
     ensures { IfOk result (λ wide. map mark_of wide.items ≡ map narrow_mark_of narrow.now) }
@@ -174,7 +174,7 @@ fn widened(alloc: Global, narrow: &[u32]) -> Result<Vec<usize>, AllocError>
     Ok(wide)
 }
 
-/// The code at 8 bytes of what a code at 4 bytes stands for.
+/// The 8-byte code of the mark that a 4-byte code represents.
 fn wide_code(code: usize) -> usize
     requires { code < 2 ^ 32 }
     ensures { mark_of result ≡ narrow_mark_of code }
@@ -186,7 +186,7 @@ fn wide_code(code: usize) -> usize
     }
 }
 
-/// The mark that a code at 8 bytes stands for.
+/// The mark that an 8-byte code represents.
 #[inline(always)]
 fn mark_of(code: usize) -> Mark
     ensures { result ≡ mark_of code }
@@ -200,7 +200,7 @@ fn mark_of(code: usize) -> Mark
     }
 }
 
-/// The mark that a code at 4 bytes stands for.
+/// The mark that a 4-byte code represents.
 #[inline(always)]
 fn narrow_mark_of(code: usize) -> Mark
     ensures { result ≡ narrow_mark_of code }

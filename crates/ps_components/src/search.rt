@@ -1,5 +1,5 @@
-//! The search for components along one path, as Gabow does it. Items are put at the end of the path. If a link leads
-//! back into the path, all components from there on become one.
+//! The search for components along one path, by Gabow's algorithm. New items are appended to the path. If a link leads
+//! back into the path, the component of its target and all later components of the path are merged.
 
 ghost use Rattle.std.specs.Prelude.{◌≡◌, ℕ, ◌<◌, ◌≤◌, ◌++◌, ◌∷◌, [], ◌-◌, All, length, slice_get, slice_set, Some};
 ghost use Rattle.std.specs.Prelude.{OnOk, IfOk, ◌^◌};
@@ -12,27 +12,27 @@ use crate::graph::Graph;
 use crate::marks::{Mark, Marks};
 use std::alloc::{AllocError, Global};
 
-/// A link that is still to be followed, from a place of the path.
+/// A link that is still to be followed, from the item at index `from` of the path.
 #[derive(Clone, Copy)]
 pub struct Pending {
     from: usize,
     to: usize,
 }
 
-/// A path of components, each of items that lead to one another. The items of each component begin at its bound.
+/// A path of components. The items of a component can reach one another, and they begin at the bound of the component.
 #[derive(Drop)]
 pub struct Search {
-    /// What is known about each item.
+    /// The state of each item.
     pub marks: Marks,
     active: Vec<usize>,
     bounds: Vec<usize>,
     pending: Vec<Pending>,
-    /// The items that are finished, component by component.
+    /// The finished items, component by component.
     pub order: Vec<usize>,
 }
 
 impl Search {
-    /// A search that has seen nothing. Fails if out of memory.
+    /// A search that has visited no vertex. Fails if out of memory.
     pub fn new<G: Graph>(alloc: Global, graph: &G) -> Result<Self, AllocError>
         ensures sound { IfOk result (λ s. IsSoundSearch (G.graph graph.now) s.marks s.active.items s.bounds.items
             s.pending.items s.order.items) }
@@ -48,7 +48,7 @@ impl Search {
         })
     }
 
-    /// A search of no graph.
+    /// A search of the empty graph.
     pub fn empty(alloc: Global) -> Self
         ensures marks { result.marks ≡ [] }
         ensures order { result.order.items ≡ [] }
@@ -62,7 +62,7 @@ impl Search {
         }
     }
 
-    /// Forgets the graph, and keeps the memory.
+    /// Forgets the graph, but keeps the memory.
     pub fn forget(&mut self)
         ensures marks { self.new.marks ≡ [] }
         ensures order { self.new.order.items ≡ [] }
@@ -71,7 +71,7 @@ impl Search {
         self.order.clear();
     }
 
-    /// Forgets what was seen, and visits everything to which the roots lead.
+    /// Starts anew, and visits the roots and all vertices reachable from them. Fails if out of memory.
     pub fn again<G: Graph>(&mut self, graph: &G, roots: &[usize]) -> Result<(), AllocError>
         requires listed { AreListed self.old.marks self.old.order.items }
         requires within { All (λ v. v < (G.graph graph.now).count) roots.now }
@@ -84,7 +84,7 @@ impl Search {
         self.visit_each(graph, roots)
     }
 
-    /// Forgets what was seen, all of which is listed, and prepares for a graph.
+    /// Resets the marks of all marked items, which `order` lists, and prepares for a graph. Fails if out of memory.
     fn renew<G: Graph>(&mut self, graph: &G) -> Result<(), AllocError>
         requires { AreListed self.old.marks self.old.order.items }
         ensures sound { OnOk result (IsSoundSearch (G.graph graph.now) self.new.marks self.new.active.items
@@ -101,7 +101,7 @@ impl Search {
         Ok(())
     }
 
-    /// Visits everything to which the roots lead.
+    /// Visits the roots and all vertices reachable from them. Fails if out of memory.
     fn visit_each<G: Graph>(&mut self, graph: &G, roots: &[usize]) -> Result<(), AllocError>
         requires within { All (λ v. v < (G.graph graph.now).count) roots.now }
         requires sound { IsSoundSearch (G.graph graph.now) self.old.marks self.old.active.items
@@ -119,7 +119,7 @@ impl Search {
         Ok(())
     }
 
-    /// Visits everything to which an item leads, unless it was seen.
+    /// Visits an item and all items reachable from it, unless the item was seen before. Fails if out of memory.
     pub fn visit<G: Graph>(&mut self, graph: &G, item: usize) -> Result<(), AllocError>
         requires within { item < (G.graph graph.now).count }
         requires sound { IsSoundSearch (G.graph graph.now) self.old.marks self.old.active.items
@@ -140,7 +140,7 @@ impl Search {
         Ok(())
     }
 
-    /// Follows all links to which the path leads.
+    /// Visits all items reachable from the path. Fails if out of memory.
     fn run<G: Graph>(&mut self, graph: &G) -> Result<(), AllocError>
         requires { IsSoundSearch (G.graph graph.now) self.old.marks self.old.active.items self.old.bounds.items
             self.old.pending.items self.old.order.items }
@@ -157,7 +157,8 @@ impl Search {
         Ok(())
     }
 
-    /// Follows the last pending link if it belongs to the last segment; otherwise closes that segment.
+    /// Follows the last pending link if it belongs to the last segment; otherwise closes this segment. Fails if out of
+    /// memory.
     fn step<G: Graph>(&mut self, graph: &G, bound: usize) -> Result<(), AllocError>
         requires last { slice_get self.old.bounds.items (length self.old.bounds.items - 1) ≡ Some bound }
         requires sound { IsSoundSearch (G.graph graph.now) self.old.marks self.old.active.items
@@ -188,7 +189,7 @@ impl Search {
         Ok(())
     }
 
-    /// Takes off the last pending link, and puts the unseen item to which it leads at the end of the path.
+    /// Removes the last pending link, and appends its unseen target to the path. Fails if out of memory.
     fn follow<G: Graph>(&mut self, graph: &G, pending: Pending) -> Result<(), AllocError>
         requires last { slice_get self.old.pending.items (length self.old.pending.items - 1) ≡ Some pending }
         requires within { pending.to < (G.graph graph.now).count }
@@ -210,7 +211,7 @@ impl Search {
         self.enter(graph, pending.to)
     }
 
-    /// Puts an unseen item, to which all of the path leads, at the end of the path.
+    /// Appends an unseen item, which all items of the path can reach, to the path. Fails if out of memory.
     fn enter<G: Graph>(&mut self, graph: &G, item: usize) -> Result<(), AllocError>
         requires within { item < (G.graph graph.now).count }
         requires unseen { slice_get self.old.marks item ≡ Some Mark.Unseen }
@@ -236,7 +237,8 @@ impl Search {
         Ok(())
     }
 
-    /// Joins the last segment with those after the place of an item to which it has a link.
+    /// Merges the last segment, which has a link to the item at index `place`, with all segments back to the segment of
+    /// that item.
     fn merge<G: Graph>(&mut self, graph: &G, pending: Pending, place: usize)
         requires within { pending.to < length self.old.marks }
         requires linked { (v : ℕ) × (slice_get self.old.active.items pending.from ≡ Some v) ×
@@ -255,7 +257,7 @@ impl Search {
         cut(&mut self.bounds, place);
     }
 
-    /// Takes off the last pending link, which leads to a finished item.
+    /// Removes the last pending link, whose target is settled.
     fn take<G: Graph>(&mut self, graph: &G, pending: Pending)
         requires last { slice_get self.old.pending.items (length self.old.pending.items - 1) ≡ Some pending }
         requires settled { IsSettled self.old.marks self.old.bounds.items pending.from pending.to }
@@ -270,7 +272,7 @@ impl Search {
         self.pending.pop();
     }
 
-    /// Closes the last segment, which begins at this bound.
+    /// Closes the last segment, which begins at the given bound. Fails if out of memory.
     fn close<G: Graph>(&mut self, graph: &G, bound: usize) -> Result<(), AllocError>
         requires last { slice_get self.old.bounds.items (length self.old.bounds.items - 1) ≡ Some bound }
         requires done { (i : ℕ) (e : Pending) → slice_get self.old.pending.items i ≡ Some e → e.from < bound }
@@ -295,7 +297,7 @@ impl Search {
     }
 }
 
-/// Makes each link of an item pending; the item is at this place of the path.
+/// Makes all links of an item pending. The item is at index `from` of the path. Fails if out of memory.
 fn wait<G: Graph>(
     pending: &mut Vec<Pending>,
     graph: &G,
@@ -314,7 +316,7 @@ fn wait<G: Graph>(
     Ok(())
 }
 
-/// Drops the bounds after this place.
+/// Drops the bounds that are greater than an index.
 fn cut(bounds: &mut Vec<usize>, place: usize)
     requires rise { (i j b c : ℕ) → slice_get bounds.old.items i ≡ Some b → slice_get bounds.old.items j ≡ Some c →
         i < j → b < c }
@@ -328,7 +330,7 @@ fn cut(bounds: &mut Vec<usize>, place: usize)
     }
 }
 
-/// Makes all marked items unseen; `items` lists them.
+/// Resets the marks of all marked items, which `items` lists, to unseen.
 fn unmark(marks: &mut Marks, items: &[usize])
     requires { AreListed marks.old items.now }
     ensures { All (λ m. m ≡ Mark.Unseen) marks.new }
@@ -338,7 +340,7 @@ fn unmark(marks: &mut Marks, items: &[usize])
     }
 }
 
-/// Closes these items, in the component with this number.
+/// Closes the given items, in the component with the given number. Fails if out of memory.
 fn close_items(marks: &mut Marks, items: &[usize], number: usize) -> Result<(), AllocError>
     requires within { (k v : ℕ) → slice_get items.now k ≡ Some v → v < length marks.old }
     requires number { number < 2 ^ 63 }

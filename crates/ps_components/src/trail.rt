@@ -1,4 +1,4 @@
-//! Trails from one vertex back to another, found breadth first.
+//! Trails from one vertex back to another, found by breadth-first search.
 
 ghost use Rattle.std.specs.Prelude.{◌≡◌, ℕ, ◌+◌, ◌<◌, ◌≤◌, length, slice_get, true, Some, OnOk, IfOk, IfSome, IfNone};
 ghost use Rattle.ps_components.specs.Graphs.{SameOrWay, Link};
@@ -9,7 +9,7 @@ ghost use Rattle.ps_components.specs.declared.trail.Step.{Step};
 use crate::graph::Graph;
 use std::alloc::{AllocError, Global};
 
-/// A vertex that was reached, and the place of the step from which it was reached.
+/// A vertex that was reached, and the index of the step from which it was reached.
 #[derive(Clone, Copy)]
 pub struct Step {
     item: usize,
@@ -23,8 +23,8 @@ struct Spread {
     steps: Vec<Step>,
 }
 
-/// A trail from the end of a way back to its start, each vertex once, if there is a way from the start to the end.
-/// Fails if out of memory.
+/// A trail from the end of a way back to its start, on which each vertex occurs once. `None` if there is no way from
+/// the start to the end. Fails if out of memory.
 pub fn way_back<G: Graph>(
     alloc: Global,
     graph: &G,
@@ -49,7 +49,7 @@ pub fn way_back<G: Graph>(
 }
 
 impl Spread {
-    /// Only the start.
+    /// The start of a search, at which only the vertex `start` is reached. Fails if out of memory.
     fn new<G: Graph>(alloc: Global, graph: &G, start: usize) -> Result<Self, AllocError>
         requires { start < (G.graph graph.now).count }
         ensures spread { IfOk result (λ s. IsSpread (G.graph graph.now) s.seen.items s.steps.items 0) }
@@ -65,7 +65,7 @@ impl Spread {
         Ok(Spread { seen, steps })
     }
 
-    /// Reaches each vertex to which the vertex at a place has a link.
+    /// Reaches each vertex to which the vertex of step `place` has a link. Fails if out of memory.
     fn reach_from<G: Graph>(&mut self, graph: &G, place: usize) -> Result<(), AllocError>
         requires place { place < length self.old.steps.items }
         requires spread { IsSpread (G.graph graph.now) self.old.seen.items self.old.steps.items place }
@@ -84,7 +84,7 @@ impl Spread {
         Ok(())
     }
 
-    /// Reaches a vertex from a place, unless it was reached before.
+    /// Reaches a vertex from step `place`, unless it was reached before. Fails if out of memory.
     fn reach<G: Graph>(&mut self, graph: &G, to: usize, place: usize) -> Result<(), AllocError>
         requires to { to < length self.old.seen.items }
         requires linked { (s : Step) × (slice_get self.old.steps.items place ≡ Some s) ×
@@ -108,7 +108,7 @@ impl Spread {
     }
 }
 
-/// The items from a step back to the first one.
+/// The items from a step back to the first step. Fails if out of memory.
 fn trail_from<G: Graph>(
     alloc: Global,
     graph: &G,

@@ -1,4 +1,4 @@
--- Games in four arrays: what is read from arrays that represent a game, and that they do represent it.
+-- Games in four arrays: what can be read from arrays that represent a game, and a proof that they represent it.
 use Rattle.std.proofs.Common.{◌≡◌, ℕ, ◌+◌, ◌-◌, ◌^◌, ◌<◌, ◌≤◌, List, [], ◌∷◌, ◌++◌, length, get_or, take, rules}
 use Rattle.std.proofs.Common.{drop, length-append, take-append-drop, append-nil, refl, sym, ap, ◌∙◌, arith}
 use Rattle.std.specs.List.{All, flat_map, slice_range}
@@ -17,12 +17,12 @@ use Rattle.ps_game.proofs.SubgameFacts.{edge_at}
 
 -- ---- consecutive pieces
 
--- a piece ends where the next one begins
+-- a piece ends where the next piece begins
 pub piece_ends : {X A : Type 0} (f : X → List A) (xs : List X) (i : ℕ) (d : X) → i < length xs →
     length (flat_map f (take (i + 1) xs)) ≡ length (flat_map f (take i xs)) + length (f (get_or xs i d))
 piece_ends f xs i d lt = rw (take_more xs i d lt, flat_map-append f, append-nil (f (get_or xs i d)), length-append)
 
--- what lies between the beginning of a piece and that of the next one
+-- a piece consists of the entries from its start up to the start of the next piece
 piece_at : {X A : Type 0} (f : X → List A) (xs : List X) (i : ℕ) (d : X) → i < length xs →
     slice_range (flat_map f xs) (length (flat_map f (take i xs))) (length (flat_map f (take (i + 1) xs))) ≡
     f (get_or xs i d)
@@ -34,7 +34,7 @@ piece_at f xs i d lt =
     ∙ flat_map-append f (take i xs) (drop i xs) ∙ ap (λ ys. before ++ flat_map f ys) (drop_more xs i d lt) in
     grind (arith, piece_ends, drop_at, take_at)
 
--- those before a vertex are at most all
+-- the vertices before v have at most as many successors as all vertices together
 pub front_within : (game : ParityGame) (v : ℕ) → length (all_successors (take v game)) ≤ length (all_successors game)
 front_within game v =
     let f : VertexData → List ℕ = λ d. d.successors in
@@ -45,9 +45,9 @@ front_within game v =
       length-append (flat_map f (take v game)) (flat_map f (drop v game)),
     )
 
--- ---- what is true of each successor
+-- ---- facts about each successor
 
--- the successors of a game's vertices are vertices
+-- each successor of a vertex of a game is a vertex
 none_unknown : (game : ParityGame) → IsGame game → NoneUnknown game
 none_unknown game is_game v lt k d less =
     rw (get_or_default (successors_of game v) k d 0 less) (is_game.within v _ (edge_at game v k lt less))
@@ -58,9 +58,9 @@ All-successors P [] all = λ k d lt. absurd (omega arith)
 All-successors P (v ∷ game) all = All-append P v.successors (all_successors game) (all 0 v (omega arith))
     (All-successors P game (All-tail (λ v. All P v.successors) v game all))
 
--- ---- what arrays tell
+-- ---- the content of the arrays
 
--- what the arrays of a game say of a vertex
+-- the entries of the arrays for the vertex v
 pub record StandsAt (game : ParityGame) (offsets successors owners priorities : List ℕ) (v : ℕ) : Type 0 where
   pub owned : v < length owners
   pub ranked : v < length priorities
@@ -78,7 +78,7 @@ pub successor_is : {game : ParityGame} {offsets successors owners priorities : L
     get_or successors (get_or offsets v 0 + number) 0 ≡ get_or (successors_of game v) number 0
 successor_is {successors = successors} {number = number} at less = search (rules, get_or-take, get_or-drop)
 
--- where the successors of a vertex begin and end
+-- `part` is the range of `successors` from `start` up to `end`
 pub record IsPart (successors : List ℕ) (start end : ℕ) (part : List ℕ) : Type 0 where
   pub rises : start ≤ end
   pub within : end ≤ length successors
@@ -94,7 +94,7 @@ module _ {game : ParityGame} {offsets successors owners priorities : List ℕ}
   unfolding vertex_count
   owners_count is = as_many ∙ ap length is
 
-  -- the arrays tell a game that is the same
+  -- arrays with the content of a game have the correct entries for each of its vertices
   pub stands : {other : ParityGame} → game ≡ other → {v : ℕ} → v < vertex_count other →
       StandsAt other offsets successors owners priorities v
   unfolding vertex_count owner_of priority_of successors_of
@@ -105,7 +105,7 @@ module _ {game : ParityGame} {offsets successors owners priorities : List ℕ}
       let ends = piece_ends (λ (d : VertexData). d.successors) game v no_vertex less in
       grind (arith, front_within, piece_at, as_many, length-map, get_or-map)
 
-  -- the two numbers as they are read
+  -- the range of a vertex's successors, from the two offsets that the code reads
   pub part_read : {other : ParityGame} → game ≡ other → {v start end : ℕ} → v < vertex_count other →
       start ≡ get_or offsets v start → end ≡ get_or offsets (v + 1) end →
       IsPart successors start end (successors_of other v)
@@ -133,12 +133,12 @@ module _ {game : ParityGame} {offsets successors owners priorities : List ℕ}
   pub edges_count : {other : ParityGame} → game ≡ other → length successors ≡ edge_count other
   edges_count is = search (rules, length-flat_map)
 
-  -- if a limit is at least the number of edges, it is at least each offset
+  -- a limit that is at least the number of edges is at least each offset
   pub offsets_fit : {other : ParityGame} {limit : ℕ} → game ≡ other → FitsWithin other limit →
       All (λ n. n ≤ limit) offsets
   offsets_fit is fits k d lt = search (rules, get_or_default, front_within, edges_count)
 
-  -- a limit that holds the number of vertices holds each successor
+  -- a limit that is at least the number of vertices is at least each successor
   pub successors_fit : {other : ParityGame} {limit : ℕ} → game ≡ other → IsGame game → FitsWithin other limit →
       length owners < 2 ^ 64 → All (λ w. w ≤ limit) successors
   unfolding vertex_count successors_of

@@ -1,4 +1,5 @@
--- The priority of a loop is the greatest of its places: it bounds the priority of each, and is the priority of one.
+-- The priority of a loop is the greatest priority of its vertices: no vertex has a greater priority, and some vertex
+-- has this priority.
 use Rattle.std.proofs.Common.{◌≡◌, ℕ, suc, ◌+◌, ◌-◌, ◌<◌, ◌≤◌, inl, inr, List, [], ◌∷◌, length, get_or, map}
 use Rattle.std.proofs.Common.{refl, arith, rules}
 use Rattle.std.specs.Prelude.{slice_range}
@@ -21,7 +22,7 @@ greatest_stands (x ∷ y ∷ ys) some =
       | inr more ↦ (suc behind.0, omega (arith, behind.1), omega (arith, behind.2))
     ]
 
--- the places of a part of a path, and their priorities
+-- the vertices at positions i to j - 1 of a path, and their priorities
 module _ (game : ParityGame) (path : List ℕ) (i j : ℕ) (within : j ≤ length path) where
   places : length (map (priority_of game) (slice_range path i j)) ≡ j - i
   places = search (rules, length-map, length-take-le, length-drop)

@@ -1,4 +1,5 @@
--- A strategy of finite memory is a history table, so it does not win where its histories are beaten.
+-- A finite-memory strategy is also a history table, so it does not win from a vertex where all history tables are
+-- beaten.
 use Rattle.std.proofs.Common.{◌≡◌, ℕ, suc, ◌+◌, ◌-◌, ◌*◌, ◌<◌, List, [], ◌∷◌, length, get_or, take, fold, map}
 use Rattle.std.proofs.Common.{sym, ◌∙◌, arith, rules}
 use Rattle.std.specs.List.{All, range_with_len}
@@ -14,7 +15,7 @@ use Rattle.ps_game.proofs.Repeats.{repeats}
 
 module _ (game : ParityGame) (player : ℕ) (strategy : FiniteMemory) (is_strategy : IsFiniteMemory game player strategy)
   where
-    -- the memory after some vertices
+    -- the memory state after visiting some vertices is less than the size
     after_below : (memory : ℕ) (met : List ℕ) → memory < strategy.size → All (λ v. v < vertex_count game) met →
         fold strategy.update memory met < strategy.size
     after_below memory [] below all = below
@@ -27,7 +28,7 @@ module _ (game : ParityGame) (player : ℕ) (strategy : FiniteMemory) (is_strate
         after_below strategy.first (take k path) is_strategy.first_below
         (All-take IsVertex k path (λ i d within. search (rules, get_or_default, is_path.vertices)))
 
-    -- what the strategy plays after a history
+    -- the move of the strategy after a history
     history_of : List ℕ → ℕ
     history_of path = strategy.choice (memory_at strategy path (length path - 1)) (last_vertex path)
 
@@ -36,7 +37,7 @@ module _ (game : ParityGame) (player : ℕ) (strategy : FiniteMemory) (is_strate
     history_is_table n path is_path short owns = is_strategy.moves _ _ (memory_below path is_path (length path - 1))
         (is_path.vertices (length path - 1) (omega (arith, is_path.begins))) owns
 
-    -- at place k of a path the history up to there is played as the strategy does
+    -- at each position k of a path, the history table gives the move of the strategy
     history_at : (path : List ℕ) (k : ℕ) → k < length path → history_of (take (k + 1) path) ≡ strategy.choice
         (memory_at strategy path k) (get_or path k 0)
     unfolding history_of
@@ -45,11 +46,11 @@ module _ (game : ParityGame) (player : ℕ) (strategy : FiniteMemory) (is_strate
     agrees : (path : List ℕ) → GoesBy game player history_of path → Agrees game player strategy path
     agrees path goes_by k within owns = sym (history_at path k (omega arith)) ∙ goes_by k within owns
 
-    -- a vertex and a memory as one number
+    -- a vertex and a memory state, encoded as one number
     code_at : List ℕ → ℕ → ℕ
     code_at path k = get_or path k 0 * strategy.size + memory_at strategy path k
 
-    -- a long path comes back to a vertex with the same memory
+    -- a long path returns to a vertex with the same memory state
     same_again : (path : List ℕ) → IsPath game path → strategy.size * vertex_count game < length path →
         (i : ℕ) × (j : ℕ) × IsLoop path i j × (memory_at strategy path i ≡ memory_at strategy path j)
     unfolding code_at

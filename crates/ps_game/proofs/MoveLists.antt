@@ -1,4 +1,4 @@
--- Tables of moves in two lists: what they hold, and what a new move does to them.
+-- Tables of moves in two lists: their entries, and how they change when a move is set.
 use Rattle.std.proofs.Common.{◌≡◌, ℕ, ◌<◌, Bool, true, false, cond, List, length, get_or, set, Option, Some}
 use Rattle.std.proofs.Common.{None, sym, rules}
 use Rattle.std.specs.Prelude.{replicate}
@@ -18,13 +18,13 @@ move_inside : (chosen : List Bool) (moves : List ℕ) (v : ℕ) → v < length m
 unfolding moves_of
 move_inside chosen moves v lt = search (rules, get_or-map-range_with_len)
 
--- what is read from the table of two lists
+-- an entry of the table, read from the two lists
 pub move_read : (chosen : List Bool) (moves : List ℕ) {table : List (Option ℕ)} {v : ℕ} {b : Bool} →
     moves_of chosen moves ≡ table → v < length table → has chosen v ≡ b →
     move_at table v ≡ cond b (Some (get_or moves v 0)) None
 move_read chosen moves {v = v} is lt there = search (rules, move_inside, length-moves_of)
 
--- a table is that of two lists if it says what they say
+-- two lists represent a table if the table has the same entries
 moves_are : (chosen : List Bool) (moves : List ℕ) (table : List (Option ℕ)) → length table ≡ length moves
     → ((v : ℕ) → v < length moves → get_or table v None ≡ move_in chosen moves v) → moves_of chosen moves ≡ table
 unfolding moves_of

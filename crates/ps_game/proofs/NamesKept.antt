@@ -1,4 +1,4 @@
--- Names that are all kept.
+-- If there are at least as many names as vertices, `with_none` adds nothing.
 use Rattle.std.proofs.Common.{◌≡◌, ℕ, ◌-◌, ◌≤◌, List, Option, length, arith}
 use Rattle.std.proofs.lemmas.List.{append-nil}
 use Rattle.ps_game.specs.Names.{with_none}

@@ -1,4 +1,4 @@
--- From what is held within a subgame to what is held on paths.
+-- A set that is held within the subgame of all vertices is held on paths.
 use Rattle.std.proofs.Common.{◌≡◌, ℕ, zero, suc, ◌+◌, ◌-◌, ◌<◌, ◌≤◌, List, length, get_or, Bool, IsTrue, rules, Option}
 use Rattle.std.proofs.Common.{IsSomeAnd, sym, ap, ◌∙◌, arith}
 use Rattle.std.proofs.lemmas.Bool.{cases_eq}
@@ -7,7 +7,7 @@ use Rattle.ps_game.specs.Plays.{IsPath, IsLoop, Follows, Holds, loop_priority}
 use Rattle.ps_game.specs.Subgames.{IsRound, IsTop, HoldsWithin}
 use Rattle.ps_game.proofs.LoopPriorities.{le-loop_priority, loop_priority_stands}
 
--- the vertices of a path from a place on
+-- the vertices of a path from position i on
 abbrev pub from_place : List ℕ → ℕ → ℕ → ℕ
 from_place path i t = get_or path (i + t) 0
 

@@ -1,4 +1,5 @@
--- The priorities of a game by their parity: those of the vertices met so far, and the sorted list of all.
+-- The priorities of a game by parity: the priorities of the vertices visited so far, and the sorted list of all of
+-- them.
 use Rattle.std.proofs.Common.{◌≡◌, ℕ, ◌+◌, ◌%◌, ◌<◌, ◌≤◌, List, [], ◌∷◌, ◌++◌, below_more, eqb, refl, arith, rules}
 use Rattle.std.specs.Ordering.{nat_cmp}
 use Rattle.std.specs.List.{All, Contains, dedup}
@@ -11,7 +12,7 @@ use Rattle.std.proofs.lemmas.Map.Keys.{IsStrictlyIncreasing-dedup}
 use Rattle.ps_game.specs.Games.{ParityGame, vertex_count, priority_of}
 use Rattle.ps_game.specs.Ranking.{HasPriority, ListsPriorities}
 
--- the list has the priorities of one parity of the vertices below n
+-- the list has the priorities of one parity of the vertices less than n
 pub record ListsBelow (game : ParityGame) (parity n : ℕ) (list : List ℕ) : Type 0 where
   pub complete : (v : ℕ) → v < n → priority_of game v % 2 ≡ parity → Contains list (priority_of game v)
   pub right_parity : All (λ p. p % 2 ≡ parity) list

@@ -1,4 +1,5 @@
--- A game has an ascending list of its priorities of one parity: those numbers, below a bound, that some vertex has.
+-- A game has an ascending list of its priorities of one parity: those numbers below a bound that are priorities of
+-- vertices.
 use Rattle.std.proofs.Common.{◌≡◌, ℕ, ◌+◌, ◌%◌, ◌<◌, ◌∙◌, List, length, get_or, map, sym, ap, eqb, arith, Bool, true}
 use Rattle.std.proofs.Common.{filter, ◌&&◌}
 use Rattle.std.specs.Prelude.{◌==◌}

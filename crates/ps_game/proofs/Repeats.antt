@@ -1,4 +1,4 @@
--- More places than values: two places have the same value.
+-- A list with more entries than possible values has two entries with the same value.
 use Rattle.std.proofs.Common.{◌≡◌, ◌≢◌, ℕ, suc, ◌<◌, ◌⊎◌, inl, inr, List, [], ◌∷◌, Bool, true, false, ◌==◌, length}
 use Rattle.std.proofs.Common.{refl, arith, rules}
 use Rattle.std.specs.List.{All, AllPairs, list_any}
@@ -13,7 +13,7 @@ use Rattle.ps_game.specs.Games.{ParityGame, vertex_count}
 use Rattle.ps_game.specs.Plays.{IsPath}
 use Rattle.ps_game.specs.Strategies.{HasLoop}
 
--- a head that occurs again in the tail, or does not
+-- the values of a list are distinct, or two of them are equal, if the values of its tail are distinct
 head_repeats : (x : ℕ) (xs : List ℕ) → AllPairs (λ x y. x ≢ y) xs → (b : Bool) → list_any (λ y. x == y) xs ≡ b →
     AllPairs (λ x y. x ≢ y) (x ∷ xs) ⊎ HasLoop (x ∷ xs)
 head_repeats x xs differ true there =
@@ -25,7 +25,7 @@ head_repeats x xs differ true there =
     )
 head_repeats x xs differ false none = search (rules, AllPairs-cons, list_any-from_Any, get_or_default, eq-eqb)
 
--- the values of a list differ, or two of them are the same
+-- the values of a list are distinct, or two of them are equal
 differ_or_repeat : (xs : List ℕ) → AllPairs (λ x y. x ≢ y) xs ⊎ HasLoop xs
 differ_or_repeat [] = inl (λ i j d rises within. absurd (omega arith))
 differ_or_repeat (x ∷ xs) = elim (differ_or_repeat xs) [
@@ -37,11 +37,11 @@ differ_or_repeat (x ∷ xs) = elim (differ_or_repeat xs) [
   | inl differ ↦ head_repeats x xs differ (list_any (λ y. x == y) xs) refl
 ]
 
--- an item of a list of numbers below n is below n
+-- a number that is in a list of numbers less than n is less than n
 below_from_there : (n : ℕ) (xs : List ℕ) → All (λ x. x < n) xs → (q : ℕ) → list_any (λ y. q == y) xs ≡ true → q < n
 below_from_there n xs below q there = search (rules, Any-from_list_any, eqb-true)
 
--- more than n numbers below n
+-- a list of more than n numbers less than n has two equal entries
 pub repeats : (n : ℕ) (xs : List ℕ) → All (λ x. x < n) xs → n < length xs → HasLoop xs
 repeats n xs below many = elim (differ_or_repeat xs) [
   | inr repeated ↦ repeated

@@ -1,4 +1,4 @@
--- Subgames: all of a game is one.
+-- The set of all vertices of a game is a subgame.
 use Rattle.std.proofs.Common.{◌≡◌, ℕ, ◌<◌, List, Bool, true, false, replicate, length, get_or, arith, rules}
 use Rattle.std.proofs.lemmas.Bool.{cases_lt, false≢true}
 use Rattle.std.proofs.lemmas.List.{get_or-replicate, get_or_past, get_or_default, length-replicate}
@@ -7,11 +7,11 @@ use Rattle.ps_game.specs.Games.{ParityGame, IsGame, vertex_count, successors_of,
 use Rattle.ps_game.specs.Subgames.{IsSubgame, LeadsInto}
 use Rattle.ps_game.specs.Regions.{has}
 
--- what is in a region is below its number of places
+-- a number in a region is less than the length of the region
 pub has-below : (region : List Bool) (v : ℕ) → has region v ≡ true → v < length region
 has-below region v inside = search (rules, cases_lt, false≢true, get_or_past)
 
--- the first successor of a vertex
+-- an edge leads to the first successor of a vertex
 pub first_edge : (game : ParityGame) (v : ℕ) → IsGame game → v < vertex_count game →
     HasEdge game v (get_or (successors_of game v) 0 0)
 first_edge game v is_game is_vertex = search (rules, Contains-get_or)
@@ -33,17 +33,17 @@ whole_game game is_game =
       );
     }
 
--- a successor, by its number
+-- an edge leads to each successor of a vertex, given by its index
 pub edge_at : (game : ParityGame) (v k : ℕ) → v < vertex_count game → k < length (successors_of game v) →
     HasEdge game v (get_or (successors_of game v) k 0)
 edge_at game v k is_vertex within = (is_vertex, Contains-get_or (successors_of game v) k 0 within)
 
--- an edge leads to a successor that has a number
+-- the end of each edge has an index in the list of successors
 pub number_of_edge : (game : ParityGame) (v w : ℕ) → HasEdge game v w →
     (k : ℕ) × (k < length (successors_of game v)) × (get_or (successors_of game v) k 0 ≡ w)
 number_of_edge game v w edge = search (rules, get_or_default)
 
--- if no successor is in a set, no edge leads into it
+-- if no successor is in a set, no edge leads into the set
 pub none_leads : (game : ParityGame) (set : ℕ → Bool) (v : ℕ) →
     ((k : ℕ) → k < length (successors_of game v) → set (get_or (successors_of game v) k 0) ≡ false) → (w : ℕ) →
     LeadsInto game set v w → ⊥

@@ -1,4 +1,4 @@
--- What the search for an unknown successor finds.
+-- The result of the search for an unknown successor.
 use Rattle.std.proofs.Common.{inl, inr, ◌≤◌, ◌≡◌, ℕ, zero, suc, ◌<◌, List, [], ◌∷◌, find, Option, None, rules}
 use Rattle.std.proofs.Common.{Some, nat_le, cond, arith}
 use Rattle.std.specs.List.{All}
@@ -7,21 +7,21 @@ use Rattle.std.proofs.lemmas.Bool.Decides.{nat_tests}
 use Rattle.ps_game.specs.Games.{ParityGame}
 use Rattle.ps_game.specs.Drafts.{IsFirstUnknown, NoneUnknown}
 
--- the head is smaller, and nothing is found after it
+-- if no number is found, the head is less than n, and no number is found after it
 parts : (n x : ℕ) (found : Option ℕ) → cond (nat_le n x) (Some x) found ≡ None → (x < n) × (found ≡ None)
 parts n x found none = grind (arith, nat_tests)
 
--- what is found after a head that is smaller
+-- if the head is less than n, the number that is found is after it
 behind : (n x w : ℕ) (found : Option ℕ) → cond (nat_le n x) (Some x) found ≡ Some w → x < n → found ≡ Some w
 behind n x w found is small = grind (arith, nat_tests)
 
--- a list in which no number is found has only smaller ones
+-- if no number is found, all numbers of the list are less than n
 pub all_from_find : (n : ℕ) (xs : List ℕ) → find (λ w. nat_le n w) xs ≡ None → All (λ w. w < n) xs
 all_from_find n [] none k d within = absurd (omega arith)
 all_from_find n (x ∷ xs) none zero d within = (parts n x _ none).0
 all_from_find n (x ∷ xs) none (suc k) d within = all_from_find n xs (parts n x _ none).1 k d (omega arith)
 
--- if one is found, not all are smaller
+-- if a number is found, not all numbers of the list are less than n
 none_found : (n w : ℕ) (xs : List ℕ) → find (λ w. nat_le n w) xs ≡ Some w → All (λ w. w < n) xs → ⊥
 none_found n w [] found small = cc
 none_found n w (x ∷ xs) found small =
@@ -33,11 +33,11 @@ not_before {v = v} {u = u} first second = elim (cases_lt u v) [
   | inr more ↦ more
 ]
 
--- the least vertex with an unknown successor, and its first such successor, are determined
+-- the smallest vertex with an unknown successor is unique, and so is its first unknown successor
 pub first_unknown_once : {draft : ParityGame} {v w u x : ℕ} → IsFirstUnknown draft v w → IsFirstUnknown draft u x →
     (v ≡ u) × (w ≡ x)
 first_unknown_once {v = v} {w = w} {u = u} {x = x} first second = search (rules, not_before)
 
--- there is none if each successor is a vertex
+-- no vertex has an unknown successor if each successor is a vertex
 pub no_first_unknown : {draft : ParityGame} {v w : ℕ} → NoneUnknown draft → IsFirstUnknown draft v w → ⊥
 no_first_unknown {v = v} known first = none_found _ _ _ first.unknown (known v first.is_vertex)

@@ -1,4 +1,4 @@
--- Vertices in arrays that grow: one more vertex, places in place of ids, and no repeats.
+-- Vertices in arrays: adding a vertex, replacing ids by indices, and vertices without repeated successors.
 use Rattle.std.proofs.Common.{◌≡◌, ◌≢◌, ℕ, suc, ◌+◌, ◌^◌, ◌<◌, ◌≤◌, Bool, not, List, [], ◌∷◌, ◌++◌, rules, map, filter}
 use Rattle.std.proofs.Common.{length, get_or, take, refl, ap, ap₂, ◌∙◌, arith, length-append, take-append-drop}
 use Rattle.std.specs.Prelude.{◌==◌}
@@ -16,7 +16,7 @@ use Rattle.ps_game.specs.Drafts.{distinct, without_repeats, with_places, HaveNoR
 use Rattle.ps_game.specs.Flat.{game_in, AreVertices, TellGame, all_successors}
 use Rattle.ps_game.proofs.FlatArrays.{front_within, game_is}
 
--- ---- one more vertex
+-- ---- adding a vertex
 
 pub tell_none : TellGame [] (0 ∷ []) [] [] []
 tell_none = search rules
@@ -34,7 +34,7 @@ priority_there v = v.priority
 abbrev all_successors-length : ParityGame → ℕ
 all_successors-length game = length (all_successors game)
 
--- the arrays are those of vertices, and stand for the game
+-- the arrays have well-formed vertices, and they represent the game
 pub record StandFor (game : ParityGame) (offsets successors owners priorities : List ℕ) : Type 0 where
   pub are : AreVertices offsets successors owners priorities
   pub is : game_in offsets successors owners priorities ≡ game
@@ -57,7 +57,7 @@ module _ {game : ParityGame} {offsets successors owners priorities : List ℕ}
     map-append,
   )
 
-  -- the front of the arrays tells the first vertices
+  -- the front of the arrays has the content of the first vertices
   pub tell_front : {k : ℕ} → k ≤ length game →
       TellGame (take k game) (take (k + 1) offsets) (take (get_or offsets k 0) successors) (take k owners)
       (take k priorities)
@@ -76,18 +76,18 @@ module _ {game : ParityGame} {offsets successors owners priorities : List ℕ}
         take-map,
       )
 
-  -- arrays that tell a game stand for it
+  -- arrays that have the content of a game represent the game
   pub stand_for : All (λ v. v.owner < 2) game → StandFor game offsets successors owners priorities
   stand_for players = search (rules, game_is)
 
--- ---- places in place of ids
+-- ---- replacing ids by indices
 
 all_successors-placed : (ids : List ℕ) (game : ParityGame) →
     all_successors (map (with_places ids) game) ≡ map (place_of ids) (all_successors game)
 all_successors-placed ids [] = refl
 all_successors-placed ids (v ∷ game) = search (rules, map-append, all_successors-placed ids game)
 
--- the owners and the priorities stay
+-- the owners and the priorities are unchanged
 kept-placed : (f : VertexData → ℕ) (ids : List ℕ) → ((v : VertexData) → f (with_places ids v) ≡ f v) →
     (game : ParityGame) → map f (map (with_places ids) game) ≡ map f game
 kept-placed f ids same [] = refl
@@ -105,14 +105,14 @@ pub tell_placed : (ids : List ℕ) {game : ParityGame} {offsets successors owner
 tell_placed ids {game = game} {successors = successors} tell are =
     search (rules, length-map, all_successors-placed, take-map, kept-placed)
 
--- ---- the test of all successors
+-- ---- a test of all successors
 
 pub all_tested-each : (p : ℕ → Bool) (game : ParityGame) →
     list_all p (all_successors game) ≡ list_all (λ v. list_all p v.successors) game
 all_tested-each p [] = refl
 all_tested-each p (v ∷ game) = search (rules, list_all-append, all_tested-each p game)
 
--- ---- no repeats
+-- ---- vertices without repeated successors
 
 filter_none : (x : ℕ) (ys : List ℕ) → All (λ y. x ≢ y) ys → filter (λ y. not (x == y)) ys ≡ ys
 filter_none x [] all = refl

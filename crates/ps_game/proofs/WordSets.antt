@@ -1,4 +1,4 @@
--- Sets of vertices in words: what each change of a word does to the set.
+-- Sets of vertices in words, and how a change of a word changes the set.
 use Rattle.std.proofs.Common.{◌≡◌, ◌≢◌, ℕ, zero, suc, ◌+◌, ◌-◌, ◌*◌, ◌/◌, ◌%◌, ◌^◌, ◌<◌, ◌≤◌, Bool, true, rules, false}
 use Rattle.std.proofs.Common.{not, cond, ◌==◌, ◌&&◌, List, [], ◌∷◌, ◌++◌, map, length, take, get_or, set, max}
 use Rattle.std.proofs.Common.{length-set, add-zero, w64, refl, sym, ap, ap₂, ◌∙◌, subst, arith}
@@ -29,28 +29,28 @@ has-inside : (places : ℕ) (words : List ℕ) (v : ℕ) → v < places → has 
 unfolding members
 has-inside places words v lt = get_or-map-range_with_len (bit_in words) 0 places v v false lt (omega arith)
 
--- a list of truth values is a set in words where it says what the bits say
+-- a list of truth values represents the same set as the words if it agrees with each bit
 members_are : (places : ℕ) (words : List ℕ) (region : List Bool) → length region ≡ places →
     ((v : ℕ) → v < places → get_or region v false ≡ bit_in words v) → members places words ≡ region
 unfolding members
 members_are places words region long each = sym (fill_by_all (bit_in words) region places false long each)
 
--- no bit past the words
+-- there is no bit past the last word
 bit_past : (words : List ℕ) (v : ℕ) → length words ≤ v / 64 → bit_in words v ≡ false
 bit_past words v past = rw (get_or_past words (v / 64) 0 past, bit_at-zero (v % 64))
 
--- the words of a set
+-- the words represent the set, and are packed (`ArePacked`)
 pub record AreWords (places : ℕ) (words : List ℕ) (region : List Bool) : Type 0 where
   pub packed : ArePacked places words
   pub are : members places words ≡ region
 
--- ---- no place
+-- ---- the empty set
 
 pub empty_is : (places n : ℕ) → members places (replicate n 0) ≡ replicate places false
 empty_is places n = members_are places (replicate n 0) (replicate places false) (length-replicate places false)
     (λ v lt. search (rules, get_or-replicate, cases_lt, bit_at-zero, bit_past, length-replicate))
 
--- ---- all places
+-- ---- the full set
 
 ones_bit : (n v : ℕ) → v / 64 < n → bit_in (replicate n (2 ^ 64 - 1)) v ≡ true
 ones_bit n v lt = rw (get_or-replicate n (v / 64) (2 ^ 64 - 1) 0 lt, bit_at_ones 64 (v % 64) (omega arith))
@@ -64,12 +64,12 @@ full_words places words few enough no_more all none_past = record {
       (λ v lt. get_or-replicate places v true false lt ∙ sym (all v lt));
 }
 
--- the last word is full if the places fill it
+-- the last word has all bits set if `places` is a multiple of 64
 pub full_whole : (places n : ℕ) → places < 2 ^ 64 → places % 64 ≡ 0 → n ≡ places / 64 →
     AreWords places (replicate n (2 ^ 64 - 1)) (replicate places true)
 full_whole places n few none is = search (rules, length-replicate, full_words, ones_bit, bit_past)
 
--- else it has the bits of the places that are left
+-- otherwise the last word has only the bits of the remaining vertices
 pub full_part : (places n : ℕ) → places < 2 ^ 64 → 0 < places % 64 → n ≡ places / 64 + 1 →
     AreWords places (set (replicate n (2 ^ 64 - 1)) (places / 64) ((2 ^ 64 - 1) / 2 ^ (64 - places % 64)))
     (replicate places true)
@@ -90,13 +90,13 @@ full_part places n few some is =
 
 -- ---- one bit
 
--- two lists of words differ in one vertex
+-- two lists of words represent sets that differ in one vertex
 record IsChanged (before after : List ℕ) (v : ℕ) (b : Bool) : Type 0 where
   long : length after ≡ length before
   here : bit_in after v ≡ b
   elsewhere : (u : ℕ) → u ≢ v → bit_in after u ≡ bit_in before u
 
--- one word is changed in one bit
+-- one bit of one word is changed
 one_word : (words : List ℕ) (v w : ℕ) (b : Bool) → v / 64 < length words → (bit_at w (v % 64) == 1) ≡ b →
     ((i : ℕ) → i < 64 → i ≢ v % 64 → bit_at w i ≡ bit_at (get_or words (v / 64) 0) i) →
     IsChanged words (set words (v / 64) w) v b
@@ -107,14 +107,14 @@ module _ {places : ℕ} {words : List ℕ} {region : List Bool} (packed : ArePac
   pub places_are : length region ≡ places
   places_are = ap length (sym is) ∙ length-members places words
 
-  -- no bit is set past the last place, so the set has what the bits say everywhere
+  -- no bit past the last vertex is set, so the set agrees with the bits at every number
   has-bit : (v : ℕ) → has region v ≡ bit_in words v
   has-bit v = search (rules, cases_lt, has-inside, get_or_past, places_are)
 
   word_there : {v : ℕ} → v < length region → v / 64 < length words
   word_there lt = omega (arith, places_are, packed.enough)
 
-  -- a bit is read by a shift
+  -- a shift and a mask read one bit
   pub bit_read : {v w : ℕ} → v < length region → w ≡ get_or words (v / 64) w →
       (bit_and (w / 2 ^ (v % 64)) 1 == 1) ≡ has region v
   bit_read {v = v} {w = w} lt read = search (rules, shr_and_one, get_or_default_zero, word_there, has-bit)
@@ -155,7 +155,7 @@ either x y h k = search rules
 first_only : (x y : ℕ) → x < 2 → y < 2 → (min x (1 - y) == 1) ≡ ((x == 1) && not (y == 1))
 first_only x y h k = search rules
 
--- the words of a set that is made of two sets by a rule on each vertex
+-- `new` represents the set that a rule forms, vertex by vertex, from two sets
 pub record IsMade (places : ℕ) (new : List ℕ) (region other : List Bool) (rule : Bool → Bool → Bool) : Type 0 where
   pub packed : ArePacked places new
   pub as_many : length (members places new) ≡ length region
@@ -164,11 +164,11 @@ pub record IsMade (places : ℕ) (new : List ℕ) (region other : List Bool) (ru
 module _ {places others_places : ℕ} {words others : List ℕ} {region other : List Bool} (packed : ArePacked places words)
     (is : members places words ≡ region) (other_packed : ArePacked others_places others)
     (other_is : members others_places others ≡ other) (same : length other ≡ length region) where
-  -- sets with as many places have as many words
+  -- sets with equally many places have equally many words
   pub same_words : length others ≡ length words
   same_words = omega (arith, places_are packed is, places_are other_packed other_is)
 
-  -- the words and the others as they are lent
+  -- `old` and `lent` are the words of the two sets
   module _ {old lent new : List ℕ} (from : old ≡ words) (also : lent ≡ others) (long : length new ≡ length old) where
     made : (rule : Bool → Bool → Bool) → rule false false ≡ false →
         ((v : ℕ) → bit_in new v ≡ rule (bit_in old v) (bit_in lent v)) → IsMade places new region other rule
@@ -219,7 +219,7 @@ none_counted p n (suc m) none = sum_by-cons (λ v. cond (p v) 1 0) n (range_with
 bit_again : (x : ℕ) → x < 2 → cond (x == 1) 1 0 ≡ x
 bit_again x h = search rules
 
--- the places of a word, counted
+-- the number of vertices in one word is the number of its bits that are set
 word_counted : (words : List ℕ) (k : ℕ) → get_or words k 0 < 2 ^ 64 →
     count_by (bit_in words) (range_with_len (k * 64) 64) ≡ count_ones (get_or words k 0)
 word_counted words k fits =
@@ -236,7 +236,7 @@ word_counted words k fits =
       bit_again (bit_at (get_or words k 0) i) (bit_at-lt (get_or words k 0) i),
     )))
 
--- the places of the words in front of a word, counted
+-- the number of vertices in the first k words is the number of their bits that are set
 words_counted : (words : List ℕ) → ((k : ℕ) → get_or words k 0 < 2 ^ 64) → (k : ℕ) → k ≤ length words
     → count_by (bit_in words) (range_with_len 0 (k * 64)) ≡ sum_by count_ones (take k words)
 words_counted words fits zero le = refl
@@ -251,7 +251,7 @@ words_counted words fits (suc k) le =
     ∙ word_counted words k (fits k))
     ∙ sym (sum_by_more count_ones words k 0 (omega arith)) ∙ ap (λ n. sum_by count_ones (take n words)) g
 
--- the words of a set as they are lent, each of which fits
+-- `lent` has the words of a set, and each word fits 64 bits
 module _ {places : ℕ} {words lent : List ℕ} {region : List Bool} (packed : ArePacked places words)
     (is : members places words ≡ region) (from : lent ≡ words) (fits : (k : ℕ) → get_or lent k 0 < 2 ^ 64) where
   pub count_is : count_by (λ member. member) region ≡ sum_by count_ones lent
@@ -273,7 +273,7 @@ module _ {places : ℕ} {words lent : List ℕ} {region : List Bool} (packed : A
   pub count_fits : sum_by count_ones lent < 2 ^ 64
   count_fits = search (rules, count_is, count_by-le-length, places_are)
 
-  -- no word has a bit where no vertex is in the set
+  -- all words are 0 if and only if the set is empty
   pub clear_has_none : ((k : ℕ) → get_or lent k 0 ≡ 0) → (v : ℕ) → has region v ≡ false
   clear_has_none clear v = has-bit packed is v ∙ rw (← from, clear (v / 64), bit_at-zero (v % 64))
 

@@ -1,11 +1,11 @@
--- Attractors: from which vertices of a subgame a player can lead every play to a target.
--- Sets of vertices are tests, and a table gives each vertex one vertex or none.
+-- Attractors: the vertices of a subgame from which a player can force every play to a target. Sets of vertices are
+-- Boolean functions, and a table maps each vertex to a vertex or to None.
 use Rattle.std.specs.Prelude.{◌≡◌, ◌≢◌, ℕ, ◌<◌, Option, IsSomeAnd, Bool, IsTrue}
 use Rattle.ps_game.specs.Games.{ParityGame, owner_of}
 use Rattle.ps_game.specs.Subgames.{IsWithin, LeadsInto}
 
 -- the set contains the target, each vertex of the player with an edge within the subgame into the set, and each vertex
--- of the other player from which all edges within the subgame lead into the set
+-- of the other player with all edges within the subgame into the set
 pub record IsClosed (game : ParityGame) (subgame : ℕ → Bool) (player : ℕ) (target set : ℕ → Bool) : Type 0 where
   pub holds : IsWithin target set
   pub own : (v w : ℕ) → IsTrue (subgame v) → owner_of game v ≡ player → LeadsInto game subgame v w →
@@ -13,14 +13,14 @@ pub record IsClosed (game : ParityGame) (subgame : ℕ → Bool) (player : ℕ) 
   pub other : (v : ℕ) → IsTrue (subgame v) → owner_of game v ≢ player →
       ((w : ℕ) → LeadsInto game subgame v w → IsTrue (set w)) → IsTrue (set v)
 
--- an edge within the subgame leads from v to w, which is in the set at a smaller rank
+-- an edge within the subgame leads from v to w, and w is in the set and has a smaller rank
 pub record LeadsDown (game : ParityGame) (subgame set : ℕ → Bool) (rank : ℕ → ℕ) (v w : ℕ) : Type 0 where
   pub leads : LeadsInto game subgame v w
   pub inside : IsTrue (set w)
   pub falls : rank w < rank v
 
--- at each vertex of the set outside the target the rank falls within the set: by the player's move in the table, and by
--- each edge of the other player within the subgame
+-- at each vertex of the set outside the target, the rank decreases within the set: along the player's move in the
+-- table, and along each edge of the other player within the subgame
 pub record Falls (game : ParityGame) (subgame : ℕ → Bool) (player : ℕ) (target set : ℕ → Bool) (table : ℕ → Option ℕ)
     (rank : ℕ → ℕ) : Type 0 where
   pub own : (v : ℕ) → IsTrue (set v) → ¬ IsTrue (target v) → owner_of game v ≡ player →
@@ -28,7 +28,7 @@ pub record Falls (game : ParityGame) (subgame : ℕ → Bool) (player : ℕ) (ta
   pub other : (v w : ℕ) → IsTrue (set v) → ¬ IsTrue (target v) → owner_of game v ≢ player → LeadsInto game subgame v w →
       LeadsDown game subgame set rank v w
 
--- each closed set contains the set
+-- every closed set contains the set
 abbrev pub IsLeast : ParityGame → (ℕ → Bool) → ℕ → (ℕ → Bool) → (ℕ → Bool) → Type 0
 IsLeast game subgame player target set =
     (closed : ℕ → Bool) → IsClosed game subgame player target closed → IsWithin set closed

@@ -1,4 +1,4 @@
--- A draft of a game: the vertices as they were made, whose successors may be missing, unknown or repeated.
+-- A draft of a game: vertices whose successors may be missing, unknown or repeated.
 use Rattle.std.specs.Prelude.{◌≡◌, ◌≢◌, ℕ, ◌<◌, ◌++◌, ◌∷◌, List, [], length, map, find, filter, not, ◌==◌, nat_le, Some}
 use Rattle.std.specs.Prelude.{slice_set}
 use Rattle.ps_game.specs.Games.{VertexData, ParityGame, vertex_count, owner_of, priority_of, successors_of}
@@ -9,7 +9,7 @@ use Rattle.ps_ids.specs.Ids.{place_of}
 abbrev pub with_vertex : ParityGame → ℕ → ℕ → ParityGame
 with_vertex draft owner priority = draft ++ record { owner = owner; priority = priority; successors = [] } ∷ []
 
--- the draft with one more successor, w, of the vertex v
+-- the draft in which the vertex v has w as one more successor
 abbrev pub with_edge : ParityGame → ℕ → ℕ → ParityGame
 with_edge draft v w =
     slice_set draft v (record {
@@ -18,12 +18,12 @@ with_edge draft v w =
       successors = successors_of draft v ++ w ∷ [];
     })
 
--- the numbers of a list, each at its first place
+-- the distinct numbers of a list, in the order of their first occurrences
 abbrev pub distinct : List ℕ → List ℕ
 distinct [] = []
 distinct (x ∷ xs) = x ∷ filter (λ y. not (x == y)) (distinct xs)
 
--- a repeated successor counts once, at its first place
+-- the vertex with each successor once, at its first occurrence
 abbrev pub vertex_without_repeats : VertexData → VertexData
 vertex_without_repeats v = record v { successors = distinct v.successors }
 
@@ -34,13 +34,14 @@ without_repeats draft = map vertex_without_repeats draft
 abbrev pub NoneBare : ParityGame → Type 0
 NoneBare draft = (v : ℕ) → v < vertex_count draft → 0 < length (successors_of draft v)
 
--- v is the least vertex without an edge
+-- v is the smallest vertex without an edge
 pub record IsFirstBare (draft : ParityGame) (v : ℕ) : Type 0 where
   pub is_vertex : v < vertex_count draft
   pub bare : successors_of draft v ≡ []
   pub before : (u : ℕ) → u < v → 0 < length (successors_of draft u)
 
--- each vertex has a successor, v is the least with a successor that is not a vertex, and w is its first such successor
+-- each vertex has a successor, v is the smallest vertex with an unknown successor (a number that is not a vertex), and
+-- w is its first unknown successor
 pub record IsFirstUnknown (draft : ParityGame) (v w : ℕ) : Type 0 where
   pub none_bare : NoneBare draft
   pub is_vertex : v < vertex_count draft
@@ -55,6 +56,6 @@ NoneUnknown draft = (v : ℕ) → v < vertex_count draft → All (λ w. w < vert
 abbrev pub HaveNoRepeats : ParityGame → Type 0
 HaveNoRepeats draft = All (λ v. AllPairs (λ x y. x ≢ y) v.successors) draft
 
--- the successors are ids, and each is replaced by its place
+-- each successor, which is an id, is replaced by its index
 abbrev pub with_places : List ℕ → VertexData → VertexData
 with_places ids v = record v { successors = map (place_of ids) v.successors }

@@ -1,14 +1,14 @@
--- A game in four arrays: one owner and one priority for each vertex, the successors of all vertices in one list, and
--- the offsets where those of each vertex begin, with one more offset at the end.
+-- A game in four arrays: the owner of each vertex, the priority of each vertex, the successors of all vertices in one
+-- list, and the offsets. The offsets state where the successors of each vertex begin, with one more offset at the end.
 use Rattle.std.specs.Prelude.{◌≡◌, ℕ, ◌+◌, ◌-◌, ◌^◌, ◌<◌, ◌≤◌, min, List, length, map, take, slice_index, slice_range}
 use Rattle.std.specs.List.{All, flat_map, range_with_len, sum_by}
 use Rattle.ps_game.specs.Games.{VertexData, ParityGame, IsGame, vertex_count}
 
--- the successors of a vertex: from its offset up to the next one
+-- the successors of a vertex: from the vertex's offset up to the next offset
 abbrev pub successors_in : List ℕ → List ℕ → ℕ → List ℕ
 successors_in offsets successors v = slice_range successors (slice_index offsets v) (slice_index offsets (v + 1))
 
--- a vertex, as the arrays give it
+-- the vertex v, as the arrays represent it
 abbrev pub vertex_in : List ℕ → List ℕ → List ℕ → List ℕ → ℕ → VertexData
 vertex_in offsets successors owners priorities v =
     record {
@@ -17,17 +17,17 @@ vertex_in offsets successors owners priorities v =
       successors = successors_in offsets successors v;
     }
 
--- the game that the arrays stand for
+-- the game that the arrays represent
 unfoldable pub game_in : List ℕ → List ℕ → List ℕ → List ℕ → ParityGame
 game_in offsets successors owners priorities =
     map (vertex_in offsets successors owners priorities) (range_with_len 0 (length owners))
 
--- how many edges a game has
+-- the number of edges of a game
 abbrev pub edge_count : ParityGame → ℕ
 edge_count game = sum_by (λ v. length v.successors) game
 
--- the numbers of vertices and of edges are within a limit, as far as 8 bytes can count; a limit of 2 ^ 64 - 1 does not
--- bound them
+-- the numbers of vertices and of edges, each capped at 2 ^ 64 - 1, are within the limit; so a limit of 2 ^ 64 - 1 is no
+-- restriction
 pub record FitsWithin (game : ParityGame) (limit : ℕ) : Type 0 where
   pub vertices : min (vertex_count game) (2 ^ 64 - 1) ≤ limit
   pub edges : min (edge_count game) (2 ^ 64 - 1) ≤ limit
@@ -36,12 +36,12 @@ pub record FitsWithin (game : ParityGame) (limit : ℕ) : Type 0 where
 abbrev pub all_successors : ParityGame → List ℕ
 all_successors game = flat_map (λ v. v.successors) game
 
--- how many successors precede those of each vertex, and, at the end, how many there are
+-- the entry at v is the number of successors of all vertices before v; the last entry is the number of all successors
 pub record AreOffsets (game : ParityGame) (offsets : List ℕ) : Type 0 where
   pub offset_each : length offsets ≡ length game + 1
   pub in_front : (v : ℕ) → v ≤ length game → slice_index offsets v ≡ length (all_successors (take v game))
 
--- the arrays say what the vertices of the game say
+-- the arrays have the content of the game
 pub record TellGame (game : ParityGame) (offsets successors owners priorities : List ℕ) : Type 0 where
   pub offsets_are : AreOffsets game offsets
   pub successors_are : successors ≡ all_successors game
@@ -54,8 +54,8 @@ pub record AreVertices (offsets successors owners priorities : List ℕ) : Type 
   pub tell : TellGame (game_in offsets successors owners priorities) offsets successors owners priorities
   pub players : All (λ v. v.owner < 2) (game_in offsets successors owners priorities)
 
--- each array has its place for each vertex, the offsets are ascending places of the array of successors, and the whole
--- is a game
+-- each array has an entry for each vertex, the offsets are ascending and within the array of successors, and the arrays
+-- represent a game
 pub record AreFlat (offsets successors owners priorities : List ℕ) : Type 0 where
   pub offset_each : length offsets ≡ length owners + 1
   pub priority_each : length priorities ≡ length owners

@@ -2,17 +2,17 @@
 use Rattle.std.specs.Prelude.{◌≡◌, ◌≢◌, ℕ, ◌<◌, List, [], length, Option, IfSome, slice_index_or}
 use Rattle.std.specs.List.{All, AllPairs, Contains}
 
--- a vertex: the player who moves there, its priority, and where its edges lead
+-- a vertex: the player who moves there, its priority, and its successors
 pub record VertexData : Type 0 where
   pub owner : ℕ
   pub priority : ℕ
   pub successors : List ℕ
 
--- the vertices 0, 1, .. in order
+-- a game is the list of its vertices 0, 1, 2 and so on
 abbrev pub ParityGame : Type 0
 ParityGame = List VertexData
 
--- what is read after the last vertex
+-- the vertex that is read past the end of the list
 abbrev pub no_vertex : VertexData
 no_vertex = record { owner = 0; priority = 0; successors = [] }
 
@@ -32,28 +32,28 @@ successors_of game v = (slice_index_or game v no_vertex).successors
 abbrev pub HasEdge : ParityGame → ℕ → ℕ → Type 0
 HasEdge game v w = (v < vertex_count game) × Contains (successors_of game v) w
 
--- each vertex has an owner 0 or 1 and a non-empty list of different successors, which are vertices
+-- each vertex has an owner 0 or 1 and a non-empty list of distinct successors, which are vertices
 pub record IsGame (game : ParityGame) : Type 0 where
   pub owners : (v : ℕ) → v < vertex_count game → owner_of game v < 2
   pub has_successor : (v : ℕ) → v < vertex_count game → 0 < length (successors_of game v)
   pub different : (v : ℕ) → v < vertex_count game → AllPairs (λ x y. x ≢ y) (successors_of game v)
   pub within : (v w : ℕ) → HasEdge game v w → w < vertex_count game
 
--- a game with an id and an optional name, which is bytes, for each vertex
+-- a game with an id and an optional name, a list of bytes, for each vertex
 pub record NamedGameData : Type 0 where
   pub game : ParityGame
   pub ids : List ℕ
   pub names : List (Option (List ℕ))
 
--- the byte that encloses a name in a text of a game
+-- the byte that encloses a name in a game text
 abbrev pub quote : ℕ
 quote = 34
 
--- a name can be written between two quotes
+-- the name contains no quote, so it can be written between two quotes
 abbrev pub HasNoQuote : Option (List ℕ) → Type 0
 HasNoQuote name = IfSome name (λ bytes. ¬ Contains bytes quote)
 
--- one id and one optional name for each vertex; all ids differ
+-- each vertex has an id and an optional name, and all ids are distinct
 pub record IsNamedGame (named : NamedGameData) : Type 0 where
   pub is_game : IsGame named.game
   pub id_each : length named.ids ≡ vertex_count named.game

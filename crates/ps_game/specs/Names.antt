@@ -1,4 +1,4 @@
--- What contracts see of a list of names.
+-- Lists of names, as contracts see them.
 use Rattle.std.specs.Prelude.{ℕ, ◌-◌, List, ◌++◌, length, replicate, Option, None, Vec}
 use Rattle.std.specs.Option.{option_map}
 use Rattle.std.specs.Global.{Global}
@@ -7,6 +7,6 @@ use Rattle.std.specs.Global.{Global}
 abbrev pub name_bytes : Option (Vec ℕ Global) → Option (List ℕ)
 name_bytes name = option_map (λ bytes. bytes.items) name
 
--- a list of names of a given length: these are the names of the first vertices, and the others have none
+-- a list of `count` names: the given names for the first vertices, and no name for the others
 abbrev pub with_none : ℕ → List (Option (List ℕ)) → List (Option (List ℕ))
 with_none count names = names ++ replicate (count - length names) None

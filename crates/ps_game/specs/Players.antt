@@ -1,4 +1,4 @@
--- The players as numbers: 0 wins the even loops, 1 the odd ones.
+-- The players as numbers: player 0 wins loops of even priority, and player 1 wins loops of odd priority.
 use Rattle.std.specs.Prelude.{◌≡◌, ℕ, zero, suc, refl}
 use Rattle.std.proofs.Common.{ap}
 use Rattle.ps_game.specs.declared.player.Parity.{Parity}
@@ -17,7 +17,7 @@ parity_of-number : (parity : Parity) → parity_of (number_of parity) ≡ parity
 parity_of-number Even = refl
 parity_of-number Odd = refl
 
--- the number tells which player it is
+-- a player is determined by its number
 pub player_of-number : (player : Inside) → (record { wins = parity_of (number_of player.wins) }) ≡ player
 player_of-number player = ap (λ (parity : Parity). let is : Inside = record { wins = parity } in is)
     (parity_of-number player.wins)

@@ -1,16 +1,17 @@
--- Strategies with memory: those of finite memory, and tables over whole histories.
+-- Strategies with memory: finite-memory strategies, and tables over whole histories.
 use Rattle.std.specs.Prelude.{◌≡◌, ℕ, ◌+◌, ◌-◌, ◌<◌, ◌≤◌, List, length, fold, take, slice_index}
 use Rattle.ps_game.specs.Games.{ParityGame, vertex_count, owner_of, HasEdge}
 use Rattle.ps_game.specs.Plays.{IsPath, IsLoop, WinsLoop, other_player}
 
--- how many memories there are, the first one, the next memory for each memory and vertex, and the vertex to go to
+-- the number of memory states, the first memory state, and for each memory state and vertex the next memory state and
+-- the vertex to move to
 pub record FiniteMemory : Type 0 where
   pub size : ℕ
   pub first : ℕ
   pub update : ℕ → ℕ → ℕ
   pub choice : ℕ → ℕ → ℕ
 
--- memories are numbers less than the size, and the choice is a successor at each vertex of the player
+-- memory states are numbers less than the size, and at each vertex of the player the choice is a successor
 pub record IsFiniteMemory (game : ParityGame) (player : ℕ) (strategy : FiniteMemory) : Type 0 where
   pub first_below : strategy.first < strategy.size
   pub update_below : (memory v : ℕ) → memory < strategy.size → v < vertex_count game →
@@ -18,23 +19,24 @@ pub record IsFiniteMemory (game : ParityGame) (player : ℕ) (strategy : FiniteM
   pub moves : (memory v : ℕ) → memory < strategy.size → v < vertex_count game → owner_of game v ≡ player →
       HasEdge game v (strategy.choice memory v)
 
--- the memory at place k of a path, which has visited the vertices before it
+-- the memory state at position k of a path, after the vertices before this position were visited
 abbrev pub memory_at : FiniteMemory → List ℕ → ℕ → ℕ
 memory_at strategy path k = fold strategy.update strategy.first (take k path)
 
--- each move of the player is the choice at the memory of that place
+-- each move of the player is the choice in the current memory state
 abbrev pub Agrees : ParityGame → ℕ → FiniteMemory → List ℕ → Type 0
 Agrees game player strategy path =
     (k : ℕ) → k + 1 < length path → owner_of game (slice_index path k) ≡ player →
     strategy.choice (memory_at strategy path k) (slice_index path k) ≡ slice_index path (k + 1)
 
--- on each path from v that agrees with the strategy, the player wins each loop whose two places have the same memory
+-- on each path from v that agrees with the strategy, the player wins each loop that has the same memory state at both
+-- of its positions
 abbrev pub WinsFrom : ParityGame → ℕ → FiniteMemory → ℕ → Type 0
 WinsFrom game player strategy v =
     (path : List ℕ) (i j : ℕ) → IsPath game path → slice_index path 0 ≡ v → Agrees game player strategy path →
     IsLoop path i j → memory_at strategy path i ≡ memory_at strategy path j → WinsLoop game player path i j
 
--- the player has no strategy of finite memory that wins from v
+-- no finite-memory strategy of the player wins from v
 abbrev pub WinsByNoMemory : ParityGame → ℕ → ℕ → Type 0
 WinsByNoMemory game player v =
     (strategy : FiniteMemory) → IsFiniteMemory game player strategy → WinsFrom game player strategy v → ⊥
@@ -43,19 +45,20 @@ WinsByNoMemory game player v =
 abbrev pub last_vertex : List ℕ → ℕ
 last_vertex path = slice_index path (length path - 1)
 
--- each path of at most n vertices that ends at a vertex of the player has a successor of that vertex
+-- for each path of at most n vertices that ends at a vertex of the player, the table gives a successor of this last
+-- vertex
 abbrev pub IsHistoryTable : ParityGame → ℕ → ℕ → (List ℕ → ℕ) → Type 0
 IsHistoryTable game player n table =
     (path : List ℕ) → IsPath game path → length path ≤ n → owner_of game (last_vertex path) ≡ player →
     HasEdge game (last_vertex path) (table path)
 
--- each move of the player is what the table gives for the path up to there
+-- each move of the player is the entry of the table for the path so far
 abbrev pub GoesBy : ParityGame → ℕ → (List ℕ → ℕ) → List ℕ → Type 0
 GoesBy game player table path =
     (k : ℕ) → k + 1 < length path → owner_of game (slice_index path k) ≡ player →
     table (take (k + 1) path) ≡ slice_index path (k + 1)
 
--- a path of n + 1 vertices from v follows the table, and the player loses each loop of it
+-- a path of n + 1 vertices from v follows the table, and the player loses each loop of this path
 pub record IsBeaten (game : ParityGame) (player n : ℕ) (table : List ℕ → ℕ) (v : ℕ) : Type 0 where
   pub path : List ℕ
   pub is_path : IsPath game path
@@ -68,7 +71,8 @@ pub record IsBeaten (game : ParityGame) (player n : ℕ) (table : List ℕ → �
 abbrev pub HasLoop : List ℕ → Type 0
 HasLoop path = (i : ℕ) × (j : ℕ) × IsLoop path i j
 
--- each history table of the player is beaten from v; if it is long enough, by a path with a loop
+-- each history table of the player is beaten from v; if n is at least the number of vertices, the path that beats it
+-- has a loop
 abbrev pub AllHistoriesBeaten : ParityGame → ℕ → ℕ → Type 0
 AllHistoriesBeaten game player v =
     (n : ℕ) (table : List ℕ → ℕ) → IsHistoryTable game player n table →

@@ -1,23 +1,23 @@
--- Subgames, and what it means that a player holds a set of vertices within a subgame.
--- A set of vertices is a test, and a table gives each vertex one vertex or none.
+-- Subgames, and what it means for a player to hold a set of vertices within a subgame. A set of vertices is a Boolean
+-- function, and a table maps each vertex to a vertex or to None.
 use Rattle.std.specs.Prelude.{◌≡◌, ◌≢◌, ℕ, ◌+◌, ◌%◌, ◌<◌, ◌≤◌, Option, Some, IsSomeAnd, Bool, IsTrue}
 use Rattle.ps_game.specs.Games.{ParityGame, vertex_count, owner_of, priority_of, HasEdge}
 
--- each vertex of one set is in the other
+-- each vertex of `small` is in `large`
 abbrev pub IsWithin : (ℕ → Bool) → (ℕ → Bool) → Type 0
 IsWithin small large = (v : ℕ) → IsTrue (small v) → IsTrue (large v)
 
--- an edge leads from v to w, which is in the set
+-- an edge leads from v to w, and w is in the set
 pub record LeadsInto (game : ParityGame) (set : ℕ → Bool) (v w : ℕ) : Type 0 where
   pub edge : HasEdge game v w
   pub inside : IsTrue (set w)
 
--- each vertex of the set is a vertex of the game, and has a successor in the set
+-- each vertex of the set is a vertex of the game and has a successor in the set
 pub record IsSubgame (game : ParityGame) (set : ℕ → Bool) : Type 0 where
   pub vertices : (v : ℕ) → IsTrue (set v) → v < vertex_count game
   pub goes_on : (v : ℕ) → IsTrue (set v) → (w : ℕ) × LeadsInto game set v w
 
--- k > 0 steps through the set that return to their start, in which the table gives each move of the player
+-- a round: a cycle of k > 0 steps through the set, in which each move of the player is that of the table
 pub record IsRound (game : ParityGame) (player : ℕ) (set : ℕ → Bool) (table : ℕ → Option ℕ) (walk : ℕ → ℕ)
     (k : ℕ) : Type 0 where
   pub some : 0 < k
@@ -26,14 +26,14 @@ pub record IsRound (game : ParityGame) (player : ℕ) (set : ℕ → Bool) (tabl
   pub edges : (t : ℕ) → t < k → HasEdge game (walk t) (walk (t + 1))
   pub follows : (t : ℕ) → t < k → owner_of game (walk t) ≡ player → table (walk t) ≡ Some (walk (t + 1))
 
--- the greatest priority of the first k places
+-- `top` is the greatest priority of the first k vertices of the walk
 pub record IsTop (game : ParityGame) (walk : ℕ → ℕ) (k top : ℕ) : Type 0 where
   pub bounds : (t : ℕ) → t < k → priority_of game (walk t) ≤ top
   pub stands : (t : ℕ) × (t < k) × (priority_of game (walk t) ≡ top)
 
--- the set lies in the subgame; the table gives a successor in the set at each vertex of it that the player owns; the
--- other player's edges from the set within the subgame stay in the set; the player wins each round in the set that
--- follows the table
+-- The set is within the subgame. At each of the player's vertices of the set, the table gives a successor in the set.
+-- The other player's edges within the subgame do not leave the set. The player wins each round in the set that follows
+-- the table
 pub record HoldsWithin (game : ParityGame) (subgame : ℕ → Bool) (player : ℕ) (set : ℕ → Bool)
     (table : ℕ → Option ℕ) : Type 0 where
   pub within : IsWithin set subgame

@@ -1,14 +1,14 @@
-//! What every form of a game can tell, so that solvers and checkers are written once for all forms.
+//! The interface that every form of a game offers, so that solvers and checkers are written once for all forms.
 
 ghost use Rattle.std.specs.Prelude.{◌≡◌, ◌<◌, length, slice_index};
 ghost use Rattle.ps_game.specs.Games.{ParityGame, IsGame, vertex_count, owner_of, priority_of, successors_of};
 
-/// A parity game that can be read, however it is stored. No call takes memory.
+/// A parity game that can be read, however it is stored. No call allocates memory.
 pub trait Arena {
-    /// The game that the value stands for.
+    /// The game that the value represents.
     ghost game: { Self → ParityGame };
 
-    /// How many vertices there are. They are numbered from 0.
+    /// The number of vertices. They are numbered from 0.
     fn count(&self) -> usize
         ensures vertices { result ≡ vertex_count (game self.now) }
         ensures well_formed { IsGame (game self.now) };
@@ -23,12 +23,12 @@ pub trait Arena {
         requires { vertex < vertex_count (game self.now) }
         ensures { result ≡ priority_of (game self.now) vertex };
 
-    /// How many successors a vertex has.
+    /// The number of successors of a vertex.
     fn degree(&self, vertex: usize) -> usize
         requires { vertex < vertex_count (game self.now) }
         ensures { result ≡ length (successors_of (game self.now) vertex) };
 
-    /// A successor of a vertex, by its number in the order of the vertex's successors.
+    /// A successor of a vertex, by its index in the list of the vertex's successors.
     fn successor(&self, vertex: usize, number: usize) -> usize
         requires vertex { vertex < vertex_count (game self.now) }
         requires number { number < length (successors_of (game self.now) vertex) }

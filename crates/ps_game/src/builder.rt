@@ -1,5 +1,5 @@
-//! Builds a game of vertices and edges in any order. Repeated successors are dropped at the end by a stamp at each
-//! vertex, in time proportional to the numbers of vertices and edges.
+//! Builds a game from vertices and edges that are added in any order. At the end, repeated successors are dropped, in
+//! time proportional to the numbers of vertices and edges.
 
 ghost use Rattle.std.specs.Prelude.{◌≡◌, ◌<◌, ◌≤◌, ◌+◌, ◌↔◌, ℕ, [], IfOk, OnOk, OnErr, Err, IfSome, IfNone, Some, None};
 ghost use Rattle.std.specs.Prelude.{length, find, nat_le, take, map};
@@ -15,7 +15,7 @@ use smallvec::SmallVec;
 use std::alloc::{AllocError, Global};
 use std::marker::Model;
 
-/// A vertex of a draft. Most vertices have few successors, which are then stored inside the value.
+/// A vertex of a draft. Up to four successors are stored inside the value, and most vertices have no more.
 #[derive(Drop)]
 pub(crate) struct Vertex {
     owner: u8,
@@ -29,7 +29,7 @@ impl Model for Vertex {
     ghost view = { λ v. record { owner = v.owner; priority = v.priority; successors = v.successors.items } };
 }
 
-/// Builds a game, vertex by vertex and edge by edge, in any order. Calls fail if out of memory; then the draft is
+/// Builds a game, vertex by vertex and edge by edge, in any order. A call fails if out of memory; then the draft is
 /// unchanged.
 #[derive(Drop)]
 pub struct GameBuilder {
@@ -57,7 +57,7 @@ impl GameBuilder {
         }
     }
 
-    /// Adds a vertex with an owner, 0 or 1, and returns its number.
+    /// Adds a vertex with an owner, 0 or 1, and returns the number of the vertex.
     pub fn vertex(&mut self, owner: u8, priority: u64) -> Result<usize, AllocError>
         requires { owner < 2 }
         ensures number { IfOk result (λ vertex. vertex ≡ vertex_count self.old) }
@@ -74,7 +74,7 @@ impl GameBuilder {
         Ok(number)
     }
 
-    /// Adds an edge from an existing vertex to one that may be added later.
+    /// Adds an edge from an existing vertex to a vertex that may be added later.
     pub fn edge(&mut self, vertex: usize, successor: usize) -> Result<(), AllocError>
         requires { vertex < vertex_count self.old }
         ensures ok { OnOk result (self.new ≡ with_edge self.old vertex successor) }
@@ -85,13 +85,13 @@ impl GameBuilder {
         Ok(())
     }
 
-    /// The game, in which a repeated successor counts once, at its first place.
+    /// The game of the draft. A repeated successor counts once, at its first occurrence.
     ///
     /// # Errors
     ///
-    /// [`GameFault::NoSuccessor`] at the least vertex without an edge. If there is none,
-    /// [`GameFault::UnknownSuccessor`] at the least vertex with a successor that was not added, and its first such
-    /// successor. Otherwise out of memory.
+    /// [`GameFault::NoSuccessor`] at the smallest vertex without an edge. If every vertex has an edge,
+    /// [`GameFault::UnknownSuccessor`] at the smallest vertex with a successor that was not added, with its first
+    /// unknown successor. Otherwise [`GameFault::OutOfMemory`].
     pub fn finish(self) -> Result<Game, GameFault>
         ensures game { IfOk result (λ game. game ≡ without_repeats self) }
         ensures no_successor { (v : ℕ) → (result ≡ Err (GameFault.NoSuccessor v)) ↔ IsFirstBare self v }
@@ -112,7 +112,8 @@ impl GameBuilder {
     }
 }
 
-/// The game of a draft in which each vertex has a successor and each successor is a vertex.
+/// The game of a draft, without repeated successors. In the draft, each vertex has a successor and each successor is a
+/// vertex.
 pub(crate) fn distinct_game(alloc: Global, mut vertices: Vec<Vertex>) -> Result<Game, AllocError>
     requires owners { All (λ v. v.owner < 2) vertices.items }
     requires bare { NoneBare vertices.items }
@@ -124,7 +125,7 @@ pub(crate) fn distinct_game(alloc: Global, mut vertices: Vec<Vertex>) -> Result<
     game_of(alloc, &vertices)
 }
 
-/// The game of these vertices.
+/// The game with the given vertices.
 fn game_of(alloc: Global, vertices: &[Vertex]) -> Result<Game, AllocError>
     requires { IsGame vertices.now }
     ensures { IfOk result (λ game. game ≡ vertices.now) }
@@ -136,7 +137,7 @@ fn game_of(alloc: Global, vertices: &[Vertex]) -> Result<Game, AllocError>
     Ok(arrays.as_game())
 }
 
-/// A vertex with a list of its own.
+/// A vertex with its own list of successors.
 pub(crate) fn listed_vertex(
     alloc: Global,
     owner: u8,
@@ -160,7 +161,7 @@ pub(crate) fn listed_vertex(
     })
 }
 
-/// The least vertex without an edge.
+/// The smallest vertex without an edge.
 #[tactic(auto, unfolding(crate::specs::Games::vertex_count, crate::specs::Games::successors_of))]
 fn first_bare(vertices: &[Vertex]) -> Option<usize>
     ensures some { IfSome result (IsFirstBare vertices.now) }
@@ -174,7 +175,7 @@ fn first_bare(vertices: &[Vertex]) -> Option<usize>
     None
 }
 
-/// The least vertex with a successor that is not a vertex, and its first such successor.
+/// The smallest vertex with an unknown successor (a number that is not a vertex), and its first unknown successor.
 #[tactic(auto, unfolding(crate::specs::Games::vertex_count, crate::specs::Games::successors_of))]
 fn first_unknown(vertices: &[Vertex]) -> Option<(usize, usize)>
     requires { NoneBare vertices.now }
@@ -189,7 +190,7 @@ fn first_unknown(vertices: &[Vertex]) -> Option<(usize, usize)>
     None
 }
 
-/// The first successor that is not less than the number of vertices.
+/// The first successor of a vertex that is not less than the number of vertices.
 fn unknown_successor(vertex: &Vertex, count: usize) -> Option<usize>
     ensures { result ≡ find (λ successor. nat_le count successor) vertex.now.successors }
 {
@@ -200,8 +201,8 @@ fn unknown_successor(vertex: &Vertex, count: usize) -> Option<usize>
         .find(|successor| count <= *successor)
 }
 
-/// Drops each repeated successor, in time proportional to the numbers of vertices and edges. `seen` has one place for
-/// each vertex. There the last vertex that led to it leaves its stamp, which is its number plus one.
+/// Drops all repeated successors, in time proportional to the numbers of vertices and edges. `seen` has an entry for
+/// each vertex: the stamp of the last vertex that has an edge to it. The stamp of a vertex is its number plus one.
 #[tactic(auto, unfolding(crate::specs::Games::vertex_count, crate::specs::Games::successors_of))]
 fn drop_repeats(vertices: &mut [Vertex], seen: &mut [usize])
     requires known { NoneUnknown vertices.old }
@@ -214,7 +215,7 @@ fn drop_repeats(vertices: &mut [Vertex], seen: &mut [usize])
     }
 }
 
-/// Drops each repeated successor of a vertex, whose stamp is not yet in `seen`.
+/// Drops the repeated successors of a vertex, whose stamp is not yet in `seen`.
 fn drop_repeats_at(vertex: &mut Vertex, seen: &mut [usize], stamp: usize)
     requires known { All (λ successor. successor < length seen.old) vertex.old.successors }
     requires fresh { All (λ earlier. earlier < stamp) seen.old }
@@ -225,8 +226,8 @@ fn drop_repeats_at(vertex: &mut Vertex, seen: &mut [usize], stamp: usize)
     vertex.successors.truncate(kept);
 }
 
-/// Moves the first occurrence of each number to the front, in order, and returns how many there are. A number has
-/// occurred before if its place in `seen` has the stamp.
+/// Moves the first occurrence of each number to the front, in order, and returns the number of distinct numbers. A
+/// number has occurred before if its entry in `seen` is the stamp.
 fn keep_first_places(numbers: &mut [usize], seen: &mut [usize], stamp: usize) -> usize
     requires known { All (λ number. number < length seen.old) numbers.old }
     requires fresh { All (λ earlier. earlier < stamp) seen.old }

@@ -1,11 +1,11 @@
-//! How much work a solver did.
+//! Measures of a solver's work.
 
-/// How much work a solver did: the greatest number of nested calls at one time, not counting calls on subgames without
-/// a vertex, and how often it raised a measure of progress.
+/// Measures of a solver's work: the maximal depth of nested calls, not counting calls on subgames without vertices, and
+/// the number of raises of a progress measure.
 #[derive(Clone, Copy, Debug, Default, PartialEq, Eq, Drop)]
 pub struct Counts {
-    /// The greatest number of nested calls at one time.
+    /// The maximal depth of nested calls.
     pub depth: u64,
-    /// How often a count was raised.
+    /// The number of times that a count was raised.
     pub raises: u128,
 }

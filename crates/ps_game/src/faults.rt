@@ -1,29 +1,29 @@
-//! Why a draft is not a game.
+//! The reasons why a draft is not a game.
 
 ghost use Rattle.std.specs.Prelude.{◌≡◌};
 
 use thiserror::Error;
 
-/// Why a draft is not a game.
+/// The reason why a draft is not a game.
 #[derive(Clone, Copy, Debug, PartialEq, Eq, Error)]
 pub enum GameFault {
-    /// The least vertex without an edge.
+    /// The smallest vertex without an edge.
     #[error("vertex {vertex} has no successor")]
     NoSuccessor {
-        /// Its place, from 0.
+        /// The number of the vertex, from 0.
         vertex: usize,
     },
 
-    /// The least vertex with a successor that is not a vertex, and its first such successor.
+    /// The smallest vertex with an unknown successor (a number that is not a vertex), and its first unknown successor.
     #[error("vertex {vertex} has the unknown successor {successor}")]
     UnknownSuccessor {
-        /// The vertex's place, from 0.
+        /// The number of the vertex, from 0.
         vertex: usize,
-        /// The place to which its edge leads, which is at least the number of vertices.
+        /// The end of the edge: a number that is not less than the number of vertices.
         successor: usize,
     },
 
-    /// Memory ran out.
+    /// Out of memory.
     #[error("out of memory")]
     OutOfMemory,
 }
@@ -31,7 +31,7 @@ pub enum GameFault {
 impl GameFault {
     ghost use Rattle.ps_game.specs.FaultNames.{fault_number, fault_name};
 
-    /// The fault's number in psyn's list of faults.
+    /// The number of the fault in psyn's list of faults.
     pub fn number(self) -> u8
         ensures { result ≡ fault_number self }
     {
@@ -42,7 +42,7 @@ impl GameFault {
         }
     }
 
-    /// The fault's name.
+    /// The name of the fault.
     pub fn name(self) -> &'static str
         ensures { result.now ≡ fault_name self }
     {

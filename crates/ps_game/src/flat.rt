@@ -14,8 +14,8 @@ use std::alloc::{AllocError, Global};
 use std::marker::Model;
 
 /// A parity game in four arrays: the owners, the priorities, the successors of all vertices in one list, and the offset
-/// of each vertex's successors. It is read faster than a `Game`, and takes less memory: at a width of 4 bytes, 13 bytes
-/// for each vertex and 4 for each edge.
+/// of each vertex's successors. With numbers of 4 bytes, a vertex takes 13 bytes and an edge takes 4, so the game takes
+/// less memory than a `Game` and is faster to read.
 #[derive(Drop)]
 pub struct FlatGame<W: Width> {
     pub(crate) offsets: Numbers<W>,
@@ -36,7 +36,8 @@ impl<W: Width> Model for FlatGame<W> {
 }
 
 impl<W: Width> FlatGame<W> {
-    /// The same game in arrays, in time proportional to the numbers of vertices and edges. Fails if out of memory.
+    /// The same game with numbers of width `W`, in time proportional to the numbers of vertices and edges. Fails if out
+    /// of memory.
     pub fn of(alloc: Global, game: &Game) -> Result<FlatGame<W>, AllocError>
         requires { FitsWithin game.now W.LIMIT }
         ensures { IfOk result (λ flat. flat ≡ game.now) }
@@ -44,14 +45,14 @@ impl<W: Width> FlatGame<W> {
         game.flat.in_width(alloc)
     }
 
-    /// How many edges there are.
+    /// The number of edges.
     fn edges(&self) -> usize
         ensures { result ≡ edge_count self.now }
     {
         self.successors.len()
     }
 
-    /// The same game at another width.
+    /// The same game with numbers of width `V`. Fails if out of memory.
     fn in_width<V: Width>(&self, alloc: Global) -> Result<FlatGame<V>, AllocError>
         requires { FitsWithin self.now V.LIMIT }
         ensures { IfOk result (λ flat. flat ≡ self.now) }
@@ -93,7 +94,7 @@ impl<W: Width> Arena for FlatGame<W> {
     }
 }
 
-/// Whether 4 bytes can hold the numbers of a game's vertices and edges.
+/// Whether 4 bytes can hold the numbers of vertices and edges of a game.
 pub fn fits_narrow(game: &Game) -> bool
     ensures { IsTrue result ↔ ((vertex_count game.now ≤ 2 ^ 32 - 1) × (edge_count game.now ≤ 2 ^ 32 - 1)) }
 {

@@ -1,4 +1,4 @@
-//! Games as a list of vertices, each with the list of its successors.
+//! Games as lists of vertices, each with a list of successors.
 
 ghost use Rattle.ps_game.specs.Games.{ParityGame, IsGame};
 
@@ -6,7 +6,8 @@ use crate::arenas::Arena;
 use crate::flat::FlatGame;
 use std::marker::Model;
 
-/// A parity game: a list of vertices with a list of successors each. It is stored in arrays, with numbers of 8 bytes.
+/// A parity game: a list of vertices, each with a list of successors. The game is stored in arrays, with numbers of 8
+/// bytes.
 #[derive(Drop)]
 pub struct Game {
     pub(crate) flat: FlatGame<usize>,

@@ -1,4 +1,4 @@
-//! Laws on plays and strategies. Each is the contract of a function with an empty body.
+//! Laws about plays and strategies. Each law is the contract of a function with an empty body.
 
 ghost use Rattle.std.specs.Prelude.{◌≡◌, ℕ, ◌+◌, ◌-◌, ◌<◌, ◌≤◌, List, Option, Bool, IsTrue, length, slice_index};
 ghost use Rattle.ps_game.specs.Games.{ParityGame, IsGame, vertex_count, owner_of};
@@ -6,13 +6,13 @@ ghost use Rattle.ps_game.specs.Plays.{IsPath, Holds, other_player, loop_priority
 ghost use Rattle.ps_game.specs.Strategies.{HasLoop, WinsByNoMemory, AllHistoriesBeaten};
 ghost use Rattle.ps_game.specs.Subgames.{HoldsWithin, IsTop};
 
-/// A path with more vertices than the game has visits one of them twice.
+/// A path with more vertices than the game has visits some vertex twice.
 pub fn long_path_has_loop()
     ensures { (game : ParityGame) (path : List ℕ) →
         IsPath game path → vertex_count game < length path → HasLoop path }
 {}
 
-/// If one player holds a set, no strategy of finite memory of the other player wins from a vertex of the set.
+/// If one player holds a set, no finite-memory strategy of the other player wins from a vertex of the set.
 pub fn no_memory_wins_outside()
     ensures { (game : ParityGame) (player : ℕ) (set : ℕ → Bool) (table : ℕ → Option ℕ) →
         IsGame game → player < 2 → Holds game (other_player player) set table →
@@ -26,21 +26,21 @@ pub fn no_history_wins_outside()
         (v : ℕ) → v < vertex_count game → IsTrue (set v) → AllHistoriesBeaten game player v }
 {}
 
-/// What a player holds within the subgame of all vertices, the player holds on paths.
+/// If a subgame consists of all vertices, a set that a player holds within it is also held on paths.
 pub fn holds_on_paths()
     ensures { (game : ParityGame) (player : ℕ) (subgame set : ℕ → Bool) (table : ℕ → Option ℕ) →
         ((v : ℕ) → v < vertex_count game → IsTrue (subgame v)) →
         HoldsWithin game subgame player set table → Holds game player set table }
 {}
 
-/// What the player holds depends only on the moves at the player's own vertices of the set.
+/// Whether a player holds a set depends only on the moves at the player's own vertices of the set.
 pub fn only_own_moves_matter()
     ensures { (game : ParityGame) (player : ℕ) (subgame set : ℕ → Bool) (table other : ℕ → Option ℕ) →
         ((v : ℕ) → IsTrue (set v) → owner_of game v ≡ player → other v ≡ table v) →
         HoldsWithin game subgame player set table → HoldsWithin game subgame player set other }
 {}
 
-/// The priority of a loop is the greatest priority at its places.
+/// The priority of a loop is the greatest priority of its vertices.
 pub fn loop_priority_is_top()
     ensures { (game : ParityGame) (path : List ℕ) (i j : ℕ) → i < j → j ≤ length path →
         IsTop game (λ t. slice_index path (i + t)) (j - i) (loop_priority game path i j) }

@@ -1,38 +1,39 @@
-//! Parity games: what they are, how they are stored and built, and laws on plays and strategies.
+//! Parity games: their definition, storage and construction, and laws about plays and strategies.
 //!
-//! Clauses see a game as a `ParityGame`, the list of its vertices, which are numbered from 0. Player 0 wins a loop
-//! whose greatest priority is even, player 1 one whose greatest is odd. Sets of vertices and tables of moves are lists
-//! with a place for each vertex, so a call that takes one *requires* it to be as long as the game.
+//! In clauses, a game is a `ParityGame`, the list of its vertices, which are numbered from 0. Player 0 wins a loop
+//! whose greatest priority is even, and player 1 wins a loop whose greatest priority is odd. Sets of vertices and
+//! tables of moves are lists with an entry for each vertex. A call that takes a set or a table *requires* that it is as
+//! long as the game.
 //!
 //! | Call | What it gives |
 //! |---|---|
-//! | `Arena::count`, `owner`, `priority`, `degree`, `successor` | how any form of a game is read; no memory |
-//! | `GameBuilder::vertex`, `edge` | one more vertex or edge; if memory runs out, nothing changes |
+//! | `Arena::count`, `owner`, `priority`, `degree`, `successor` | reads a game of any form; allocates no memory |
+//! | `GameBuilder::vertex`, `edge` | adds a vertex or an edge; if out of memory, nothing changes |
 //! | `GameBuilder::finish` | the `Game`, or the first `GameFault`; a repeated successor counts once |
-//! | `Vertices::push`, `truncate` | one more vertex, with its successors; only the first ones |
-//! | `Vertices::know_successors`, `resolve` | whether each successor is one of some ids; replaces each by its place |
-//! | `Vertices::into_game` | the game of these vertices, in which a repeated successor counts once |
+//! | `Vertices::push`, `truncate` | adds a vertex with its successors; keeps only the first vertices |
+//! | `Vertices::know_successors`, `resolve` | whether all successors are known ids; replaces each id by its index |
+//! | `Vertices::into_game` | the game with these vertices, in which a repeated successor counts once |
 //! | `NamedGame::new`, `with_first_names`, `game`, `id`, `name` | a game with ids and optional names; the first names |
-//! | `FlatGame::of` | the same game in four arrays, also an `Arena`, with numbers of 4 or 8 bytes |
-//! | `fits_narrow` | whether 4 bytes hold the numbers of the vertices and edges; 8 bytes always do |
+//! | `FlatGame::of` | the same game with numbers of 4 or 8 bytes, in four arrays; also an `Arena` |
+//! | `fits_narrow` | whether 4 bytes hold the numbers of vertices and edges; 8 bytes always do |
 //! | `Player::of_priority`, `opponent`, `owns`, `number` | the winner of a priority; the other player; who moves |
 //! | `Region::empty`, `full`, `insert`, `remove`, `contains`, `count` | a set of vertices, one bit each |
 //! | `Strategy::empty`, `set`, `get` | a move, or none, for each vertex |
 //! | `Subgame::whole`, `find`, `known`, `region` | a region in which each vertex has a successor; `find` checks this |
 //! | `Numbers::filled`, `with_capacity`, `at`, `set`, `push` | a list of numbers of 4 or 8 bytes each |
-//! | `priorities_of` | the priorities of one parity that a game has, ascending |
-//! | `GameFault::number`, `name` | a fault in psyn's list of faults |
+//! | `priorities_of` | the priorities of one parity that a game has, in ascending order |
+//! | `GameFault::number`, `name` | the number and name of a fault in psyn's list of faults |
 //!
-//! `Counts` says how much work a solver did. Each law is the contract of a function with an empty body:
+//! `Counts` records how much work a solver did. Each law is the contract of a function with an empty body:
 //!
-//! | Law | What it says |
+//! | Law | What it states |
 //! |---|---|
-//! | `long_path_has_loop` | a path with more vertices than the game has visits one of them twice |
-//! | `no_memory_wins_outside` | if one player holds a set, no strategy of finite memory of the other wins from there |
-//! | `no_history_wins_outside` | nor does a table over histories, of any length |
-//! | `holds_on_paths` | what a player holds within the subgame of all vertices, the player holds on paths |
-//! | `only_own_moves_matter` | what a player holds depends only on the moves at the player's own vertices of the set |
-//! | `loop_priority_is_top` | a loop's priority is the greatest priority at its places |
+//! | `long_path_has_loop` | a path with more vertices than the game has visits some vertex twice |
+//! | `no_memory_wins_outside` | if one player holds a set, no finite-memory strategy of the other player wins there |
+//! | `no_history_wins_outside` | in that case each history table of the other player is beaten there |
+//! | `holds_on_paths` | a set that a player holds within the subgame of all vertices is also held on paths |
+//! | `only_own_moves_matter` | holding a set depends only on the moves at the player's own vertices of the set |
+//! | `loop_priority_is_top` | the priority of a loop is the greatest priority of its vertices |
 #![tactic(auto)]
 
 mod arenas;

@@ -9,7 +9,8 @@ ghost use Rattle.ps_game.specs.Names.{name_bytes, with_none};
 use crate::games::Game;
 use std::marker::Model;
 
-/// A game with an id and an optional name for each vertex; a name has no `"`. Names are stored up to the last one.
+/// A game with an id and an optional name for each vertex. A name does not contain `"`. Names are stored up to the last
+/// vertex that has one.
 #[derive(Drop)]
 pub struct NamedGame {
     game: Game,
@@ -48,7 +49,8 @@ impl NamedGame {
         NamedGame::with_first_names(game, ids, names)
     }
 
-    /// Gives ids to the vertices of a game, in their order, and names to the first vertices. The others have no names.
+    /// Gives ids to the vertices of a game, in their order, and names to the first vertices. The other vertices have no
+    /// names.
     pub fn with_first_names(game: Game, ids: Vec<u64>, names: Vec<Option<Vec<u8>>>) -> Self
         requires id_each { vec_len ids ≡ vertex_count game }
         requires names_of_vertices { vec_len names ≤ vertex_count game }

@@ -1,4 +1,4 @@
-//! Lists of numbers that are stored in 4 or 8 bytes each.
+//! Lists of numbers that take 4 or 8 bytes each.
 
 ghost use Rattle.std.specs.Prelude.{◌≡◌, ◌<◌, ◌≤◌, ◌∷◌, [], ◌++◌, IfOk, OnOk, OnErr, length, map, replicate, take};
 ghost use Rattle.std.specs.Prelude.{slice_index, slice_range, slice_set};
@@ -8,7 +8,7 @@ use crate::widths::Width;
 use std::alloc::{AllocError, Global};
 use std::marker::Model;
 
-/// A list of numbers, stored at a stated width.
+/// A list of numbers that are stored at a given width.
 #[derive(Drop)]
 pub struct Numbers<W: Width> {
     items: Vec<W>,
@@ -23,7 +23,7 @@ impl<W: Width> Model for Numbers<W> {
 }
 
 impl<W: Width> Numbers<W> {
-    /// A list of `count` times the same number. Fails if out of memory.
+    /// A list that repeats a number `count` times. Fails if out of memory.
     pub fn filled(alloc: Global, number: usize, count: usize) -> Result<Numbers<W>, AllocError>
         requires { number ≤ W.LIMIT }
         ensures { IfOk result (λ numbers. numbers ≡ replicate count number) }
@@ -32,7 +32,7 @@ impl<W: Width> Numbers<W> {
         Ok(Numbers { items })
     }
 
-    /// The empty list, with room for `count` numbers.
+    /// An empty list with room for `count` numbers. Fails if out of memory.
     pub fn with_capacity(alloc: Global, count: usize) -> Result<Numbers<W>, AllocError>
         ensures { IfOk result (λ numbers. numbers ≡ []) }
     {
@@ -40,14 +40,14 @@ impl<W: Width> Numbers<W> {
         Ok(Numbers { items })
     }
 
-    /// The list of these stored numbers.
+    /// The list of the given stored numbers.
     pub(crate) fn of(items: Vec<W>) -> Numbers<W>
         ensures { result ≡ map W.value items.items }
     {
         Numbers { items }
     }
 
-    /// The same numbers at another width.
+    /// The same numbers at another width. Fails if out of memory.
     pub(crate) fn in_width<V: Width>(&self, alloc: Global) -> Result<Numbers<V>, AllocError>
         requires { All (λ number. number ≤ V.LIMIT) self.now }
         ensures { IfOk result (λ numbers. numbers ≡ self.now) }
@@ -59,14 +59,14 @@ impl<W: Width> Numbers<W> {
         Ok(numbers)
     }
 
-    /// How many numbers there are.
+    /// The number of entries.
     pub fn len(&self) -> usize
         ensures { result ≡ length self.now }
     {
         self.items.len()
     }
 
-    /// The number at a place.
+    /// The number at an index.
     pub fn at(&self, place: usize) -> usize
         requires { place < length self.now }
         ensures { result ≡ slice_index self.now place }
@@ -74,7 +74,7 @@ impl<W: Width> Numbers<W> {
         self.items[place].number()
     }
 
-    /// The numbers from a place up to another, as they are stored.
+    /// The stored numbers from index `start` up to, but not including, index `end`.
     pub fn part(&self, start: usize, end: usize) -> &[W]
         requires order { start ≤ end }
         requires within { end ≤ length self.now }
@@ -83,7 +83,7 @@ impl<W: Width> Numbers<W> {
         &self.items[start..end]
     }
 
-    /// Writes a number at a place.
+    /// Writes a number at an index.
     pub fn set(&mut self, place: usize, number: usize)
         requires place { place < length self.old }
         requires fits { number ≤ W.LIMIT }
@@ -92,7 +92,7 @@ impl<W: Width> Numbers<W> {
         self.items[place] = W::of(number);
     }
 
-    /// Appends a number. If memory runs out, nothing changes.
+    /// Appends a number. Fails if out of memory; then nothing changes.
     pub fn push(&mut self, number: usize) -> Result<(), AllocError>
         requires { number ≤ W.LIMIT }
         ensures ok { OnOk result (self.new ≡ self.old ++ number ∷ []) }
@@ -102,7 +102,7 @@ impl<W: Width> Numbers<W> {
         Ok(())
     }
 
-    /// Keeps the first `count` numbers, and drops the rest.
+    /// Keeps the first `count` numbers and drops the rest.
     pub fn truncate(&mut self, count: usize)
         ensures { self.new ≡ take count self.old }
     {

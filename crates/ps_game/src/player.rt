@@ -14,8 +14,8 @@ enum Parity {
     Odd,
 }
 
-/// A player, by the parity of the loops that it wins: player 0 wins those of even priority, player 1 those of odd
-/// priority.
+/// A player, given by the parity of the loops that the player wins: player 0 wins the loops of even priority, and
+/// player 1 wins those of odd priority.
 #[derive(Clone, Copy)]
 pub struct Player {
     wins: Parity,
@@ -56,7 +56,7 @@ impl Player {
     /// Player 1.
     pub const ODD: Player = Player { wins: Parity::Odd };
 
-    /// The player who wins a loop by its greatest priority.
+    /// The player who wins a loop with the given greatest priority.
     pub fn of_priority(priority: u64) -> Player
         ensures { result ≡ priority % 2 }
     {

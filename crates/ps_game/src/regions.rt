@@ -1,4 +1,5 @@
-//! Sets of vertices, one bit each. Union, difference and count process eight words of 64 bits at a time.
+//! Sets of vertices, with one bit for each vertex. Union, difference and count process eight words of 64 bits at a
+//! time.
 
 ghost use Rattle.std.specs.Prelude.{◌≡◌, ◌<◌, ◌↔◌, ◌&&◌, ◌||◌, ℕ, IfOk, IsTrue, true, false, not, length, replicate};
 ghost use Rattle.std.specs.Prelude.{count_by, slice_set};
@@ -8,11 +9,11 @@ use crate::words::{count_set, is_clear, subtract, unite};
 use std::alloc::{AllocError, Global};
 use std::marker::Model;
 
-/// How many vertices fit in a word.
+/// The number of vertices in a word.
 const WORD: usize = 64;
 
-/// A set of vertices with a stated number of places, which are the vertices that it can hold. Vertex 64·w + b is bit b
-/// of word w; the bits past the last place are 0.
+/// A set of vertices less than a given number `places`. Vertex 64·w + b is bit b of word w; the bits of numbers not
+/// less than `places` are 0.
 #[derive(Drop)]
 pub struct Region {
     places: usize,
@@ -31,7 +32,7 @@ impl Model for Region {
 }
 
 impl Region {
-    /// No vertex. Fails if out of memory.
+    /// The empty set. Fails if out of memory.
     pub fn empty(alloc: Global, places: usize) -> Result<Region, AllocError>
         ensures { IfOk result (λ region. region ≡ replicate places false) }
     {
@@ -39,7 +40,7 @@ impl Region {
         Ok(Region { places, words })
     }
 
-    /// All vertices less than the number of places.
+    /// The set of all vertices less than `places`. Fails if out of memory.
     pub fn full(alloc: Global, places: usize) -> Result<Region, AllocError>
         ensures { IfOk result (λ region. region ≡ replicate places true) }
     {
@@ -51,7 +52,7 @@ impl Region {
         Ok(Region { places, words })
     }
 
-    /// How many vertices the set can hold.
+    /// The number of vertices that the set can hold.
     pub fn places(&self) -> usize
         ensures { result ≡ length self.now }
     {
@@ -100,7 +101,7 @@ impl Region {
         subtract(&mut self.words, &other.words);
     }
 
-    /// How many vertices the set has.
+    /// The number of vertices in the set.
     pub fn count(&self) -> usize
         ensures { result ≡ count_by (λ member. member) self.now }
     {
@@ -108,14 +109,14 @@ impl Region {
         count_set(words)
     }
 
-    /// Whether the set has no vertex.
+    /// Whether the set is empty.
     pub fn is_empty(&self) -> bool
         ensures { IsTrue result ↔ ((v : ℕ) → has self.now v ≡ false) }
     {
         is_clear(&self.words)
     }
 
-    /// A copy of the set.
+    /// A copy of the set. Fails if out of memory.
     pub fn copy(&self) -> Result<Region, AllocError>
         ensures { IfOk result (λ region. region ≡ self.now) }
     {

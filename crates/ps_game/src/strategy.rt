@@ -1,4 +1,4 @@
-//! Positional strategies: a move, or none, for each vertex.
+//! Positional strategies: a move, or no move, for each vertex.
 
 ghost use Rattle.std.specs.Prelude.{◌≡◌, ◌<◌, IfOk, Some, None, length, replicate, slice_set};
 ghost use Rattle.ps_game.specs.Regions.{move_at};
@@ -7,8 +7,8 @@ use crate::regions::Region;
 use std::alloc::{AllocError, Global};
 use std::marker::Model;
 
-/// A move, or none, for each vertex: the vertices that have one, and where each of them moves. Any number may be a
-/// move, so no number can stand for the absence of a move.
+/// A move, or no move, for each vertex: the set of vertices that have a move, and the move of each. Since every number
+/// can be a move, no number can represent the absence of a move.
 #[derive(Drop)]
 pub struct Strategy {
     chosen: Region,
@@ -36,7 +36,7 @@ impl Strategy {
         Ok(Strategy { chosen, moves })
     }
 
-    /// How many vertices can have a move.
+    /// The number of vertices that can have a move.
     pub fn places(&self) -> usize
         ensures { result ≡ length self.now }
     {
@@ -55,7 +55,7 @@ impl Strategy {
         }
     }
 
-    /// Gives a vertex its move.
+    /// Sets the move at a vertex.
     pub fn set(&mut self, vertex: usize, successor: usize)
         requires { vertex < length self.old }
         ensures { self.new ≡ slice_set self.old vertex (Some successor) }

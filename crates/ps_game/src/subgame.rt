@@ -1,4 +1,4 @@
-//! Subgames: regions in which no play ends.
+//! Subgames: regions in which every play can continue.
 
 ghost use Rattle.std.specs.Prelude.{◌≡◌, ◌<◌, ◌↔◌, ℕ, IfOk, IfSome, IsSome, IsTrue, true, length, replicate};
 ghost use Rattle.std.specs.Prelude.{slice_index, slice_index_or};
@@ -27,7 +27,7 @@ impl Model for Subgame {
 }
 
 impl Subgame {
-    /// The whole arena. Fails if out of memory.
+    /// The subgame of all vertices. Fails if out of memory.
     pub fn whole<A: Arena>(alloc: Global, arena: &A) -> Result<Subgame, AllocError>
         ensures all { IfOk result (λ subgame. subgame ≡ replicate (vertex_count (A.game arena.now)) true) }
         ensures subgame { IfOk result (λ subgame. IsSubgame (A.game arena.now) (has subgame)) }
@@ -36,7 +36,7 @@ impl Subgame {
         Ok(Subgame { region })
     }
 
-    /// A region, if each of its vertices has a successor in it.
+    /// The subgame of a region, if each vertex of the region has a successor in the region.
     pub fn find<A: Arena>(arena: &A, region: Region) -> Option<Subgame>
         requires { length region ≡ vertex_count (A.game arena.now) }
         ensures subgame { IsSome result ↔ IsSubgame (A.game arena.now) (has region) }
@@ -50,7 +50,7 @@ impl Subgame {
         Some(Subgame { region })
     }
 
-    /// A region whose vertices are known to have a successor in it.
+    /// The subgame of a region in which each vertex is known to have a successor.
     pub fn known<A: Arena>(arena: &A, region: Region) -> Subgame
         requires places { length region ≡ vertex_count (A.game arena.now) }
         requires subgame { IsSubgame (A.game arena.now) (has region) }
@@ -60,7 +60,7 @@ impl Subgame {
         Subgame { region }
     }
 
-    /// The vertices.
+    /// The vertices of the subgame.
     pub fn region(&self) -> &Region
         ensures { result.now ≡ self.now }
     {

@@ -1,4 +1,4 @@
-//! Vertices in arrays, one after another: what a reader of games makes.
+//! Vertices in arrays, as a parser of games builds them.
 
 ghost use Rattle.std.specs.Prelude.{◌≡◌, ◌≢◌, ◌==◌, ◌<◌, ◌≤◌, ◌+◌, ◌++◌, ◌∷◌, [], IfOk, OnOk, OnErr, Contains, length};
 ghost use Rattle.std.specs.Prelude.{map, take, vec_len, vec_capacity};
@@ -17,8 +17,8 @@ use ps_ids::Ids;
 use std::alloc::{AllocError, Global};
 use std::marker::Model;
 
-/// Vertices in order, each with any numbers as successors. They are stored in four arrays: 17 bytes for each vertex and
-/// 8 for each successor.
+/// Vertices in order, whose successors may be any numbers. The vertices are stored in four arrays, which take 17 bytes
+/// for each vertex and 8 bytes for each successor.
 #[derive(Drop)]
 pub struct Vertices {
     offsets: Vec<usize>,
@@ -37,7 +37,7 @@ impl Model for Vertices {
 
 #[tactic(auto, unfolding(crate::specs::Games::vertex_count, crate::specs::Games::successors_of))]
 impl Vertices {
-    /// No vertices. Fails if out of memory.
+    /// An empty list of vertices. Fails if out of memory.
     pub fn new(alloc: Global) -> Result<Self, AllocError>
         ensures { IfOk result (λ vertices. vertices ≡ []) }
     {
@@ -51,14 +51,14 @@ impl Vertices {
         })
     }
 
-    /// How many vertices there are.
+    /// The number of vertices.
     pub fn len(&self) -> usize
         ensures { result ≡ length self.now }
     {
         self.owners.len()
     }
 
-    /// Appends a vertex with an owner, 0 or 1. If memory runs out, nothing changes.
+    /// Appends a vertex with an owner, 0 or 1. Fails if out of memory; then nothing changes.
     pub fn push(&mut self, owner: u8, priority: u64, successors: &[usize]) -> Result<(), AllocError>
         requires { owner < 2 }
         ensures ok { OnOk result (self.new ≡ self.old ++ record {
@@ -83,7 +83,7 @@ impl Vertices {
         Ok(())
     }
 
-    /// Keeps the first `count` vertices, and drops the rest.
+    /// Keeps the first `count` vertices and drops the rest.
     pub fn truncate(&mut self, count: usize)
         ensures { self.new ≡ take count self.old }
     {
@@ -97,14 +97,14 @@ impl Vertices {
         self.priorities.truncate(count);
     }
 
-    /// Whether each successor is one of these ids.
+    /// Whether each successor is one of the given ids.
     pub fn know_successors(&self, ids: &Ids) -> bool
         ensures { result ≡ list_all (λ v. list_all (λ w. list_any (λ id. w == id) ids.now) v.successors) self.now }
     {
         are_ids(ids, &self.successors)
     }
 
-    /// Replaces each successor, which is an id, by the place of that id.
+    /// Replaces each successor, which must be an id, by the index of this id.
     pub fn resolve(&mut self, ids: &Ids)
         requires { All (λ v. All (λ w. Contains ids.now w) v.successors) self.old }
         ensures { self.new ≡ map (with_places ids.now) self.old }
@@ -112,7 +112,7 @@ impl Vertices {
         places_in(&mut self.successors, ids);
     }
 
-    /// The game of these vertices, in which a repeated successor counts once, at its first place.
+    /// The game with these vertices. A repeated successor counts once, at its first occurrence. Fails if out of memory.
     pub fn into_game(self, alloc: Global) -> Result<Game, AllocError>
         requires bare { NoneBare self }
         requires known { NoneUnknown self }
@@ -125,7 +125,7 @@ impl Vertices {
         distinct_game(alloc, listed)
     }
 
-    /// The game of these vertices.
+    /// The game with these vertices.
     pub(crate) fn as_game(self) -> Game
         requires { IsGame self }
         ensures { result ≡ self }
@@ -158,7 +158,8 @@ impl Vertices {
         own
     }
 
-    /// Whether it is clear at once that no vertex has a successor twice.
+    /// True only if no vertex has a successor twice. The test is quick: false does not mean that a successor is
+    /// repeated.
     fn are_distinct(&self) -> bool
         ensures { OnTrue result (HaveNoRepeats self.now) }
     {
@@ -170,7 +171,7 @@ impl Vertices {
         true
     }
 
-    /// The same vertices, each with a list of its own.
+    /// The same vertices, each with its own list of successors. Fails if out of memory.
     fn listed(&self, alloc: Global) -> Result<Vec<Vertex>, AllocError>
         ensures { IfOk result (λ vertices. vertices.items ≡ self.now) }
     {
@@ -188,7 +189,7 @@ impl Vertices {
     }
 }
 
-/// Makes room for one more vertex with a given number of successors.
+/// Reserves room for one more vertex with the given number of successors.
 fn make_room(
     offsets: &mut Vec<usize>,
     owners: &mut Vec<u8>,
@@ -211,7 +212,7 @@ fn make_room(
     successors.reserve(degree)
 }
 
-/// Appends numbers to others; there must be room.
+/// Appends numbers to a list that has room for them.
 fn put_all(numbers: &mut Vec<usize>, more: &[usize])
     requires { vec_len numbers.old + length more.now ≤ vec_capacity numbers.old }
     ensures { numbers.new.items ≡ numbers.old.items ++ more.now }
@@ -221,14 +222,14 @@ fn put_all(numbers: &mut Vec<usize>, more: &[usize])
     }
 }
 
-/// Whether each number of a list is one of the ids.
+/// Whether each number of a list is an id.
 fn are_ids(ids: &Ids, list: &[usize]) -> bool
     ensures { result ≡ list_all (λ w. list_any (λ id. w == id) ids.now) list.now }
 {
     list.iter().all(|id| ids.has(*id as u64))
 }
 
-/// Replaces each id by its place.
+/// Replaces each id by its index.
 fn places_in(numbers: &mut [usize], ids: &Ids)
     requires { All (λ id. Contains ids.now id) numbers.old }
     ensures { numbers.new ≡ map (place_of ids.now) numbers.old }
@@ -239,11 +240,11 @@ fn places_in(numbers: &mut [usize], ids: &Ids)
     }
 }
 
-/// The greatest length at which numbers are compared with one another.
+/// The largest length of a list whose numbers are compared pairwise.
 const FEW: usize = 8;
 
-/// Whether it is clear at once that no number occurs twice in a list: few are compared with one another, more must
-/// rise.
+/// True only if no number occurs twice in a list. A short list is compared pairwise; a longer list must be strictly
+/// ascending.
 fn are_different(numbers: &[usize]) -> bool
     ensures { OnTrue result (AllPairs (λ x y. x ≢ y) numbers.now) }
 {
@@ -254,7 +255,7 @@ fn are_different(numbers: &[usize]) -> bool
     }
 }
 
-/// Whether no number occurs twice in a list.
+/// Whether no number occurs twice in a list, by comparing each number with all earlier ones.
 fn have_no_repeat(numbers: &[usize]) -> bool
     ensures { OnTrue result (AllPairs (λ x y. x ≢ y) numbers.now) }
 {
@@ -266,7 +267,7 @@ fn have_no_repeat(numbers: &[usize]) -> bool
     true
 }
 
-/// Whether each number is less than the next one.
+/// Whether the list is strictly ascending.
 fn are_rising(numbers: &[usize]) -> bool
     ensures { OnTrue result (AllPairs (λ x y. x ≢ y) numbers.now) }
 {

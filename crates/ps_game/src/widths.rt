@@ -1,24 +1,24 @@
-//! The numbers in large tables: `u32` or `usize`.
+//! The types of the numbers in large tables: `u32` or `usize`.
 
 ghost use Rattle.std.specs.Prelude.{◌≡◌, ◌^◌, ◌-◌, ◌≤◌, ℕ};
 
-/// A type of numbers in large tables. With fewer bytes, less memory is read.
+/// A type of the numbers in large tables. With a smaller type, less memory is read.
 pub trait Width: Copy {
-    /// The number that a value stands for.
+    /// The number that a value represents.
     ghost value: { Self → ℕ };
 
-    /// The greatest number that fits.
+    /// The largest number that fits the type.
     ghost LIMIT: { ℕ };
 
-    /// The greatest number that fits.
+    /// The largest number that fits the type.
     const LIMIT: usize;
 
-    /// The value that stands for a number.
+    /// The value that represents a number.
     fn of(number: usize) -> Self
         requires { number ≤ LIMIT }
         ensures { value result ≡ number };
 
-    /// The number that the value stands for.
+    /// The number that the value represents.
     fn number(self) -> usize
         ensures { result ≡ value self };
 

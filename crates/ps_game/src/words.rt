@@ -1,4 +1,4 @@
-//! Words of 64 bits, processed eight at a time.
+//! Operations on words of 64 bits, which process eight words at a time.
 
 ghost use Rattle.std.specs.Prelude.{◌≡◌, ◌↔◌, ℕ, ◌*◌, ◌/◌, ◌<◌, ◌≤◌, ◌^◌, IsTrue, length, slice_index, take, drop};
 ghost use Rattle.std.specs.Prelude.{bit_and, bit_or, count_ones};
@@ -7,10 +7,10 @@ ghost use Rattle.std.specs.List.{sum_by};
 
 use std::simd::prelude::*;
 
-/// How many words are processed at once.
+/// The number of words processed at a time.
 const LANES: usize = 8;
 
-/// Sets each bit that is set in other words.
+/// Sets each bit that is set in the other words.
 pub(crate) fn unite(words: &mut [u64], others: &[u64])
     requires { length others.now ≡ length words.old }
     ensures { (k : ℕ) → slice_index words.new k ≡ bit_or (slice_index words.old k) (slice_index others.now k) }
@@ -20,7 +20,7 @@ pub(crate) fn unite(words: &mut [u64], others: &[u64])
     unite_rest(words, others, groups * LANES);
 }
 
-/// Like `unite`, for a number of groups of eight words.
+/// Like `unite`, for the first `groups` groups of eight words.
 fn unite_groups(words: &mut [u64], others: &[u64], groups: usize)
     requires words { groups * 8 ≤ length words.old }
     requires others { groups * 8 ≤ length others.now }
@@ -35,7 +35,7 @@ fn unite_groups(words: &mut [u64], others: &[u64], groups: usize)
     }
 }
 
-/// Like `unite`, for the words from a place on, one by one.
+/// Like `unite`, for the words from index `start` on, one by one.
 fn unite_rest(words: &mut [u64], others: &[u64], start: usize)
     requires { length others.now ≡ length words.old }
     ensures before { (k : ℕ) → k < start → slice_index words.new k ≡ slice_index words.old k }
@@ -47,7 +47,7 @@ fn unite_rest(words: &mut [u64], others: &[u64], start: usize)
     }
 }
 
-/// Clears each bit that is set in other words.
+/// Clears each bit that is set in the other words.
 pub(crate) fn subtract(words: &mut [u64], others: &[u64])
     requires { length others.now ≡ length words.old }
     ensures in_range { (k : ℕ) → slice_index others.now k < 2 ^ 64 }
@@ -59,7 +59,7 @@ pub(crate) fn subtract(words: &mut [u64], others: &[u64])
     subtract_rest(words, others, groups * LANES);
 }
 
-/// Like `subtract`, for a number of groups of eight words.
+/// Like `subtract`, for the first `groups` groups of eight words.
 fn subtract_groups(words: &mut [u64], others: &[u64], groups: usize)
     requires words { groups * 8 ≤ length words.old }
     requires others { groups * 8 ≤ length others.now }
@@ -74,7 +74,7 @@ fn subtract_groups(words: &mut [u64], others: &[u64], groups: usize)
     }
 }
 
-/// Like `subtract`, for the words from a place on, one by one.
+/// Like `subtract`, for the words from index `start` on, one by one.
 fn subtract_rest(words: &mut [u64], others: &[u64], start: usize)
     requires { length others.now ≡ length words.old }
     ensures before { (k : ℕ) → k < start → slice_index words.new k ≡ slice_index words.old k }
@@ -86,7 +86,7 @@ fn subtract_rest(words: &mut [u64], others: &[u64], start: usize)
     }
 }
 
-/// How many bits are set.
+/// The number of bits that are set.
 pub(crate) fn count_set(words: &[u64]) -> usize
     requires { sum_by count_ones words.now < 2 ^ 64 }
     ensures in_range { (k : ℕ) → slice_index words.now k < 2 ^ 64 }
@@ -96,7 +96,7 @@ pub(crate) fn count_set(words: &[u64]) -> usize
     count_groups(words, groups) + count_rest(words, groups * LANES)
 }
 
-/// How many bits are set in a number of groups of eight words.
+/// The number of bits that are set in the first `groups` groups of eight words.
 fn count_groups(words: &[u64], groups: usize) -> usize
     requires groups { groups * 8 ≤ length words.now }
     requires room { sum_by count_ones words.now < 2 ^ 64 }
@@ -110,7 +110,7 @@ fn count_groups(words: &[u64], groups: usize) -> usize
     count
 }
 
-/// How many bits are set in the words from a place on, which are counted one by one.
+/// The number of bits that are set in the words from index `start` on, counted word by word.
 fn count_rest(words: &[u64], start: usize) -> usize
     requires start { start ≤ length words.now }
     requires room { sum_by count_ones words.now < 2 ^ 64 }
@@ -132,7 +132,7 @@ pub(crate) fn is_clear(words: &[u64]) -> bool
     are_groups_clear(words, groups) && is_rest_clear(words, groups * LANES)
 }
 
-/// Whether no bit is set in a number of groups of eight words.
+/// Whether no bit is set in the first `groups` groups of eight words.
 fn are_groups_clear(words: &[u64], groups: usize) -> bool
     requires { groups * 8 ≤ length words.now }
     ensures { IsTrue result ↔ ((k : ℕ) → k < groups * 8 → slice_index words.now k ≡ 0) }
@@ -145,7 +145,7 @@ fn are_groups_clear(words: &[u64], groups: usize) -> bool
     true
 }
 
-/// Whether no bit is set in the words from a place on, which are checked one by one.
+/// Whether no bit is set in the words from index `start` on, checked word by word.
 fn is_rest_clear(words: &[u64], start: usize) -> bool
     ensures { IsTrue result ↔ ((k : ℕ) → start ≤ k → slice_index words.now k ≡ 0) }
 {

@@ -1,4 +1,4 @@
--- The place of an id: its own, or by a table.
+-- The index of an id: its own index, or the index recorded in the table or the tree.
 use Rattle.std.proofs.Common.{◌≡◌, ◌≢◌, ℕ, ◌+◌, ◌<◌, ◌≤◌, Bool, false, eqb, List, [], ◌∷◌, ◌++◌, length, get_or}
 use Rattle.std.proofs.Common.{Option, None, Some, refl, sym, ap, subst, inl, inr, ⊎_elim, ◌∙◌, arith, rules}
 use Rattle.std.proofs.Common.{length-append}
@@ -31,7 +31,7 @@ position_none p ids l = search (rules, ltb-true, cases_Bool)
 unlike : (a b : ℕ) → a ≢ b → eqb a b ≡ false
 unlike a b n = search (rules, eqb-true, cases_Bool)
 
--- an id of a list without repeats has only one place
+-- an id in a list without repeats has only one index
 pub position_here : (ids : List ℕ) (id place : ℕ) → AreDistinct ids → place < length ids → get_or ids place 0 ≡ id →
     position (is_id id) ids ≡ Some place
 position_here ids id place distinct l e = search (rules, position_at, position_or_len_is, unlike, eq-eqb)
@@ -46,13 +46,13 @@ position_nowhere ids id none = position_none (is_id id) ids
 abbrev pub IsAt : List ℕ → ℕ → ℕ → Type 0
 IsAt ids place id = (place < length ids) × (slice_index ids place ≡ id)
 
--- the place at which an id is found is its place
+-- the index at which an id is found is the index of the id
 pub found_at : (ids : List ℕ) {shown : List ℕ} (id place : ℕ) → AreDistinct ids → ids ≡ shown → IsAt ids place id →
     Some place ≡ position (is_id id) shown
 found_at ids id place distinct same at =
     subst (λ xs. Some place ≡ position (is_id id) xs) same (sym (position_here ids id place distinct at.0 at.1))
 
--- what the tree says of an id that is neither at its own place nor at the one in the table
+-- the tree has the index of an id that is neither at its own index nor at the index in the table
 pub position_by_table : (first : ℕ) (ids near : List ℕ) (far : ℕ → Option ℕ) (id : ℕ) → IsTable first ids near far →
     (IsAt ids (own_place first id) id → ⊥) → (IsAt ids (slice_index near (own_place first id)) id → ⊥) →
     far id ≡ position (is_id id) ids
@@ -80,7 +80,7 @@ some_position p ids = go (position p ids) refl
         ap is_some e ∙ sym (list_any-from_Any p ids (i, get_or ids i 0, at.0, get_or_default_zero ids i _ at.0, at.1))
     go None e = search (rules, some_none, position_at, cases_lt, list_any_none, fails_before_first)
 
--- one more id
+-- the tables are still correct after an id is added
 pub table_push : (first : ℕ) (ids ids' near near' : List ℕ) (old new : ℕ → Option ℕ) (id place : ℕ) →
     IsTable first ids near old → place ≡ length ids → KeepsPlace first near near' old new id place →
     (Contains ids id → ⊥) → ids' ≡ ids ++ id ∷ [] → IsTable first ids' near' new

@@ -1,4 +1,4 @@
--- Membership in a list of ids, as a table tests it.
+-- Membership in a list of ids, as a lookup tests it.
 use Rattle.std.proofs.Common.{◌≡◌, ◌<◌, ℕ, true, false, eqb, List, length, take, get_or, sym, ◌∙◌, rules}
 use Rattle.std.proofs.lemmas.Bool.{eqb-true, eq-eqb}
 use Rattle.std.proofs.lemmas.Bool.Decides.{nat_tests}
@@ -21,7 +21,7 @@ Contains-any q ids h = Contains-from_any eqb-true q ids h
 pub Contains-none : (q : ℕ) (ids : List ℕ) → list_any (eqb q) ids ≡ false → Contains ids q → ⊥
 Contains-none q ids none h = let e : true ≡ false = sym (any-from_Contains q ids h) ∙ none in cc
 
--- if ids differ, none of them occurs before its place
+-- in a list of distinct ids, an id does not occur before its index
 pub absent_before : (ids : List ℕ) (place : ℕ) → AreDistinct ids → place < length ids →
     Contains (take place ids) (get_or ids place 0) → ⊥
 absent_before ids place distinct l (k, within, e) = search (rules, length-take-le, get_or-take, get_or_default)

@@ -1,4 +1,4 @@
--- Distinct ids, and the tables in which the places of some are kept.
+-- Distinct ids, and the tables that record the indices of some of them.
 use Rattle.std.specs.Prelude.{◌≡◌, ◌≢◌, ◌==◌, ◌-◌, ◌<◌, ◌≤◌, ◌⊎◌, ℕ, List, length, position, Option, Some, slice_index}
 use Rattle.std.specs.Option.{unwrap_or}
 use Rattle.std.specs.List.{AllPairs}
@@ -6,27 +6,28 @@ use Rattle.std.specs.List.{AllPairs}
 abbrev pub AreDistinct : List ℕ → Type 0
 AreDistinct ids = AllPairs (λ x y. x ≢ y) ids
 
--- the place of an id in the list of all ids; 0 for a number that is not an id
+-- the index of an id in the list of all ids; 0 for a number that is not an id
 abbrev pub place_of : List ℕ → ℕ → ℕ
 place_of ids id = unwrap_or (position (λ other. id == other) ids) 0
 
--- how far an id is from the first one, which is its place in a list that begins with the first and counts up by one; 0
--- for an id before the first
+-- an id's own index: its distance from `first`, which is its index in a list that begins with `first` and counts up by
+-- one; 0 for a number less than `first`
 abbrev pub own_place : ℕ → ℕ → ℕ
 own_place first id = id - first
 
--- the place is the id's own, or it is kept by the id's distance from the first one, or by the id itself
+-- `place` is the id's own index, or it is recorded in the table at the id's distance from `first`, or in the tree for
+-- the id
 abbrev pub IsKept : (first : ℕ) (near : List ℕ) (far : ℕ → Option ℕ) (id place : ℕ) → Type 0
 IsKept first near far id place = (own_place first id ≡ place) ⊎
     (((first ≤ id) × (slice_index near (own_place first id) ≡ place)) ⊎ (far id ≡ Some place))
 
--- the place of each id is kept, and only places of ids are kept
+-- the index of each id is recorded, and the tree records only the indices of ids
 pub record IsTable (first : ℕ) (ids near : List ℕ) (far : ℕ → Option ℕ) : Type 0 where
   pub distinct : AreDistinct ids
   pub sound : (id place : ℕ) → far id ≡ Some place → (place < length ids) × (slice_index ids place ≡ id)
   pub whole : (place : ℕ) → place < length ids → IsKept first near far (slice_index ids place) place
 
--- in the new tables the id has that place, and everything else is as before
+-- the new tables record the index of the id, and everything else is as in the old tables
 pub record KeepsPlace (first : ℕ) (old_near new_near : List ℕ) (old new : ℕ → Option ℕ) (id place : ℕ) : Type 0 where
   pub kept : IsKept first new_near new id place
   pub others : (q p : ℕ) → q ≢ id → IsKept first old_near old q p → IsKept first new_near new q p

@@ -1,4 +1,4 @@
-//! Ids, and their places.
+//! Distinct ids, and the index of each id.
 
 ghost use Rattle.std.specs.Prelude.{◌≡◌, ◌==◌, ◌<◌, ◌^◌, ◌++◌, ◌∷◌, ◌↔◌, ℕ, List, [], OnOk, OnErr, IfSome, IsTrue};
 ghost use Rattle.std.specs.Prelude.{Contains};
@@ -12,12 +12,13 @@ use std::alloc::{AllocError, Global};
 use std::collections::BTreeMap;
 use std::marker::Model;
 
-/// How many entries the table may have for each id.
+/// The maximal number of entries in the table for each id.
 const MOST_PER_ID: usize = 4;
 
-/// Distinct ids in order. An id at its own place, counted up by one from the first, is found there. The places of other
-/// ids that are near the first are in a table, by their distance, with at most four entries for each id. All others are
-/// in a tree. So no choice of ids makes a search long, or takes much memory.
+/// Distinct ids in order. An id whose index is its distance from `first` needs no entry. The indices of the other ids
+/// near `first` are in the table `near`, at their distance from `first`. The table `near` has at most four entries for
+/// each id. The indices of all remaining ids are in the tree `far`. So no choice of ids makes a search slow or takes
+/// much memory.
 #[derive(Drop)]
 pub struct Ids {
     list: Vec<u64>,
@@ -35,14 +36,14 @@ impl Model for Ids {
 }
 
 impl Ids {
-    /// No ids. Those that count up by one from 0 need no table.
+    /// An empty list of ids. Ids that count up by one from 0 will need no table.
     pub fn new(alloc: Global) -> Self
         ensures { result ≡ [] }
     {
         Ids::starting_at(alloc, 0)
     }
 
-    /// No ids. Those that count up by one from `first` need no table.
+    /// An empty list of ids. Ids that count up by one from `first` will need no table.
     pub fn starting_at(alloc: Global, first: u64) -> Self
         ensures { result ≡ [] }
     {
@@ -71,7 +72,7 @@ impl Ids {
         list
     }
 
-    /// The place of an id, if it is one of them.
+    /// The index of an id, or `None` if the number is not an id of the list.
     pub fn place(&self, id: u64) -> Option<usize>
         ensures place { result ≡ position (λ other. id == other) self.now }
         ensures member { is_some result ≡ list_any (λ other. id == other) self.now }
@@ -88,7 +89,7 @@ impl Ids {
         self.far.get(&id).copied()
     }
 
-    /// Whether an id is one of them.
+    /// Whether a number is an id of the list.
     pub fn has(&self, id: u64) -> bool
         ensures { result ≡ list_any (λ other. id == other) self.now }
     {
@@ -109,28 +110,29 @@ impl Ids {
     }
 }
 
-/// Whether an id is at a place of a list.
+/// Whether the entry of a list at an index is the given id.
 fn stands_at(list: &[u64], id: u64, place: usize) -> bool
     ensures { IsTrue result ↔ ((place < length list.now) × (slice_index list.now place ≡ id)) }
 {
     place < list.len() && list[place] == id
 }
 
-/// The place that a table has at a distance from the first id; 0 if it has none.
+/// The index that the table has at a distance from `first`, or 0 if it has none.
 fn near_place(near: &[u32], distance: usize) -> usize
     ensures { result ≡ slice_index near.now distance }
 {
     near.get(distance).map_or(0, |place| *place as usize)
 }
 
-/// The distance of an id from the first, which is its own place.
+/// An id's own index: its distance from `first`.
 fn own_place(first: u64, id: u64) -> usize
     ensures { result ≡ own_place first id }
 {
     id.saturating_sub(first) as usize
 }
 
-/// Keeps the place of a new id: in the table if the id is near the first, else in the tree.
+/// Records the index of a new id, unless it is the id's own index: in the table if the id is near `first`, else in the
+/// tree.
 fn keep_place(
     near: &mut Vec<u32>,
     far: &mut BTreeMap<u64, usize>,
@@ -155,7 +157,7 @@ fn keep_place(
     }
 }
 
-/// Writes an entry of a table, which is extended by zeros if it is too short.
+/// Writes an entry of the table. A table that is too short is first extended by zeros.
 fn put_near(near: &mut Vec<u32>, distance: usize, place: u32) -> Result<(), AllocError>
     requires { distance < 2 ^ 62 }
     ensures ok { OnOk result ((k : ℕ) → slice_index near.new.items k ≡

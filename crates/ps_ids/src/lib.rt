@@ -1,14 +1,15 @@
-//! Distinct numbers in order, and the place of each: ids of vertices, variables of circuits.
+//! Distinct numbers in order, and the index of each: ids of vertices, variables of circuits.
 //!
 //! | Call | What it gives |
 //! |---|---|
 //! | `Ids::new`, `starting_at(first)` | no ids; ids that count up by one from 0, or from `first`, will need no table |
-//! | `Ids::push(id)` | one more id at the end, which must be a new one; if memory runs out, nothing changes |
-//! | `Ids::place(id)`, `has(id)` | the place of an id, or none; whether a number is an id |
+//! | `Ids::push(id)` | adds a new id at the end; if out of memory, nothing changes |
+//! | `Ids::place(id)`, `has(id)` | the index of an id, or none; whether a number is an id |
 //! | `Ids::list`, `into_list` | the ids in order, all distinct |
 //!
-//! An id at its own place is found at once. So is one that was near the first when it was added: its distance was at
-//! most four times the number of ids. All others are found in a B-tree, in logarithmic time, whatever ids are chosen.
+//! An id whose index is its distance from the start (0, or `first`) is found in constant time. The same holds for an id
+//! that was near the start when it was added: its distance from the start was less than four times the number of ids,
+//! including the new id. All other ids are found in a B-tree in logarithmic time, for every choice of ids.
 #![tactic(auto)]
 
 mod ids;

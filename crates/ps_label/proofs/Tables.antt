@@ -1,4 +1,4 @@
--- The table of the aliases' truths: there is one, and it is that of the definition.
+-- The table of the aliases' truths is unique, and it is the table of the definition.
 use Rattle.std.proofs.Common.{◌≡◌, ℕ, suc, zero, append-nil, ◌+◌, ◌<◌, ◌≤◌, Bool, true, false, cond, List, []}
 use Rattle.std.proofs.Common.{◌∷◌, ◌++◌, length, get_or, refl, ap, sym, ◌∙◌, arith, append_assoc, take, drop, set}
 use Rattle.std.proofs.Common.{length-append, zero-add}
@@ -9,7 +9,7 @@ use Rattle.ps_label.specs.Expression.{more, IsOver, AreOver, AreOverFrom, AreOrd
 use Rattle.ps_label.specs.declared.label.Label.{Label}
 use Rattle.ps_label.specs.Truth.{expressions, truth, all_true, any_true, truths_behind, alias_truths, AreTruths}
 
--- what follows the names that an expression uses changes nothing
+-- the truth of an expression does not change if the table is extended
 mutual
   pub truth-front : (known more_known : List Bool) (letter : ℕ) (e : Expression) → IsOver (length known) 64 e →
       truth (known ++ more_known) letter e ≡ truth known letter e
@@ -35,7 +35,7 @@ pub push_ordered : (k n : ℕ) (es : List Expression) (e : Expression) → AreOv
 push_ordered k n [] e o is h = (let z : n ≡ k = omega arith in rw z at h, tt)
 push_ordered k n (x ∷ xs) e o is h = (o.0, push_ordered (k + 1) n xs e o.1 (omega arith) h)
 
--- what the truths of the aliases from some place on look like
+-- evaluating more aliases appends one truth for each of them to the table
 truths_grow : (known : List Bool) (letter : ℕ) (es : List Expression) →
     (rest : List Bool) × (truths_behind known letter es ≡ known ++ rest) × (length rest ≡ length es)
 truths_grow known letter [] = ([], sym (append-nil known), refl)
@@ -44,7 +44,7 @@ truths_grow known letter (e ∷ es) =
     let r = truths_grow (known ++ b ∷ []) letter es in
     (b ∷ r.0, r.1 ∙ append_assoc known (b ∷ []) r.0, ap suc r.2)
 
--- each truth in the table is that of its alias by the table
+-- each entry of the table is the truth of its alias by the same table
 table_from : (known : List Bool) (letter : ℕ) (es : List Expression) → AreOverFrom (length known) 64 es →
     (k : ℕ) → k < length es → get_or (truths_behind known letter es) (length known + k) false ≡ truth
     (truths_behind known letter es) letter (get_or es k (constant false))
@@ -71,7 +71,7 @@ table aliases letter o =
       each = λ k h. rw zero-add at (table_from [] letter aliases o k h);
     }
 
--- a table that fits the aliases from some place on is what the definition makes of its front
+-- if a table has the truths of the aliases after `front`, it is the table that `truths_behind` computes from `front`
 only_from : (front back : List Bool) (letter : ℕ) (es : List Expression) → AreOverFrom (length front) 64 es →
     length back ≡ length es →
     ((k : ℕ) → k < length es → get_or (front ++ back) (length front + k) false ≡ truth (front ++ back) letter
@@ -98,7 +98,7 @@ pub only_table : (aliases : List Expression) (letter : ℕ) (known : List Bool) 
 unfolding alias_truths
 only_table aliases letter known o t = only_from [] known letter aliases o t.one_each (λ k h. rw zero-add (t.each k h))
 
--- once each alias is worked out, the table is whole
+-- once every alias is evaluated, the table is complete
 pub whole_table : (scratch : List Bool) (k letter : ℕ) (items : List Label) (whole : List Bool) →
     length scratch ≡ length items → length items ≤ k →
     truths_behind (take k scratch) letter (expressions (drop k items)) ≡ whole → scratch ≡ whole

@@ -1,12 +1,12 @@
--- A code for expressions, by which a proof tells them apart: the steps in which stacks of expressions and of operands
--- make up an expression.
+-- A code for expressions, with which proofs distinguish them. The code is the list of steps that build an expression on
+-- a stack of expressions and a stack of operand lists.
 use Rattle.std.specs.Prelude.{◌≡◌, ℕ, ◌⊎◌, Bool, true, false, List, [], ◌∷◌, refl}
 use Rattle.std.proofs.Common.{inl, inr, ◌∙◌}
 use Rattle.std.specs.Coded.{Coded, code_by, coded_list, coded⊎, coded_bool, coded_ℕ}
 use Rattle.ps_label.specs.Expression.{Expression, constant, proposition, alias, not_of, all_of, any_of, Operands, last}
 use Rattle.ps_label.specs.Expression.{more}
 
--- a constant, a proposition or an alias; or what is made of the top of the stacks
+-- push a constant, a proposition or an alias, or combine the tops of the stacks
 abbrev pub Step : Type 0
 Step = (Bool ⊎ (ℕ ⊎ ℕ)) ⊎ (Bool ⊎ (Bool ⊎ Bool))
 
@@ -43,7 +43,7 @@ abbrev run : List Step → Stacks → Stacks
 run [] stacks = stacks
 run (step ∷ steps) stacks = run steps (after step stacks.0 stacks.1)
 
--- the steps of an expression, put before others
+-- the steps of an expression, followed by the given steps
 abbrev mutual
   steps_onto : Expression → List Step → List Step
   steps_onto (constant b) steps = inl (inl b) ∷ steps

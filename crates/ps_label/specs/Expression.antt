@@ -1,4 +1,4 @@
--- A label as a Boolean expression, apart from where its parts lie in memory.
+-- A label as a Boolean expression, independent of the layout of the label in memory.
 use Rattle.std.specs.Prelude.{ℕ, ◌+◌, ◌<◌, Bool, List, [], ◌∷◌}
 use Rattle.ps_label.specs.declared.label.Label.{Label, Truth, Atom, Named, Neg', Both', Either', Row_of-Label}
 use Rattle.ps_label.specs.declared.label.Label.{end_of-Label, more_of-Label}
@@ -16,7 +16,7 @@ mutual
     last : Operands
     more : Expression → Operands → Operands
 
--- the expression that a label is
+-- the expression of a label
 abbrev mutual
   pub expression : Label → Expression
   expression (Truth b) = constant b
@@ -30,7 +30,7 @@ abbrev mutual
   operands end_of-Label = last
   operands (more_of-Label l row) = more (expression l) (operands row)
 
--- the operands, from a list
+-- the operands from a list of expressions
 abbrev pub row_of : List Expression → Operands
 row_of [] = last
 row_of (e ∷ es) = more e (row_of es)
@@ -39,7 +39,7 @@ abbrev pub list_of : Operands → List Expression
 list_of last = []
 list_of (more e es) = e ∷ list_of es
 
--- an expression uses only the first aliases and propositions, as many as given
+-- an expression uses only aliases less than `aliases` and propositions less than `propositions`
 abbrev mutual
   pub IsOver : (aliases propositions : ℕ) → Expression → Type 0
   IsOver aliases propositions (constant b) = Unit {0}
@@ -53,12 +53,13 @@ abbrev mutual
   AreOver aliases propositions last = Unit {0}
   AreOver aliases propositions (more e es) = IsOver aliases propositions e × AreOver aliases propositions es
 
--- each of these aliases, the first of which has the given number, uses only earlier aliases and the first propositions
+-- each alias in the list uses only earlier aliases and propositions less than `propositions`; the first alias of the
+-- list has the number `number`
 abbrev pub AreOverFrom : (number propositions : ℕ) → List Expression → Type 0
 AreOverFrom number propositions [] = Unit {0}
 AreOverFrom number propositions (e ∷ es) =
     IsOver number propositions e × AreOverFrom (number + 1) propositions es
 
--- the aliases of a text, over the 64 bits of a letter
+-- the aliases of a text: each uses only earlier aliases, and propositions less than 64
 abbrev pub AreOrdered : List Expression → Type 0
 AreOrdered es = AreOverFrom 0 64 es

@@ -5,11 +5,11 @@ use Rattle.ps_label.specs.declared.label.Label.{Label}
 use Rattle.ps_label.specs.Expression.{Expression, constant, proposition, alias, not_of, all_of, any_of, Operands, last}
 use Rattle.ps_label.specs.Expression.{more, expression}
 
--- proposition p is bit p of the letter, the lowest bit being bit 0
+-- proposition p is bit p of the letter, where bit 0 is the lowest bit
 abbrev pub is_in : ℕ → ℕ → Bool
 is_in p letter = nat_eq (letter / 2 ^ p % 2) 1
 
--- the truth of an expression, given that of each alias
+-- the truth of an expression, where `known` has the truth of each alias
 abbrev mutual
   pub truth : List Bool → ℕ → Expression → Bool
   truth known letter (constant b) = b
@@ -27,19 +27,19 @@ abbrev mutual
   any_true known letter last = false
   any_true known letter (more e es) = cond (truth known letter e) true (any_true known letter es)
 
--- A table has the truth of each alias: of the expression that it stands for, by the same table.
+-- the table `known` has the truth of each alias: that of the alias's expression by the same table
 pub record AreTruths (aliases : List Expression) (letter : ℕ) (known : List Bool) : Type 0 where
   pub one_each : length known ≡ length aliases
   pub each : (k : ℕ) → k < length aliases → slice_index_or known k false ≡ truth known letter
       (slice_index_or aliases k (constant false))
 
--- the truths of the aliases, from the first to the last, appended to those of earlier ones
+-- the table `known`, extended by the truths of the given aliases, from the first to the last
 abbrev pub truths_behind : List Bool → ℕ → List Expression → List Bool
 truths_behind known letter [] = known
 truths_behind known letter (e ∷ es) = truths_behind (known ++ truth known letter e ∷ []) letter es
 
--- The truth of a label at a letter, if its names are those of the aliases. (If each alias uses only earlier ones, there
--- is one table of their truths, and this is the truth by that table.)
+-- The truth of a label at a letter, where alias k is the expression with index k in `aliases`. If each alias uses only
+-- earlier aliases, there is exactly one table of their truths, and this is the truth by that table.
 unfoldable pub alias_truths : List Expression → ℕ → List Bool
 alias_truths aliases letter = truths_behind [] letter aliases
 

@@ -1,18 +1,18 @@
-//! The expressions.
+//! Labels: Boolean expressions over propositions and aliases.
 
 /// A Boolean expression over propositions, such as the label of an edge.
 #[derive(Debug, Drop)]
 pub enum Label {
-    /// True at every letter, or at none.
+    /// True at every letter, or false at every letter.
     Truth(bool),
-    /// The proposition with that number, from 0.
+    /// The proposition with the given number. Propositions are numbered from 0.
     Atom(u32),
-    /// The alias with that number, from 0 in the order of their definitions.
+    /// The alias with the given number. Aliases are numbered from 0 in the order of their definitions.
     Named(usize),
-    /// The operand is false.
+    /// True if the operand is false.
     Neg(Box<Label>),
-    /// All operands are true; true if there are none.
+    /// True if all operands are true, and also if there are no operands.
     Both(Vec<Label>),
-    /// At least one operand is true; false if there are none.
+    /// True if at least one operand is true, and false if there are no operands.
     Either(Vec<Label>),
 }

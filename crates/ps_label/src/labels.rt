@@ -8,7 +8,8 @@ use crate::label::Label;
 use std::alloc::{AllocError, Global};
 use std::marker::Model;
 
-/// The aliases of a text in the order of their definitions. Each uses only earlier ones, and propositions less than 64.
+/// The aliases of a text in the order of their definitions. Each alias uses only earlier aliases and propositions less
+/// than 64.
 #[derive(Debug, Drop)]
 pub struct Labels {
     aliases: Vec<Label>,
@@ -32,7 +33,7 @@ impl Model for Labels {
 }
 
 impl Labels {
-    /// No aliases.
+    /// An empty list of aliases.
     pub fn new(alloc: Global) -> Self
         ensures { result ≡ [] }
     {
@@ -59,7 +60,7 @@ impl Labels {
         self.aliases.as_slice()
     }
 
-    /// The truth of a label at a letter. Each alias is evaluated once; `scratch` has a place for each.
+    /// The truth of a label at a letter. Each alias is evaluated once, and `scratch` has an entry for each alias.
     pub fn eval(&self, label: &Label, letter: u64, scratch: &mut [bool]) -> bool
         requires room { length scratch.old ≡ length self.now }
         requires within { IsOver (length self.now) 64 (expression label.now) }
@@ -73,8 +74,9 @@ impl Labels {
     }
 }
 
-/// If each alias uses only earlier ones, there is exactly one table of their truths at a letter: each entry is the
-/// truth of the alias's expression by the same table. A label's truth is its truth by that table.
+/// If each alias uses only earlier aliases, there is exactly one table of their truths at a letter: each entry is the
+/// truth of the alias's expression by the same table. The truth of a label is determined by the table of the aliases'
+/// truths.
 pub fn one_table_of_truths()
     ensures table { (aliases : List Expression) (letter : ℕ) → AreOrdered aliases →
         AreTruths aliases letter (alias_truths aliases letter) }
@@ -84,7 +86,7 @@ pub fn one_table_of_truths()
         AreTruths aliases letter known → label_truth aliases letter e ≡ truth known letter e }
 {}
 
-/// The truth of a label at a letter, given that of each alias in `known`.
+/// The truth of a label at a letter, where `known` has the truth of each alias.
 fn truth_by(label: &Label, letter: u64, known: &[bool]) -> bool
     requires { IsOver (length known.now) 64 (expression label.now) }
     ensures { result ≡ truth known.now letter (expression label.now) }

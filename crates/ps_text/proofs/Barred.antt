@@ -1,7 +1,8 @@
--- `barred P Bad`: a cause at the sign after P. P continues with no sign that Bad names.
---     laws_barred; read_barred      P is read, and Bad says nothing of the sign after it
---     fault_barred      P's own fault; fault_bar      Bad says what is wrong with the sign after P
---     reads_barred, stops_barred, stops_bar      the same at the exits of a reading function
+-- `barred P Bad` adds the errors that `Bad` states at the sign after P. P does not continue with a sign at which `Bad`
+-- states an error.
+--     laws_barred; read_barred      P is parsed, and `Bad` states no error at the sign after it
+--     fault_barred      P's own fault; fault_bar      `Bad` states an error at the sign after P
+--     reads_barred, stops_barred, stops_bar      the same at the exits of a parsing function
 use Rattle.std.proofs.Common.{◌≡◌, ◌+◌, ◌≤◌, ◌⊎◌, List, [], ◌∷◌, ◌++◌, length, Option, Some, sym, ap, subst, inl}
 use Rattle.std.proofs.Common.{inr, ⊎_elim, ◌∙◌, append_assoc, arith, rules}
 use Rattle.ps_text.specs.Answers.{Begins, Stream, Found, first_of, next_of, offset_of}
@@ -13,7 +14,7 @@ use Rattle.ps_text.proofs.InPlace.{stops_at, read_quiet, quiet_at, fault_begins,
 use Rattle.ps_text.proofs.Joined.{text_begins}
 use Rattle.ps_text.proofs.Exits.{stops_as}
 
--- a sign of which Bad says something
+-- a sign for which `Bad` states an error, for some value
 abbrev pub Bar : {T V F : Type 0} → (V → T → F → Type 0) → T → Type 0
 Bar {T} {V} {F} Bad t = (v : V) × (f : F) × Bad v t f
 
@@ -35,7 +36,7 @@ module _ {T V F : Type 0} {odd : T → Type 0} {P : Part T V F} (Bad : V → T �
   }
 
   module _ (apart : Apart More (Bar Bad)) where
-    -- there is no bar inside what begins P
+    -- `Bad` states no error at a sign inside a beginning of P
     no_bar : (front m : List T) (t : T) (v : V) (f : F) → Begins P.IsText (front ++ t ∷ m) → P.IsText front v →
         Bad v t f → ⊥
     no_bar front m t v f b h c = apart t (grind (arith, append_assoc)) (v, f, c)
@@ -46,7 +47,7 @@ module _ {T V F : Type 0} {odd : T → Type 0} {P : Part T V F} (Bad : V → T �
     clean_barred rest e b clean fr r t f x n (inr c) =
         let i = inside_of rest fr r t e x n in no_bar fr i.0 t c.0 f (rw i.1 at b) c.1 c.2
 
-    -- a bar directly after a text of P that stops there has the text's value
+    -- an error that `Bad` states directly after a text of P is an error for the value of this text
     bar_value : (text : List T) (t : T) (v w : V) (f : F) → P.IsText text v → P.IsText text w → Bad w t f → Bad v t f
     bar_value text t v w f h k c = subst (λ z. Bad z t f) (l.one_value text w v k h) c
 

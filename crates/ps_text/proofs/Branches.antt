@@ -1,15 +1,16 @@
--- The exits of a reading function at a choice and in a loop. Meeting has the same names for a `Meets` with its view
--- written out.
---     Stands there P Q      at the next sign `there`, P is read in place of Q. It is shown by
---               left_entered, right_entered      the next sign begins that form of `either`, or a cause of it is there
---               left_otherwise, right_otherwise      it does not begin the other form, which is never empty
---               item_entered      it begins an item of `many`
---     reads_as, stops_as_well, meets_as w m      what is said of P is said of Q
---     many_ends, many_reads, many_fails      `many` stops where no item begins; after an item; an item that begins
---               fails
---     times_reads, times_fails      after an item; an item fails
---     carries_many, carries_times      the invariant of a loop after an item
---     reads_shrinks      a part that takes a sign leaves fewer pieces: the measure of a loop
+-- The exits of a parsing function at a choice and in a loop. The module Meeting has lemmas of the same names for a
+-- `Meets` whose view is written out.
+--     Stands there P Q      at the next sign `there`, parsing P has the same result as parsing Q. It is proved by
+--               left_entered, right_entered      the next sign begins this form of `either`, or is an error of this
+--               form
+--               left_otherwise, right_otherwise      the next sign does not begin the other form, which is never empty
+--               item_entered      the next sign begins an item of `many`
+--     reads_as, stops_as_well, meets_as w m      a result for P is also a result for Q
+--     many_ends, many_reads, many_fails      `many` ends where no item begins; it continues after an item; an item that
+--               begins fails
+--     times_reads, times_fails      `times` continues after an item; an item fails
+--     carries_many, carries_times      the invariant of a loop still holds after an item
+--     reads_shrinks      parsing a part that takes a sign leaves fewer pieces, which is the measure of a loop
 use Rattle.std.proofs.Common.{◌≡◌, ℕ, zero, suc, ◌-◌, ◌<◌, List, [], ◌∷◌, ◌++◌, length, Option, Some, Result, Ok}
 use Rattle.std.proofs.Common.{Err, subst, arith, length-append, rules}
 use Rattle.std.proofs.lemmas.List.{length-map}
@@ -34,7 +35,7 @@ shrinks {T} P all rest v some p = go p.text p.split p.is_text
     go [] e h = absurd (some v h)
     go (t ∷ text) e h = grind (arith, length-append)
 
--- a reading that took a sign has fewer to come
+-- parsing a part that takes a sign leaves fewer pieces
 pub reads_shrinks : {T V F : Type 0} {P : Part T V F} {old new : Stream T} {v : V} → ((w : V) → P.IsText [] w → ⊥) →
     Reads P old v new → length new.pieces < length old.pieces
 reads_shrinks {P = P} {old = old} {new = new} {v = v} some m = omega (

@@ -1,8 +1,8 @@
 -- Runs of bytes that pass a test.
---     all_left, all_right      two runs, one after the other
---     run_len, run_all, run_ends      the longest run that a text begins with
---     run_whole      a text that is one run
---     same_run      there is only one longest run
+--     all_left, all_right      both halves of a run pass the test
+--     run_len, run_all, run_ends      the longest run at the start of a text
+--     run_whole      a text that consists of one run
+--     same_run      the longest run is unique
 use Rattle.std.proofs.Common.{◌≡◌, ℕ, suc, Bool, List, [], ◌∷◌, ◌++◌, length, take, rules, drop, refl, ap₂}
 use Rattle.std.proofs.Common.{⊎_elim, append-nil, arith}
 use Rattle.std.specs.List.{prefix_len, take_while}
@@ -25,7 +25,7 @@ module _ (p : ℕ → Bool) where
   run_len [] (b ∷ bs) a s = rw s refl
   run_len (b ∷ run) rest a s = grind (arith, run_len run rest a.1 s)
 
-  -- the longest run that a text begins with, and what follows it
+  -- the longest run of passing bytes at the start of a text, and the byte after this run
   pub run_all : (text : List ℕ) → AllOf p (take (prefix_len p text) text)
   run_all [] = tt
   run_all (b ∷ bs) = ⊎_elim (λ yes. let size : prefix_len p (b ∷ bs) ≡ suc (prefix_len p bs) = rw yes (omega arith) in

@@ -1,11 +1,11 @@
--- The laws of composed parts, with sets that are no larger than necessary.
---     both_within, wider_first, wider_more      two sets within a third one; larger sets
---     laws_first      one sign, which is in a set if it is taken and if it is bad
---     laws_forms      one of two parts, neither of them empty
---     laws_option      a part that continues with no sign, or nothing
---     laws_all, laws_times_all      any number of items, or so many, that continue with no sign
---     laws_last      a part after one that may be empty, where no sign follows the second one
---     joint_tight      a part after one that continues with no sign
+-- The laws of combined parts, with sets of signs that are no larger than necessary.
+--     both_within, wider_first, wider_more      two sets within a third set; larger sets
+--     laws_first      one sign, which is in a set if it is taken, and also if it is bad
+--     laws_forms      one of two parts, of which neither is empty
+--     laws_option      a part that no sign continues, or nothing
+--     laws_all, laws_times_all      any number of items, or a given number of items, that no sign continues
+--     laws_last      a part that no sign continues, after a part that may be empty
+--     joint_tight      the joint of two parts, where no sign continues the first part
 use Rattle.std.proofs.Common.{◌≡◌, ℕ, Option, Some, inl, inr, rules}
 use Rattle.ps_text.specs.Parts.{Part, give, one, then_by, either, times, many}
 use Rattle.ps_text.proofs.Laws.{Laws, Joint, Nothing, Or, Within, Apart, weaker}

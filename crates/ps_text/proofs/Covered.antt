@@ -1,8 +1,8 @@
--- If the next sign decides which of several forms comes, the whole is read as that form is (proofs/InPlace.antt):
--- `either` as one of its two.
---     Enters P there      the next sign begins a text of P, or a cause of P is at it
---     Avoids A there      the next sign is not in A
---     covers_left, covers_right      `either` is read as one of its two, if the other does not begin
+-- If the next sign decides which of several forms follows, parsing the whole has the same result as parsing this form
+-- (proofs/InPlace.antt). For example, `either` has the result of one of its two forms.
+--     Enters P there      the next sign begins a text of P, or is an error of P
+--     Avoids A there      the next sign is not in the set A
+--     covers_left, covers_right      `either` has the result of one form, if the other form does not begin
 --     laws_either
 use Rattle.std.proofs.Common.{arith, ◌≡◌, ◌⊎◌, List, [], ◌∷◌, ◌++◌, Option, None, Some, refl, subst, inl, inr, ◌∙◌}
 use Rattle.std.proofs.Common.{rules, ⊎_elim}
@@ -20,7 +20,7 @@ Enters {T} {V} {F} P (Some t) = Begins P.IsText (t ∷ []) ⊎ ((f : F) × P.IsC
 pub enters_broken : {T V F : Type 0} (P : Part T V F) (there : Option T) → Enters P there → IsBroken P [] there → ⊥
 enters_broken P there e b = search rules
 
--- a part that takes a sign was entered
+-- if a part that takes a sign was parsed, its first sign enters the part
 pub enters_read : {T V F : Type 0} (P : Part T V F) (all rest : List T) (v : V) → ((w : V) → P.IsText [] w → ⊥) →
     IsRead P all v rest → Enters P (first_of all)
 enters_read {T} P all rest v some p = go p.text p.split p.is_text
@@ -46,11 +46,11 @@ enters_one take Bad t (inr h) = inr (h.0, (refl, h.1))
 
 -- ## either
 
--- the next sign is not one of these
+-- the next sign is not in the set `A`
 abbrev pub Avoids : {T : Type 0} → (T → Type 0) → Option T → Type 0
 Avoids {T} A there = (t : T) → there ≡ Some t → A t → ⊥
 
--- a cause comes after a beginning, so its first sign begins the part
+-- an error of a part follows a beginning of the part, so the first sign of this beginning is in the set `First`
 pub first_of_cause : {T V F : Type 0} {odd : T → Type 0} {P : Part T V F} {First More : T → Type 0} {Null : Type 0} →
     Laws odd P First More Null →
     (front rest : List T) (t u : T) (f : F) → P.IsCause front t f → first_of (front ++ t ∷ rest) ≡ Some u → First u
@@ -61,7 +61,8 @@ some_sign : {T : Type 0} (front : List T) (t : T) → (u : T) × (first_of (fron
 some_sign [] t = (t, refl)
 some_sign (s ∷ front) t = (s, refl)
 
--- a part W each text and each cause of which is one of P, or one of Q if Q does not begin
+-- if W has the texts and errors of P, and otherwise only those of Q, parsing W has the same result as parsing P, at
+-- each sign with which Q does not begin
 covers_one : {T V F : Type 0} {odd : T → Type 0} {P Q : Part T V F} {First More : T → Type 0} {Null : Type 0}
     (W : Part T V F) (l : Laws odd Q First More Null) (there : Option T) → Avoids First there → ((text : List T)
     (v : V) → P.IsText text v → W.IsText text v) → ((front : List T) (t : T) (f : F) → P.IsCause front t f → W.IsCause
@@ -91,7 +92,7 @@ module _ {T V F : Type 0} {odd : T → Type 0} (P Q : Part T V F) {First More : 
   covers_right l there a = covers_one (either P Q) l there a (λ _ _ h. inr h) (λ _ _ _ c. inr c)
       (λ _ _ h. swapped h) (λ _ _ _ c. swapped c)
 
--- what of Q follows a text of P, which is empty then
+-- if Q continues a text of P, this text is empty
 module _ {T V F : Type 0} {odd : T → Type 0} {P Q : Part T V F} {F1 M1 F2 M2 : T → Type 0} {N1 N2 : Type 0}
     (l : Laws odd P F1 M1 N1) (r : Laws odd Q F2 M2 N2) (apart : Apart F1 F2) where
   text_across : (text more : List T) (t : T) (v w : V) → P.IsText text v → Q.IsText (text ++ t ∷ more) w → When N1 F2 t
@@ -103,7 +104,7 @@ module _ {T V F : Type 0} {odd : T → Type 0} {P Q : Part T V F} {F1 M1 F2 M2 :
   cause_across (s ∷ text) t v f h k = search (rules, first_of_cause)
 
 module _ {T V F : Type 0} {odd : T → Type 0} {P Q : Part T V F} {F1 M1 F2 M2 : T → Type 0} {N1 N2 : Type 0} where
-  -- the two begin with different signs, and at most one of them may be empty
+  -- the two parts begin with different signs, and at most one of them may be empty
   pub laws_either : Laws odd P F1 M1 N1 → Laws odd Q F2 M2 N2 → Apart F1 F2 → (N1 → N2 → ⊥) →
       Laws odd (either P Q) (Or F1 F2) (Or (Or M1 M2) (Or (When N1 F2) (When N2 F1))) (N1 ⊎ N2)
   laws_either l r apart nulls = record {

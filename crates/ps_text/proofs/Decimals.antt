@@ -1,9 +1,9 @@
--- Numbers in decimal.
---     digit_is, digit_passes      a digit, by its test
---     value_pushed, value_more      what a further digit makes of a number
---     value_grows, value_front      more digits write no smaller number
---     IsNumberText n digits      digits without a leading zero that write the number
---     number_text, plain      these are written
+-- Decimal numbers.
+--     digit_is, digit_passes      a byte is a digit if and only if it passes the test
+--     value_pushed, value_more      the value after one more digit
+--     value_grows, value_front      more digits never denote a smaller number
+--     IsNumberText n digits      `digits` have no leading zero and denote n
+--     number_text, plain      the written form of a number
 use Rattle.std.proofs.Common.{◌≡◌, ℕ, ◌+◌, ◌-◌, ◌*◌, ◌/◌, ◌%◌, ◌^◌, ◌<◌, ◌≤◌, true, List, [], ◌∷◌, ◌++◌, length}
 use Rattle.std.proofs.Common.{get_or, take, drop, refl, ap, ◌∙◌, arith, length-append, rules, take-append-drop}
 use Rattle.std.specs.Prelude.{decimal}
@@ -44,7 +44,7 @@ value_grows a b = search (rules, map-append, number_after_append, number_after_g
 pub value_front : (ds : List ℕ) (i : ℕ) → decimal_value (take i ds) ≤ decimal_value ds
 value_front ds i = grind (arith, take-append-drop i ds, value_grows (take i ds) (drop i ds))
 
--- ## Numbers that are written
+-- ## The written form of numbers
 
 pub record IsNumberText (n : ℕ) (digits : List ℕ) : Type 0 where
   pub some : 0 < length digits

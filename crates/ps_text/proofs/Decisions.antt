@@ -1,11 +1,11 @@
--- It can be decided what a format says of a sign: which of its causes is the least, or that it has none.
+-- Decision procedures that find the error of a sign with the smallest number, or show that the sign has no error.
 --     Decided A      A holds, or it does not
---     decide_not, decide_as, decide_both, decide_one      of facts that are decided
---     decide_true, decide_none      of a test, and of an option
---     decide_below, decide_in      of two numbers, and of a number in a list
---     judge_none, judge_cause, judge_one, judge_as      no cause; one cause, if a fact holds; of two sets of causes; a
---               set of the same causes
---     judge_if, judge_also      of what a sign has, if it has it; of causes that apply if a fact holds
+--     decide_not, decide_as, decide_both, decide_one      decisions about combined facts
+--     decide_true, decide_none      decisions about a test, and about an option
+--     decide_below, decide_in      decisions about two numbers, and about a number in a list
+--     judge_none, judge_cause, judge_one, judge_as      no error; one error, if a fact holds; two sets of errors; a set
+--               with the same errors
+--     judge_if, judge_also      the errors of an optional value; errors that apply if a fact holds
 use Rattle.std.proofs.Common.{◌≡◌, ℕ, suc, ◌≤◌, ◌⊎◌, Bool, true, List, [], ◌∷◌, length, get_or, refl, sym}
 use Rattle.std.proofs.Common.{inl, rules, inr, Option, None, Some, arith}
 use Rattle.std.specs.Prelude.{IfSome}

@@ -1,6 +1,6 @@
--- The laws of two parts, one after the other, by sets that are smaller than those of `laws_then`.
+-- The laws of two parts in a row, for smaller sets than in `laws_then`.
 --     laws_next      neither part is empty
---     laws_tight      the first one is not empty, and continues with no sign
+--     laws_tight      the first part is not empty, and no sign continues it
 use Rattle.std.proofs.Common.{arith}
 use Rattle.ps_text.specs.Parts.{Part, then_by}
 use Rattle.ps_text.proofs.Laws.{Laws, Nothing, Or, When, Apart, weaker}

@@ -1,12 +1,14 @@
--- A part whose reading, or whose first fault, is that of another.
---     stops_by, stops_at, quiet_by, quiet_at      at any next sign: no text continues with it, no cause is at it
---     read_quiet      there is no cause at the sign after what was read
---     fault_begins      what precedes a first fault begins the part
---     fault_from      the first fault of P is one of R, if at that place R has only texts and causes of P
---     Covers there P Q      at the next sign `there`, Q has only texts and causes of P
---     read_as, fault_as      what is read or is a fault of P is one of Q
---     after P left      what of P follows these signs
---     read_after, fault_after      what is read or is a fault there is one of P, which is clean up to there
+-- A part that has the same result, or the same first fault, as another part.
+--     stops_by, stops_at, quiet_by, quiet_at      no text continues with the next sign; the next sign is not an error
+--     read_quiet      the sign after the parsed text is not an error of the part
+--     fault_begins      the signs before a first fault begin the part
+--     fault_from      the first fault of P is also the first fault of R, if R has only texts and errors of P at this
+--               position
+--     Covers there P Q      at the next sign `there`, Q has only texts and errors of P
+--     read_as, fault_as      a result of P is a result of Q, and a fault of P is a fault of Q
+--     after P left      the remainder of P after the signs `left`
+--     read_after, fault_after      a result for the remainder is a result for P, which has no error before that
+--               position
 use Rattle.std.proofs.Common.{◌≡◌, ℕ, ◌+◌, ◌⊎◌, List, [], ◌∷◌, ◌++◌, length, Option, Some, refl, ap, subst}
 use Rattle.std.proofs.Common.{inl, ◌∙◌, append_assoc, arith, length-append, rules}
 use Rattle.ps_text.specs.Answers.{Begins, first_of}
@@ -30,12 +32,12 @@ module _ {T V F : Type 0} (P : Part T V F) (front : List T) where
   pub quiet_at : {there : Option T} {t : T} {f : F} → there ≡ Some t → NoCauseAt P front there → P.IsCause front t f → ⊥
   quiet_at {f = f} e n = subst (NoCauseAt P front) e n f
 
--- there is no cause at the sign after what was read
+-- the sign after the parsed text is not an error of the part
 pub read_quiet : {T V F : Type 0} {P : Part T V F} {all rest : List T} {v : V} → (p : IsRead P all v rest) →
     NoCauseAt P p.text (first_of rest)
 read_quiet {P = P} {rest = rest} p = search (rules, quiet_by, head_of)
 
--- what precedes a first fault begins the part, if its causes do
+-- the signs before a first fault begin the part, if this holds for the errors of the part
 pub fault_begins : {T V F : Type 0} {P : Part T V F} {causes : Causes T F} {all rest : List T} {f : F} →
     ((front : List T) (t : T) (f : F) → P.IsCause front t f → Begins P.IsText front) →
     (p : IsFault causes P all f rest) → Begins P.IsText p.front
@@ -62,7 +64,7 @@ pub record Covers {T V F : Type 0} (there : Option T) (P Q : Part T V F) : Type 
   pub cause_back : (front : List T) (t : T) (f : F) → there ≡ first_of (front ++ t ∷ []) → Q.IsCause front t f →
       P.IsCause front t f
 
--- a sign after front continues with the first sign of all
+-- `all` begins with the same sign as `front` followed by t
 sign_of : {T : Type 0} {all : List T} {t : T} (front rest : List T) → all ≡ front ++ rest → first_of rest ≡ Some t →
     first_of all ≡ first_of (front ++ t ∷ [])
 sign_of [] rest e x = ap first_of e ∙ x

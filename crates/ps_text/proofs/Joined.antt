@@ -1,8 +1,11 @@
--- `then_by P Q` is read if P is read and then Q. Its first fault is P's, or Q's after P.
---     joint      the laws of two parts make them a joint
---     text_behind, cause_behind      after a text of P, what the two have is of Q, unless P continues there
---     begins_left, begins_right      what begins P begins the two, and so does what begins Q, after a text of P
---     read_then, fault_left, fault_right      for IsRead and IsFault
+-- `then_by P Q` is parsed if P and then Q are parsed. The first fault of `then_by P Q` is the first fault of P, or the
+-- first fault of Q after P.
+--     joint      two parts that satisfy the laws have a joint
+--     text_behind, cause_behind      after a text of P, a text or error of the two parts belongs to Q, unless P
+--               continues
+--     begins_left, begins_right      a beginning of P begins the two parts; so does a text of P and then a beginning of
+--               Q
+--     read_then, fault_left, fault_right      the lemmas for IsRead and IsFault
 use Rattle.std.proofs.Common.{◌≡◌, ◌⊎◌, List, [], ◌∷◌, ◌++◌, length, Option, Some, refl, ap, subst}
 use Rattle.std.proofs.Common.{inl, inr, append_assoc, append-nil, arith, rules}
 use Rattle.ps_text.specs.Answers.{Begins, first_of}
@@ -16,28 +19,28 @@ pub text_begins : {T V : Type 0} (IsText : List T → V → Type 0) {text : List
     Begins IsText text
 text_begins IsText {text} {v} h = record { more = []; value = v; is_text = rw append-nil h }
 
--- what begins with a front and one sign more
+-- a beginning, cut after one of its signs, is also a beginning
 pub begins_on : {T V : Type 0} (IsText : List T → V → Type 0) (front m : List T) (t : T) →
     Begins IsText (front ++ t ∷ m) → Begins IsText (front ++ t ∷ [])
 begins_on IsText front m t b =
     record { more = m ++ b.more; value = b.value; is_text = simp append_assoc (simp append_assoc at b.is_text) }
 
--- P continues with the next sign after this front
+-- after `front`, P continues with the next sign
 abbrev pub GoesOn : {T V F : Type 0} → Part T V F → List T → Option T → Type 0
 GoesOn {T} P front there = (t : T) × (there ≡ Some t) × Begins P.IsText (front ++ t ∷ [])
 
--- the laws of two parts make them a joint
+-- two parts that satisfy the laws have a joint (`Joint`)
 pub joint : {T A B F : Type 0} {odd : T → Type 0} {P : Part T A F} {Q : A → Part T B F} {F1 M1 F2 M2 : T → Type 0}
     {N1 N2 : Type 0} → Laws odd P F1 M1 N1 → ((a : A) → Laws odd (Q a) F2 M2 N2) → Apart M1 F2 → Joint P Q
 joint {T} {A} {P = P} {M1 = M1} l r apart = grind (arith, append_assoc)
 
 module _ {T A B F : Type 0} {P : Part T A F} {Q : A → Part T B F} (j : Joint P Q) where
-  -- nothing of Q begins inside a beginning of P
+  -- Q does not begin inside a beginning of P
   not_inside : {front left right z : List T} {t : T} {a : A} (m : List T) → P.IsText left a → Begins P.IsText front →
       front ≡ left ++ t ∷ m → Begins (Q a).IsText right → right ≡ t ∷ z → ⊥
   not_inside {left = left} {z = z} {t = t} {a = a} m h b e c f = j.text_apart left m z t a h (rw e at b) (rw f at c)
 
-  -- after a text of P, a text of the two is one of Q, unless P continues
+  -- after a text of P, a text of the two parts is a text of Q, unless P continues
   pub text_behind : (left y : List T) (a : A) (b : B) → P.IsText left a → (then_by P Q).IsText (left ++ y) b →
       (Q a).IsText y b ⊎ GoesOn P left (first_of y)
   text_behind left y a b h k = go (compared left y k.left k.right k.split)
@@ -47,7 +50,7 @@ module _ {T A B F : Type 0} {P : Part T A F} {Q : A → Part T B F} (j : Joint P
       go (shorter t m e f) = grind (arith, begins_on P.IsText left m t (rw e at (text_begins P.IsText k.is_left)))
       go (longer t m e f) = search (rules, not_inside, text_begins)
 
-  -- and so is a cause, unless P continues, or it is one of P right there
+  -- after a text of P, an error of the two parts is an error of Q, unless P continues or has this error itself
   pub cause_behind : (left y : List T) (t : T) (a : A) (f : F) → P.IsText left a → (then_by P Q).IsCause
       (left ++ y) t f → (Q a).IsCause y t f ⊎ (GoesOn P left (first_of (y ++ t ∷ [])) ⊎ ((y ≡ []) × P.IsCause left t f))
   cause_behind left [] t a f h (inl c) = inr (inr (refl, rw append-nil at c))
@@ -61,7 +64,8 @@ module _ {T A B F : Type 0} {P : Part T A F} {Q : A → Part T B F} (j : Joint P
       go (longer u m e g) = absurd
           (not_inside m k.is_left (text_begins P.IsText h) e (j.behind_right k.value k.right t f k.is_cause) g)
 
-  -- no text of the two continues where P has begun, has not ended and does not continue
+  -- no text of the two parts begins with `front`, if `front` begins a text of P but is none, and P does not continue
+  -- with the next sign
   no_text_on : (front y : List T) (b : B) → Begins P.IsText front → ((a : A) → P.IsText front a → ⊥) →
       StopsAt P front (first_of y) → (then_by P Q).IsText (front ++ y) b → ⊥
   no_text_on front y b begun none s k = go (compared front y k.left k.right k.split)
@@ -72,7 +76,7 @@ module _ {T A B F : Type 0} {P : Part T A F} {Q : A → Part T B F} (j : Joint P
           stops_at P front (ap first_of f) s (begins_on P.IsText front m t (rw e at (text_begins P.IsText k.is_left)))
       go (longer t m e f) = not_inside m k.is_left begun e (text_begins (Q k.value).IsText k.is_right) f
 
-  -- there is no cause of Q where P has begun and has not ended
+  -- where P has begun and has not ended, Q has no error
   no_behind : (front : List T) (t : T) (f : F) → Begins P.IsText front →
       ((a : A) → P.IsText front a → (Q a).IsCause [] t f → ⊥) → IsBehind P.IsText (λ a. (Q a).IsCause) front t f → ⊥
   no_behind front t f begun none k = go k.right k.split k.is_cause
@@ -81,7 +85,7 @@ module _ {T A B F : Type 0} {P : Part T A F} {Q : A → Part T B F} (j : Joint P
       go [] e r = none k.value (rw (e, append-nil) k.is_left) r
       go (s ∷ right) e r = not_inside right k.is_left begun e (j.behind_right k.value (s ∷ right) t f r) refl
 
-  -- nor inside a beginning of P
+  -- inside a beginning of P, Q has no error
   no_inner : (front m : List T) (t : T) (f : F) → IsBehind P.IsText (λ a. (Q a).IsCause) front t f →
       Begins P.IsText (front ++ t ∷ m) → ⊥
   no_inner front m t f k b = grind (arith, go, append_assoc)
@@ -90,7 +94,7 @@ module _ {T A B F : Type 0} {P : Part T A F} {Q : A → Part T B F} (j : Joint P
       go [] c b = j.cause_apart k.left m t k.value f k.is_left b c
       go (s ∷ right) c b = not_inside (right ++ t ∷ m) k.is_left b refl (j.behind_right k.value (s ∷ right) t f c) refl
 
-  -- what begins P begins the two
+  -- a beginning of P is a beginning of the two parts
   pub begins_left : (front : List T) → Begins P.IsText front → Begins (then_by P Q).IsText front
   begins_left front b = let c = j.some_right b.value in record {
     more = b.more ++ c.more;
@@ -102,14 +106,14 @@ module _ {T A B F : Type 0} {P : Part T A F} {Q : A → Part T B F} (j : Joint P
       Begins (then_by P Q).IsText (left ++ right)
   begins_right left right a h b = grind (arith, append_assoc)
 
-  -- the two are clean up to where P has begun and is clean
+  -- inside a beginning of P in which P has no error, the two parts have no error
   clean_left : {all front : List T} (rest : List T) → all ≡ front ++ rest → Begins P.IsText front →
       CleanUpTo P all (length front) → CleanUpTo (then_by P Q) all (length front)
   clean_left rest e b clean fr r t f x l (inl c) = clean fr r t f x l c
   clean_left rest e b clean fr r t f x l (inr k) =
       let i = inside_of rest fr r t e x l in no_inner fr i.0 t f k (rw i.1 at b)
 
-  -- after a text of P that stops there without a cause, the two are read as Q
+  -- after a text of P that stops without an error, the two parts are parsed as Q
   module _ {all mid : List T} {a : A} (p : IsRead P all a mid) where
     clean_text : CleanUpTo (then_by P Q) all (length p.text)
     clean_text = clean_left mid p.split (text_begins P.IsText p.is_text) (λ front r t f e l. grind arith)

@@ -1,15 +1,15 @@
--- The laws of a part, as a record, and the laws of two parts, one after the other.
---     Laws odd part First More Null      a list of signs has one value. First holds of a sign that begins a text of the
---               part, or at which there is a cause before any sign of it. More holds of a sign with which a text of the
---               part continues, or at which there is a cause after a text of it. Null holds if the empty list is a
---               text. The sets may be larger than that (`weaker`). Causes come after a beginning. `odd` are the signs
---               that occur in no text and at which no part has a cause: those that are a cause by themselves. The part
---               has at least one text
---     Joint P Q      what `then_by P Q` needs: no sign both continues P and begins Q. It follows from the laws, by
---               `joint`
--- For each production of a grammar state its laws once, `laws_entry : Laws odd entry EntryFirst EntryMore ⊥`. Prove
--- them by the lemma of its outermost combinator (proofs/Combined.antt) and `weaker`, with sets of the format's own
--- names.
+-- The laws of a part, as a record, and the laws of two parts in a row.
+--     Laws odd part First More Null      each list of signs has at most one value. First holds for each sign that
+--               begins a text of the part, or that is an error of the part at its start. More holds for each sign that
+--               continues a text of the part, or that is an error after such a text. Null holds if the empty list is a
+--               text. The sets may be larger than that (`weaker`). Each error follows a beginning of a text. `odd` are
+--               the signs that are errors by themselves: they occur in no text, and no part has an error there. The
+--               part has at least one text
+--     Joint P Q      what `then_by P Q` requires: no sign both continues P and begins Q. The lemma `joint` derives it
+--               from the laws
+-- State the laws of each production of a grammar once, as in `laws_entry : Laws odd entry EntryFirst EntryMore ⊥`.
+-- Prove them with the lemma of its outermost combinator (proofs/Combined.antt) and with `weaker`, for sets that the
+-- format defines.
 use Rattle.std.proofs.Common.{◌≡◌, ◌⊎◌, List, [], ◌∷◌, ◌++◌, rules}
 use Rattle.ps_text.specs.Answers.{Begins}
 use Rattle.ps_text.specs.Parts.{Part}
@@ -28,7 +28,7 @@ pub record Laws {T V F : Type 0} (odd : T → Type 0) (part : Part T V F) (First
   pub plain_text : (front rest : List T) (t : T) (v : V) → part.IsText (front ++ t ∷ rest) v → odd t → ⊥
   pub plain_cause : (front : List T) (t : T) (f : F) → part.IsCause front t f → odd t → ⊥
 
--- no sign, and the signs of either set, and those of a set where N holds
+-- sets of signs: no sign, the signs of either set, and the signs of a set if N holds
 abbrev pub Nothing : {T : Type 0} → T → Type 0
 Nothing _ = ⊥
 
@@ -44,7 +44,7 @@ Within {T} A B = (t : T) → A t → B t
 abbrev pub Apart : {T : Type 0} → (T → Type 0) → (T → Type 0) → Type 0
 Apart {T} A B = (t : T) → A t → B t → ⊥
 
--- the same laws with larger sets
+-- the laws still hold with larger sets
 pub weaker : {T V F : Type 0} {odd : T → Type 0} {part : Part T V F} {First More First' More' : T → Type 0}
     {Null Null' : Type 0} →
     Laws odd part First More Null → Within First First' → Within More More' → (Null → Null') →

@@ -1,4 +1,4 @@
--- The digits that a text begins with, one after the other.
+-- The digits at the start of a text, one after the other.
 use Rattle.std.proofs.Common.{◌≡◌, ℕ, ◌+◌, ◌-◌, ◌*◌, ◌^◌, ◌<◌, ◌≤◌, true, false, List, ◌∷◌, length, map, drop, get_or}
 use Rattle.std.proofs.Common.{refl, sym, ap, ◌∙◌, arith, rules}
 use Rattle.std.proofs.lemmas.List.{drop_more}
@@ -10,11 +10,12 @@ use Rattle.std.specs.Int.Digits.{number_from_digits_after}
 use Rattle.std.specs.List.{prefix_len}
 use Rattle.ps_text.specs.Digits.{decimal_value}
 
--- a number, and after its digits the others
+-- the number that results when further digits follow the number n
 abbrev pub value_after : ℕ → List ℕ → ℕ
 value_after n digits = number_from_digits_after 10 n (map (λ b. b - 48) digits)
 
--- the digits that were read made the value, and those that come next are still to be read
+-- `value` is the number of the first `digits` digits: continued with the unread digits, it gives the number of all
+-- digits
 pub record IsReadTo (text : List ℕ) (value digits : ℕ) : Type 0 where
   pub counted : digits + prefix_len is_ascii_digit (drop digits text) ≡ prefix_len is_ascii_digit text
   pub made : value_after value (take_while is_ascii_digit (drop digits text)) ≡ decimal_value
@@ -37,7 +38,7 @@ pub read_one : (text : List ℕ) (value digits : ℕ) → digits < length text �
     ≡ true → IsReadTo text value digits → IsReadTo text (value * 10 + (get_or text digits 0 - 48)) (digits + 1)
 read_one text value digits lt digit is = search (rules, drop_more, next_value)
 
--- the value with one digit more is at most that of all
+-- the number after one more digit is at most the number of all digits
 pub read_too_much : (text : List ℕ) (value digits : ℕ) → digits < length text →
     is_ascii_digit (get_or text digits 0) ≡ true → IsReadTo text value digits →
     2 ^ 64 ≤ value * 10 + (get_or text digits 0 - 48) → 2 ^ 64 ≤ decimal_value (take_while is_ascii_digit text)

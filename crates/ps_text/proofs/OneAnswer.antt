@@ -1,4 +1,4 @@
--- Any two answers to one text are one.
+-- Any two answers to the same text are equal.
 use Rattle.std.proofs.Common.{◌≡◌, ℕ, ◌<◌, ◌≤◌, ◌⊎◌, List, ◌++◌, length, Option, Ok, Err, sym, ap, ap₂, ◌∙◌, rules}
 use Rattle.std.proofs.lemmas.List.{map-append, length-map}
 use Rattle.ps_text.specs.Answers.{Piece, Stream, Found, signs, offset_of, IsClean, IsFirstAt, HasOneMeaning}
@@ -13,7 +13,7 @@ not_both : {T V F : Type 0} (IsText : List T → V → Type 0) (IsCause : List T
     (stream : Stream T) (f : Found F) → IsClean IsCause (signs stream.pieces) → IsFirstAt number IsCause stream f → ⊥
 not_both IsText IsCause number stream f c h = search (rules, signs_split)
 
--- the fronts of two first causes are as long, and the numbers are the same
+-- two first errors are at the same position and have the same number
 tied : (m n i j : ℕ) (P Q : Type 0) → (m < n) ⊎ (P × (i ≤ j)) → (n < m) ⊎ (Q × (j ≤ i)) → (P → m ≡ n) → (Q → n ≡ m) →
     (m ≡ n) × (i ≡ j)
 tied m n i j P Q cases given p q = search rules

@@ -1,10 +1,10 @@
--- `times` and `many`. Each item takes a sign, and no sign both continues an item and begins one.
+-- `times` and `many`. Each item takes a sign, and no sign both continues an item and begins an item.
 --     laws_times, laws_many      the laws, with the sets First and More of the items
---     covers_item      where an item begins, `many` is read as that item and then as many
---     read_nothing, read_none      where none begins, `many` is read as nothing
---     joint_many, joint_times      the joint of an item and the rest
---     read_item      `many` is read if an item is read and then `many`
--- The laws of `many` are those of `upto n`, n items or fewer: its texts and causes are among those for a large n.
+--     covers_item      where an item begins, `many` is parsed as that item and then `many`
+--     read_nothing, read_none      where no item begins, `many` is parsed as the empty list
+--     joint_many, joint_times      the joint of an item and the items after it
+--     read_item      `many` is parsed if an item and then `many` are parsed
+-- The laws of `many` are those of `upto n`, up to n items: each text and error of `many` is one of `upto n` for some n.
 use Rattle.std.proofs.Common.{rules, ◌≡◌, ℕ, zero, suc, ◌+◌, ◌<◌, ◌≤◌, List, [], ◌∷◌, ◌++◌, length, Option, Some, refl}
 use Rattle.std.proofs.Common.{sym, ap, inl, inr, ⊎_elim, arith}
 use Rattle.ps_text.specs.Answers.{first_of}
@@ -15,7 +15,7 @@ use Rattle.ps_text.proofs.Joined.{joint, read_then}
 use Rattle.ps_text.proofs.Simple.{nil_is_cons, laws_give, laws_then}
 use Rattle.ps_text.proofs.Covered.{Avoids, Enters, laws_either}
 
--- the same text and the same cause, with another part on the right
+-- a joined text, with another part for its right half
 joined_as : {T A B : Type 0} {P : List T → A → Type 0} {Q R : A → List T → B → Type 0} {text : List T} {b : B} →
     (j : IsJoined P Q text b) → R j.value j.right b → IsJoined P R text b
 joined_as j r = search rules
@@ -60,7 +60,7 @@ module _ {T C F : Type 0} (item : C → Part T C F) where
       clean [] rest t f e n k = none t (ap first_of e) (inr (f, k))
       clean (s ∷ front) rest t f e n k = absurd (omega (arith, n))
 
-  -- n items or fewer
+  -- the part `upto n`: up to n items
   abbrev upto : ℕ → C → Part T C F
   upto zero c = give c
   upto (suc n) c = either (give c) (then_by (item c) (λ d. upto n d))
@@ -82,7 +82,7 @@ module _ {T C F : Type 0} (item : C → Part T C F) where
 
 module _ {T C F : Type 0} {odd : T → Type 0} (item : C → Part T C F) {First More : T → Type 0}
     (l : (c : C) → Laws odd (item c) First More ⊥) (apart : Apart More First) where
-  -- an item, and after it what begins with an item or is empty
+  -- an item, and then a part that is empty or begins with an item
   laws_more : {R : C → Part T C F} → ((d : C) → Laws odd (R d) First (Or More First) (Unit {0})) → (c : C) →
       Laws odd (then_by (item c) R) First (Or More First) ⊥
   laws_more r c = weaker (laws_then (l c) r apart) (λ t. grind arith) (λ t. ⊎_elim (λ h. h) (λ h. inl h.1)) (λ h. h.0)

@@ -1,8 +1,9 @@
--- Two splits of one list, compared: the fronts are the same, or one continues where the other ends.
+-- Two splits of the same list: their fronts are equal, or one front continues where the other ends.
 --     Compared, compared      the three cases
---     Placed, placed      where one sign of the list is: inside the front, or after it
---     inside_of      a sign that comes before the end of the front is inside it
---     all_taken_all      a front as long as the list is the list: what holds of each sign of it holds of all
+--     Placed, placed      the position of a sign of the list: inside the front, or after it
+--     inside_of      a sign before the end of the front is inside the front
+--     all_taken_all      a front as long as the list is the whole list, so a fact about all its signs is a fact about
+--               all signs
 use Rattle.std.proofs.Common.{◌≡◌, ℕ, suc, ◌+◌, ◌<◌, ◌≤◌, List, [], ◌∷◌, ◌++◌, length, take, drop, refl, sym, ap, subst}
 use Rattle.std.proofs.Common.{◌∙◌, arith, append-nil, length-append, Some, rules}
 use Rattle.std.specs.List.{All}
@@ -34,11 +35,11 @@ compared (s ∷ a) b (t ∷ c) d e = more_compared s t a b c d (cc) (compared a 
 pub length_more : {T : Type 0} (a m : List T) (t : T) → length (a ++ t ∷ m) ≡ length a + suc (length m)
 length_more a m t = length-append a (t ∷ m)
 
--- two splits at one place are one
+-- two splits at the same position are equal
 pub same_split : {T : Type 0} (a b c d : List T) → a ++ b ≡ c ++ d → length a ≡ length c → (a ≡ c) × (b ≡ d)
 same_split {T} a b c d e l = search (rules, compared, length_more)
 
--- a sign of a list is inside its front, or after it
+-- a sign of a list is inside the front, or after it
 pub data Placed {T : Type 0} (left mid front rest : List T) (t : T) : Type 0 where
   inside : (m : List T) → left ≡ front ++ t ∷ m → Placed left mid front rest t
   behind : (y : List T) → front ≡ left ++ y → mid ≡ y ++ t ∷ rest → Placed left mid front rest t
@@ -60,7 +61,7 @@ inside_of {T} {all} {left} mid front rest t e f l = go (placed left mid front re
     go (inside m x) = (m, x)
     go (behind y x z) = absurd (omega (arith, l, length-append left y, ap length x))
 
--- the first sign, and the others
+-- a list whose first sign is t is t followed by the rest of the list
 pub head_of : {T : Type 0} (ts : List T) {t : T} → first_of ts ≡ Some t → ts ≡ t ∷ drop 1 ts
 head_of ts e = search rules
 

@@ -1,9 +1,9 @@
--- From a part to the answer to a whole text that is this part.
---     no_fault      the part was read up to the end: the value is the answer
---     first_fault      the part's first fault is the first cause of the text
---     trailing      the part was read, and a sign follows it: the refusal of this sign is the first cause
+-- From the result of a part to the answer to a whole text that consists of this part.
+--     no_fault      the part was parsed up to the end: its value is the answer
+--     first_fault      the first fault of the part is the first error of the text
+--     trailing      the part was parsed, and a sign follows: the first error is that this sign is not allowed
 --     answers_ok, answers_fault, answers_trailing      the same from `Meets`
--- The laws of the part are needed with `Own causes` for odd: the signs that are a cause by themselves.
+-- The laws of the part are required with `Own causes` for `odd`: the signs that are errors by themselves.
 use Rattle.std.proofs.Common.{rules, ◌≡◌, ◌<◌, ◌≤◌, ◌⊎◌, List, [], ◌∷◌, ◌++◌, length, Option, None, Some, Ok, Err}
 use Rattle.std.proofs.Common.{refl, sym, ap, subst, inl, inr, ◌∙◌, append_assoc, append-nil, arith, length-append, drop}
 use Rattle.std.proofs.lemmas.List.{append_cancel_right}
@@ -27,7 +27,7 @@ broken_refused front there b = search rules
 
 module _ {T V F : Type 0} {causes : Causes T F} {part : Part T V F} {First More : T → Type 0} {Null : Type 0}
     (l : Laws (Own causes) part First More Null) where
-  -- there is no cause before the end of what begins a text of the part and is clean
+  -- if the part has no error inside a beginning, no error of the text precedes the end of this beginning
   later : {all front rest front' rest' : List T} (g : F) → all ≡ front ++ rest → all ≡ front' ++ rest' →
       Begins part.IsText front → CleanUpTo part all (length front) → IsWrong causes part front' (first_of rest') g →
       (length front < length front') ⊎ ((front ≡ front') × (rest ≡ rest'))
@@ -59,7 +59,8 @@ module _ {T V F : Type 0} {causes : Causes T F} {part : Part T V F} {First More 
           go : (length p.text < length front) ⊎ ((p.text ≡ front) × ([] ≡ rest)) → ⊥
           go h = search (rules, length-append, none_wrong)
 
-  -- f is the first cause if it is the least of those after what begins a text of the part and is clean
+  -- f is the first error, if it has the smallest number of the errors directly after a beginning of the part without
+  -- errors
   first_at : {all front rest : List T} {f : F} → all ≡ front ++ rest → Begins part.IsText front → CleanUpTo part all
       (length front) → IsWrong causes part front (first_of rest) f → ((g : F) → IsWrong causes part front
       (first_of rest) g → causes.number f ≤ causes.number g) → IsFirst causes.number (IsWrong causes part) front rest f
@@ -72,7 +73,7 @@ module _ {T V F : Type 0} {causes : Causes T F} {part : Part T V F} {First More 
       go front' rest' g w (inl x) = inl x
       go front' rest' g w (inr x) = inr (x.0, least g (rw (x.0, x.1) w))
 
-  -- the refusal of a sign, or of the end, is at most what else is wrong there, if the part has no cause there
+  -- at a sign (or end) where the part has no error, the error that it is not allowed has the smallest number
   refusal_least : (there : Option T) (front : List T) (g : F) → NoCauseAt part front there →
       IsWrong causes part front there g → causes.number (refusal_of causes there) ≤ causes.number g
   refusal_least there front g n cases = search (rules, quiet_at)
@@ -112,7 +113,7 @@ module _ {T V F : Type 0} {causes : Causes T F} {part : Part T V F} {First More 
 
   -- ## With offsets
 
-  -- the same cause in the pieces
+  -- the same first error in a stream, with offsets
   at_pieces : (old : Stream T) (found : Found F) {text : List T} (front rest : List (Piece T)) →
       old.pieces ≡ front ++ rest → signs old.pieces ≡ text ++ signs rest → IsFirst causes.number (IsWrong causes part)
       text (signs rest) found.cause → found.offset ≡ offset_of rest old.end → PartAnswers causes part old (Err found)

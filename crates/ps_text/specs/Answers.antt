@@ -1,16 +1,20 @@
--- The answer of a reader, whatever the format: the meaning of the text, or its first cause of refusal.
---     Piece, Stream      a sign of a text with the offset of its first byte; the pieces of a text, and where the text
---               ends
---     Begins IsText front      some text of the grammar begins with these signs
---     NoneGoesOn IsText front there      no text continues with that sign, or, at None, ends there
---     IsRefused IsText front there      both: after these signs the grammar does not allow that sign, or that end
---     IsClean IsCause all      there is no cause anywhere
---     IsFirst number IsCause front rest f      f is a cause between front and rest, and no other comes before it
---     IsFirstAt number IsCause stream found      the same, if the signs have offsets
---     Answers IsText IsCause number stream answer      the answer is Ok with the meaning, or the first cause
--- A format says what its signs are: a token, a byte or a line, with what a reader sees ahead of it. IsText says when a
--- list of signs is a text of its grammar and what the text means. IsCause says when there is a cause after some signs,
--- at the next sign or at the end. Of two causes at one sign the one with the smaller number is answered.
+-- The answer to a text, for every format: the meaning of the text, or its first error.
+--     Piece, Stream      a sign of a text with the offset of its first byte; the pieces of a text, and the offset of
+--               its end
+--     Begins IsText front      some text of the grammar begins with the signs `front`
+--     NoneGoesOn IsText front there      after `front` no text continues with the sign `there`; for None: no text ends
+--               there
+--     IsRefused IsText front there      `front` begins a text, and the grammar does not allow the sign `there` (or the
+--               end) after it
+--     IsClean IsCause all      the text has no error
+--     IsFirst number IsCause front rest f      f is an error between `front` and `rest`, and no other error precedes it
+--     IsFirstAt number IsCause stream found      the same for signs with offsets
+--     Answers IsText IsCause number stream answer      `answer` is Ok with the meaning of the text, or Err with its
+--               first error
+-- A format defines its signs: a sign is a token, a byte or a line, together with what a parser can see after it. IsText
+-- states when a list of signs is a text of the grammar, and what the text means. IsCause states when there is an error
+-- after some signs, at the next sign or at the end. If one sign has two errors, the error with the smaller number is
+-- the answer.
 use Rattle.std.specs.Prelude.{◌≡◌, ℕ, ◌<◌, ◌≤◌, ◌⊎◌, List, [], ◌∷◌, ◌++◌, map, length, Option, None, Some, Result, Ok}
 use Rattle.std.specs.Prelude.{Err}
 
@@ -24,12 +28,12 @@ pub record Stream (T : Type 0) : Type 0 where
   pub pieces : List (Piece T)
   pub end : ℕ
 
--- a cause, and its place
+-- an error and its offset
 pub record Found (F : Type 0) : Type 0 where
   pub cause : F
   pub offset : ℕ
 
--- only the signs
+-- the signs without their offsets
 abbrev pub signs : {T : Type 0} → List (Piece T) → List T
 signs ps = map (λ p. p.sign) ps
 
@@ -38,7 +42,7 @@ abbrev pub first_of : {T : Type 0} → List T → Option T
 first_of [] = None
 first_of (t ∷ ts) = Some t
 
--- the sign that comes next
+-- the next sign of a stream, if there is one
 abbrev pub next_of : {T : Type 0} → Stream T → Option T
 next_of stream = first_of (signs stream.pieces)
 
@@ -47,35 +51,35 @@ abbrev pub offset_of : {T : Type 0} → List (Piece T) → ℕ → ℕ
 offset_of [] end = end
 offset_of (p ∷ ps) end = p.start
 
--- some text of the grammar begins with these signs
+-- some text of the grammar begins with the signs `front`
 pub record Begins {T V : Type 0} (IsText : List T → V → Type 0) (front : List T) : Type 0 where
   pub more : List T
   pub value : V
   pub is_text : IsText (front ++ more) value
 
--- no text of the grammar continues with that sign, or ends there
+-- after `front` no text of the grammar continues with the sign `there`; for None: no text ends there
 abbrev pub NoneGoesOn : {T V : Type 0} → (List T → V → Type 0) → List T → Option T → Type 0
 NoneGoesOn {T} {V} IsText front None = (v : V) → IsText front v → ⊥
 NoneGoesOn IsText front (Some t) = Begins IsText (front ++ t ∷ []) → ⊥
 
--- the signs begin a text of the grammar, and the next one, or the end, is the first that is not allowed
+-- `front` begins a text of the grammar, but no text continues with the next sign (or ends there)
 pub record IsRefused {T V : Type 0} (IsText : List T → V → Type 0) (front : List T) (there : Option T) : Type 0 where
   pub before : Begins IsText front
   pub none : NoneGoesOn IsText front there
 
--- there is no cause at any place of the text
+-- there is no error anywhere in the text
 abbrev pub IsClean : {T F : Type 0} → (List T → Option T → F → Type 0) → List T → Type 0
 IsClean {T} {F} IsCause all = (front rest : List T) (f : F) → all ≡ front ++ rest → IsCause front (first_of rest) f → ⊥
 
--- f is a cause between front and rest; each cause of the text comes later, or at the same place and has no smaller
--- number
+-- f is an error between `front` and `rest`. Each error of the text is later, or at the same position with a number that
+-- is not smaller
 pub record IsFirst {T F : Type 0} (number : F → ℕ) (IsCause : List T → Option T → F → Type 0) (front rest : List T)
     (f : F) : Type 0 where
   pub stands : IsCause front (first_of rest) f
   pub least : (front' rest' : List T) (g : F) → front ++ rest ≡ front' ++ rest' → IsCause front' (first_of rest') g →
       (length front < length front') ⊎ ((front ≡ front') × (number f ≤ number g))
 
--- the same in a text whose signs have offsets
+-- the first error of a text whose signs have offsets
 pub record IsFirstAt {T F : Type 0} (number : F → ℕ) (IsCause : List T → Option T → F → Type 0) (stream : Stream T)
     (found : Found F) : Type 0 where
   pub front : List (Piece T)
@@ -84,20 +88,21 @@ pub record IsFirstAt {T F : Type 0} (number : F → ℕ) (IsCause : List T → O
   pub first : IsFirst number IsCause (signs front) (signs rest) found.cause
   pub offset : found.offset ≡ offset_of rest stream.end
 
--- Ok with the meaning of a text without a cause; else the first cause
+-- Ok with the meaning of a text without errors, or Err with the first error
 abbrev pub Answers : {T V F : Type 0} → (List T → V → Type 0) → (List T → Option T → F → Type 0) → (F → ℕ) →
     Stream T → Result V (Found F) → Type 0
 Answers IsText IsCause number stream (Ok v) = IsText (signs stream.pieces) v × IsClean IsCause (signs stream.pieces)
 Answers IsText IsCause number stream (Err found) = IsFirstAt number IsCause stream found
 
--- a list of signs has one meaning, and two causes with the same number are equal
+-- each list of signs has at most one meaning
 abbrev pub HasOneMeaning : {T V : Type 0} → (List T → V → Type 0) → Type 0
 HasOneMeaning {T} {V} IsText = (text : List T) (v w : V) → IsText text v → IsText text w → v ≡ w
 
+-- two causes with the same number are equal
 abbrev pub AreNumbered : {F : Type 0} → (F → ℕ) → Type 0
 AreNumbered {F} number = (f g : F) → number f ≡ number g → f ≡ g
 
--- any two answers to one text are equal
+-- any two answers to the same text are equal
 abbrev pub HasOneAnswer : {T V F : Type 0} → (List T → V → Type 0) → (List T → Option T → F → Type 0) → (F → ℕ) → Type 0
 HasOneAnswer {T} {V} {F} IsText IsCause number = (stream : Stream T) (a b : Result V (Found F)) →
     Answers IsText IsCause number stream a → Answers IsText IsCause number stream b → a ≡ b

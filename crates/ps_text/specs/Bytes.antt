@@ -1,19 +1,19 @@
--- Texts whose signs are single bytes: the signs, and the parts that are made of bytes and of runs of bytes.
---     stream_at at bytes      the signs of bytes that begin at that offset
---     stream_of text      the signs of a text. If its last line has no newline, one is read after it, at the offset of
+-- Texts whose signs are single bytes: their signs, and the parts made of bytes and of runs of bytes.
+--     stream_at at bytes      the signs of the bytes, of which the first is at the offset `at`
+--     stream_of text      the signs of a text. If its last line has no newline, a newline is added, at the offset of
 --               the end
---     byte_causes number syntax      the causes of a format in which no byte is a cause by itself
---     byte b, word bytes      that byte, and those bytes
---     run p see Bad      the longest run of bytes that pass p, at least one. Its value is see at its offset and its
---               bytes. Bad says what may be wrong with it; a wrong run is a fault at its first byte, whatever follows
---               it
+--     byte_causes number syntax      the causes of a format in which no byte is an error by itself
+--     byte b, word bytes      the byte b; the given bytes in order
+--     run p see Bad      the longest run of bytes that pass p, at least one. Its value is given by `see` from its
+--               offset and its bytes. Bad states which errors the run can have; such an error is a fault at the run's
+--               first byte, whatever follows
 use Rattle.std.specs.Prelude.{◌≡◌, ℕ, ◌+◌, ◌<◌, Bool, false, List, [], ◌∷◌, ◌++◌, length, map, Option, None, Some, ◌==◌}
 use Rattle.std.specs.Prelude.{◌&&◌, ◌||◌, nat_le, not, if◌then◌else◌}
 use Rattle.ps_text.specs.Answers.{Piece, Stream}
 use Rattle.ps_text.specs.Parts.{Part, Causes, NoBad, give, one, then_by}
 use Rattle.ps_text.specs.Runs.{AllOf, StopsBefore}
 
--- a sign of the text: a byte, its offset, and what a reader sees after it
+-- a sign of the text: a byte, its offset, and the bytes after it, which a parser can see
 pub record Seen : Type 0 where
   pub byte : ℕ
   pub at : ℕ
@@ -27,13 +27,13 @@ pieces_at at (b ∷ bytes) =
 abbrev pub stream_at : ℕ → List ℕ → Stream Seen
 stream_at at bytes = record { pieces = pieces_at at bytes; end = at + length bytes }
 
--- the last byte is a newline
+-- whether the last byte is a newline
 abbrev pub ends_line : List ℕ → Bool
 ends_line [] = false
 ends_line (b ∷ []) = b == 10
 ends_line (b ∷ c ∷ bytes) = ends_line (c ∷ bytes)
 
--- the text, with a newline at the end
+-- the text, with a newline added if its last line has none
 abbrev pub closed : List ℕ → List ℕ
 closed text = if ends_line text then text else text ++ 10 ∷ []
 
@@ -64,7 +64,7 @@ word (b ∷ bytes) = then_by (byte b) (λ _. word bytes)
 
 -- ## Runs
 
--- the bytes begin with this run, and the run ends there
+-- the bytes begin with this run, and the byte after the run does not pass the test
 pub record BeginsRun (p : ℕ → Bool) (run bytes : List ℕ) : Type 0 where
   pub rest : List ℕ
   pub split : bytes ≡ run ++ rest
@@ -72,7 +72,7 @@ pub record BeginsRun (p : ℕ → Bool) (run bytes : List ℕ) : Type 0 where
   pub all : AllOf p run
   pub longest : StopsBefore p rest
 
--- a run begins at that sign, and is wrong
+-- a run that begins at the sign s has the error f
 pub record IsBadRun {C : Type 0} (p : ℕ → Bool) (Bad : List ℕ → C → Type 0) (s : Seen) (f : C) : Type 0 where
   pub run : List ℕ
   pub begins : BeginsRun p run (s.byte ∷ s.behind)
@@ -97,7 +97,7 @@ is_digit b = nat_le 48 b && nat_le b 57
 abbrev pub is_letter : ℕ → Bool
 is_letter b = (nat_le 65 b && nat_le b 90) || (nat_le 97 b && nat_le b 122)
 
--- a tab, a line's end, the bytes up to 13, or a space
+-- a tab, a line break, another byte from 9 to 13, or a space
 abbrev pub is_blank : ℕ → Bool
 is_blank b = (nat_le 9 b && nat_le b 13) || (b == 32)
 
@@ -105,10 +105,10 @@ is_blank b = (nat_le 9 b && nat_le b 13) || (b == 32)
 abbrev pub is_space : ℕ → Bool
 is_space b = (b == 32) || (b == 9)
 
--- any byte but a newline
+-- every byte except the newline
 abbrev pub is_inner : ℕ → Bool
 is_inner b = not (b == 10)
 
--- any byte but a quote
+-- every byte except the quote
 abbrev pub is_unquoted : ℕ → Bool
 is_unquoted b = not (b == 34)

@@ -1,7 +1,7 @@
--- What clauses see of a cursor over bytes: the signs that are still to come.
---     next_byte stream, place_of stream      the next byte, and its offset or that of the end
---     IsAhead stream      each sign sees what follows it
---     Passes p old new run      the cursor moved past the run of bytes that pass p, or stayed if there was none
+-- What clauses see of a cursor over bytes: the signs that are still unread.
+--     next_byte stream, place_of stream      the next byte; its offset, or the offset of the end
+--     IsAhead stream      each sign carries the bytes that follow it
+--     Passes p old new run      the cursor moved past `run`, the longest run of bytes that pass p, which may be empty
 use Rattle.std.specs.Prelude.{◌≡◌, ℕ, ◌+◌, Bool, true, false, List, [], ◌∷◌, ◌++◌, length, Option, ◌==◌}
 use Rattle.std.specs.Option.{option_map}
 use Rattle.ps_text.specs.Answers.{Stream, offset_of, next_of}
@@ -11,7 +11,7 @@ use Rattle.ps_text.specs.declared.cursor.Class.{Class}
 use Rattle.ps_text.specs.declared.cursor.Class.TheVariants.{Digit, Letter, Blank, Space, Inner, Unquoted, Quote, Comma}
 use Rattle.ps_text.specs.declared.cursor.Class.TheVariants.{Semicolon}
 
--- the bytes to come, with a newline at the end if the last line is open
+-- the unread bytes, with a newline at the end if the last line has none
 abbrev pub ended : Bool → List ℕ → List ℕ
 ended true rest = rest ++ 10 ∷ []
 ended false rest = rest

@@ -1,5 +1,5 @@
--- What a fault says of a text: the cause and its place, or nothing if memory ran out. And its number and name in psyn's
--- list of faults: those of the cause, or of out of memory.
+-- What a fault states about a text: the cause and its offset, or nothing if the program is out of memory. The number
+-- and name of a fault in psyn's list of faults are those of its cause, or those of "out of memory".
 use Rattle.std.specs.Prelude.{ℕ, List, Option, None, Some, Result, Ok, Err, codes}
 use Rattle.ps_text.specs.declared.faults.Fault.{Fault}
 use Rattle.ps_text.specs.declared.faults.Fault.TheVariants.{Text, OutOfMemory}
@@ -9,13 +9,13 @@ abbrev pub found_of : {C : Type 0} → Fault C → Option (Found C)
 found_of (Text cause offset) = Some (record { cause = cause; offset = offset })
 found_of OutOfMemory = None
 
--- what a call returns: an answer that the text has, unless memory ran out
+-- a call returns an answer that the text has, unless the program is out of memory
 abbrev pub UnlessMemory : {V C : Type 0} → (Result V (Found C) → Type 0) → Result V (Fault C) → Type 0
 UnlessMemory IsAnswer (Ok value) = IsAnswer (Ok value)
 UnlessMemory IsAnswer (Err (Text cause offset)) = IsAnswer (Err (record { cause = cause; offset = offset }))
 UnlessMemory IsAnswer (Err OutOfMemory) = Unit {0}
 
--- out of memory, whatever the call
+-- the number of the fault "out of memory", the same for every call
 abbrev pub memory_number : ℕ
 memory_number = 24
 

@@ -1,10 +1,10 @@
--- The outcome of a part at the front of a list of signs; and that each text has an answer.
---     Outcome causes part all      the part is read from the front of all, or its first fault is found in all
---     HasOutcomes causes part      one of the two, for each list
---     IsOrderly causes part      signs that are a cause by themselves occur in no text of the part, and the part has no
---               cause at them. Its causes come after beginnings of its texts
---     HasSomeAnswer IsText IsCause number      each text has an answer, its meaning or its first cause
--- This does not depend on memory: it is what a reader answers unless memory runs out.
+-- The outcome of a part at the start of a list of signs, and the statement that each text has an answer.
+--     Outcome causes part all      the part is parsed at the start of `all`, or has a first fault in `all`
+--     HasOutcomes causes part      the part has an outcome for each list of signs
+--     IsOrderly causes part      a sign that is an error by itself occurs in no text of the part, and the part has no
+--               error of its own at such a sign. Each error of the part follows a beginning of a text of the part
+--     HasSomeAnswer IsText IsCause number      each text has an answer: its meaning or its first error
+-- The outcome of a part does not depend on memory: it is the result of a parser that does not run out of memory.
 use Rattle.std.specs.Prelude.{◌≡◌, ℕ, List, ◌∷◌, ◌++◌, Option, Some, Result}
 use Rattle.ps_text.specs.Answers.{Begins, Stream, Found, Answers}
 use Rattle.ps_text.specs.Parts.{Part, Causes, IsRead, IsFault}

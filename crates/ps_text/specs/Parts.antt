@@ -1,29 +1,30 @@
--- A grammar by parts. A part is a grammar together with what may be wrong inside it. Parts are joined by combinators,
--- so that a grammar written with them reads like the standard's own.
---     Part      IsText: these signs are a text of the part, with that value. IsCause: after these signs of the part,
---               there is that cause at that sign. A sign that the grammar itself refuses is not a cause of a part
---     Causes      what a format says of its causes: their numbers, the cause that a sign is by itself, wherever it
---               occurs, and the cause for a sign (or an end) that the grammar does not allow
---     IsWrong causes part      what is wrong with a whole text: the IsCause of `Answers`, if the text is one part
---     IsRead part all v rest      the part was read from the front of all: its longest text, without a cause up to the
---               next sign
---     IsFault causes part all f rest      the part's first fault was found in all, and rest begins there
+-- Grammars composed of parts. A part is a grammar together with the errors that its texts can have. Combinators join
+-- parts, so that a grammar reads like the one in the standard.
+--     Part      IsText: these signs are a text of the part with this value. IsCause: after these signs of the part, the
+--               next sign is an error of this kind. A sign that the grammar itself does not allow is not an error of a
+--               part
+--     Causes      the causes of a format: their numbers, the error that a sign is by itself wherever it occurs, and the
+--               error for a sign (or an end) that the grammar does not allow
+--     IsWrong causes part      an error of a whole text that is one part: the IsCause of `Answers`
+--     IsRead part all v rest      the part was parsed at the start of `all`: its longest text, without an error up to
+--               and including the next sign
+--     IsFault causes part all f rest      the part has its first fault in `all`, and `rest` begins there
 -- The combinators:
---     give v      no sign, the value v
---     one take Bad      one sign, whose value take gives. Bad says what may be wrong with a sign at this place, whether
---               take accepts it or not
---     then_by P (λ a. Q a)      P and then Q, which may depend on the value a; the value is that of Q
+--     give v      no sign, with the value v
+--     one take Bad      one sign, whose value `take` gives. Bad states which errors a sign has here, whether `take`
+--               accepts the sign or not
+--     then_by P (λ a. Q a)      P and then Q, which may depend on the value a of P; the value is that of Q
 --     either P Q      P or Q
---     times n item c, many item c      n items, or any number of them, one after another. `item c` is the item after
---               the context c; its value is the next context, and the last one is the value of the whole
+--     times n item c, many item c      n items, or any number of items, in a row. `item c` is the item in the context
+--               c. Its value is the context of the next item, and the last context is the value of the whole
 --     mapped h P      P with the value h v in place of v
---     barred P Bad      P, and a cause at the sign after it, which Bad gives from P's value
--- So a list of numbers such as `1, 2, 3;` is
+--     barred P Bad      P, with the errors that Bad finds, from the value of P, at the sign after P
+-- For example, the grammar of a list of numbers such as `1, 2, 3;` is as follows:
 --         number = one number_of IsTooLarge
 --         more ns = then_by comma (λ _. mapped (λ n. ns ++ n ∷ []) number)
 --         list = then_by number (λ n. then_by (many more (n ∷ [])) (λ ns. mapped (λ _. ns) semicolon))
--- For each production, a private clause of the reader's code says that it read its part or stopped at its first fault
--- (specs/Readers.antt). proofs/ has the theorems that join parts, and lead from the whole part to `Answers`.
+-- For each production, a private clause of the parser states that the production was parsed or has its first fault
+-- (specs/Readers.antt). The theorems in proofs/ join parts, and derive `Answers` for a text that is one part.
 use Rattle.std.specs.Prelude.{◌≡◌, ℕ, zero, suc, ◌+◌, ◌<◌, ◌≤◌, ◌⊎◌, List, [], ◌∷◌, ◌++◌, length, Option, None, Some}
 use Rattle.std.specs.Prelude.{Result}
 use Rattle.std.specs.Option.{unwrap_or}
@@ -38,12 +39,13 @@ pub record Causes (T F : Type 0) : Type 0 where
   pub own : T → Option F
   pub syntax : F
 
--- the cause if the grammar does not allow a sign, or the end
+-- the error for a sign, or an end, that the grammar does not allow
 abbrev pub refusal_of : {T F : Type 0} → Causes T F → Option T → F
 refusal_of causes None = causes.syntax
 refusal_of causes (Some t) = unwrap_or (causes.own t) causes.syntax
 
--- f is wrong after front, at that sign or at the end: a cause of the part, or the sign's own, or else the grammar's
+-- f is an error after `front`, at the next sign or at the end: an error of the part, or of the sign itself, or of the
+-- grammar
 pub data IsWrong {T V F : Type 0} (causes : Causes T F) (part : Part T V F) (front : List T) (there : Option T)
     (f : F) : Type 0 where
   by_part : (t : T) → there ≡ Some t → part.IsCause front t f → IsWrong causes part front there f
@@ -55,7 +57,7 @@ pub data IsWrong {T V F : Type 0} (causes : Causes T F) (part : Part T V F) (fro
 abbrev pub PartAnswers : {T V F : Type 0} → Causes T F → Part T V F → Stream T → Result V (Found F) → Type 0
 PartAnswers causes part = Answers part.IsText (IsWrong causes part) causes.number
 
--- there is no cause of the part after fewer than n signs
+-- the part has no error after fewer than n signs
 abbrev pub CleanUpTo : {T V F : Type 0} → Part T V F → List T → ℕ → Type 0
 CleanUpTo {T} {V} {F} part all n =
     (front rest : List T) (t : T) (f : F) → all ≡ front ++ t ∷ rest → length front < n → part.IsCause front t f → ⊥
@@ -65,12 +67,13 @@ abbrev pub StopsAt : {T V F : Type 0} → Part T V F → List T → Option T →
 StopsAt part front None = Unit {0}
 StopsAt part front (Some t) = Begins part.IsText (front ++ t ∷ []) → ⊥
 
+-- the part has no error at the next sign
 abbrev pub NoCauseAt : {T V F : Type 0} → Part T V F → List T → Option T → Type 0
 NoCauseAt part front None = Unit {0}
 NoCauseAt {T} {V} {F} part front (Some t) = (f : F) → part.IsCause front t f → ⊥
 
--- all begins with a text of the part, of that value, and rest follows it. No text of the part continues with the next
--- sign, and the part has no cause in the text or at that sign
+-- `all` begins with a text of the part with the value v, and `rest` follows this text. No text of the part continues
+-- with the next sign, and the part has no error inside the text or at the next sign
 pub record IsRead {T V F : Type 0} (part : Part T V F) (all : List T) (v : V) (rest : List T) : Type 0 where
   pub text : List T
   pub split : all ≡ text ++ rest
@@ -78,14 +81,15 @@ pub record IsRead {T V F : Type 0} (part : Part T V F) (all : List T) (v : V) (r
   pub stops : StopsAt part text (first_of rest)
   pub clean : CleanUpTo part all (length text + 1)
 
--- front begins a text of the part but is not one, none continues with the next sign, and the part has no cause there
+-- `front` begins a text of the part but is not such a text. No text continues with the next sign, and the part has no
+-- error at that sign
 pub record IsBroken {T V F : Type 0} (part : Part T V F) (front : List T) (there : Option T) : Type 0 where
   pub before : Begins part.IsText front
   pub no_text : (v : V) → part.IsText front v → ⊥
   pub stops : StopsAt part front there
   pub no_cause : NoCauseAt part front there
 
--- f is the fault there: the part's cause with the least number, or the refusal
+-- f is the fault at the next sign: the part's error with the smallest number, or the error that the sign is not allowed
 pub data IsFaultAt {T V F : Type 0} (causes : Causes T F) (part : Part T V F) (front : List T) (there : Option T)
     (f : F) : Type 0 where
   is_cause : (t : T) → there ≡ Some t → part.IsCause front t f →
@@ -93,7 +97,7 @@ pub data IsFaultAt {T V F : Type 0} (causes : Causes T F) (part : Part T V F) (f
       → IsFaultAt causes part front there f
   is_refusal : IsBroken part front there → f ≡ refusal_of causes there → IsFaultAt causes part front there f
 
--- the first fault of the part in all: there is no cause of the part before it, and rest begins at it
+-- the first fault of the part in `all`: the part has no error before it, and `rest` begins there
 pub record IsFault {T V F : Type 0} (causes : Causes T F) (part : Part T V F) (all : List T) (f : F)
     (rest : List T) : Type 0 where
   pub front : List T
@@ -112,7 +116,7 @@ one {T} take Bad = record {
   IsCause = λ front t f. (front ≡ []) × Bad t f;
 }
 
--- nothing may be wrong with the sign itself
+-- the sign itself has no error
 abbrev pub NoBad : {T F : Type 0} → T → F → Type 0
 NoBad _ _ = ⊥
 

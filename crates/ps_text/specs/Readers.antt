@@ -1,18 +1,19 @@
--- What a reading function of the code says of the part that it reads: it was read, or its first fault was found. `old`
--- and `new` are the pieces still to come when the function begins and when it returns: the Model of the code's tokens.
---     Meets found causes view part old result new      the function's contract. `view` is what the grammar sees of its
---               value, and `found` is what an error says of the text: nothing, if memory ran out. At an Ok it is `Reads
---               part old (view x) new`, at an Err `Stops causes part old (found e)`
---     Goes causes part old result new      the same, if the value is the grammar's own and the error is what it says
---     Carries causes whole start rest now      the invariant of a loop: reading rest from now on gives what reading
---               whole from start gives
---     tail stream      what is left after the next piece
---     refusal_at causes stream      the cause if the grammar does not allow what comes next, and its place
+-- What a parsing function states about the part that it parses: the part was parsed, or its first fault was found.
+-- `old` and `new` are the unread pieces when the function begins and when it returns: the Model of the code's tokens.
+--     Meets found causes view part old result new      the function's contract. `view` maps its value to the value of
+--               the grammar. `found` maps an error to the error of the text, or to None if the program is out of
+--               memory. For Ok x the contract is `Reads part old (view x) new`, for Err e it is `Stops causes part old
+--               (found e)`
+--     Goes causes part old result new      the same contract, if the values and errors are those of the grammar
+--     Carries causes whole start rest now      the invariant of a loop: the result of parsing `rest` from `now` is also
+--               the result of parsing `whole` from `start`
+--     tail stream      the stream without its next piece
+--     refusal_at causes stream      the error that the grammar does not allow the next sign or the end, with its offset
 use Rattle.std.specs.Prelude.{◌≡◌, List, [], ◌∷◌, ◌++◌, Option, None, Some, Result, Ok, Err}
 use Rattle.ps_text.specs.Answers.{Piece, Stream, Found, signs, next_of, offset_of}
 use Rattle.ps_text.specs.Parts.{Part, Causes, IsRead, IsFault, refusal_of}
 
--- what is left after the next piece
+-- the pieces without the first one
 abbrev pub tail_of : {T : Type 0} → List (Piece T) → List (Piece T)
 tail_of [] = []
 tail_of (p ∷ ps) = ps
@@ -24,13 +25,13 @@ abbrev pub refusal_at : {T F : Type 0} → Causes T F → Stream T → Found F
 refusal_at causes stream =
     record { cause = refusal_of causes (next_of stream); offset = offset_of stream.pieces stream.end }
 
--- new is what is left of old after some pieces were taken
+-- `new` is what remains of `old` after some pieces were taken
 pub record IsSuffix {T : Type 0} (old new : Stream T) : Type 0 where
   pub taken : List (Piece T)
   pub split : old.pieces ≡ taken ++ new.pieces
   pub end : new.end ≡ old.end
 
--- the part's first fault in the pieces of old is at the first of rest, or at the end
+-- the first fault of the part in the pieces of `old` is at the first piece of `rest`, or at the end
 pub record StopsWith {T V F : Type 0} (causes : Causes T F) (part : Part T V F) (old : Stream T)
     (found : Found F) : Type 0 where
   pub front : List (Piece T)
@@ -43,7 +44,7 @@ abbrev pub Stops : {T V F : Type 0} → Causes T F → Part T V F → Stream T �
 Stops causes part old None = Unit {0}
 Stops causes part old (Some found) = StopsWith causes part old found
 
--- the part was read from old, with that value, and new is what is left
+-- the part was parsed from `old` with the value v, and `new` is what remains
 abbrev pub Reads : {T V F : Type 0} → Part T V F → Stream T → V → Stream T → Type 0
 Reads part old v new = IsSuffix old new × IsRead part (signs old.pieces) v (signs new.pieces)
 
@@ -52,7 +53,7 @@ abbrev pub Meets : {T V F X E : Type 0} → (E → Option (Found F)) → Causes 
 Meets found causes view part old (Ok x) new = Reads part old (view x) new
 Meets found causes view part old (Err e) new = Stops causes part old (found e)
 
--- the part was read, or its first fault was found; the value is the grammar's own
+-- the part was parsed, or its first fault was found; the value is that of the grammar
 abbrev pub Goes : {T V F : Type 0} → Causes T F → Part T V F → Stream T → Result V (Option (Found F)) →
     Stream T → Type 0
 Goes causes part old (Ok v) new = Reads part old v new

@@ -1,16 +1,17 @@
 -- The tokens of a text, as a relation between its bytes and its pieces. The blanks between tokens are single bytes.
---     IsBlank b      a byte that may occur between tokens
---     IsToken before sign text rest      after the bytes `before`, text is that token and rest follows it. A format
---               says here that a token is the longest, what is never allowed, and what depends on the bytes around a
---               token
---     AreTokens IsBlank IsToken bytes stream      these are the tokens of the bytes, in order; blanks may surround each
---     TokensDiffer IsBlank IsToken      at most one token begins at a place, and none begins with a blank. Then a text
---               has at most one list of tokens, which is the law `one_tokenisation`
+--     IsBlank b      b is a byte that may occur between tokens
+--     IsToken before sign text rest      between the bytes `before` and `rest`, `text` is the token `sign`. With this
+--               relation a format states that a token is the longest one, which tokens are never allowed, and how a
+--               token depends on the bytes around it
+--     AreTokens IsBlank IsToken bytes stream      the stream has the tokens of the bytes, in order, possibly with
+--               blanks around them
+--     TokensDiffer IsBlank IsToken      at most one token begins at a position, and no token begins with a blank. Then
+--               a text has at most one list of tokens, as the law `one_tokenisation` states
 use Rattle.std.specs.Prelude.{◌≡◌, ℕ, List, [], ◌∷◌, ◌++◌, length}
 use Rattle.std.specs.List.{AllByRecursion}
 use Rattle.ps_text.specs.Answers.{Piece, Stream}
 
--- the first token of these bytes, with the blanks before it and what follows it
+-- the first token of these bytes, with the blanks before it and the bytes after it
 pub record NextToken {T : Type 0} (IsBlank : ℕ → Type 0) (IsToken : List ℕ → T → List ℕ → List ℕ → Type 0)
     (before bytes : List ℕ) (piece : Piece T) : Type 0 where
   pub blanks : List ℕ

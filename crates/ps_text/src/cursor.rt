@@ -1,4 +1,4 @@
-//! A cursor over the bytes of a text, for readers whose signs are single bytes.
+//! A cursor over the bytes of a text, for parsers whose signs are single bytes.
 
 ghost use Rattle.std.specs.Prelude.{◌≡◌, ℕ, ◌==◌, ◌≤◌, ◌<◌, ◌^◌, ◌↔◌, IsTrue, Some, false, [], length, take};
 ghost use Rattle.std.specs.Prelude.{take_while, IfSome};
@@ -59,16 +59,16 @@ impl Class {
     }
 }
 
-/// Digits, and the number that they write.
+/// A run of digits and the number that it denotes.
 #[derive(Clone, Copy)]
 pub struct Digits<'a> {
-    /// The digits, leading zeros included.
+    /// The digits, including leading zeros.
     pub bytes: &'a [u8],
-    /// The number, 0 if there are no digits; none if a `u64` can't hold it.
+    /// The number, which is 0 if there are no digits, and `None` if it does not fit a `u64`.
     pub value: Option<u64>,
 }
 
-/// How many bytes of the class the text begins with.
+/// The number of bytes of the class at the start of the text.
 pub fn run_length(text: &[u8], class: Class) -> usize
     ensures length { result ≡ prefix_len (in_class class) text.now }
     ensures within { result ≤ length text.now }
@@ -77,7 +77,7 @@ pub fn run_length(text: &[u8], class: Class) -> usize
     text.iter().take_while(|byte| class.has(**byte)).count()
 }
 
-/// How many digits the text begins with, and the number that they write, if a `u64` can hold it.
+/// The number of digits at the start of the text, and the number that they denote if it fits a `u64`.
 fn digits_of(text: &[u8]) -> (usize, Option<u64>)
     ensures length { result.0 ≡ prefix_len is_digit text.now }
     ensures within { result.0 ≤ length text.now }
@@ -91,19 +91,19 @@ fn digits_of(text: &[u8]) -> (usize, Option<u64>)
     }
 }
 
-/// Whether the last byte is a newline.
+/// Whether the last byte of the text is a newline.
 fn is_ended(text: &[u8]) -> bool
     ensures { result ≡ ends_line text.now }
 {
     !text.is_empty() && text[text.len() - 1] == b'\n'
 }
 
-/// A place in a text, and what follows it.
+/// A position in a text, and the bytes that follow.
 #[derive(Drop)]
 pub struct Cursor<'a> {
     at: usize,
     rest: &'a [u8],
-    /// Whether the last line lacks its newline, so that one is read at the end.
+    /// Whether the last line lacks its newline, so that a newline is read at the end.
     unended: bool,
 }
 
@@ -124,7 +124,7 @@ impl<'a> Model for Cursor<'a> {
 }
 
 impl<'a> Cursor<'a> {
-    /// The beginning of a text.
+    /// A cursor at the start of a text.
     pub fn new(text: &'a [u8]) -> Self
         ensures { result ≡ stream_at 0 text.now }
     {
@@ -135,7 +135,7 @@ impl<'a> Cursor<'a> {
         }
     }
 
-    /// The beginning of a text of lines. A last line without a newline is read as if it had one.
+    /// A cursor at the start of a text of lines. A last line without a newline is read as if it had one.
     pub fn of_lines(text: &'a [u8]) -> Self
         ensures stream { result ≡ stream_of text.now }
         ensures small { length result.pieces ≤ 2 ^ 63 }
@@ -157,14 +157,14 @@ impl<'a> Cursor<'a> {
         }
     }
 
-    /// Whether that byte comes next.
+    /// Whether the next byte is the given byte.
     pub fn comes(&self, byte: u8) -> bool
         ensures { IsTrue result ↔ next_byte self.now ≡ Some byte }
     {
         self.peek() == Some(byte)
     }
 
-    /// Whether the text is at its end.
+    /// Whether the cursor is at the end of the text.
     pub fn is_at_end(&self) -> bool
         ensures { result ≡ (length self.now.pieces == 0) }
     {
@@ -178,7 +178,7 @@ impl<'a> Cursor<'a> {
         self.at
     }
 
-    /// The refusal with that cause, at the next byte or at the end.
+    /// The fault with the given cause at the next byte, or at the end.
     pub fn refusal<C>(&self, cause: C) -> Fault<C>
         ensures { result ≡ faults.Text cause (place_of self.now) }
     {
@@ -202,11 +202,11 @@ impl<'a> Cursor<'a> {
         }
     }
 
-    /// Moves past that byte, which must come next.
+    /// Moves past the given byte, which must be next.
     ///
     /// # Errors
     ///
-    /// That cause, if another byte or the end comes next.
+    /// The given cause, if the next byte is different or the text ends.
     pub fn byte<C: Cause>(&mut self, byte: u8, cause: C) -> Result<(), Fault<C>>
         ensures { Meets found_of (byte_causes C.number cause) (λ u. u) (parts.byte byte) self.old result self.new }
     {
@@ -217,11 +217,11 @@ impl<'a> Cursor<'a> {
         Err(self.refusal(cause))
     }
 
-    /// Moves past these bytes, which must come next.
+    /// Moves past the given bytes, which must be next.
     ///
     /// # Errors
     ///
-    /// That cause, at the first byte that differs, or at the end.
+    /// The given cause, at the first byte that differs or at the end.
     pub fn word<C: Cause>(&mut self, word: &[u8], cause: C) -> Result<(), Fault<C>>
         ensures { Meets found_of (byte_causes C.number cause) (λ u. u) (parts.word word.now) self.old result
             self.new }
@@ -232,8 +232,7 @@ impl<'a> Cursor<'a> {
         Ok(())
     }
 
-    /// Moves past the longest run of bytes of the class that comes next, and returns it. The class must not contain the
-    /// newline.
+    /// Moves past the longest run of bytes of the class, and returns the run. The class must not contain the newline.
     pub fn run(&mut self, class: Class) -> &'a [u8]
         requires { in_class class 10 ≡ false }
         ensures { Passes (in_class class) self.old self.new result.now }
@@ -245,7 +244,7 @@ impl<'a> Cursor<'a> {
         run
     }
 
-    /// Moves past the digits that come next, and returns them.
+    /// Moves past the longest run of digits, and returns it.
     pub fn digits(&mut self) -> Digits<'a>
         ensures passes { Passes is_digit self.old self.new result.bytes.now }
         ensures value { IfSome result.value (λ value. value ≡ decimal_value result.bytes.now) }

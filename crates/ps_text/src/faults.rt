@@ -1,4 +1,4 @@
-//! What is wrong with a text, whatever its format.
+//! Faults of texts, for every format.
 
 ghost use Rattle.std.specs.Prelude.{◌≡◌, ℕ, List};
 ghost use Rattle.ps_text.specs.declared.faults.Fault.TheVariants.{OutOfMemory};
@@ -7,36 +7,37 @@ use std::alloc::{AllocError, AllocFailed};
 use std::fmt;
 use thiserror::Error;
 
-/// Why a text of a format is refused.
+/// The reason why a text is rejected.
 pub trait Cause: Copy + Drop + fmt::Debug {
-    /// The cause's number.
+    /// The number of the cause.
     ghost number: { Self → ℕ };
 
-    /// The cause's name.
+    /// The name of the cause.
     ghost name: { Self → List ℕ };
 
-    /// The cause's number in psyn's list of faults.
+    /// The number of the cause in psyn's list of faults.
     fn number(self) -> u8
         ensures { result ≡ number self };
 
-    /// The cause's name.
+    /// The name of the cause.
     fn name(self) -> &'static str
         ensures { result.now ≡ name self };
 }
 
-/// Why a text was not read.
+/// Why a text was not parsed.
 #[derive(Clone, Copy, Debug, PartialEq, Eq, Error)]
 #[error_bound(C: Cause)]
 pub enum Fault<C> {
-    /// The text is refused.
+    /// The text is rejected.
     #[error("{} at byte {offset}", .cause.name())]
     Text {
-        /// What is wrong.
+        /// The reason why the text is rejected.
         cause: C,
-        /// The offset of the byte, from 0; at the end of the text it is the text's length.
+        /// The offset of the byte with the error, counted from 0. An error at the end of the text has the length of the
+        /// text as its offset.
         offset: usize,
     },
-    /// Memory ran out.
+    /// Out of memory.
     #[error("out of memory")]
     OutOfMemory,
 }
@@ -44,7 +45,7 @@ pub enum Fault<C> {
 impl<C: Cause> Fault<C> {
     ghost use Rattle.ps_text.specs.Faults.{fault_number, fault_name};
 
-    /// The fault's number in psyn's list of faults.
+    /// The number of the fault in psyn's list of faults.
     pub fn number(self) -> u8
         ensures { result ≡ fault_number C.number self }
     {
@@ -54,7 +55,7 @@ impl<C: Cause> Fault<C> {
         }
     }
 
-    /// The fault's name.
+    /// The name of the fault.
     pub fn name(self) -> &'static str
         ensures { result.now ≡ fault_name C.name self }
     {

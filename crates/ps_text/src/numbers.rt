@@ -20,16 +20,17 @@ pub fn write_number(out: &mut Vec<u8>, number: u64) -> Result<(), AllocError>
     out.extend_from_slice(buffer.format(number).as_bytes())
 }
 
-/// The number with which a text begins.
+/// The number at the start of a text.
 #[derive(Clone, Copy)]
 pub struct LeadingNumber {
     /// The number; 0 if there are no digits.
     pub value: u64,
-    /// How many digits there are.
+    /// The number of digits.
     pub digits: usize,
 }
 
-/// The number that the leading digits of a text write, leading zeros included; none if a `u64` can't hold it.
+/// The number that the leading digits of a text denote, including leading zeros. `None` if the number does not fit a
+/// `u64`.
 pub fn leading_number(text: &[u8]) -> Option<LeadingNumber>
     ensures value { IfSome result (λ number. number.value ≡ decimal_value (take_while is_ascii_digit text.now)) }
     ensures digits { IfSome result (λ number. number.digits ≡ prefix_len is_ascii_digit text.now) }

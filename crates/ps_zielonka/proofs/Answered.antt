@@ -1,4 +1,4 @@
--- The last call that waits has its answer, or gets moves for it: nothing more is lost.
+-- The last pending call is solved, or the moves at its tops are written: no top is lost.
 use Rattle.std.proofs.Common.{◌≡◌, ◌≢◌, ℕ, ◌+◌, ◌-◌, ◌*◌, ◌<◌, ◌≤◌, ◌⊎◌, inl, inr, List, [], ◌∷◌, ◌++◌, true, length}
 use Rattle.std.proofs.Common.{Some, get_or, refl, sym, ap, arith, rules}
 use Rattle.std.specs.Prelude.{IsTrue}
@@ -15,7 +15,7 @@ use Rattle.ps_zielonka.proofs.Forms.{frame_kept}
 use Rattle.ps_zielonka.proofs.Frames.{frame_last, frame_before, frames_size, last_waits, last_solved, segment_moved}
 use Rattle.ps_zielonka.proofs.Frames.{below_wait, below_rise}
 
--- ## The last call has its answer: nothing more is lost
+-- ## The last call is solved: no top is lost
 
 pub kept_nest : {game : ParityGame} {old new : TablesData} {winner order : List ℕ} (frames : List Frame) (frame : Frame)
     {cursor : ℕ} → IsNest game old winner order (frames ++ frame ∷ []) cursor true →
@@ -30,7 +30,7 @@ kept_nest {game} {old} {new} {winner} {order} frames frame {cursor} nest moved f
     let turned = waits.prepared in
     let done = nest.done refl in
     let at_level = λ (v : ℕ). ap (λ xs. get_or xs v 0) moved.level in
-    -- the vertices whose move changed are of the greatest priority
+    -- only tops have new moves
     let still = λ (v : ℕ) (not_top : ¬ IsTrue (turned.tops v)). (
     let same : moves_of new v ≡ moves_of old v = search rules in
     same) in
@@ -76,7 +76,7 @@ kept_nest {game} {old} {new} {winner} {order} frames frame {cursor} nest moved f
       done = search rules;
     }
 
--- ## Moves at the greatest priority are written, and the last call waits still
+-- ## The moves at the tops are written, and the last call is still pending
 
 abbrev with_moves : TablesData → List ℕ → TablesData
 with_moves old moves = record { level = old.level; moves = moves; trail = old.trail }

@@ -1,5 +1,5 @@
--- A turn begins: the tops are placed, and what is attracted to them; the last call then waits for the next one, which
--- looks for its own turn.
+-- A turn begins: the tops and the vertices attracted to them are placed. The last call is then pending, and the next
+-- call searches for a turn.
 use Rattle.std.proofs.Common.{◌≡◌, ℕ, ◌+◌, ◌*◌, ◌<◌, ◌≤◌, inl, inr, List, [], ◌∷◌, ◌++◌, length, get_or, Bool, rules}
 use Rattle.std.proofs.Common.{false, refl, sym, ap, ◌∙◌, arith}
 use Rattle.std.specs.Prelude.{IsTrue}
@@ -59,11 +59,11 @@ module _ (b : Begun) where
   turn : IsAttracted b.game (undecided b) b.aim.player (tops b) (pulled b) (moves_of b.new) (rank_of b.aim b.new)
   turn = b.attracted (undecided b) (tops b) (pulled b) posed taken
 
-  -- what is attracted was placed
+  -- each attracted vertex was placed
   pulled_placed : (v : ℕ) → IsTrue (pulled b v) → IsPlaced b.aim b.old b.new v
   pulled_placed v there = search (rules, placed_from, still_or_placed)
 
-  -- the rest: what is not placed, of any level above that of the attractor
+  -- the rest of the turn consists of the vertices of level c or higher, for each level c above that of the attractor
   rest_of_turn : (c : ℕ) → 2 * b.depth + 3 ≤ c → c ≤ UNPLACED → IsWithout (undecided b) (pulled b) (from b.new.level c)
   rest_of_turn c above within =
       let into = λ (v : ℕ) (inside : IsTrue (from b.new.level c v)). (
@@ -75,9 +75,9 @@ module _ (b : Begun) where
         all = search (rules, cases_eq, to_from, to_placed);
       }
 
-  -- ## The calls after it
+  -- ## The pending calls and the next call
 
-  -- the last call waits
+  -- the call in which the turn begins is now pending
   waits_here : Waits b.game b.new b.winner_now b.order (2 * b.depth) (frame_of b)
   waits_here =
       let attracted = turn in
@@ -126,7 +126,7 @@ module _ (b : Begun) where
         front = search (rules, cases_lt, was_open, to_from);
       }
 
-  -- a vertex that is of a higher level than the attractor's is not placed
+  -- a vertex of a higher level than the attractor's is not placed
   still_high : (v : ℕ) → 2 * b.depth + 3 ≤ level_of b.new v → level_of b.new v ≡ UNPLACED
   still_high v high = search (rules, still_or_placed, to_from)
 
@@ -140,7 +140,7 @@ module _ (b : Begun) where
       let placed = later_placed (differ b) b.grown (tops_placed b u (first_top b)) in
       grind (arith, size_from-lt, agrees_at, agrees, first_vertex)
 
-  -- the next call looks for its turn
+  -- the next call searches for its turn
   searches_next : (a : ℕ) → a ≡ 2 * b.depth + 2 → Searches b.game b.new b.winner_now b.order a b.behind
   searches_next a next =
       let room : 2 * b.depth + 2 * size_from (2 * b.depth + 1) b.old.level ≤ 2 * length b.old.level = b.searches.room in
@@ -174,7 +174,7 @@ module _ (b : Begun) where
         };
       }
 
-  -- what a call that waits has in the trail
+  -- each pending call still has its segment of the trail
   segment_later : {a : ℕ} {frame : Frame} → a + 3 ≤ 2 * b.depth + 2 →
       Waits b.game b.old b.winner b.order a frame → IsSegment b.new frame.turn (a + 2)
   segment_later {a} {frame} below waits =
@@ -246,7 +246,7 @@ module _ (b : Begun) where
       falls_begun b.old.level b.new.level (length frames) (length more) size (λ i less. size_from-same (2 * i + 2)
       b.old.level b.new.level sizes (agrees_at (2 * i + 2) (agrees b) (omega arith))) (grind (arith, fewer))
 
-  -- what a set that is closed to the greatest priority leaves out, the first turn leaves to the next call
+  -- a vertex outside a set that satisfies `IsClosedToTops` is left to the next call by the first turn
   pub begun_left : {set : ℕ → Bool} (v : ℕ) → b.depth ≡ 0 →
       ((u : ℕ) → u < vertex_count b.game → level_of b.old u ≡ UNPLACED) → IsClosedToTops b.game set →
       v < vertex_count b.game → ¬ IsTrue (set v) → level_of b.new v ≡ UNPLACED

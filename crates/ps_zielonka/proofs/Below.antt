@@ -1,4 +1,4 @@
--- What changes only above a level leaves the calls that wait below it.
+-- A change at or above a level does not affect the pending calls below this level.
 use Rattle.std.proofs.Common.{◌≡◌, ℕ, ◌+◌, ◌*◌, ◌<◌, ◌≤◌, ◌⊎◌, List, length, get_or, Bool, Option, Some}
 use Rattle.std.proofs.Common.{sym, ap, ◌∙◌, arith, rules}
 use Rattle.std.specs.Prelude.{IsTrue}
@@ -16,13 +16,13 @@ use Rattle.ps_zielonka.proofs.Holding.{some_more}
 use Rattle.ps_zielonka.proofs.Turning.{Progress-same}
 use Rattle.ps_zielonka.proofs.Sets.{AgreesAt, from_at, to_from, from-same, size_from-same}
 
--- a vertex has its level, its move and its winner still
+-- the level, the move and the winner of v are unchanged
 pub record IsStill (old new : TablesData) (winner winner_now : List ℕ) (v : ℕ) : Type 0 where
   pub level : level_of new v ≡ level_of old v
   pub move : get_or new.moves v 0 ≡ get_or old.moves v 0
   pub wins : get_or winner_now v 0 ≡ get_or winner v 0
 
--- what changes was at a level or a higher one, and is
+-- each vertex that changed had level c or higher before, and has level c or higher now
 pub record Agrees (c : ℕ) (old new : TablesData) (winner winner_now : List ℕ) : Type 0 where
   pub sizes : length new.level ≡ length old.level
   pub each : (v : ℕ) → IsStill old new winner winner_now v ⊎ ((c ≤ level_of old v) × (c ≤ level_of new v))
@@ -35,7 +35,7 @@ pub agrees_from : {c : ℕ} (b : ℕ) {old new : TablesData} {winner winner_now 
     Agrees c old new winner winner_now → b ≤ c → from new.level b ≡ from old.level b
 agrees_from {c} b {old} {new} {winner} {winner_now} agrees less = search (rules, from-same, agrees_at)
 
--- below the level nothing changes
+-- no vertex below level c changes
 pub still_below : {c : ℕ} {old new : TablesData} {winner winner_now : List ℕ} → Agrees c old new winner winner_now →
     (v : ℕ) → ¬ IsTrue (from old.level c v) → IsStill old new winner winner_now v
 still_below {c} {old} agrees v below = search (rules, to_from)
@@ -55,14 +55,14 @@ pub subgame_below : {game : ParityGame} {c : ℕ} (b : ℕ) {old new : TablesDat
     Agrees c old new winner winner_now → b ≤ c → IsSubgame game (from old.level b) → IsSubgame game (from new.level b)
 subgame_below {game} {c} b {old} {new} {winner} {winner_now} agrees less alive = rw (agrees_from b agrees less) alive
 
--- the board is sound still where each level stays, or has its bounds
+-- the board is still sound if each level is unchanged or within the bounds
 pub sound_on : {game : ParityGame} {old : TablesData} {winner winner_now order : List ℕ} (new : TablesData) →
     IsSoundBoard game old winner order → FitsGame game new → length winner_now ≡ vertex_count game →
     ((v : ℕ) → (level_of new v ≡ level_of old v) ⊎ ((1 ≤ level_of new v) × (level_of new v ≤ UNPLACED))) →
     IsSoundBoard game new winner_now order
 sound_on new sound fits winners each = search rules
 
--- a turn, with the same sets, and the same winners and moves in the attractor
+-- a prepared turn is still prepared if its sets, and the winners and moves in its attractor, are unchanged
 unfoldable pub IsTurned-on : {game : ParityGame} {open_part rest : ℕ → Bool} (open_now rest_now : ℕ → Bool) {player : ℕ}
     {win : ℕ → ℕ} (win_now : ℕ → ℕ) {table : ℕ → Option ℕ} (table_now : ℕ → Option ℕ)
     (turned : IsTurned game open_part rest player win table) → open_now ≡ open_part → rest_now ≡ rest →
@@ -119,7 +119,7 @@ IsTurned-on {game} {open_part} {rest} open_now rest_now win_now {table} table_no
       given = λ v inside. same_win v inside ∙ turned.given v inside;
     }
 
--- a part of the trail that stays
+-- a vertex in an unchanged part of the trail is still there
 between_front : {old : TablesData} (new : TablesData) (m : ℕ) {from_place to_place v : ℕ} →
     ((j : ℕ) → j < m → get_or new.trail j 0 ≡ get_or old.trail j 0) → to_place ≤ m →
     StandsBetween old from_place to_place v → StandsBetween new from_place to_place v
@@ -130,7 +130,7 @@ cursor_below : {c b : ℕ} {old new : TablesData} {winner winner_now order : Lis
 cursor_below {c} {b} {old} {new} {winner} {winner_now} {order} agrees less front =
     search (rules, cases_lt, AgreesAt, agrees_at)
 
--- a call that waits below the level waits still
+-- a pending call below the level is still pending
 pub waits_below : {game : ParityGame} {c a : ℕ} (m : ℕ) {old new : TablesData} {winner winner_now order : List ℕ}
     {frame : Frame} → Agrees c old new winner winner_now → a + 3 ≤ c →
     ((j : ℕ) → j < m → get_or new.trail j 0 ≡ get_or old.trail j 0) → m ≤ length new.trail → frame.top ≤ m →

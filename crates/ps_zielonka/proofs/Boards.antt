@@ -1,5 +1,4 @@
--- The parts of a step: what is kept at the vertices of the greatest priority, and what is taken off the trail and put
--- back.
+-- The parts of a step: which tops the player keeps, and which vertices are taken off the trail and placed again.
 use Rattle.std.proofs.Common.{◌≡◌, ◌≢◌, ℕ, ◌+◌, ◌-◌, ◌<◌, ◌≤◌, ◌⊎◌, inl, inr, List, [], ◌∷◌, length, get_or, take}
 use Rattle.std.proofs.Common.{refl, ◌∙◌, arith, rules}
 use Rattle.std.specs.Prelude.{slice_set}
@@ -14,7 +13,7 @@ use Rattle.ps_attractor.proofs.Placing.{stands_longer}
 use Rattle.ps_zielonka.specs.declared.level.TheConstants.{UNPLACED}
 use Rattle.ps_zielonka.specs.Inner.Nests.{StandsBetween, StandsBefore, IsKeptAt, IsMoved, IsTakenOff, IsReopened}
 
--- ## What is kept
+-- ## Keeping the tops
 
 -- only the move at u changes
 pub moved_more : {old mid new : TablesData} (turn top place u : ℕ) → turn ≤ place → place < top →
@@ -22,7 +21,7 @@ pub moved_more : {old mid new : TablesData} (turn top place u : ℕ) → turn �
     IsMoved old new (StandsBetween old turn top)
 moved_more turn top place u after before at first second = search rules
 
--- what is kept at a vertex stays so where another one's move changes
+-- a top that is kept is still kept after the move of another vertex changes
 kept_on : {game : ParityGame} {mid new : TablesData} {winner : List ℕ} {level player other : ℕ} (u : ℕ) {v : ℕ} →
     IsMoved mid new (λ v. v ≡ u) → v ≢ u → IsKeptAt game mid winner level player other v →
     IsKeptAt game new winner level player other v
@@ -42,9 +41,9 @@ kept_more {game} {old} {mid} {new} {winner} {level} {player} {other} place {u} a
           kept_on u moved differ (grind arith))
     ]
 
--- ## What is put back
+-- ## Placing vertices again
 
--- one more of the list
+-- a vertex among the first k + 1 of a list is among the first k, or it is the last of them
 one_more : {spare : List ℕ} (k u : ℕ) {v : ℕ} → get_or spare k 0 ≡ u → StandsBefore spare (k + 1) v →
     StandsBefore spare k v ⊎ (v ≡ u)
 one_more {spare} k u at_k stands = search (rules, cases_eq)
@@ -52,7 +51,7 @@ one_more {spare} k u at_k stands = search (rules, cases_eq)
 one_longer : {spare : List ℕ} {k v : ℕ} → StandsBefore spare k v → StandsBefore spare (k + 1) v
 one_longer {k} stands = search rules
 
--- one more vertex is free again, or is put back
+-- one more vertex of the list is handled: it is free again, or it is placed again
 reopened_more : {winner : List ℕ} {player level turn : ℕ} {spare : List ℕ} {k u : ℕ} {old mid new : TablesData} →
     get_or spare k 0 ≡ u → ((v : ℕ) → v ≢ u → level_of new v ≡ level_of mid v) →
     length mid.trail ≤ length new.trail →
@@ -82,7 +81,7 @@ reopened_more {winner = winner} {player = player} {turn = turn} {spare = spare} 
       sizes = sizes ∙ so_far.sizes;
     }
 
--- the next vertex was won by the player
+-- the case in which the player won the next vertex
 pub reopened_free : {winner : List ℕ} {player level turn : ℕ} (spare : List ℕ) (k u : ℕ) {old mid : TablesData}
     (new : TablesData) → get_or spare k 0 ≡ u → u < length mid.level → get_or winner u 0 ≡ player →
     new.level ≡ slice_set mid.level u UNPLACED → new.moves ≡ mid.moves → new.trail ≡ mid.trail →
@@ -91,7 +90,7 @@ pub reopened_free : {winner : List ℕ} {player level turn : ℕ} (spare : List 
 reopened_free spare k u {mid = mid} new at_k within won levels moves trail so_far =
     search (rules, reopened_more, get_or-set_other, get_or-set_same, length-set)
 
--- the next vertex was not won by the player
+-- the case in which the player did not win the next vertex
 pub reopened_lost : {winner : List ℕ} {player level turn : ℕ} (spare : List ℕ) (k u : ℕ) {old mid : TablesData}
     (new : TablesData) → get_or spare k 0 ≡ u → u < length mid.level → get_or winner u 0 ≢ player →
     new ≡ with_placed mid u level → IsReopened winner player level turn (StandsBefore spare k) old mid →
@@ -103,7 +102,7 @@ reopened_lost {level = level} spare k u {mid = mid} new at_k within not_won now 
     (λ j less. get_or_append_left mid.trail (u ∷ []) 0 j less) (λ j more before. grind (arith, get_or_push))
     (λ _. grind (arith, get_or-set_same)) (λ won. absurd (not_won won)) refl (length-set mid.level u level) so_far)
 
--- all of the list is put back
+-- once the whole list is handled, all vertices of the trail from the turn on have been taken back
 pub reopened_end : {winner : List ℕ} {player level turn : ℕ} (k : ℕ) {spare : List ℕ} (old : TablesData)
     {cut new : TablesData} → turn ≤ length old.trail → cut.level ≡ old.level → cut.moves ≡ old.moves →
     cut.trail ≡ take turn old.trail → IsTakenOff turn old.trail spare → k ≡ length spare →

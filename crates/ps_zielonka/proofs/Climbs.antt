@@ -1,5 +1,5 @@
--- The last call that waited continues: what the opponent won in the next one, and all from where the opponent can lead
--- there, is decided.
+-- The last pending call continues: the vertices that the opponent won in the next call, and those that the opponent
+-- attracts to them, are decided.
 use Rattle.std.proofs.Common.{◌≡◌, ◌≢◌, ℕ, ◌+◌, ◌-◌, ◌*◌, ◌<◌, ◌≤◌, ◌⊎◌, inl, inr, List, Bool, length, get_or, rules}
 use Rattle.std.proofs.Common.{Some, ap, sym, ◌∙◌, arith}
 use Rattle.std.specs.Prelude.{IsTrue}
@@ -20,7 +20,7 @@ use Rattle.ps_zielonka.proofs.Sets.{from_at, to_from, size_from-lt, size_from-sa
 use Rattle.ps_zielonka.proofs.Below.{IsStill, Agrees, agrees_at, agrees_from}
 use Rattle.ps_zielonka.proofs.Forms.{frame_goes_on}
 
--- the other player attracts to what it won, for a call of depth a / 2
+-- the aim of the other player, who attracts to the vertices that it won in a call of depth a / 2
 abbrev pub on_aim : ℕ → Frame → Aim
 on_aim a frame = record { player = 1 - frame.player; begin = frame.turn; mark = a + 1; free = UNPLACED }
 
@@ -41,18 +41,18 @@ pub record Going (game : ParityGame) (a : ℕ) (frame : Frame) (old mid new : Ta
 
 module _ {game : ParityGame} {a : ℕ} {frame : Frame} {old mid new : TablesData} {winner winner_now order : List ℕ}
     (going : Going game a frame old mid new winner winner_now order) where
-  -- what was in the trail from the turn on was open, and what was open was there
+  -- a vertex was in the trail from index `turn` on if and only if it was open
   pub was_open : {v : ℕ} → StandsFrom old frame.turn v → a + 2 ≤ level_of old v
   was_open stands = search rules
 
   stood : (v : ℕ) → a + 2 ≤ level_of old v → StandsFrom old frame.turn v
   stood v high = going.waits.segment.stands v high (going.placed v)
 
-  -- a vertex that was not open is so still before the attractor, and is not free
+  -- a vertex that was not open is unchanged before the attraction, and is not free
   mid_still : (v : ℕ) → level_of old v < a + 2 → level_of mid v ≡ level_of old v
   mid_still v low = search (rules, was_open)
 
-  -- a vertex in the trail from the turn on was open
+  -- a vertex that is in the trail from index `turn` on was open
   pub stands_open : {v : ℕ} → StandsFrom new frame.turn v → a + 2 ≤ level_of old v
   stands_open {v} stands = elim (cases_lt stands.place (length mid.trail)) [
     | inl less ↦
@@ -67,7 +67,7 @@ module _ {game : ParityGame} {a : ℕ} {frame : Frame} {old mid new : TablesData
         ]
   ]
 
-  -- a vertex that was not open is as it was
+  -- a vertex that was not open is unchanged
   pub going_still : (v : ℕ) → level_of old v < a + 2 → IsStill old new winner winner_now v
   going_still v low = search (rules, mid_still, stands_open)
 
@@ -85,7 +85,7 @@ module _ {game : ParityGame} {a : ℕ} {frame : Frame} {old mid new : TablesData
   stands_on : {v : ℕ} → StandsFrom mid frame.turn v → StandsFrom new frame.turn v
   stands_on stands = stands_longer going.grown.longer going.grown.front stands
 
-  -- a vertex that was open is decided, or free again
+  -- a vertex that was open is decided, or is free again
   pub going_open : (v : ℕ) → a + 2 ≤ level_of old v → ((level_of new v ≡ a + 1) × StandsFrom new frame.turn v) ⊎
       (level_of new v ≡ UNPLACED)
   going_open v high = search (rules, cases_eq, going_lost, lost_new, stands_on, stood, stands_after)
@@ -95,7 +95,8 @@ module _ {game : ParityGame} {a : ℕ} {frame : Frame} {old mid new : TablesData
 
   -- ## The sets of the turn
 
-  -- what is open before and after, what the player keeps and loses of it, and what is decided
+  -- the open vertices before and after the step, the part of them that the player keeps and the part that the player
+  -- loses, and the vertices that are decided in the step
   abbrev open_then : ℕ → Bool
   open_then = from old.level (a + 2)
 
@@ -133,7 +134,7 @@ module _ {game : ParityGame} {a : ℕ} {frame : Frame} {old mid new : TablesData
   gone_parts : IsWithout open_then the_gone open_now
   gone_parts = search (rules, from_at, cases_lt, going_still, to_from)
 
-  -- a vertex that is gone was open, and is decided
+  -- a vertex that is no longer open was open, and is decided now
   gone_is : (v : ℕ) → IsTrue (the_gone v) →
       (a + 2 ≤ level_of old v) × ((level_of new v ≡ a + 1) × StandsFrom new frame.turn v)
   gone_is v gone = search (rules, from_at, going_open, to_from)
@@ -160,7 +161,7 @@ module _ {game : ParityGame} {a : ℕ} {frame : Frame} {old mid new : TablesData
   going_taken : IsTaken (on_aim a frame) new open_then the_gone
   going_taken = search (rules, gone_is, going_open, from_at)
 
-  -- ## What is left open is searched
+  -- ## The call continues with the open vertices
 
   pub going_searches : Searches game new winner_now order a frame.cursor
   going_searches =
@@ -195,9 +196,9 @@ module _ {game : ParityGame} {a : ℕ} {frame : Frame} {old mid new : TablesData
         front = search (rules, going_still);
       }
 
-  -- ## Fewer vertices are left open
+  -- ## Fewer vertices are open
 
-  -- a vertex that the other player won
+  -- the other player won some vertex that was open
   pub some_lost : (v : ℕ) → StandsBetween old frame.turn frame.top v →
       IsLostAt game old winner (a + 1) frame.player (1 - frame.player) v →
       (u : ℕ) × (u < vertex_count game) × (a + 2 ≤ level_of old u) × (get_or winner u 0 ≢ frame.player)

@@ -1,4 +1,5 @@
--- How many calls wait: as many priorities are there, since the rest of each turn lacks one.
+-- The number of pending calls is at most the number of distinct priorities, since each turn removes a priority from the
+-- rest.
 use Rattle.std.proofs.Common.{◌≡◌, ℕ, zero, suc, ◌+◌, ◌*◌, ◌<◌, inl, inr, List, length, get_or, Bool, true, false}
 use Rattle.std.proofs.Common.{max, refl, sym, ◌∙◌, arith, rules}
 use Rattle.std.proofs.lemmas.Bool.{cases_lt, lt-ltb, false≢true}
@@ -15,7 +16,7 @@ use Rattle.ps_zielonka.proofs.Sets.{from_at}
 use Rattle.ps_zielonka.proofs.Begun.{Begun}
 use Rattle.ps_zielonka.proofs.Begins.{begun_left}
 
--- what the call of a depth has, and one for each call before it
+-- the first call has at least j more priorities than the call of depth j
 chain : {game : ParityGame} (tables : TablesData) (winner order : List ℕ) (frames : List Frame) (j : ℕ) {m : ℕ} →
     ((i : ℕ) → i < j → Waits game tables winner order (2 * i) (frame_at frames i)) →
     HasPriorities game (from tables.level (2 * j + 1)) m → HasPriorities game (from tables.level 1) (m + j)
@@ -29,7 +30,7 @@ chain {game} tables winner order frames (suc j) {m} waits has_m =
     rw same at (chain tables winner order frames j (λ i less. waits i (omega arith))
     (HasPriorities-larger (from tables.level (2 * j + 1)) wait.progress.within more))
 
--- as many priorities as calls wait
+-- there are at least as many distinct priorities as pending calls
 nest_priorities : {game : ParityGame} {tables : TablesData} {winner order : List ℕ} {frames : List Frame} {cursor : ℕ}
     {solved : Bool} (k : ℕ) → length frames ≡ k + 1 → IsNest game tables winner order frames cursor solved →
     HasPriorities game (is_vertex game) (k + 1)
@@ -44,12 +45,12 @@ nest_priorities {game} {tables} {winner} {order} {frames} k calls nest =
 
 -- ## The depth so far
 
--- nothing has begun yet
+-- the invariant of the depth holds before the first turn
 pub depth_start : (game : ParityGame) (levels : List ℕ) → ((v : ℕ) → v < vertex_count game →
     get_or levels v 0 ≡ UNPLACED) → IsDepthSoFar game levels 0 false 0
 depth_start game levels unplaced = search rules
 
--- what is known stays
+-- once the depth is known, it stays known
 depth_stays : {game : ParityGame} (levels : List ℕ) (calls : ℕ) (solved : Bool) {depth : ℕ} → IsDepth game depth →
     IsDepthSoFar game levels calls solved depth
 depth_stays levels calls solved is_depth = record {
@@ -58,7 +59,7 @@ depth_stays levels calls solved is_depth = record {
   two = λ set closed v is_vertex outside. inl (is_depth.two set closed v is_vertex outside);
 }
 
--- the depth is known where it is not too early to know it
+-- the depth is known if the first turn has begun, and no vertex is left to a second call that has not begun
 depth_known : {game : ParityGame} {levels : List ℕ} {calls : ℕ} {solved : Bool} {depth : ℕ} →
     ((v : ℕ) → v < vertex_count game → IsFresh game levels calls solved → ⊥) →
     ((v : ℕ) → IsSecondCall levels calls solved v → ⊥) → IsDepthSoFar game levels calls solved depth →
@@ -78,13 +79,13 @@ depth_known not_fresh not_second so_far = record {
   ];
 }
 
--- a call has its answer
+-- if the current call is solved, the depth is known
 pub depth_solved : {game : ParityGame} {levels : List ℕ} {calls : ℕ} {solved : Bool} {depth : ℕ} → solved ≡ true →
     IsDepthSoFar game levels calls solved depth → IsDepth game depth
 depth_solved is_solved so_far = depth_known (λ v is_vertex fresh. false≢true (sym fresh.unsolved ∙ is_solved))
     (λ v second. false≢true (sym second.unsolved ∙ is_solved)) so_far
 
--- the last call that waited has its answer, or continues
+-- the invariant of the depth holds after the last pending call is solved or continues
 pub depth_climbs : {game : ParityGame} {levels : List ℕ} (now : List ℕ) {calls : ℕ} (left : ℕ) {solved : Bool}
     (is : Bool) {depth : ℕ} → solved ≡ true → IsDepthSoFar game levels calls solved depth →
     IsDepthSoFar game now left is depth
@@ -97,7 +98,7 @@ pub depth_kept : {game : ParityGame} {levels : List ℕ} (now : List ℕ) {calls
 depth_kept {game} {levels} now {calls} left {solved} is {depth} deep same is_solved so_far =
     rw same (depth_climbs now left is is_solved so_far)
 
--- nothing is left to the present call
+-- the invariant of the depth holds when no open vertex remains for the current call
 pub depth_done : {game : ParityGame} {tables : TablesData} {winner order : List ℕ} {frames : List Frame} {cursor : ℕ}
     {solved : Bool} {depth : ℕ} → IsNest game tables winner order frames cursor true →
     IsDepthSoFar game tables.level (length frames) solved depth →
@@ -107,7 +108,7 @@ depth_done {tables = tables} {frames = frames} nest so_far =
     depth_stays tables.level (length frames) true (depth_known
     (λ v is_vertex fresh. placed v (fresh.unplaced v is_vertex)) (λ v second. placed v second.unplaced) so_far)
 
--- a turn begins
+-- the invariant of the depth holds after a turn begins
 pub depth_begun : (b : Begun) {frames : List Frame} {cursor : ℕ} {solved : Bool} {depth : ℕ} (deeper : ℕ) →
     length frames ≡ b.depth + 1 → solved ≡ false → deeper ≡ max depth (length frames) →
     IsNest b.game b.new b.winner_now b.order frames cursor solved →

@@ -1,4 +1,5 @@
--- How many priorities a subgame has, by the turns on it; and what the first turn leaves.
+-- The number of priorities of a subgame, from the turns on it, and the vertices that the first turn leaves to the next
+-- call.
 use Rattle.std.proofs.Common.{◌≡◌, ◌≢◌, ℕ, zero, suc, ◌+◌, ◌%◌, ◌<◌, ◌≤◌, List, [], ◌∷◌, length, get_or, Bool, Option}
 use Rattle.std.proofs.Common.{sym, ap, ◌∙◌, arith, rules}
 use Rattle.std.specs.Prelude.{IsTrue}
@@ -12,7 +13,7 @@ use Rattle.ps_attractor.proofs.Least.{falls_least}
 use Rattle.ps_zielonka.specs.Inner.Turns.{IsTurned}
 use Rattle.ps_zielonka.specs.Depths.{is_vertex, HasPriorities, IsClosedToTops}
 
--- a list without the number at a place
+-- a list without its entry at index k
 drop_at : List ℕ → ℕ → List ℕ
 drop_at [] k = []
 drop_at (x ∷ xs) zero = xs
@@ -35,16 +36,16 @@ Contains-drop_at (y ∷ ys) (suc k) x (suc j) within is other =
     let found = Contains-drop_at ys k x j (omega arith) is other in
     (suc found.0, omega (arith, found.1), found.2)
 
--- a set with a vertex has a priority
+-- a set with a vertex has at least one priority
 pub one_priority : (game : ParityGame) (set : ℕ → Bool) (v : ℕ) → IsTrue (set v) → HasPriorities game set 1
 one_priority game set v inside = search rules
 
--- a larger set has no fewer
+-- a larger set has at least as many priorities
 pub HasPriorities-larger : {game : ParityGame} {smaller : ℕ → Bool} (larger : ℕ → Bool) {n : ℕ} →
     IsWithin smaller larger → HasPriorities game smaller n → HasPriorities game larger n
 HasPriorities-larger larger within has_n = search rules
 
--- one more than a part without one of its priorities
+-- a set has at least one priority more than a part that lacks one of its priorities
 HasPriorities-more : {game : ParityGame} {smaller : ℕ → Bool} (larger : ℕ → Bool) {n : ℕ} (top : ℕ) →
     IsWithin smaller larger → IsTrue (larger top) → ((v : ℕ) → IsTrue (smaller v) →
     priority_of game v ≢ priority_of game top) → HasPriorities game smaller n → HasPriorities game larger (n + 1)
@@ -59,7 +60,7 @@ HasPriorities-more {game} larger {n} top within inside differ has_n = record {
       omega (arith, length-drop_at list found.0 found.1));
 }
 
--- the rest of a turn has fewer priorities
+-- the rest of a turn has fewer priorities than the open part
 pub HasPriorities-turned : {game : ParityGame} {open_part rest : ℕ → Bool} {player : ℕ} {win : ℕ → ℕ}
     {table : ℕ → Option ℕ} {n : ℕ} → IsTurned game open_part rest player win table → HasPriorities game rest n →
     HasPriorities game open_part (n + 1)
@@ -67,8 +68,8 @@ HasPriorities-turned {game} {open_part} {rest} {n} turned has_n =
     let (top, is_top, greatest) = turned.some_top in
     HasPriorities-more open_part top turned.left.within (grind arith) (λ v inside same. grind arith) has_n
 
--- what such a set leaves out is left to be solved by a turn whose tops are exactly the vertices of the greatest
--- priority
+-- a vertex outside a set that satisfies `IsClosedToTops` is in the rest of a turn whose tops are exactly the vertices
+-- of the greatest priority
 pub left_out : {game : ParityGame} {whole rest set : ℕ → Bool} {player : ℕ} {win : ℕ → ℕ} {table : ℕ → Option ℕ} (v : ℕ)
     → ((u : ℕ) → u < vertex_count game → IsTrue (whole u)) → ((u : ℕ) → IsTrue (whole u) → u < vertex_count game) →
     (turned : IsTurned game whole rest player win table) → ((u : ℕ) → IsTrue (turned.tops u) →

@@ -1,4 +1,4 @@
--- The end: from a game that is solved to the region and the strategies by which both players hold.
+-- The end: from a solved game to the region and the strategies by which both players hold their vertices.
 use Rattle.std.proofs.Common.{◌≡◌, ℕ, ◌<◌, List, length, get_or, Option, Some, Bool, rules, arith}
 use Rattle.std.specs.Prelude.{IsTrue, IsSome}
 use Rattle.std.proofs.lemmas.Bool.{cases_eq, cases_lt, false≢true, not-true}
@@ -16,7 +16,7 @@ use Rattle.ps_zielonka.proofs.Sets.{from_at, to_from}
 use Rattle.ps_zielonka.proofs.Holding.{not_in, HoldsWithin-same}
 use Rattle.ps_zielonka.proofs.Turning.{won_by, IsWon-won_by}
 
--- only which vertices of the game a set has matters
+-- a set that has the same vertices of the game is also held
 Holds-same : {game : ParityGame} {player : ℕ} {set : ℕ → Bool} (other : ℕ → Bool) {table : ℕ → Option ℕ} →
     ((v : ℕ) → v < vertex_count game → IsTrue (set v) → IsTrue (other v)) →
     ((v : ℕ) → v < vertex_count game → IsTrue (other v) → IsTrue (set v)) → Holds game player set table →
@@ -39,23 +39,23 @@ holds_won {game} {winner} {whole} {player} {strategy} is_solved is_player given 
     (HoldsWithin-same (won_by whole win player) (move_at strategy) (λ v inside. inside) (λ v inside. inside)
     (λ v inside owns. grind arith) (is_solved.solved.held player (won_by whole win player) is_player won))
 
--- the tables that solve the whole game
+-- tables that solve the whole game solve all of its vertices
 IsSolved-tables : {game : ParityGame} {tables : TablesData} {winner : List ℕ} → IsSolvedBy game tables winner →
     IsSolved game winner tables.moves (from tables.level 1)
 IsSolved-tables {game} {tables} solved_by = search (rules, to_from, cases_lt, get_or_past, from_at)
 
--- a player that has a move at a vertex wins and owns the vertex
+-- a player who has a move at a vertex wins and owns the vertex
 move_is_given : {game : ParityGame} {moves winner : List ℕ} {player n : ℕ} (v : ℕ) {strategy : List (Option ℕ)} →
     AreMovesTo game moves winner player n strategy → IsSome (move_at strategy v) →
     (v < n) × MovesAt game winner player v
 move_is_given {game} {winner} {player} {n} v {strategy} given some = search (rules, cases_lt, cases_eq, false≢true)
 
--- a player holds a set by a strategy that moves only at its own vertices of the set
+-- the player holds the set by the strategy, which has moves only at the player's own vertices of the set
 pub record IsPlayed (game : ParityGame) (player : ℕ) (set : ℕ → Bool) (strategy : List (Option ℕ)) : Type 0 where
   pub holds : Holds game player set (move_at strategy)
   pub moves : MovesWithin game player set strategy
 
--- winners and the region as they are read at the end
+-- the winners and the region that the code reads at the end
 module _ {game : ParityGame} {tables : TablesData} {winner read again : List ℕ} {region : List Bool}
     (same : read ≡ winner) (same_again : again ≡ winner) (solved_by : IsSolvedBy game tables winner)
     (is_region : IsRegionTo read (length read) region) where
@@ -77,12 +77,12 @@ module _ {game : ParityGame} {tables : TablesData} {winner read again : List ℕ
         moves = search (rules, move_is_given);
       }
 
-  -- player 0 plays in the region
+  -- player 0 holds the region
   pub played_first : {strategy : List (Option ℕ)} →
       AreMovesTo game tables.moves again 0 (vertex_count game) strategy → IsPlayed game 0 (has region) strategy
   played_first given = played (has region) (omega arith) whole.won whole.all given
 
-  -- player 1 plays in all other vertices
+  -- player 1 holds all other vertices
   pub played_second : {strategy : List (Option ℕ)} →
       AreMovesTo game tables.moves again 1 (vertex_count game) strategy → IsPlayed game 1 (others region) strategy
   played_second given = played (others region) (omega arith) (λ v is_vertex inside. grind (

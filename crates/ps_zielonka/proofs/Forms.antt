@@ -1,4 +1,4 @@
--- The mathematics of a turn, in the forms that the steps of the stack cite.
+-- The mathematics of a turn, in the form that the steps of the stack use.
 use Rattle.std.proofs.Common.{◌≡◌, ◌≢◌, ℕ, ◌-◌, ◌<◌, inl, inr, Option, IsSomeAnd, Bool, IsTrue, sym, ◌∙◌, arith, rules}
 use Rattle.std.proofs.lemmas.Bool.{false≢true}
 use Rattle.ps_game.specs.Games.{ParityGame, IsGame, owner_of, HasEdge}
@@ -10,12 +10,12 @@ use Rattle.ps_zielonka.proofs.Turning.{won_by, IsWon-won_by, without, IsWithout-
 use Rattle.ps_zielonka.proofs.Turning.{Progress-same, Progress-attracted, lost_held}
 use Rattle.ps_zielonka.proofs.Kept.{Solved-kept}
 
--- nothing is decided yet
+-- at the start nothing is decided
 pub progress_start : (game : ParityGame) (subgame open_part : ℕ → Bool) (win : ℕ → ℕ) (table : ℕ → Option ℕ) →
     IsWithin open_part subgame → IsWithin subgame open_part → Progress game subgame open_part win table
 progress_start game subgame open_part win table smaller larger = search (rules, HoldsWithin-none)
 
--- a turn after which nothing more is lost: at each vertex of the greatest priority the player stays in what it wins
+-- a turn solves the subgame if no top is lost: at each top, the player stays among the vertices that it wins
 pub frame_kept : {game : ParityGame} {subgame open_part rest : ℕ → Bool} {player : ℕ} {win : ℕ → ℕ}
     {table : ℕ → Option ℕ} → IsGame game → IsSubgame game open_part → Progress game subgame open_part win table →
     (turned : IsTurned game open_part rest player win table) → Solved game rest win table →
@@ -39,7 +39,7 @@ frame_kept {game} {subgame} {open_part} {rest} {player} {win} {table} is_game al
     there)
     progress
 
--- the other player attracts to what it won of the rest, and that is decided
+-- the vertices that the other player won in the rest, and those that it attracts to them, are decided
 pub frame_goes_on : {game : ParityGame} {subgame open_part rest lost gone left : ℕ → Bool} {player : ℕ} {win : ℕ → ℕ}
     (win_now : ℕ → ℕ) {table table_now : ℕ → Option ℕ} {rank : ℕ → ℕ} → IsGame game → IsSubgame game open_part →
     Progress game subgame open_part win table → IsTurned game open_part rest player win table →

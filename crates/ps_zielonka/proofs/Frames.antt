@@ -1,4 +1,4 @@
--- The stack of the calls that wait: its last one, those below it, and the stack on which no call waits yet.
+-- The stack of pending calls: its last call, the calls below the last one, and the stack without a pending call.
 use Rattle.std.proofs.Common.{◌≡◌, ℕ, ◌+◌, ◌*◌, ◌<◌, ◌≤◌, ◌⊎◌, List, [], ◌∷◌, ◌++◌, Bool, true}
 use Rattle.std.proofs.Common.{false, length, get_or, replicate, refl, subst, ap, ◌∙◌, arith, rules}
 use Rattle.std.specs.Prelude.{IsTrue}
@@ -51,7 +51,7 @@ module _ {game : ParityGame} {tables : TablesData} {winner order : List ℕ} (fr
   last_rises i below =
       grind (arith, frames_size frames frame, frame_before frames frame i below, frame_last frames frame)
 
-  -- the calls below the last one wait still
+  -- the calls below the last one are still pending
   pub below_wait : {new : TablesData} {winner_now : List ℕ} →
       Agrees (2 * length frames + 1) tables new winner winner_now → frame.turn ≤ length new.trail →
       ((j : ℕ) → j < frame.turn → get_or new.trail j 0 ≡ get_or tables.trail j 0) →
@@ -72,7 +72,7 @@ last_solved frames frame nest = search (rules, frames_size)
 
 -- ## Segments of the trail
 
--- what changes above a level and after a place of the trail leaves the lower segments as they are
+-- changes at or above a level, and from an index of the trail on, do not affect the segments of lower levels
 pub segment_below : {b : ℕ} (c m : ℕ) {t : ℕ} {old : TablesData} (new : TablesData) → b ≤ c → t ≤ m →
     m ≤ length old.trail → m ≤ length new.trail → ((j : ℕ) → j < m → get_or new.trail j 0 ≡ get_or old.trail j 0) →
     ((j : ℕ) → m ≤ j → j < length new.trail → c ≤ level_of new (get_or new.trail j 0)) →
@@ -80,12 +80,12 @@ pub segment_below : {b : ℕ} (c m : ℕ) {t : ℕ} {old : TablesData} (new : Ta
     ((c ≤ level_of new v) × (level_of new v < UNPLACED → StandsFrom new m v))) → IsSegment old t b → IsSegment new t b
 segment_below {b} c m {old} new less before inside within front behind each segment = grind (arith, cases_lt)
 
--- a segment, if levels and trail stay
+-- a segment is unchanged if levels and trail are unchanged
 pub segment_moved : {b t : ℕ} {old : TablesData} (new : TablesData) → new.level ≡ old.level → new.trail ≡ old.trail →
     IsSegment old t b → IsSegment new t b
 segment_moved {b} {t} {old} new level trail segment = search (rules, stands_longer)
 
--- ## No call waits yet
+-- ## No call is pending
 
 pub nest_start : {game : ParityGame} (tables : TablesData) (winner : List ℕ) {order : List ℕ} → IsGame game →
     tables.level ≡ replicate (vertex_count game) UNPLACED → tables.moves ≡ replicate (vertex_count game) 0 →

@@ -1,4 +1,4 @@
--- The tables that grow in two steps grow in one: what is placed in either is placed.
+-- If tables grow in two steps, they grow in one: a vertex that is placed in either step is placed.
 use Rattle.std.proofs.Common.{◌≢◌, ℕ, rules}
 use Rattle.std.proofs.lemmas.Bool.{cases_lt}
 use Rattle.ps_attractor.specs.declared.aim.Aim.{Aim}
@@ -6,7 +6,7 @@ use Rattle.ps_attractor.specs.Tables.{TablesData}
 use Rattle.ps_attractor.specs.Aims.{IsPlaced, IsGrown}
 use Rattle.ps_attractor.proofs.Placing.{stands_after, stands_longer}
 
--- ## What is placed in two parts
+-- ## Vertices that are placed in one of two steps
 
 pub later_placed : {aim : Aim} {old mid new : TablesData} {v : ℕ} → aim.mark ≢ aim.free → IsGrown aim mid new →
     IsPlaced aim old mid v → IsPlaced aim old new v

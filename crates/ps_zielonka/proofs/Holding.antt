@@ -1,4 +1,5 @@
--- What a player holds within a subgame: by other moves, within a larger subgame, two sets together, and an attractor.
+-- Sets that a player holds within a subgame: with other moves, within a larger subgame, the union of two sets, and an
+-- attractor.
 use Rattle.std.proofs.Common.{◌≡◌, ◌≢◌, ℕ, ◌+◌, ◌%◌, ◌<◌, ◌≤◌, ◌⊎◌, inl, inr, Bool, false, Option, Some, rules}
 use Rattle.std.proofs.Common.{IsSomeAnd, sym, ◌∙◌, arith}
 use Rattle.std.specs.Prelude.{IsTrue}
@@ -24,7 +25,7 @@ leads_down game subgame set rank v move there = search (rules, some_more)
 pub not_in : (set : ℕ → Bool) (v : ℕ) → set v ≡ false → ¬ IsTrue (set v)
 not_in set v outside inside = false≢true (sym outside ∙ inside)
 
--- the last place is the first one
+-- the last vertex of a round is also in the set, since it is the first vertex
 pub round_inside : {game : ParityGame} {player : ℕ} {set : ℕ → Bool} {table : ℕ → Option ℕ} {walk : ℕ → ℕ} {k : ℕ} →
     IsRound game player set table walk k → (t : ℕ) → t ≤ k → IsTrue (set (walk t))
 round_inside {set} {walk} {k} round t within = search (rules, cases_eq)
@@ -34,13 +35,13 @@ pub round_within : {game : ParityGame} {player : ℕ} {set : ℕ → Bool} (othe
     IsRound game player other table walk k
 round_within other round inside = search rules
 
--- a step by the table from what is held within the subgame stays there
+-- a step by the table, from a held set and within the subgame, stays in the held set
 pub held_step : {game : ParityGame} {subgame : ℕ → Bool} {player : ℕ} {set : ℕ → Bool} {table : ℕ → Option ℕ} →
     HoldsWithin game subgame player set table → (v w : ℕ) → HasEdge game v w →
     (owner_of game v ≡ player → table v ≡ Some w) → IsTrue (subgame w) → IsTrue (set v) → IsTrue (set w)
 held_step {game} {player} {set} {table} holds v w edge follows to from = search (rules, cases_eq)
 
--- a round lies in what is held within the subgame, or beside it
+-- a round is inside a held set, or outside it
 pub round_beside : {game : ParityGame} {subgame : ℕ → Bool} {player : ℕ} {set held : ℕ → Bool} {table : ℕ → Option ℕ}
     {walk : ℕ → ℕ} {k : ℕ} → HoldsWithin game subgame player held table → IsWithin set subgame →
     IsRound game player set table walk k → ((t : ℕ) → t < k → IsTrue (held (walk t))) ⊎
@@ -48,7 +49,7 @@ pub round_beside : {game : ParityGame} {subgame : ℕ → Bool} {player : ℕ} {
 round_beside {game} {subgame} {player} {set} {held} {table} {walk} {k} holds within round =
     all_or_none held walk k round.closes (λ t less from. grind (arith, held_step, round_inside))
 
--- a step of a round within the subgame, from outside the target, leads down in an attractor
+-- in an attractor, a step of a round from a vertex outside the target, within the subgame, leads to a smaller rank
 falls_step : {game : ParityGame} {subgame : ℕ → Bool} {player : ℕ} {target set other : ℕ → Bool}
     {table : ℕ → Option ℕ} {rank walk : ℕ → ℕ} {k : ℕ} → IsWithin other subgame →
     Falls game subgame player target set table rank → IsRound game player other table walk k → (t : ℕ) → t < k →
@@ -60,7 +61,7 @@ falls_step {game = game} {player = player} {target = target} {walk = walk} withi
       | inr others ↦ falls.other (walk t) (walk (t + 1)) from outside others (grind (arith, round_inside))
     ]
 
--- in an attractor no round misses the target
+-- every round in an attractor visits the target
 pub no_round_falls : {game : ParityGame} {subgame : ℕ → Bool} {player : ℕ} {target set : ℕ → Bool}
     {table : ℕ → Option ℕ} {rank walk : ℕ → ℕ} {k : ℕ} → IsWithin set subgame →
     Falls game subgame player target set table rank → IsRound game player set table walk k →
@@ -68,9 +69,9 @@ pub no_round_falls : {game : ParityGame} {subgame : ℕ → Bool} {player : ℕ}
 no_round_falls {rank = rank} {walk = walk} {k = k} within falls round misses = no_descent rank walk k round.some
     round.closes (λ t less. (falls_step within falls round t less (round.inside t less) (misses t less)).falls)
 
--- ## What is held
+-- ## Held sets
 
--- the same set, with the same moves there
+-- a held set is still held by other moves that agree with the table on the set
 pub HoldsWithin-same : {game : ParityGame} {subgame : ℕ → Bool} {player : ℕ} {set : ℕ → Bool} (other : ℕ → Bool)
     {table : ℕ → Option ℕ} (moves : ℕ → Option ℕ) → IsWithin set other → IsWithin other set →
     ((v : ℕ) → IsTrue (set v) → owner_of game v ≡ player → moves v ≡ table v) →
@@ -82,19 +83,22 @@ HoldsWithin-same {game} {set} other {table} moves there back same holds = record
   wins = λ walk k top round is_top. holds.wins walk k top (search rules) is_top;
 }
 
--- a larger subgame, in which the other player's edges lead nowhere else
+-- a held set is also held within a larger subgame, if the other player's edges from the set lead only into the smaller
+-- subgame
 pub HoldsWithin-larger : {game : ParityGame} {smaller : ℕ → Bool} (larger : ℕ → Bool) {player : ℕ} {set : ℕ → Bool}
     {table : ℕ → Option ℕ} → IsWithin smaller larger → ((v w : ℕ) → IsTrue (set v) → owner_of game v ≢ player →
     LeadsInto game larger v w → IsTrue (smaller w)) → HoldsWithin game smaller player set table →
     HoldsWithin game larger player set table
 HoldsWithin-larger larger within lands holds = search rules
 
--- no vertex at all
+-- the empty set is held by every table
 pub HoldsWithin-none : (game : ParityGame) (subgame : ℕ → Bool) (player : ℕ) (set : ℕ → Bool) (table : ℕ → Option ℕ) →
     ((v : ℕ) → ¬ IsTrue (set v)) → HoldsWithin game subgame player set table
 HoldsWithin-none game subgame player set table none = search rules
 
--- a set beside one that is held, if the other player's edges lead on in the smaller subgame or to the first set
+-- the union of two sets is held within the larger subgame. The first set is held within the larger subgame, and the
+-- second set is held within the smaller subgame. The other player's edges from the second set lead into the smaller
+-- subgame or to the first set
 pub HoldsWithin-beside : {game : ParityGame} {smaller larger : ℕ → Bool} {player : ℕ} {first second : ℕ → Bool}
     (set : ℕ → Bool) {table : ℕ → Option ℕ} → IsWithin smaller larger → IsWithin first set → IsWithin second set →
     ((v : ℕ) → IsTrue (set v) → IsTrue (first v) ⊎ IsTrue (second v)) →
@@ -115,7 +119,7 @@ HoldsWithin-beside {game} {larger} {player} {first} {second} set {table} less ha
       ];
     }
 
--- the attractor to a set that is held
+-- the attractor to a held set is held
 pub HoldsWithin-attracted : {game : ParityGame} {subgame : ℕ → Bool} {player : ℕ} {target set : ℕ → Bool}
     {table : ℕ → Option ℕ} {rank : ℕ → ℕ} → IsWithin target set → IsWithin set subgame →
     Falls game subgame player target set table rank → HoldsWithin game subgame player target table →
@@ -133,8 +137,8 @@ HoldsWithin-attracted {game} {subgame} {player} {target} {set} {table} {rank} ha
   ];
 }
 
--- a subgame where what is not in the attractor to some tops is held; these have priorities of the player's parity, each
--- greater than those of the other parity
+-- a whole subgame is held, if the part outside the attractor to the tops is held. The priority of each top has the
+-- player's parity, and is greater than all priorities of the other parity
 pub HoldsWithin-all : {game : ParityGame} {subgame : ℕ → Bool} {player : ℕ} {tops set rest nested : ℕ → Bool}
     {table : ℕ → Option ℕ} {rank : ℕ → ℕ} → ((v w : ℕ) → IsTrue (tops v) → IsTrue (subgame w) →
     priority_of game w % 2 ≢ player → priority_of game w < priority_of game v) →

@@ -1,5 +1,5 @@
--- A turn after which nothing of the subgame is left to decide: what the other player won of the rest goes to it, and
--- the player gets all else.
+-- A turn that decides the whole subgame: the other player wins the vertices that it won in the rest, and the player
+-- wins all others.
 use Rattle.std.proofs.Common.{◌≡◌, ◌≢◌, ℕ, ◌<◌, ◌⊎◌, inl, inr, Bool, Option, IsSomeAnd, sym, ◌∙◌, rules}
 use Rattle.std.specs.Prelude.{IsTrue}
 use Rattle.std.proofs.lemmas.Bool.{cases_Bool, false≢true}
@@ -16,14 +16,14 @@ kept_of rest lost v inside = let split = IsWithout-without rest lost in (split.w
 to_keeps : (rest lost : ℕ → Bool) (v : ℕ) → IsTrue (rest v) → ¬ IsTrue (lost v) → IsTrue (without rest lost v)
 to_keeps rest lost v inside outside = let split = IsWithout-without rest lost in split.all v inside outside
 
--- what the player wins of the rest is what the opponent does not win
+-- the player wins exactly the vertices of the rest that the opponent does not win
 pub IsWon-without : (game : ParityGame) {rest lost : ℕ → Bool} {win : ℕ → ℕ} (table : ℕ → Option ℕ) (player : ℕ)
     {other : ℕ} → player < 2 → other < 2 → other ≢ player → IsWon rest nothing win other lost →
     Solved game rest win table → IsWon rest nothing win player (without rest lost)
 IsWon-without game {rest} {lost} {win} table player {other} is_player is_other differ is_won solved =
     search (rules, kept_of, false≢true, to_keeps)
 
--- if no vertex of the opponent at the greatest priority leads to what was lost, no other vertex does
+-- if no top of the opponent has an edge to a lost vertex, no other vertex of the opponent has such an edge
 none_to_lost : {game : ParityGame} {open_part rest lost left : ℕ → Bool} {win : ℕ → ℕ} {table : ℕ → Option ℕ}
     {player other : ℕ} → player < 2 → other < 2 → other ≢ player →
     (turned : IsTurned game open_part rest player win table) → IsWon rest nothing win other lost →

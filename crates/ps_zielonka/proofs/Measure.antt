@@ -1,4 +1,4 @@
--- The steps that are left fall with each step.
+-- The number of remaining steps decreases with each step.
 use Rattle.std.proofs.Common.{◌≡◌, ℕ, zero, suc, ◌+◌, ◌*◌, ◌<◌, ◌≤◌, List, true, false, refl, ap, arith, rules}
 use Rattle.ps_zielonka.specs.Inner.Nests.{size_from, steps, rest_of, waiting_steps, steps_left}
 
@@ -23,7 +23,7 @@ pub waiting_steps-suc : (levels : List ℕ) (k n : ℕ) → n ≡ k + 1 →
     waiting_steps levels n ≡ waiting_steps levels k + rest_of (size_from (2 * k + 2) levels)
 waiting_steps-suc levels k n h = search rules
 
--- of calls whose sizes stay
+-- the bound for the pending calls is the same if each of them has equally many open vertices
 waiting_steps-same : (old new : List ℕ) (k : ℕ) → ((i : ℕ) → i < k →
     size_from (2 * i + 2) new ≡ size_from (2 * i + 2) old) → waiting_steps new k ≡ waiting_steps old k
 waiting_steps-same old new zero sizes = refl
@@ -31,7 +31,7 @@ waiting_steps-same old new (suc k) sizes =
     let before : waiting_steps new k ≡ waiting_steps old k = waiting_steps-same old new k (λ i less. grind arith) in
     omega (arith, ap rest_of (sizes k (omega arith)))
 
--- a turn begins: the next call is about fewer vertices
+-- the bound decreases when a turn begins, since the next call has fewer open vertices
 pub falls_begun : (old new : List ℕ) (k n : ℕ) → n ≡ k + 1 →
     ((i : ℕ) → i ≤ k → size_from (2 * i + 2) new ≡ size_from (2 * i + 2) old) →
     size_from (2 * n + 2) new < size_from (2 * k + 2) old → steps_left new n false < steps_left old k false
@@ -40,15 +40,15 @@ falls_begun old new k n next sizes fewer =
     waiting_steps-suc new k n next in
     grind (arith, waiting_steps-same, opened)
 
--- nothing is left to the present call
+-- the bound decreases when no open vertex remains for the current call
 pub falls_done : (levels : List ℕ) (k : ℕ) → steps_left levels k true < steps_left levels k false
 falls_done levels k = let some = some_step (size_from (2 * k + 2) levels) in omega arith
 
--- the last call that waited has its answer
+-- the bound decreases when the last pending call is solved
 pub falls_kept : (old new : List ℕ) (k n : ℕ) → n ≡ k + 1 → new ≡ old → steps_left new k true < steps_left old n true
 falls_kept old new k n next same = search (rules, some_rest, waiting_steps-suc)
 
--- the last call that waited continues with fewer vertices
+-- the bound decreases when the last pending call continues with fewer open vertices
 pub falls_on : (old new : List ℕ) (k n : ℕ) → n ≡ k + 1 → ((i : ℕ) → i < k →
     size_from (2 * i + 2) new ≡ size_from (2 * i + 2) old) → size_from (2 * k + 2) new < size_from (2 * k + 2) old →
     steps_left new k false < steps_left old n true

@@ -1,4 +1,4 @@
--- The vertices of a level or a higher one, as a set, and how many they are.
+-- The set of the vertices of a level or a higher one, and the number of these vertices.
 use Rattle.std.proofs.Common.{◌≡◌, ℕ, zero, suc, ◌<◌, ◌≤◌, inl, inr, List, [], ◌∷◌, Bool, cond, length, get_or, sym, ap}
 use Rattle.std.proofs.Common.{◌∙◌, arith, rules}
 use Rattle.std.specs.Prelude.{IsTrue, nat_le}
@@ -14,7 +14,7 @@ pub to_from : (levels : List ℕ) (c v : ℕ) → c ≤ get_or levels v 0 → Is
 unfolding from
 to_from levels c v high = le-leb c (get_or levels v 0) high
 
--- the levels agree on which vertices are of a level or a higher one
+-- the vertex v has level c or higher either in both lists or in neither
 pub record AgreesAt (old new : List ℕ) (c v : ℕ) : Type 0 where
   pub up : c ≤ get_or old v 0 → c ≤ get_or new v 0
   pub back : c ≤ get_or new v 0 → c ≤ get_or old v 0
@@ -31,7 +31,7 @@ from-same old new c agrees = fun_ext (λ v. elim (cases_lt (get_or old v 0) c) [
   | inr more ↦ le-leb c (get_or new v 0) ((agrees v).up more) ∙ sym (le-leb c (get_or old v 0) more)
 ])
 
--- ## How many they are
+-- ## The number of vertices
 
 abbrev count_true : Bool → ℕ
 count_true b = cond b 1 0
@@ -59,7 +59,7 @@ size_from-le c d (x ∷ xs) (y ∷ ys) sizes more =
     size_from-le c d xs ys (omega arith) (λ v within. more (suc v) (omega arith)) in
     omega arith
 
--- one of them is of a level no more
+-- fewer vertices have level d or higher in the new list, if one vertex of the old set is now below level d
 pub size_from-lt : (c d : ℕ) (old new : List ℕ) (u : ℕ) → length new ≡ length old →
     ((v : ℕ) → v < length old → d ≤ get_or new v 0 → c ≤ get_or old v 0) → u < length old → c ≤ get_or old u 0 →
     get_or new u 0 < d → size_from d new < size_from c old

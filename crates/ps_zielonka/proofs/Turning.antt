@@ -1,4 +1,4 @@
--- The turns: what is decided of a subgame, and how it grows until nothing is left to decide.
+-- The turns: which part of a subgame is decided, and how this part grows until nothing is left to decide.
 use Rattle.std.proofs.Common.{◌≡◌, ◌≢◌, ℕ, ◌<◌, ◌⊎◌, inl, inr, Bool, false, not, ◌&&◌, ◌==◌, Option, rules}
 use Rattle.std.specs.Prelude.{IsTrue}
 use Rattle.std.proofs.lemmas.Bool.{cases_eq, cases_Bool, false≢true, eqb-true, eq-eqb, and_parts, and_from, not-true}
@@ -10,14 +10,14 @@ use Rattle.ps_zielonka.specs.Inner.Turns.{nothing, IsWithout, IsWon, Progress, S
 use Rattle.ps_zielonka.proofs.Holding.{not_in, HoldsWithin-same, HoldsWithin-larger, HoldsWithin-beside}
 use Rattle.ps_zielonka.proofs.Holding.{HoldsWithin-attracted}
 
--- what is in the whole is in the part or in the rest
+-- each vertex of the whole is in the part or in the rest
 pub in_part_or_rest : {whole part rest : ℕ → Bool} → IsWithout whole part rest → (v : ℕ) → IsTrue (whole v) →
     IsTrue (part v) ⊎ IsTrue (rest v)
 in_part_or_rest {part} left v inside = search (rules, cases_Bool, not_in)
 
--- ## Where it begins and ends
+-- ## The start and the end
 
--- nothing is left
+-- if no vertex is open, the subgame is solved
 pub Solved-done : {game : ParityGame} {subgame open_part : ℕ → Bool} {win : ℕ → ℕ} {table : ℕ → Option ℕ} →
     Progress game subgame open_part win table → ((v : ℕ) → ¬ IsTrue (open_part v)) → Solved game subgame win table
 Solved-done progress none = record {
@@ -27,9 +27,9 @@ Solved-done progress none = record {
   held = λ player set is_player is_won. progress.held player set is_player (search (rules, false≢true));
 }
 
--- ## The same with other tables
+-- ## The same progress with other tables
 
--- if winners and moves of what is decided stay
+-- the progress is kept if the winners and moves of decided vertices are unchanged
 pub Progress-same : {game : ParityGame} {subgame open_part : ℕ → Bool} {win : ℕ → ℕ} (other_win : ℕ → ℕ)
     {table : ℕ → Option ℕ} (other_table : ℕ → Option ℕ) → ((v : ℕ) → IsTrue (subgame v) → ¬ IsTrue (open_part v) →
     other_win v ≡ win v) → ((v : ℕ) → IsTrue (subgame v) → ¬ IsTrue (open_part v) → other_table v ≡ table v) →
@@ -42,10 +42,10 @@ Progress-same {win} other_win other_table same_win same_move progress = record {
       (λ v inside owns. search rules) (progress.held player set is_player (search rules));
 }
 
--- ## A step
+-- ## One step
 
--- a part that a player holds within the open part is decided, if none of the player's vertices that stay open leads
--- into it
+-- a part that a player holds within the open part is decided, if no open vertex of the player has an edge into this
+-- part
 pub Progress-taken : {game : ParityGame} {subgame open_part part left : ℕ → Bool} {win : ℕ → ℕ} {table : ℕ → Option ℕ}
     {player : ℕ} → IsGame game → player < 2 → IsWithout open_part part left → IsWithin part open_part →
     ((v : ℕ) → IsTrue (part v) → win v ≡ player) → ((v w : ℕ) → IsTrue (left v) → owner_of game v ≡ player →
@@ -79,7 +79,7 @@ Progress-taken {game} {subgame} {open_part} {part} {left} {win} {table} {player}
 
 -- ## Turns
 
--- what the other player wins of the rest of a turn, it holds within the open part
+-- the other player holds, within the open part, the vertices that it wins in the rest of a turn
 pub lost_held : {game : ParityGame} {open_part rest lost : ℕ → Bool} {win : ℕ → ℕ} {table : ℕ → Option ℕ}
     {player other : ℕ} → IsGame game → player < 2 → other < 2 → other ≢ player →
     IsTurned game open_part rest player win table → IsWon rest nothing win other lost → Solved game rest win table →
@@ -88,7 +88,7 @@ lost_held {game} {open_part} {rest} {lost} {player} {other} is_game is_player is
     HoldsWithin-larger open_part {player = other} turned.left.within
     (λ v w inside others leads. search (rules, in_part_or_rest)) (solved.held other lost is_other is_won)
 
--- the attractor of the other player to what it holds goes to it
+-- the attractor of the other player to vertices that it holds is decided for the other player
 pub Progress-attracted : {game : ParityGame} {subgame open_part target set left : ℕ → Bool} {win : ℕ → ℕ}
     {table : ℕ → Option ℕ} {player : ℕ} {rank : ℕ → ℕ} → IsGame game → player < 2 →
     IsAttracted game open_part player target set table rank → IsWithin set open_part → IsWithout open_part set left →
@@ -98,7 +98,7 @@ Progress-attracted {game} {subgame} {open_part} {set} {left} {win} {table} {play
     without given holds progress = Progress-taken is_game is_player without within given
     (λ v w still owns edge there. search rules) (search (rules, HoldsWithin-attracted)) progress
 
--- what an attractor leaves is a subgame
+-- the vertices outside an attractor form a subgame
 pub IsSubgame-left : {game : ParityGame} {subgame target set left : ℕ → Bool} {table : ℕ → Option ℕ} {player : ℕ}
     {rank : ℕ → ℕ} → IsSubgame game subgame → IsAttracted game subgame player target set table rank →
     IsWithout subgame set left → IsSubgame game left
@@ -111,14 +111,14 @@ IsSubgame-left {game} {subgame} {set} is_subgame attracted without = record {
 
 -- ## Sets
 
--- what a player wins of a set
+-- the vertices of a set that a player wins
 abbrev pub won_by : (ℕ → Bool) → (ℕ → ℕ) → ℕ → ℕ → Bool
 won_by set win player v = set v && (win v == player)
 
 pub IsWon-won_by : (set : ℕ → Bool) (win : ℕ → ℕ) (player : ℕ) → IsWon set nothing win player (won_by set win player)
 IsWon-won_by set win player = search (rules, and_parts, false≢true, eqb-true, and_from, eq-eqb)
 
--- what a set has and another one has not
+-- the vertices of one set that are not in another set
 abbrev pub without : (ℕ → Bool) → (ℕ → Bool) → ℕ → Bool
 without whole part v = whole v && not (part v)
 

@@ -9,13 +9,13 @@ use Rattle.ps_game.specs.Regions.{has, move_at}
 abbrev pub others : List Bool → ℕ → Bool
 others region v = not (has region v)
 
--- only vertices of a set that the player owns have a move
+-- the strategy has moves only at vertices of the set that the player owns
 pub record MovesWithin (game : ParityGame) (player : ℕ) (set : ℕ → Bool) (strategy : List (Option ℕ)) : Type 0 where
   pub within : (v : ℕ) → IsSome (move_at strategy v) → IsTrue (set v)
   pub owns : (v : ℕ) → IsSome (move_at strategy v) → owner_of game v ≡ player
 
--- player 0 holds the region by the first strategy, player 1 all other vertices by the second; each strategy has moves
--- only there
+-- player 0 holds the region by the first strategy, player 1 holds all other vertices by the second, and each strategy
+-- has moves only at vertices that its player owns and holds
 pub record IsAnswer (game : ParityGame) (region : List Bool) (first second : List (Option ℕ)) : Type 0 where
   pub region_places : length region ≡ vertex_count game
   pub first_places : length first ≡ vertex_count game
@@ -25,18 +25,18 @@ pub record IsAnswer (game : ParityGame) (region : List Bool) (first second : Lis
   pub first_moves : MovesWithin game 0 (has region) first
   pub second_moves : MovesWithin game 1 (others region) second
 
--- of the vertices before n the region has exactly those that player 0 wins
+-- of the vertices less than n, the region has exactly those that player 0 wins
 pub record IsRegionTo (winner : List ℕ) (n : ℕ) (region : List Bool) : Type 0 where
   pub won : (v : ℕ) → v < n → IsTrue (has region v) → slice_index winner v ≡ 0
   pub all : (v : ℕ) → v < n → slice_index winner v ≡ 0 → IsTrue (has region v)
   pub later : (v : ℕ) → n ≤ v → has region v ≡ false
 
--- the player wins the vertex and owns it
+-- the player wins and owns the vertex v
 pub record MovesAt (game : ParityGame) (winner : List ℕ) (player v : ℕ) : Type 0 where
   pub wins : slice_index winner v ≡ player
   pub owns : owner_of game v ≡ player
 
--- of the vertices before n exactly those that the player wins and owns have a move
+-- of the vertices less than n, exactly those that the player wins and owns have a move
 pub record AreMovesTo (game : ParityGame) (moves winner : List ℕ) (player n : ℕ) (strategy : List (Option ℕ)) : Type 0
   where
     pub given : (v : ℕ) → v < n → MovesAt game winner player v → move_at strategy v ≡ Some (slice_index moves v)

@@ -1,24 +1,24 @@
--- How many priorities a set has, and what the winner of the greatest one attracts.
+-- The number of distinct priorities of a set, and sets that are closed for the winner of the greatest priority.
 use Rattle.std.specs.Prelude.{◌≡◌, ◌↔◌, ℕ, ◌%◌, ◌<◌, ◌≤◌, List, length, Bool, IsTrue, nat_lt}
 use Rattle.std.specs.List.{Contains}
 use Rattle.ps_game.specs.Games.{ParityGame, vertex_count, priority_of}
 use Rattle.ps_game.specs.Attractors.{IsClosed}
 
--- all vertices
+-- the set of all vertices
 abbrev pub is_vertex : ParityGame → ℕ → Bool
 is_vertex game v = nat_lt v (vertex_count game)
 
--- each list that contains all priorities of the set has at least this length
+-- the set has at least `least` distinct priorities: each list that contains its priorities has at least this length
 pub record HasPriorities (game : ParityGame) (set : ℕ → Bool) (least : ℕ) : Type 0 where
   pub many : (list : List ℕ) → ((v : ℕ) → IsTrue (set v) → Contains list (priority_of game v)) → least ≤ length list
 
--- the greatest priority of the game
+-- `greatest` is the greatest priority of the game
 pub record IsGreatest (game : ParityGame) (greatest : ℕ) : Type 0 where
   pub bounds : (v : ℕ) → v < vertex_count game → priority_of game v ≤ greatest
   pub stands : (v : ℕ) × (v < vertex_count game) × (priority_of game v ≡ greatest)
 
--- the set is closed for the player who wins the greatest priority, and contains all vertices of that priority, as the
--- attractor does
+-- the set is closed for the player who wins the greatest priority, and contains all vertices of this priority; the
+-- attractor to these vertices is the least such set
 pub record IsClosedToTops (game : ParityGame) (set : ℕ → Bool) : Type 0 where
   pub greatest : ℕ
   pub is_greatest : IsGreatest game greatest
@@ -26,8 +26,8 @@ pub record IsClosedToTops (game : ParityGame) (set : ℕ → Bool) : Type 0 wher
   pub is_target : (v : ℕ) → v < vertex_count game → IsTrue (target v) ↔ (priority_of game v ≡ greatest)
   pub closed : IsClosed game (is_vertex game) (greatest % 2) target set
 
--- the greatest number of calls that wait at one time: at most the number of priorities, at least one if there is a
--- vertex, and at least two if such a set leaves a vertex out
+-- the maximal number of pending calls: at most the number of distinct priorities, at least 1 if there is a vertex, and
+-- at least 2 if a set that satisfies `IsClosedToTops` leaves a vertex out
 pub record IsDepth (game : ParityGame) (depth : ℕ) : Type 0 where
   pub most : HasPriorities game (is_vertex game) depth
   pub some : (v : ℕ) → v < vertex_count game → 1 ≤ depth

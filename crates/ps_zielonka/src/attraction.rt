@@ -1,4 +1,4 @@
-//! What a player attracts to itself.
+//! The attraction of a player to vertices of the trail.
 
 ghost use Rattle.std.specs.Prelude.{◌≡◌, ◌<◌};
 ghost use Rattle.ps_zielonka.specs.Inner.Levels.{mark_of, aim_of};
@@ -7,19 +7,19 @@ use crate::level::Level;
 use ps_attractor::Aim;
 use ps_game::Player;
 
-/// What a player attracts to: the vertices of the trail from a place on.
+/// An attraction of a player to the vertices of the trail from an index on.
 #[derive(Drop)]
 pub struct Attraction {
     /// The player.
     pub player: Player,
-    /// Where the vertices begin in the trail.
+    /// The index at which the target begins in the trail.
     pub begin: usize,
-    /// The level that a vertex gets when it is placed.
+    /// The level of a vertex after it is placed.
     pub level: Level,
 }
 
 impl Attraction {
-    /// The aim for the tables: the vertices that are not placed are free.
+    /// The aim for the tables. The free vertices are those that are not placed.
     pub fn aim(&self) -> Aim
         requires { mark_of self.now.level < mark_of Level.Unplaced }
         ensures { result ≡ aim_of self.now }

@@ -1,4 +1,5 @@
-//! What is decided about each vertex, and the steps on it: attract, keep, take back.
+//! The board records what is decided about each vertex. The steps on the board attract vertices, keep them or take them
+//! back.
 
 ghost use Rattle.std.specs.Prelude.{◌≡◌, ◌≢◌, ◌+◌, ◌-◌, ◌<◌, ◌≤◌, ℕ, Bool, false, IfSome, IfNone, OnOk, IsTrue, length};
 ghost use Rattle.std.specs.Prelude.{take, slice_index, replicate, IfOk, []};
@@ -18,14 +19,14 @@ use ps_attractor::{Sources, Tables};
 use ps_game::{Arena, Numbers, Player, Width};
 use std::alloc::{AllocError, Global};
 
-/// What is decided about each vertex.
+/// The level, the move and the winner of each vertex.
 #[derive(Drop)]
 pub struct Board<W: Width> {
-    /// The level of each vertex, its move, and the vertices that were placed.
+    /// The level of each vertex, its move, and the trail of the vertices that were placed.
     pub tables: Tables<W>,
-    /// Who wins each vertex that was placed.
+    /// The winner of each vertex that was placed.
     pub winner: Vec<Player>,
-    /// Vertices that are taken off the trail.
+    /// The vertices that were taken off the trail.
     pub spare: Numbers<W>,
 }
 
@@ -45,7 +46,8 @@ impl<W: Width> Board<W> {
         })
     }
 
-    /// Attracts to the vertices of the trail from a place on. All vertices that are then there are won by the player.
+    /// Extends the trail by the attractor of its vertices from index `begin` on. The player then wins all vertices of
+    /// the trail from index `begin` on. Fails if out of memory.
     pub fn attract<A: Arena>(
         &mut self,
         arena: &A,
@@ -75,7 +77,7 @@ impl<W: Width> Board<W> {
         Ok(())
     }
 
-    /// Makes the player win all vertices of the trail from a place on.
+    /// Makes the player the winner of all vertices of the trail from index `begin` on.
     fn give(&mut self, player: Player, begin: usize)
         requires begin { begin ≤ length self.old.tables.trail }
         requires winners { (j : ℕ) → j < length self.old.tables.trail →
@@ -89,8 +91,8 @@ impl<W: Width> Board<W> {
         }
     }
 
-    /// Whether the player keeps all that the opponent did not win, in particular each vertex of the greatest priority.
-    /// Writes the moves there.
+    /// Whether the player keeps each top, and so wins all vertices that the opponent did not win. Writes the moves at
+    /// the tops.
     pub fn is_kept<A: Arena>(&mut self, arena: &A, frame: &Frame, level: Level) -> bool
         requires game { IsGame (A.game arena.now) }
         requires fits { FitsGame (A.game arena.now) self.old.tables }
@@ -117,7 +119,7 @@ impl<W: Width> Board<W> {
         true
     }
 
-    /// Whether a vertex of the greatest priority stays with the player. Writes its move.
+    /// Whether the player keeps a top. If the player owns and keeps the top, the move at the top is written.
     fn keeps<A: Arena>(&mut self, arena: &A, player: Player, level: Level, vertex: usize) -> bool
         requires game { IsGame (A.game arena.now) }
         requires fits { FitsGame (A.game arena.now) self.old.tables }
@@ -146,7 +148,7 @@ impl<W: Width> Board<W> {
         }
     }
 
-    /// A successor of a vertex that is above a level and won by a player.
+    /// A successor that has a higher level than `level` and that the player wins, or `None` if the vertex has none.
     fn won_successor<A: Arena>(
         &self,
         arena: &A,
@@ -173,8 +175,8 @@ impl<W: Width> Board<W> {
         None
     }
 
-    /// Of the vertices of the trail from the turn on, keeps exactly those that the player did not win, and gives them
-    /// the level.
+    /// Takes back the vertices of the trail from index `turn` on. The vertices that the player won are no longer
+    /// placed. All other vertices are placed again, at the given level. Fails if out of memory.
     pub fn reopen(&mut self, frame: &Frame, level: Level) -> Result<(), AllocError>
         requires vertices { (j : ℕ) → j < length self.old.tables.trail →
             slice_index self.old.tables.trail j < length self.old.tables.level }
@@ -199,7 +201,7 @@ impl<W: Width> Board<W> {
         Ok(())
     }
 
-    /// Takes the vertices from a place on off the trail.
+    /// Moves the vertices from index `turn` on from the trail to `spare`. Fails if out of memory.
     fn take_off(&mut self, turn: usize) -> Result<(), AllocError>
         requires turn { turn ≤ length self.old.tables.trail }
         requires vertices { (j : ℕ) → j < length self.old.tables.trail →

@@ -1,16 +1,16 @@
-//! A call that waits.
+//! A pending call.
 
 use ps_game::Player;
 
-/// A call that waits for the part of its subgame that the attractor of its present turn leaves.
+/// A pending call. The next call solves the part of its subgame that is outside the attractor of its current turn.
 #[derive(Drop)]
 pub struct Frame {
-    /// How many vertices at the front of the order are closed for this call.
+    /// An index of the order; the call has no open vertex before it.
     pub cursor: usize,
-    /// Who wins the greatest priority of the open part.
+    /// The player who wins the greatest priority of the open part.
     pub player: Player,
-    /// Where the tops begin in the trail; those that were attracted follow them.
+    /// The index of the trail at which the tops begin. The attracted vertices follow the tops.
     pub turn: usize,
-    /// Where the tops end.
+    /// The index of the trail at which the tops end.
     pub top: usize,
 }

@@ -1,4 +1,4 @@
-//! What the calls know about a vertex.
+//! The state of a vertex in the calls.
 
 ghost use Rattle.std.specs.Prelude.{◌≡◌, ◌≤◌};
 ghost use Rattle.ps_zielonka.specs.Inner.Levels.{mark_of};
@@ -6,15 +6,15 @@ ghost use Rattle.ps_zielonka.specs.Inner.Levels.{mark_of};
 /// The mark of the vertices that are not placed.
 const UNPLACED: usize = usize::MAX;
 
-/// What the calls know about a vertex. The depth of a call is how many others wait for it.
+/// The state of a vertex in the calls. The depth of a call is the number of calls that are pending when it runs.
 #[derive(Clone, Copy)]
 pub enum Level {
-    /// Decided for good in a call.
+    /// Decided by a call, and final within this call.
     Decided {
         /// The depth of the call.
         depth: usize,
     },
-    /// Attracted in the present turn of a call.
+    /// Attracted in the current turn of a call.
     Attracted {
         /// The depth of the call.
         depth: usize,
@@ -24,7 +24,7 @@ pub enum Level {
 }
 
 impl Level {
-    /// The number by which the tables store the level.
+    /// The number that represents the level in the tables.
     pub fn mark(self) -> usize
         requires { mark_of self ≤ usize.MAX }
         ensures { result ≡ mark_of self }

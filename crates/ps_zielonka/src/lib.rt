@@ -1,24 +1,25 @@
-//! Which player wins from which vertices of a parity game, and by which moves.
+//! The vertices of a parity game from which each player wins, and the moves by which the player wins.
 //!
 //! This is the recursive algorithm of McNaughton and Zielonka, with a list of frames instead of recursion: no function
-//! calls itself. A call takes the greatest priority of its subgame. The player who wins it attracts to the tops, which
-//! are the vertices of that priority. In all calls but the first, the tops also include those of lower priorities, down
-//! to the first of the other parity. What is left is solved first. If the player then keeps each top, the player wins
-//! all that the opponent did not win in what was left. Otherwise the opponent attracts to what it won there, and the
-//! call continues with the rest.
+//! calls itself. A call starts from the greatest priority of its subgame. The player who wins the greatest priority
+//! attracts to the tops, which are the vertices of that priority. In all calls except the first, the tops also include
+//! vertices of lower priorities, down to the first priority of the other parity. The remaining vertices are solved
+//! first. If the player then keeps each top, the player wins all vertices that the opponent did not win in the
+//! remaining part. Otherwise the opponent attracts to the vertices that it won in the remaining part, and the call
+//! continues with the rest.
 //!
 //! | Call | What it gives |
 //! |---|---|
-//! | `regions` | on every game: player 0 holds the region by the first strategy, player 1 all others by the second |
-//! | `regions_in` | the same, by tables with numbers of a stated width |
-//! | `regions_within` | what `regions` gives, or nothing if a budget of vertices to place is used up first |
+//! | `regions` | for every game: player 0 holds the region by the first strategy, player 1 the rest by the second |
+//! | `regions_in` | the same, computed in tables with numbers of a given width |
+//! | `regions_within` | the result of `regions`, or none if a budget of placements is used up first |
 //!
-//! A strategy has moves only at its player's own vertices that the player wins. `Counts` has the depth of nested calls.
-//! It is at most the number of different priorities, at least 1 if there is a vertex, and at least 2 if a vertex is left
-//! out.
+//! A strategy has moves only at vertices that its player owns and wins. `Counts` records the depth of nested calls. The
+//! depth is at most the number of distinct priorities, and at least 1 if there is a vertex. The depth is at least 2 if
+//! the attractor of the first turn leaves a vertex out.
 //!
-//! The number of calls can grow exponentially with the number of priorities. A turn takes time proportional to the
-//! edges that its attractor looks at. The memory is proportional to vertices and edges.
+//! The number of calls can grow exponentially with the number of priorities. The time of a turn is proportional to the
+//! number of edges that its attractor examines. The memory is proportional to the numbers of vertices and edges.
 #![tactic(auto)]
 
 mod answer;

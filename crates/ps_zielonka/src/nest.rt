@@ -1,4 +1,4 @@
-//! The calls that wait, one inside another, and the steps down into a subgame and back up.
+//! The nested pending calls, and the steps down into a subgame and back up.
 
 ghost use Rattle.std.specs.Prelude.{◌≡◌, ◌≢◌, ◌+◌, ◌-◌, ◌*◌, ◌<◌, ◌≤◌, ℕ, Bool, true, false, [], ◌∷◌, ◌++◌, IfOk, OnOk};
 ghost use Rattle.std.specs.Prelude.{IsTrue, None, length, slice_index};
@@ -20,27 +20,27 @@ use ps_attractor::{Sources, Tables};
 use ps_game::{Arena, Numbers, Player, Width};
 use std::alloc::{AllocError, Global};
 
-/// The calls that wait, what is decided, and where the search for the next turn is.
+/// The pending calls, the decisions so far, and the position of the search for the next turn.
 #[derive(Drop)]
 pub struct Nest<W: Width> {
-    /// What is decided about each vertex.
+    /// The decisions about each vertex.
     pub board: Board<W>,
     /// The vertices by descending priority.
     pub order: Numbers<W>,
-    /// The calls that wait.
+    /// The pending calls.
     pub frames: Vec<Frame>,
-    /// How many vertices at the front of the order are closed for the present call.
+    /// An index of the order; the current call has no open vertex before it.
     pub cursor: usize,
-    /// Whether the present call has an answer.
+    /// Whether the current call is solved.
     pub solved: bool,
-    /// The greatest number of calls that waited at one time.
+    /// The maximal number of pending calls so far.
     pub depth: usize,
-    /// How many vertices were placed, counted each time, or the greatest number of 64 bits if there were more.
+    /// The number of times that a vertex was placed, or the largest 64-bit number if there were more.
     pub work: u64,
 }
 
 impl<W: Width> Nest<W> {
-    /// No vertex is decided, and no call waits. Fails if out of memory.
+    /// No vertex is decided, and no call is pending. Fails if out of memory.
     pub fn new<A: Arena>(alloc: Global, arena: &A) -> Result<Nest<W>, AllocError>
         requires { HasRoom (A.game arena.now) W.LIMIT }
         ensures stack { IfOk result (IsStack (A.game arena.now)) }
@@ -57,7 +57,8 @@ impl<W: Width> Nest<W> {
         })
     }
 
-    /// Decides each vertex, unless a budget of vertices to place is used up first. Returns whether all are decided.
+    /// Decides each vertex, unless a budget of placements is used up first. Returns whether all vertices are decided.
+    /// Fails if out of memory.
     pub fn decide<A: Arena>(
         &mut self,
         alloc: Global,
@@ -76,7 +77,7 @@ impl<W: Width> Nest<W> {
         self.solve(arena, &sources, budget)
     }
 
-    /// The same, given the edges to each vertex.
+    /// Like `decide`, with the sources of each vertex given. Fails if out of memory.
     pub fn solve<A: Arena>(
         &mut self,
         arena: &A,
@@ -105,14 +106,14 @@ impl<W: Width> Nest<W> {
         Ok(true)
     }
 
-    /// Whether a budget is used up; without a budget it never is.
+    /// Whether the budget is used up, which is never the case if there is none.
     fn has_spent(&self, budget: Option<u64>) -> bool
         ensures { budget ≡ None → result ≡ false }
     {
         budget.is_some_and(|most| self.work >= most)
     }
 
-    /// Begins a turn if a vertex is left, and otherwise has the answer.
+    /// Begins a turn if an unplaced vertex remains; otherwise the current call is solved. Fails if out of memory.
     fn descend<A: Arena>(&mut self, arena: &A, sources: &Sources<W>) -> Result<(), AllocError>
         requires room { HasRoom (A.game arena.now) W.LIMIT }
         requires sources { IsSourcesOf (A.game arena.now) sources.now }
@@ -131,8 +132,10 @@ impl<W: Width> Nest<W> {
         }
     }
 
-    /// The player of the greatest priority, found at a place of the order, attracts to the vertices of that priority.
-    /// Except in the first call, it also attracts to those of lower ones, down to the first of the other parity.
+    /// Begins a turn at index `cursor` of the order, which has an unplaced vertex of the greatest priority. The player
+    /// who wins the greatest priority attracts to all vertices of that priority. Except in the first call, the player
+    /// also attracts to vertices of lower priorities, down to the first priority of the other parity. Fails if out of
+    /// memory.
     fn begin_turn<A: Arena>(
         &mut self,
         arena: &A,
@@ -182,7 +185,8 @@ impl<W: Width> Nest<W> {
         Ok(())
     }
 
-    /// Returns to the last call that waits: it has its answer, or continues with what is left open.
+    /// Returns to the last pending call, which is then solved or continues with its open vertices. Fails if out of
+    /// memory.
     fn climb<A: Arena>(&mut self, arena: &A, sources: &Sources<W>) -> Result<(), AllocError>
         requires room { HasRoom (A.game arena.now) W.LIMIT }
         requires sources { IsSourcesOf (A.game arena.now) sources.now }
@@ -205,7 +209,8 @@ impl<W: Width> Nest<W> {
         }
     }
 
-    /// Decides what the opponent won and attracts to, and searches what the call has left open.
+    /// Decides the vertices that the opponent won or attracts, and continues the call with the vertices that are still
+    /// open. Fails if out of memory.
     fn go_on<A: Arena>(
         &mut self,
         arena: &A,
@@ -240,7 +245,7 @@ impl<W: Width> Nest<W> {
     }
 }
 
-/// A number plus how many vertices are in the trail from a place on.
+/// `work` plus the number of vertices in the trail from index `turn` on, or the largest `u64` if the sum is larger.
 fn work_behind<W: Width>(work: u64, tables: &Tables<W>, turn: usize) -> u64 {
     let placed = tables.placed().saturating_sub(turn);
     work.saturating_add(placed as u64)

@@ -1,4 +1,4 @@
-//! The calls that solve a game.
+//! The functions that solve a game.
 
 ghost use Rattle.std.specs.Prelude.{◌≡◌, IfOk, IfSome, IfNone, OnOk, OnSome};
 ghost use Rattle.ps_attractor.specs.Room.{HasRoom};
@@ -13,10 +13,11 @@ use ps_attractor::{has_room, no_room};
 use ps_game::{Arena, Counts, Player, Region, Strategy, Width};
 use std::alloc::{AllocError, Global};
 
-/// Which vertices player 0 wins, the moves by which it does, and those by which player 1 wins the others.
+/// The vertices that player 0 wins, the moves by which player 0 wins them, and the moves by which player 1 wins all
+/// others.
 ///
-/// Fails if out of memory, always so if tables for 2^63 - 2 vertices or 2^64 edges are needed. There is no other fault:
-/// every game has two regions.
+/// Fails if out of memory. For 2^63 - 2 vertices or more, and for 2^64 edges or more, the call always fails as out of
+/// memory. There is no other fault, since each vertex of a game is won by one of the players.
 pub fn regions<A: Arena>(
     alloc: Global,
     arena: &A,
@@ -35,7 +36,7 @@ pub fn regions<A: Arena>(
     }
 }
 
-/// The same, worked out in tables with numbers of a stated width. Fails if out of memory.
+/// Like `regions`, computed in tables with numbers of the width `W`. Fails if out of memory.
 pub fn regions_in<A: Arena, W: Width>(
     alloc: Global,
     arena: &A,
@@ -50,9 +51,9 @@ pub fn regions_in<A: Arena, W: Width>(
     answer_by(alloc, arena, counts, &nest)
 }
 
-/// The same as `regions`, or nothing if the budget was used up first: as many vertices as it says, or more, were placed
-/// before each was decided. How many are placed is left open: a vertex is placed again each time after it was taken
-/// back.
+/// The result of `regions`, or `None` if a budget is used up first. The budget is used up when vertices were placed
+/// `budget` times or more before all vertices were decided. No clause states how often vertices are placed: a vertex is
+/// placed again each time after it was taken back.
 ///
 /// Fails if out of memory, like `regions`.
 pub fn regions_within<A: Arena>(
@@ -75,7 +76,7 @@ pub fn regions_within<A: Arena>(
     }
 }
 
-/// The same, worked out in tables with numbers of a stated width.
+/// Like `regions_within`, computed in tables with numbers of the width `W`. Fails if out of memory.
 fn answer_within<A: Arena, W: Width>(
     alloc: Global,
     arena: &A,
@@ -96,7 +97,7 @@ fn answer_within<A: Arena, W: Width>(
     Ok(Some(answer))
 }
 
-/// A nest of calls in which each vertex is decided.
+/// A nest in which each vertex is decided. Fails if out of memory.
 fn solved_nest<A: Arena, W: Width>(alloc: Global, arena: &A) -> Result<Nest<W>, AllocError>
     requires { HasRoom (A.game arena.now) W.LIMIT }
     ensures solved { IfOk result (λ nest. IsSolvedBy (A.game arena.now) nest.board.tables nest.board.winner.items) }
@@ -107,7 +108,7 @@ fn solved_nest<A: Arena, W: Width>(alloc: Global, arena: &A) -> Result<Nest<W>, 
     Ok(nest)
 }
 
-/// The answer of a nest, with its depth in the counts.
+/// The result of a solved nest, whose depth is written to the counts. Fails if out of memory.
 fn answer_by<A: Arena, W: Width>(
     alloc: Global,
     arena: &A,
@@ -124,7 +125,7 @@ fn answer_by<A: Arena, W: Width>(
     answer_of(alloc, arena, &nest.board)
 }
 
-/// The vertices that player 0 wins, and the moves of both players, as they are decided.
+/// The region and the two strategies of a board on which each vertex is decided. Fails if out of memory.
 fn answer_of<A: Arena, W: Width>(
     alloc: Global,
     arena: &A,

@@ -3,17 +3,17 @@ use Rattle.std.specs.Prelude.{◌≡◌, ℕ, ◌<◌, List, [], ◌∷◌, leng
 use Rattle.ps_components.specs.Graphs.{Digraph, Link, IsWithin}
 use Rattle.ps_components.specs.declared.trail.Step.{Step}
 
--- each step but the first comes by a link from an earlier one
+-- each step except the first is reached by a link from an earlier step
 abbrev pub ComeBack : Digraph → List Step → Type 0
 ComeBack g steps = (i : ℕ) (s : Step) → 0 < i → slice_get steps i ≡ Some s →
     (t : Step) × (s.from < i) × (slice_get steps s.from ≡ Some t) × Link g t.item s.item
 
--- two steps have different vertices
+-- different steps have different vertices
 abbrev pub AreApart : List Step → Type 0
 AreApart steps =
     (i j : ℕ) (s t : Step) → slice_get steps i ≡ Some s → slice_get steps j ≡ Some t → s.item ≡ t.item → i ≡ j
 
--- the vertices of the steps are those that were seen; the targets of those before a place were seen
+-- the vertices of the steps are those that were seen, and the targets of all steps before index `place` were seen
 pub record IsSpread (g : Digraph) (seen : List Bool) (steps : List Step) (place : ℕ) : Type 0 where
   pub within : IsWithin g
   pub counted : length seen ≡ g.count
@@ -25,15 +25,15 @@ pub record IsSpread (g : Digraph) (seen : List Bool) (steps : List Step) (place 
   pub looked : (i w : ℕ) (s : Step) → i < place → slice_get steps i ≡ Some s → Link g s.item w →
       slice_get seen w ≡ Some true
 
--- the steps stay, and others follow them
+-- the old steps are unchanged, and new steps follow them
 abbrev pub KeepsSteps : List Step → List Step → Type 0
 KeepsSteps old new = (i : ℕ) (s : Step) → slice_get old i ≡ Some s → slice_get new i ≡ Some s
 
--- what was seen stays seen
+-- each vertex that was seen stays seen
 abbrev pub KeepsSeen : List Bool → List Bool → Type 0
 KeepsSeen old new = (v : ℕ) → slice_get old v ≡ Some true → slice_get new v ≡ Some true
 
--- how many were not seen
+-- the number of vertices that were not seen
 abbrev pub unseen : List Bool → ℕ
 unseen [] = 0
 unseen (true ∷ bs) = unseen bs

@@ -1,9 +1,9 @@
--- Lawful parts, and how they are joined to larger ones.
---     Lawful number syntax part First More Null      the laws of the part with these sets of signs, and its outcome
---               from each list
---     Chain number syntax P Q First More Null      P and Q after it: their joint, and that they are lawful as one part
---     larger      with larger sets
---     chained, next, tight      a chain: of any two; neither is empty; the first continues with no sign
+-- Lawful parts, and how they are joined into larger parts.
+--     Lawful number syntax part First More Null      the laws of the part with these sets of signs, and its outcome for
+--               each list of signs
+--     Chain number syntax P Q First More Null      P and then Q: their joint, and that the two are lawful as one part
+--     larger      the same part with larger sets
+--     chained, next, tight      a chain of any two parts; neither part is empty; no sign continues the first part
 --     given, mapped_by, either_of, or_nothing, many_by, many_of, one_sign, run_by      for the other combinators
 --     byte_of, word_of, word_from, chain_word      bytes and words
 use Rattle.std.proofs.Common.{◌≡◌, ◌⊎◌, ℕ, Bool, true, List, [], ◌∷◌, Option, Some, rules}
@@ -75,7 +75,7 @@ module _ {C : Type 0} {number : C → ℕ} {syntax : C} where
       Lawful number syntax (mapped h P) F M N
   mapped_by h {P} p = record { laws = laws_mapped h P p.laws; has = has_mapped (byte_causes number syntax) h P p.has }
 
-  -- the first one is not empty
+  -- the first of the two forms is never empty
   pub either_of : {V : Type 0} {P Q : Part Seen V C} {F M G L First More : Seen → Type 0} {N : Type 0} →
       Lawful number syntax P F M ⊥ →
       Lawful number syntax Q G L N → Apart F G → Within F First → Within G First → Within M More → Within L More →
@@ -107,7 +107,7 @@ module _ {C : Type 0} {number : C → ℕ} {syntax : C} where
   many_of item l a =
       larger (many_by item l (λ t x y. x) a) (λ t h. h) (or_in (λ t h. absurd h) (λ t h. h)) (λ n. n)
 
-  -- s is any sign that is allowed there
+  -- the part has a text, because `take` accepts the sign s
   pub one_sign : {V : Type 0} (take : Seen → Option V) (Bad : Seen → C → Type 0) {First : Seen → Type 0} (s : Seen)
       {v : V} → take s ≡ Some v → ((t : Seen) → Judged number (Bad t)) → Within (Taken take) First →
       Within (BadSign Bad) First → Lawful number syntax (one take Bad) First Nothing ⊥
@@ -117,7 +117,7 @@ module _ {C : Type 0} {number : C → ℕ} {syntax : C} where
     has = has_one (byte_causes number syntax) take Bad s v e judge;
   }
 
-  -- b is any byte that passes
+  -- a run exists, because the byte b passes p
   pub run_by : {V : Type 0} (p : ℕ → Bool) (see : ℕ → List ℕ → V) (Bad : List ℕ → C → Type 0) (b : ℕ) → p b ≡ true →
       ((bytes : List ℕ) → Judged number (Bad bytes)) →
       Lawful number syntax (run p see Bad) (λ s. p s.byte ≡ true) (λ s. p s.byte ≡ true) ⊥

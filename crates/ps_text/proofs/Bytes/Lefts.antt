@@ -1,9 +1,9 @@
--- The exits of a reading function, from what is left of the part that it reads.
---     Left number syntax whole start left now      reading left from now gives what reading whole from start gives
---     unread, past      before the first part, and after the next one, which was read
---     stops_at, exits_at      the next part fails; and this error is returned
---     stops_last, exits_last, reads_last      at a last part, seen by another function
---     branch      one of several forms is there
+-- The exits of a parsing function, stated for the remainder of the part that it parses.
+--     Left number syntax whole start left now      a result of `left` from `now` is a result of `whole` from `start`
+--     unread, past      before the first part, and after the next part was parsed
+--     stops_at, exits_at      the next part fails; its error is returned
+--     stops_last, exits_last, reads_last      the same at the last part, with a function applied to its value
+--     branch      one of several forms follows
 --     word_left, word_read      a word, byte by byte
 use Rattle.std.proofs.Common.{◌≡◌, ℕ, ◌+◌, ◌<◌, ◌≤◌, List, ◌∷◌, length, get_or, drop, Option, Result, Ok, Err, IsErrAnd}
 use Rattle.std.proofs.Common.{sym, subst, rules}

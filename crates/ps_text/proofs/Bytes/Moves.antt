@@ -1,4 +1,4 @@
--- What the moves of a cursor say of the signs that are still to come.
+-- How the moves of a cursor change the unread signs.
 use Rattle.std.proofs.Common.{◌≡◌, ℕ, suc, ◌+◌, ◌-◌, ◌^◌, ◌<◌, ◌≤◌, Bool, true, false, eqb, List, [], ◌∷◌, ◌++◌, length}
 use Rattle.std.proofs.Common.{take, drop, get_or, refl, sym, ap, ap₂, ◌∙◌, append_assoc, arith, length-append, rules}
 use Rattle.std.specs.List.{prefix_len}
@@ -33,7 +33,7 @@ place_is [] false = omega arith
 place_is (b ∷ rest) true = refl
 place_is (b ∷ rest) false = refl
 
--- something is left
+-- as long as bytes remain, signs remain
 pub left_some : (at : ℕ) (rest : List ℕ) (u : Bool) → eqb (length rest) 0 ≡ false →
     eqb (length (pieces_at at (ended u rest))) 0 ≡ false
 left_some at [] u e = absurd cc
@@ -74,7 +74,7 @@ passes_run {p} line at {n} rest {run} {behind} u size taken left each =
 pub same_place : {p : ℕ → Bool} {old new : Stream Seen} {r : List ℕ} → Passes p old new r → r ≡ [] → new ≡ old
 same_place {p} {old} {new} x e = search rules
 
--- no byte of the class comes next
+-- if the cursor passes an empty run, the next byte is not of the class
 pub avoids_run : {p : ℕ → Bool} {old new : Stream Seen} → Passes p old new [] →
     Avoids (λ (s : Seen). p s.byte ≡ true) (next_of old)
 avoids_run {p} x t n h = search (rules, none_is_some, same_some)

@@ -1,8 +1,8 @@
--- The pieces of bytes.
---     bytes_append, bytes_at, length_pieces      the bytes of signs, and how many pieces there are
---     pieces_with at bytes rest      the pieces of bytes that are followed by rest
---     pieces_split      the pieces of bytes, and then those of the rest
---     next_at, first_sees      what comes next, and what it sees
+-- The pieces of a list of bytes: one sign for each byte, with its offset.
+--     bytes_append, bytes_at, length_pieces      the bytes of signs, and the number of pieces
+--     pieces_with at bytes rest      the pieces of `bytes`, where `rest` follows these bytes
+--     pieces_split      the pieces of two lists of bytes in a row
+--     next_at, first_sees      the next byte, and the bytes that the first sign carries
 use Rattle.std.proofs.Common.{◌≡◌, ℕ, suc, ◌+◌, ◌<◌, List, [], ◌∷◌, ◌++◌, length, refl, ap, ◌∙◌, arith, rules}
 use Rattle.std.specs.Option.{option_map}
 use Rattle.ps_text.specs.Answers.{Piece, Stream, signs, first_of}
@@ -45,7 +45,7 @@ pub length_with : (at : ℕ) (bytes rest : List ℕ) → 0 < length bytes → 0 
 length_with at [] rest h = absurd (omega arith)
 length_with at (b ∷ bytes) rest h = omega arith
 
--- the byte that comes next
+-- the next byte of a stream is the first of its bytes
 pub next_at : (s : Stream Seen) (at : ℕ) (bytes : List ℕ) → s.pieces ≡ pieces_at at bytes → next_byte s ≡ first_of bytes
 next_at s at bytes e = ap (λ ps. option_map (λ (t : Seen). t.byte) (first_of (signs ps))) e ∙ go bytes
   where
@@ -54,7 +54,7 @@ next_at s at bytes e = ap (λ ps. option_map (λ (t : Seen). t.byte) (first_of (
     go [] = refl
     go (b ∷ bytes) = refl
 
--- the first sign sees the bytes
+-- the first sign carries the bytes that follow it
 pub first_sees : (at : ℕ) (bytes : List ℕ) (t : Seen) (rest : List Seen) → signs (pieces_at at bytes) ≡ t ∷ rest →
     bytes ≡ t.byte ∷ t.behind
 first_sees at [] t rest e = absurd (nil_is_cons t rest e)

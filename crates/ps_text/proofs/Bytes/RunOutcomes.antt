@@ -1,6 +1,6 @@
--- A run of bytes has an outcome from each list of signs: what its first sign sees judges it.
---     has_run      the outcome, if the run's bytes can be judged
---     run_of      the longest run with which a list begins
+-- A run of bytes has an outcome for each list of signs, which is decided from the bytes that its first sign carries.
+--     has_run      the outcome, if the errors of a run can be decided
+--     run_of      the longest run at the start of a list
 use Rattle.std.proofs.Common.{◌≡◌, ℕ, Bool, true, false, List, [], ◌∷◌, ◌++◌, Some, refl, rules, sym, ap, subst, arith}
 use Rattle.std.specs.List.{AllByRecursion}
 use Rattle.ps_text.specs.Answers.{first_of}
@@ -13,7 +13,7 @@ use Rattle.ps_text.proofs.Simple.{none_is_some, same_some}
 use Rattle.ps_text.proofs.Splits.{same_head}
 use Rattle.ps_text.proofs.Bytes.Runs.{laws_run, bad_is, run_read}
 
--- the longest beginning whose items pass
+-- the longest prefix of a list in which all items pass the test
 pub record Spanned {X : Type 0} (q : X → Bool) (xs : List X) : Type 0 where
   pub text : List X
   pub rest : List X
@@ -46,7 +46,7 @@ stops_bytes p bytes h = search rules
 
 module _ {V C : Type 0} (number : C → ℕ) (syntax : C) (p : ℕ → Bool) (see : ℕ → List ℕ → V)
     (Bad : List ℕ → C → Type 0) where
-  -- a byte that passes comes first
+  -- the case in which the first byte passes the test
   module _ (t : Seen) (after : List Seen) (passes : p t.byte ≡ true) where
     abbrev seen : Spanned p t.behind
     seen = run_of t.behind
@@ -75,7 +75,7 @@ module _ {V C : Type 0} (number : C → ℕ) (syntax : C) (p : ℕ → Bool) (se
     })
     judged (good right) = run_there right
 
-  -- b is any byte that passes
+  -- a run exists, because the byte b passes p
   pub has_run : (b : ℕ) → p b ≡ true → ((bytes : List ℕ) → Judged number (Bad bytes)) →
       HasOutcomes (byte_causes number syntax) (run p see Bad)
   has_run b e judge = record { outcome = go }

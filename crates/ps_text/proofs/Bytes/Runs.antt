@@ -1,8 +1,9 @@
--- Runs of bytes as parts of a text: their laws, and how they are read and fail.
---     laws_run      a run begins and continues with the bytes that pass
---     bad_is      what is wrong with the run that comes is the run's
---     run_read      a list of signs that is one run is read
---     run_reads, run_bad, run_stops      the reader moved past a run: it is read, unless it is wrong; or there is none
+-- Runs of bytes as parts of a text: their laws, and how they are parsed and how they fail.
+--     laws_run      a run begins and continues with bytes that pass
+--     bad_is      an error of the next run, found at its first sign, is an error of the run that was parsed
+--     run_read      a list of signs that is one run is parsed
+--     run_reads, run_bad, run_stops      the parser moved past a run that has no error; the run has an error; there is
+--               no run
 use Rattle.std.proofs.Common.{◌≡◌, ℕ, ◌<◌, ◌≤◌, Bool, true, false, List, [], ◌∷◌, ◌++◌, length, Option, None, Some}
 use Rattle.std.proofs.Common.{refl, sym, ap, ap₂, subst, ◌∙◌, arith, rules}
 use Rattle.ps_text.specs.Answers.{Begins, Stream, signs, first_of}
@@ -39,11 +40,11 @@ module _ {V C : Type 0} (p : ℕ → Bool) (see : ℕ → List ℕ → V) (Bad :
   pub laws_run : (b : ℕ) → p b ≡ true → Laws (Odd C) (run p see Bad) AtRun AtRun ⊥
   laws_run b e = search (rules, run_begins, head_passes, all_right, bytes_append, none_is_some)
 
-  -- what is wrong with the run that comes is the run's
+  -- an error found at the first sign of a run is an error of that run
   pub bad_is : {t : Seen} {r : List ℕ} {f : C} → BeginsRun p r (t.byte ∷ t.behind) → IsBadRun p Bad t f → Bad r f
   bad_is {t} {r} {f} x b = search (rules, same_run)
 
-  -- a run that is not wrong, and after which no byte passes
+  -- a run that has no error is parsed, if the byte after it does not pass the test
   pub run_read : (text rest : List Seen) → 0 < length text → AllOf p (bytes_of text) →
       ((c : Seen) → first_of rest ≡ Some c → p c.byte ≡ false) →
       ((t : Seen) (more : List Seen) (f : C) → text ++ rest ≡ t ∷ more → IsBadRun p Bad t f → ⊥) →

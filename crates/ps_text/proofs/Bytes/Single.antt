@@ -1,10 +1,10 @@
--- Single bytes as parts of a text: their laws and outcomes, how they are read, and how they fail.
---     Odd      no sign is a cause by itself
---     At b, Any      that byte; any sign
---     stops_here      no sign comes with which the part begins
---     byte_reads, byte_stops      the next byte is that one, or it is not
---     avoids, enters_byte      a part that begins with that byte
---     refuted      what a test denies
+-- Single bytes as parts of a text: their laws and outcomes, how they are parsed, and how they fail.
+--     Odd      no sign is an error by itself
+--     At b, Any      the signs with the byte b; all signs
+--     stops_here      the next sign does not begin the part
+--     byte_reads, byte_stops      the next byte is the expected byte, or it is not
+--     avoids, enters_byte      a part that begins with the given byte
+--     refuted      if a test fails, a statement that implies the test is false
 use Rattle.std.proofs.Common.{◌≡◌, ℕ, Bool, true, false, cond, [], Option, Some, None, refl, sym, ap, subst, ◌∙◌, rules}
 use Rattle.std.specs.Option.{option_map}
 use Rattle.std.proofs.lemmas.Bool.{eq-eqb, eqb-true}
@@ -39,7 +39,7 @@ At b s = s.byte ≡ b
 abbrev pub Any : Seen → Type 0
 Any s = Unit {0}
 
--- a sign of that byte
+-- a sign with the byte b
 abbrev pub seen : ℕ → Seen
 seen b = record { byte = b; at = 0; behind = [] }
 
@@ -52,7 +52,7 @@ taken_byte {b} s {u} e = search (rules, eqb-true)
 pub next_is : {b : ℕ} (o : Option Seen) → option_map (λ s. s.byte) o ≡ Some b → (t : Seen) × (o ≡ Some t) × (t.byte ≡ b)
 next_is o h = search (rules, none_is_some, same_some)
 
--- ## Where a part begins, and where none does
+-- ## Where a part begins, and where it does not
 
 pub avoids : (b : ℕ) (old : Stream Seen) → (next_byte old ≡ Some b → ⊥) → Avoids (At b) (next_of old)
 avoids b old none t n h = none (ap (option_map (λ (s : Seen). s.byte)) n ∙ ap Some h)

@@ -1,16 +1,16 @@
--- How deep calls were nested so far, while a game is solved.
+-- The maximal depth of nested calls so far, while a game is being solved.
 use Rattle.std.specs.Prelude.{◌≡◌, ℕ, ◌<◌, ◌≤◌, ◌⊎◌, List, Bool, false, IsTrue, slice_index}
 use Rattle.ps_game.specs.Games.{ParityGame, vertex_count}
 use Rattle.ps_zielonka.specs.declared.level.TheConstants.{UNPLACED}
 use Rattle.ps_zielonka.specs.Depths.{is_vertex, HasPriorities, IsClosedToTops}
 
--- nothing has begun yet
+-- no turn has begun
 pub record IsFresh (game : ParityGame) (levels : List ℕ) (calls : ℕ) (solved : Bool) : Type 0 where
   pub none : calls ≡ 0
   pub unsolved : solved ≡ false
   pub unplaced : (v : ℕ) → v < vertex_count game → slice_index levels v ≡ UNPLACED
 
--- only the first call waits, and a vertex is left to the next one
+-- only the first call is pending, and the vertex v is left to the second call
 pub record IsSecondCall (levels : List ℕ) (calls : ℕ) (solved : Bool) (v : ℕ) : Type 0 where
   pub one : calls ≡ 1
   pub unsolved : solved ≡ false

@@ -1,5 +1,6 @@
--- The number by which the tables store a level. It rises with the depth of the call; in one call, what is decided has
--- the smaller number. A vertex that is not placed has the greatest of all.
+-- The mark of a level, which is the number that represents it in the tables. Marks increase with the depth of the call.
+-- In one call, the mark of decided vertices is less than that of attracted vertices. Unplaced vertices have the
+-- largest mark.
 use Rattle.std.specs.Prelude.{ℕ, ◌+◌, ◌*◌}
 use Rattle.ps_attractor.specs.declared.aim.Aim.{Aim}
 use Rattle.ps_zielonka.specs.declared.attraction.Attraction.{Attraction}
@@ -12,7 +13,7 @@ mark_of (Decided depth) = 2 * depth + 1
 mark_of (Attracted depth) = 2 * depth + 2
 mark_of Unplaced = UNPLACED
 
--- the aim of a player who attracts: the vertices that are not placed are free
+-- the aim of an attraction, for which the unplaced vertices are free
 abbrev pub aim_of : Attraction → Aim
 aim_of attraction = record {
   player = attraction.player;

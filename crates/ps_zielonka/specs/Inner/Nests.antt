@@ -1,7 +1,7 @@
--- The waiting calls of the solver, expressed by one number for each vertex, the mark of its level (`mark_of`). A call
--- of depth k, counted from 0, is about the vertices of mark 2k + 1 or more. Those of mark 2k + 1 are decided in it;
--- those of mark 2k + 2 were attracted in its present turn; the others are left to the next call. Vertices that are not
--- placed have the greatest mark of all.
+-- The pending calls of the solver, expressed by one number for each vertex: the mark of its level (`mark_of`). A call
+-- of depth k, counted from 0, solves the vertices with a mark of 2k + 1 or more. In a call of depth k, the vertices
+-- with the mark 2k + 1 are decided, and those with the mark 2k + 2 were attracted in the current turn. All other
+-- vertices of the call are left to the next call. Unplaced vertices have the largest mark.
 use Rattle.std.specs.Prelude.{◌≡◌, ◌≢◌, ℕ, zero, suc, ◌+◌, ◌*◌, ◌%◌, ◌^◌, ◌<◌, ◌≤◌, ◌⊎◌, Bool, true, false, IsTrue}
 use Rattle.std.specs.Prelude.{cond}
 use Rattle.std.specs.Prelude.{List, [], ◌∷◌, length, slice_index, slice_index_or, nat_le}
@@ -15,45 +15,45 @@ use Rattle.ps_zielonka.specs.declared.level.TheConstants.{UNPLACED}
 use Rattle.ps_zielonka.specs.declared.frame.Frame.{Frame}
 use Rattle.ps_zielonka.specs.Inner.Turns.{Progress, Solved, IsTurned}
 
--- the vertices of a level or a higher one
+-- the vertices of level c or higher
 unfoldable pub from : List ℕ → ℕ → ℕ → Bool
 from levels c v = nat_le c (slice_index levels v)
 
--- how many they are
+-- the number of vertices of level c or higher
 abbrev pub size_from : ℕ → List ℕ → ℕ
 size_from c [] = 0
 size_from c (level ∷ levels) = cond (nat_le c level) 1 0 + size_from c levels
 
--- who wins a vertex, by a list
+-- the winner of a vertex, from a list
 abbrev pub winner_of : List ℕ → ℕ → ℕ
 winner_of winner v = slice_index winner v
 
--- the vertices of a game by descending priority
+-- the list has the vertices of a game by descending priority
 pub record IsOrder (game : ParityGame) (order : List ℕ) : Type 0 where
   pub vertices : (j : ℕ) → j < length order → slice_index order j < vertex_count game
   pub all : (v : ℕ) → v < vertex_count game → (j : ℕ) × (j < length order) × (slice_index order j ≡ v)
   pub falls : (i j : ℕ) → i ≤ j → j < length order → priority_of game (slice_index order j) ≤ priority_of game
       (slice_index order i)
 
--- the first places of the order are below a level
+-- the vertices of the order before index `cursor` have levels less than c
 pub record IsCursor (order levels : List ℕ) (cursor c : ℕ) : Type 0 where
   pub within : cursor ≤ length order
   pub below : (j : ℕ) → j < cursor → slice_index levels (slice_index order j) < c
 
--- the placed vertices of a level or a higher one are exactly those in the trail from a place on
+-- the placed vertices of level c or higher are exactly those in the trail from index m on
 pub record IsSegment (tables : TablesData) (m c : ℕ) : Type 0 where
   pub within : m ≤ length tables.trail
   pub above : (j : ℕ) → m ≤ j → j < length tables.trail → c ≤ level_of tables (slice_index tables.trail j)
   pub stands : (v : ℕ) → c ≤ level_of tables v → level_of tables v < UNPLACED → StandsFrom tables m v
 
--- the vertex is in the trail from a place up to another
+-- v is in the trail, from index `from` on and before index `to`
 pub record StandsBetween (tables : TablesData) (from to v : ℕ) : Type 0 where
   pub place : ℕ
   pub after : from ≤ place
   pub before : place < to
   pub is : slice_index tables.trail place ≡ v
 
--- a call of depth a / 2 waits for the next one
+-- a pending call of depth a / 2, which waits for the next call
 pub record Waits (game : ParityGame) (tables : TablesData) (winner order : List ℕ) (a : ℕ) (frame : Frame) : Type 0
   where
     pub alive : IsSubgame game (from tables.level (a + 2))
@@ -69,7 +69,7 @@ pub record Waits (game : ParityGame) (tables : TablesData) (winner order : List 
     pub only_tops : (v : ℕ) → StandsBetween tables frame.turn frame.top v → IsTrue (prepared.tops v)
     pub front : IsCursor order tables.level frame.cursor (a + 2)
 
--- a call of depth a / 2 looks for its next turn: what is left to it is not placed
+-- a call of depth a / 2 searches for its next turn: its open vertices are not placed
 pub record Searches (game : ParityGame) (tables : TablesData) (winner order : List ℕ) (a cursor : ℕ) : Type 0 where
   pub alive : IsSubgame game (from tables.level (a + 2))
   pub progress : Progress game (from tables.level (a + 1)) (from tables.level (a + 2)) (winner_of winner)
@@ -78,16 +78,16 @@ pub record Searches (game : ParityGame) (tables : TablesData) (winner order : Li
   pub unplaced : (v : ℕ) → a + 2 ≤ level_of tables v → level_of tables v ≡ UNPLACED
   pub front : IsCursor order tables.level cursor (a + 2)
 
--- a call of depth a / 2 has its answer, and each vertex is placed
+-- a call of depth a / 2 is solved, and each vertex is placed
 pub record HasAnswer (game : ParityGame) (tables : TablesData) (winner : List ℕ) (a : ℕ) : Type 0 where
   pub solved : Solved game (from tables.level (a + 1)) (winner_of winner) (moves_of tables)
   pub placed : (v : ℕ) → level_of tables v < UNPLACED
 
--- a call that waits, by its depth
+-- the frame of the pending call of depth i
 abbrev pub frame_at : List Frame → ℕ → Frame
 frame_at frames i = slice_index_or frames i (record { cursor = 0; player = 0; turn = 0; top = 0 })
 
--- what holds of a game at all times
+-- the facts about the board that always hold
 pub record IsSoundBoard (game : ParityGame) (tables : TablesData) (winner order : List ℕ) : Type 0 where
   pub is_game : IsGame game
   pub fits : FitsGame game tables
@@ -97,7 +97,7 @@ pub record IsSoundBoard (game : ParityGame) (tables : TablesData) (winner order 
   pub levels : (v : ℕ) → v < vertex_count game → 1 ≤ level_of tables v
   pub most : (v : ℕ) → level_of tables v ≤ UNPLACED
 
--- all calls but the present one wait, and the present one looks for its next turn or has its answer
+-- all calls except the current one are pending, and the current call searches for its next turn or is solved
 pub record IsNest (game : ParityGame) (tables : TablesData) (winner order : List ℕ) (frames : List Frame) (cursor : ℕ)
     (solved : Bool) : Type 0 where
   pub sound : IsSoundBoard game tables winner order
@@ -106,7 +106,7 @@ pub record IsNest (game : ParityGame) (tables : TablesData) (winner order : List
   pub searches : solved ≡ false → Searches game tables winner order (2 * length frames) cursor
   pub done : solved ≡ true → HasAnswer game tables winner (2 * length frames)
 
--- ## How many steps are left at most, by the number of vertices that are left open in each call
+-- ## An upper bound on the number of remaining steps, from the number of open vertices in each call
 
 abbrev pub steps : ℕ → ℕ
 steps zero = 1
@@ -116,7 +116,7 @@ abbrev pub rest_of : ℕ → ℕ
 rest_of zero = 1
 rest_of (suc m) = 1 + steps m
 
--- of the first k calls
+-- the share of the first k calls in the bound
 abbrev pub waiting_steps : List ℕ → ℕ → ℕ
 waiting_steps levels zero = 0
 waiting_steps levels (suc k) = waiting_steps levels k + rest_of (size_from (2 * k + 2) levels)
@@ -126,20 +126,21 @@ steps_left levels k solved = waiting_steps levels k + cond solved 0 (steps (size
 
 -- ## The parts of a step
 
--- the vertex is in the list before a place
+-- v is in the list before index `end`
 pub record StandsBefore (list : List ℕ) (end v : ℕ) : Type 0 where
   pub place : ℕ
   pub before : place < end
   pub is : slice_index list place ≡ v
 
--- a vertex in the order before a place, of a priority with the parity of the greatest one, or exactly that one
+-- v is in the order before index `behind`; its priority has the parity of the priority at index `cursor`, and is equal
+-- to it if `just_greatest` is true
 pub record IsTop (game : ParityGame) (order : List ℕ) (cursor behind : ℕ) (just_greatest : Bool) (v : ℕ) : Type 0 where
   pub stands : StandsBefore order behind v
   pub parity : priority_of game v % 2 ≡ priority_of game (slice_index order cursor) % 2
   pub just : just_greatest ≡ true → priority_of game v ≡ priority_of game (slice_index order cursor)
 
--- the free vertices in the order from a place up to another are placed: those of the greatest priority, and, unless
--- only these are asked for, of lower ones down to the first of the other parity
+-- The free vertices of the order from index `cursor` up to `behind` are placed. They have the greatest priority or,
+-- unless `just_greatest` is true, lower priorities down to the first of the other parity
 pub record ArePlaced (game : ParityGame) (aim : Aim) (old new : TablesData) (order : List ℕ) (cursor behind : ℕ)
     (just_greatest : Bool) : Type 0 where
   pub grown : IsGrown aim old new
@@ -148,46 +149,47 @@ pub record ArePlaced (game : ParityGame) (aim : Aim) (old new : TablesData) (ord
   pub tops : (v : ℕ) → IsPlaced aim old new v → IsTop game order cursor behind just_greatest v
   pub all : (j : ℕ) → cursor ≤ j → j < behind → level_of new (slice_index order j) ≢ aim.free
 
--- the player wins all vertices of the trail from a place on, and every other vertex is as it was
+-- the player wins all vertices of the trail from index `begin` on, and the winners of all other vertices are unchanged
 pub record IsGiven (player begin : ℕ) (tables : TablesData) (old new : List ℕ) : Type 0 where
   pub given : (v : ℕ) → StandsFrom tables begin v → slice_index new v ≡ player
   pub kept : (v : ℕ) → (slice_index new v ≡ slice_index old v) ⊎ StandsFrom tables begin v
 
--- an edge leads from v to w, which is above a level and won by the player
+-- an edge leads from v to w, and w has a higher level than `level` and is won by the player
 pub record IsWonStep (game : ParityGame) (tables : TablesData) (winner : List ℕ) (level player v w : ℕ) : Type 0 where
   pub edge : HasEdge game v w
   pub above : level < level_of tables w
   pub won : slice_index winner w ≡ player
 
--- the player's vertex has a move to what the player won, or, at the opponent's vertex, no edge leads to what the
--- opponent won
+-- at a vertex of the player, the move leads to a vertex that the player won; at a vertex of the opponent, no edge leads
+-- to a vertex that the opponent won
 pub record IsKeptAt (game : ParityGame) (tables : TablesData) (winner : List ℕ) (level player other v : ℕ) : Type 0
   where
     pub own : owner_of game v ≡ player → IsWonStep game tables winner level player v (slice_index tables.moves v)
     pub foreign : owner_of game v ≢ player → (w : ℕ) → HasEdge game v w → level < level_of tables w →
         slice_index winner w ≢ other
 
--- the player's vertex has no edge to what the player won, or the opponent's vertex has one to what the opponent won
+-- a vertex of the player has no edge to a vertex that the player won, or a vertex of the opponent has an edge to a
+-- vertex that the opponent won
 pub record IsLostAt (game : ParityGame) (tables : TablesData) (winner : List ℕ) (level player other v : ℕ) : Type 0
   where
     pub own : owner_of game v ≡ player → (w : ℕ) → HasEdge game v w → level < level_of tables w →
         slice_index winner w ≢ player
     pub foreign : owner_of game v ≢ player → (w : ℕ) × IsWonStep game tables winner level other v w
 
--- only the moves of some vertices change
+-- only the moves of the vertices in `Some` have changed
 pub record IsMoved (old new : TablesData) (Some : ℕ → Type 0) : Type 0 where
   pub level : new.level ≡ old.level
   pub trail : new.trail ≡ old.trail
   pub choices : length new.moves ≡ length old.moves
   pub moves : (v : ℕ) → (slice_index new.moves v ≡ slice_index old.moves v) ⊎ Some v
 
--- the spare vertices are those that were in the trail from a place on
+-- the spare vertices are those that were in the trail from index `turn` on
 pub record IsTakenOff (turn : ℕ) (trail spare : List ℕ) : Type 0 where
   pub all : length spare + turn ≡ length trail
   pub same : (j : ℕ) → j < length spare → slice_index spare j ≡ slice_index trail (turn + j)
 
--- of some vertices, those that the player won are no longer placed; only the others are in the trail from the turn on,
--- and they have the level
+-- of the vertices in `Off`, those that the player won are no longer placed; only the others are in the trail from index
+-- `turn` on, and they have the given level
 pub record IsReopened (winner : List ℕ) (player level turn : ℕ) (Off : ℕ → Type 0) (old new : TablesData) : Type 0 where
   pub longer : turn ≤ length new.trail
   pub front : (j : ℕ) → j < turn → slice_index new.trail j ≡ slice_index old.trail j
@@ -199,7 +201,7 @@ pub record IsReopened (winner : List ℕ) (player level turn : ℕ) (Off : ℕ �
   pub moves : new.moves ≡ old.moves
   pub sizes : length new.level ≡ length old.level
 
--- the vertices before n, each with a number before it that falls as the priority rises
+-- a pair for each vertex less than n: a number that decreases as the priority increases, and the vertex
 pub record AreRanked (game : ParityGame) (n : ℕ) (ranked : List (ℕ × ℕ)) : Type 0 where
   pub each : All (λ pair. (pair.1 < n) × (pair.0 + priority_of game pair.1 + 1 ≡ 2 ^ 64)) ranked
   pub stands : (v : ℕ) → v < n → (rank : ℕ) × Contains ranked (rank, v)

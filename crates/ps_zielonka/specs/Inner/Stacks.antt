@@ -1,4 +1,4 @@
--- The state of the solver between two steps, and what it leaves at the end.
+-- The state of the solver between two steps, and the tables at the end.
 use Rattle.std.specs.Prelude.{◌≡◌, ℕ, ◌≤◌, ◌<◌, List, length}
 use Rattle.ps_game.specs.Games.{ParityGame, vertex_count}
 use Rattle.ps_attractor.specs.Tables.{TablesData, level_of, moves_of}

@@ -1,29 +1,29 @@
--- The turns by which a subgame is solved. Sets of vertices are tests; `win` gives each vertex the player who wins it,
--- and `table` each vertex one vertex or none.
+-- The turns that solve a subgame. Sets of vertices are Boolean functions. `win` maps each vertex to the player who wins
+-- it, and `table` maps each vertex to a vertex or to None.
 use Rattle.std.specs.Prelude.{◌≡◌, ◌≢◌, ℕ, ◌%◌, ◌<◌, ◌≤◌, Option, Bool, false, IsTrue}
 use Rattle.ps_game.specs.Games.{ParityGame, owner_of, priority_of, HasEdge}
 use Rattle.ps_game.specs.Subgames.{IsWithin, HoldsWithin}
 use Rattle.ps_game.specs.Attractors.{IsClosed, Falls}
 
--- no vertex
+-- the empty set
 abbrev pub nothing : ℕ → Bool
 nothing v = false
 
--- the rest is the whole without the part
+-- `rest` has exactly the vertices of `whole` that are not in `part`
 pub record IsWithout (whole part rest : ℕ → Bool) : Type 0 where
   pub within : IsWithin rest whole
   pub outside : (v : ℕ) → IsTrue (rest v) → ¬ IsTrue (part v)
   pub all : (v : ℕ) → IsTrue (whole v) → ¬ IsTrue (part v) → IsTrue (rest v)
 
--- the set has exactly the vertices of the subgame outside the open part that the player wins
+-- the set has exactly the vertices of the subgame that are outside the open part and won by the player
 pub record IsWon (subgame open_part : ℕ → Bool) (win : ℕ → ℕ) (player : ℕ) (set : ℕ → Bool) : Type 0 where
   pub within : IsWithin set subgame
   pub decided : (v : ℕ) → IsTrue (set v) → ¬ IsTrue (open_part v)
   pub won : (v : ℕ) → IsTrue (set v) → win v ≡ player
   pub all : (v : ℕ) → IsTrue (subgame v) → ¬ IsTrue (open_part v) → win v ≡ player → IsTrue (set v)
 
--- what is decided about a subgame: outside the open part each player holds what it wins, and no player can step from
--- the open part into what it has won itself
+-- the decisions so far about a subgame: each player holds the vertices that it wins outside the open part, and no open
+-- vertex has an edge to a decided vertex that its owner wins
 pub record Progress (game : ParityGame) (subgame open_part : ℕ → Bool) (win : ℕ → ℕ) (table : ℕ → Option ℕ) : Type 0
   where
     pub within : IsWithin open_part subgame
@@ -33,13 +33,13 @@ pub record Progress (game : ParityGame) (subgame open_part : ℕ → Bool) (win 
     pub held : (player : ℕ) (set : ℕ → Bool) → player < 2 → IsWon subgame open_part win player set →
         HoldsWithin game subgame player set table
 
--- each vertex of the subgame is won by a player, who holds what it wins
+-- each vertex of the subgame is won by a player, and each player holds the vertices that it wins
 abbrev pub Solved : ParityGame → (ℕ → Bool) → (ℕ → ℕ) → (ℕ → Option ℕ) → Type 0
 Solved game subgame win table = Progress game subgame nothing win table
 
--- a turn is prepared: the player of the greatest priority attracts to the tops. They include all vertices of that
--- priority, and each top has a priority of its parity that is greater than those of the other parity. The rest is to be
--- solved
+-- a turn is prepared: the player of the greatest priority has attracted to the tops, and the rest is still to be
+-- solved. The tops include all vertices of the greatest priority. The priority of each top has the player's parity, and
+-- is greater than all priorities of the other parity in the open part
 pub record IsTurned (game : ParityGame) (open_part rest : ℕ → Bool) (player : ℕ) (win : ℕ → ℕ)
     (table : ℕ → Option ℕ) : Type 0 where
   pub greatest : ℕ

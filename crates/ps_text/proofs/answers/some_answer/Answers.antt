@@ -1,4 +1,4 @@
--- The law is a lemma.
+-- The law is proved by a lemma.
 use Rattle.ps_text.proofs.Outcomes.{some_answer_of}
 use Rattle.ps_text.proofs.answers.some_answer.Goals as goal
 

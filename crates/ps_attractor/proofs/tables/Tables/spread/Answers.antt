@@ -16,7 +16,7 @@ loop-source-init g c = record {
       c.args.place c.vertex_at-reached.result c.requires.sources (sym c.vertex_at-reached.ensures) so_far;
 }
 
--- a source as it is kept
+-- reading a stored source gives its number
 source_is : {X : Type 0} (value : X → ℕ) (kept : List X) (n number : ℕ) (item : X) → n < length kept →
     item ≡ get_or kept n item → number ≡ value item → get_or (map value kept) n 0 ≡ number
 source_is value kept n number item within is read = get_or-map value kept n item 0 within ∙ ap value (sym is) ∙ sym read

@@ -3,7 +3,7 @@ use Rattle.ps_label.specs.Expression.{AreOverFrom}
 use Rattle.ps_label.specs.Truth.{alias_truths, expressions, truths_behind}
 use Rattle.ps_label.proofs.labels.Labels.eval.Given as goal
 
--- the aliases still to come, after those worked out, give the whole table
+-- evaluating the remaining aliases completes the table
 abbrev pub invariant-loop-k : goal.invariant-loop-k
 invariant-loop-k l = record {
   room : length l.scratch ≡ length l.alias-items;
