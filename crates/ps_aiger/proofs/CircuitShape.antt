@@ -1,4 +1,4 @@
--- The circuit of some gates: what it is made of is a circuit, and tidy.
+-- What is built from given gates is a circuit, and the circuit is tidy.
 use Rattle.std.proofs.Common.{◌≡◌, ◌∙◌, ℕ, zero, suc, ◌+◌, ◌-◌, ◌*◌, ◌<◌, ◌≤◌, false, List, [], ◌∷◌, rules, map, length}
 use Rattle.std.proofs.Common.{get_or, slice_get, Option, Some, None, refl, sym, ap, subst, arith, inl, inr, All}
 use Rattle.std.proofs.Common.{replicate}

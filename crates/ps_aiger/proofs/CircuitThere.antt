@@ -1,4 +1,4 @@
--- A machine has a circuit: one is made from its wires, if there is a literal for each variable.
+-- A machine has a circuit, which is built from its wires, if there is a literal for each variable.
 use Rattle.std.proofs.Common.{rules, ◌≡◌, ◌∙◌, ℕ, zero, suc, ◌+◌, ◌*◌, ◌^◌, ◌<◌, ◌≤◌, ◌⊎◌, false, List, length, map}
 use Rattle.std.proofs.Common.{get_or, Some, None, sym, ap, subst, arith, inl, inr, replicate}
 use Rattle.std.specs.List.{range_with_len}
@@ -28,9 +28,9 @@ use Rattle.ps_aiger.proofs.WireLemmas.{next_many, output_given}
 use Rattle.ps_aiger.proofs.WiredLemmas.{is_wired}
 use Rattle.ps_aiger.proofs.WiredMade.{AreWires, IsBit, wires-made}
 
--- ## What is built of the wires
+-- ## What is built from the wires
 
--- a circuit that is built of the wires
+-- a circuit that is built from the wires
 pub record IsWhole (b : Behaviour) (latches : ℕ) (c : CircuitData) : Type 0 where
   pub room : HasRoom (output_wires b latches).draft
   pub built : IsBuilt b (output_wires b latches).draft (next_wires b latches).literals
@@ -83,7 +83,7 @@ module _ (b : Behaviour) (machine : IsMachine b) (latches : ℕ) (c : CircuitDat
 
 -- ## The circuit
 
--- the least number of latches that have a code for each memory
+-- the smallest number of latches that have a code for each memory state
 least : (n : ℕ) → (l : ℕ) × (n ≤ 2 ^ l) × ((k : ℕ) → n ≤ 2 ^ k → l ≤ k)
 least zero = (0, omega arith, λ k le. omega arith)
 least (suc n) = (let before = least n in elim (cases_lt n (2 ^ before.0)) [

@@ -1,4 +1,4 @@
--- Names of propositions as symbols, and how many they are.
+-- The names of propositions as symbols, and bounds on the number of propositions.
 use Rattle.std.proofs.Common.{rules}
 use Rattle.std.proofs.Common.{◌≡◌, ◌≢◌, ◌∙◌, ℕ, zero, suc, ◌+◌, ◌<◌, ◌≤◌, ◌||◌, Bool, true, false, cond, nat_eq}
 use Rattle.std.proofs.Common.{List, [], ◌∷◌, ◌++◌, map, length, get_or, slice_get, Option, Some, refl, sym, ap, subst}
@@ -46,7 +46,7 @@ among [] k e lt = absurd (omega arith)
 among (p ∷ ps) zero e lt = ap (λ t. cond t true (is_among p ps)) (eq-eqb p p refl)
 among (p ∷ ps) (suc k) e lt = grind (arith, nat_eq (get_or ps k e) p, among ps k e (omega arith))
 
--- the propositions of a machine are few
+-- the inputs and outputs of a machine are propositions with names, and there are at most 64 inputs
 pub inputs_within : (m : Behaviour) → IsMachine m → All (λ p. p < length m.names) m.inputs
 inputs_within m machine k e lt = (machine.each (get_or m.inputs k e)).1 (inl (among m.inputs k e lt))
 

@@ -1,4 +1,4 @@
--- Constant literals, nodes without a leaf, and codes that fit.
+-- Lemmas about constant literals, nodes without a leaf, and codes that fit in 64 bits.
 use Rattle.std.proofs.Common.{◌≡◌, ℕ, zero, suc, ◌+◌, ◌-◌, ◌*◌, ◌/◌, ◌%◌, ◌^◌, ◌<◌, ◌≤◌, Bool, false}
 use Rattle.std.proofs.Common.{cond, nat_eq, List, [], ◌∷◌, length, get_or, slice_get, Some, refl, sym, ap, subst, arith}
 use Rattle.std.proofs.Common.{inl, inr, if◌then◌else◌}

@@ -1,4 +1,4 @@
--- Letters over some propositions, and numbers by their bits.
+-- Lemmas about letters over given propositions, and about the bits of numbers.
 use Rattle.std.proofs.Common.{rules, ◌≡◌, ◌∙◌, ℕ, zero, suc, ◌+◌, ◌-◌, ◌*◌, ◌/◌, ◌%◌, ◌^◌, ◌<◌, ◌≤◌, Bool, true, false}
 use Rattle.std.proofs.Common.{cond, nat_eq, List, [], ◌∷◌, length, get_or, slice_get, Some, refl, sym, ap, arith, inl}
 use Rattle.std.proofs.Common.{inr, AllPairs}
@@ -26,7 +26,7 @@ bit_for [] bits q = false
 bit_for (p ∷ ps) [] q = false
 bit_for (p ∷ ps) (b ∷ bits) q = cond (nat_eq p q) b (bit_for ps bits q)
 
--- numbers from m on, each below the later ones
+-- ascending numbers, each at least m
 pub record AreFrom (m : ℕ) (ps : List ℕ) : Type 0 where
   pub from : (k : ℕ) → k < length ps → m ≤ get_or ps k 0
   pub rise : AllPairs (λ p q. p < q) ps
@@ -48,7 +48,7 @@ multiple_more : (m p : ℕ) (b : Bool) (ps : List ℕ) (bits : List Bool) → m 
 multiple_more m p b ps bits le rest =
     grind (arith, one_multiple b p m le, add-mul (cond b (2 ^ (p - m)) 0) rest.0 (2 ^ m))
 
--- a letter over propositions from m on is a multiple of 2 to the m
+-- a letter over propositions from m on is a multiple of 2^m
 multiple : (m : ℕ) (ps : List ℕ) (bits : List Bool) → AreFrom m ps → (n : ℕ) × (letter_over ps bits ≡ n * 2 ^ m)
 multiple m [] bits a = (0, omega arith)
 multiple m (p ∷ ps) [] a = (0, omega arith)
@@ -58,7 +58,7 @@ multiple m (p ∷ ps) (b ∷ bits) a = multiple_more m p b ps bits (a.from 0 (om
 no_bits : (q : ℕ) → is_in q 0 ≡ false
 no_bits q = ap (λ n. nat_eq n 1) (bit_at_above 0 0 q (omega arith) (omega arith))
 
--- one bit, and a multiple above it
+-- lemmas about the sum of one bit and a multiple of a greater power of 2
 pub positive : (n : ℕ) → 0 < 2 ^ n
 positive zero = omega arith
 positive (suc n) = omega (arith, pow-suc 2 n, positive n)
@@ -143,7 +143,7 @@ bit_for-none (p ∷ ps) (b ∷ bits) q h = elim (cases_eq q p) [
       ∙ bit_for-none ps bits q (sym (ap (λ t. cond t true (is_among q ps)) (no_test q p ne)) ∙ h)
 ]
 
--- few numbers rise below a limit
+-- ascending numbers from m on that are less than n are at most n - m in number
 pub few_rise : (m n : ℕ) (ps : List ℕ) → AreFrom m ps → ((k : ℕ) → k < length ps → get_or ps k 0 < n) → m ≤ n →
     length ps + m ≤ n
 few_rise m n [] a below le = omega arith
@@ -162,7 +162,7 @@ first_bit n = grind (arith, cases_eq, eq-eqb, no_test)
 later_bit : (j n : ℕ) → is_in (suc j) n ≡ is_in j (n / 2)
 later_bit j n = grind (arith, bit_at_cat_high (n / 2) 1 (n % 2) (suc j) (omega arith) (omega arith))
 
--- a number whose bits these are, all of them
+-- a number is determined by its bits
 pub number_is : (bits : List Bool) (n : ℕ) → n < 2 ^ length bits →
     ((j : ℕ) → j < length bits → get_or bits j false ≡ is_in j n) → number_of bits ≡ n
 number_is [] n lt h = omega arith
@@ -172,7 +172,7 @@ number_is (b ∷ bits) n lt h =
     let rest : number_of bits ≡ n / 2 = number_is bits (n / 2) small (λ j within. grind (arith, later_bit j n)) in
     omega arith
 
--- the number of bits that a letter has
+-- the number with a given list of bits is the letter with these bits
 pub number_of_letter : (bits : List Bool) (f : ℕ → Bool) → ((j : ℕ) → j < length bits → get_or bits j false ≡ f j) →
     number_of bits ≡ letter_of (length bits) f
 number_of_letter bits f h = search (rules, number_is, letter_lt, letter_is)

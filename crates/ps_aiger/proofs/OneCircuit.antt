@@ -1,4 +1,4 @@
--- A machine has one circuit: its variables are numbered in one way, and its wires are made in one way.
+-- A machine has at most one circuit: there is only one way to number its variables, and one way to build its wires.
 use Rattle.std.proofs.Common.{rules, ◌≡◌, ◌∙◌, ℕ, ◌+◌, ◌*◌, ◌<◌, false, List, ◌++◌, map, length, get_or, None, sym, ap}
 use Rattle.std.proofs.Common.{ap₂, arith}
 use Rattle.std.specs.List.{All, range_with_len}
@@ -58,7 +58,7 @@ circuit_same : (c d : CircuitData) → c.most ≡ d.most → c.inputs ≡ d.inpu
     c.input_names ≡ d.input_names → c.latch_names ≡ d.latch_names → c.output_names ≡ d.output_names → c ≡ d
 circuit_same c d most inputs latches outputs gates input_names latch_names output_names = grind (arith, input_names)
 
--- the variables are numbered, so that there are as many as definitions
+-- the number of definitions is the greatest variable
 many_defined : (x : CircuitData) → IsTidy x → length x.inputs + length x.latches + length x.gates ≡ x.most
 many_defined x numbered = ap₂ (λ n m. length x.inputs + n + m) (sym (length-map x.latches (λ l. l.literal)))
     (sym (length-map x.gates (λ g. g.literal))) ∙ ap (λ n. n + length (map (λ (g : Gate). g.literal) x.gates))
@@ -120,7 +120,7 @@ module _ (b o : Behaviour) (c d : CircuitData) (some : 0 < b.memories) (same : B
   one_circuit = circuit_same c d most_same (grind (arith, fronts_same, inputs_many, given_same)) latches_alike
       (grind (arith, outputs_same)) same_gates input_names no_names_same (grind arith)
 
--- there is a literal for each variable of a circuit, so that its gates are not too many
+-- a circuit has a literal for each variable, so it cannot have too many gates
 pub not_out : (b o : Behaviour) (c : CircuitData) → BehavesAs b o → Encodes b c → IsTidy c → IsWired b c →
     0 < b.memories → IsOutOfLiterals o → ⊥
 not_out b o c same encodes tidy wired some out =

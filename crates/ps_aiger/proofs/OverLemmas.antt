@@ -1,4 +1,4 @@
--- The literals of functions: they are there when they are asked for again, and a diagram has the gates of its function.
+-- The literals of functions: building a literal again needs no new gate, and a diagram has the gates of its function.
 use Rattle.std.proofs.Common.{rules}
 use Rattle.std.proofs.Common.{◌≡◌, ◌∙◌, ℕ, zero, suc, ◌+◌, ◌*◌, ◌<◌, Bool, true, false, cond, if◌then◌else◌, List, []}
 use Rattle.std.proofs.Common.{◌∷◌, length, get_or, slice_get, Option, Some, None, refl, sym, ap, subst, arith, inl, inr}
@@ -32,7 +32,7 @@ onto b f bits = f (b ∷ bits)
 abbrev pub choose : ℕ → Made → Made → Made
 choose s high low = mux_of low.draft s high.literal low.literal
 
--- f is g at lists of that length
+-- two functions agree on lists of length n
 abbrev AreSame : ℕ → (List Bool → Bool) → (List Bool → Bool) → Type 0
 AreSame n f g = (bits : List Bool) → length bits ≡ n → f bits ≡ g bits
 
@@ -70,7 +70,7 @@ over-same (v ∷ vs) f g d h = ap (λ m. choose (2 * v) m (over_variables vs (on
     ∙ ap (choose (2 * v) (over_variables vs (onto true g) d)) (over-same vs (onto false f) (onto false g)
     (over_variables vs (onto true g) d).draft (λ bits e. h (false ∷ bits) (ap suc e)))
 
--- a variable that the function does not depend on
+-- a choice by a variable on which the function does not depend needs no gate
 pub over-skip : (v : ℕ) (vs : List ℕ) (f : List Bool → Bool) (d : Drafted) →
     AreSame (length vs) (onto true f) (onto false f) → over_variables (v ∷ vs) f d ≡ over_variables vs (onto true f) d
 unfolding over_variables
@@ -86,7 +86,7 @@ over-constant b [] f d h = ap (λ t. record { draft = d; literal = cond t 1 0 })
 over-constant b (v ∷ vs) f d h = over-skip v vs f d (λ bits e. grind arith)
     ∙ over-constant b vs (onto true f) d (λ bits e. h (true ∷ bits) (ap suc e))
 
--- the bits after place k settle it
+-- a function of n bits depends only on the bits after index k
 abbrev IsBehind : ℕ → ℕ → (List Bool → Bool) → Type 0
 IsBehind n k f = (a b : List Bool) → length a ≡ n → length b ≡ n →
     ((j : ℕ) → k < j → get_or a j false ≡ get_or b j false) → f a ≡ f b
@@ -173,7 +173,7 @@ unfolding node_made
 made-low m w node p low high d machine sees none = over-same (range_with_len 1 (length m.inputs)) _ _ d
     (λ bits e. grind (arith, letter_bit 0 m.inputs bits p (rising m machine), bit_for-none m.inputs bits p none))
 
--- a letter's bit at q is settled by the bits at its places
+-- the bit of a letter at q depends only on the bits that are given for q
 settled : (ps : List ℕ) (a b : List Bool) (q : ℕ) → length a ≡ length ps → length b ≡ length ps →
     ((j : ℕ) → j < length ps → get_or ps j 0 ≡ q → get_or a j false ≡ get_or b j false) →
     bit_for ps a q ≡ bit_for ps b q
@@ -187,7 +187,7 @@ settled (p ∷ ps) (x ∷ a) (y ∷ b) q ea eb h = elim (cases_eq p q) [
       ∙ sym (ap (λ t. cond t y (bit_for ps b q)) (no_test p q ne))
 ]
 
--- a node that depends only on later propositions depends only on later places
+-- a node that depends only on later propositions depends only on the bits at later indices
 node_behind : (m : MachineData) (w : Wanted) (node p place : ℕ) → IsMachine (behaviour m) →
     slice_get m.inputs place ≡ Some p → HeedsBehind m.store node p → (n : ℕ) → n ≡ length m.inputs →
     IsBehind n place (λ bits. wanted_bit w (row_by m node (letter_over m.inputs bits)))

@@ -1,10 +1,10 @@
--- Literals of variables that follow one another.
+-- The literals of consecutive variables.
 use Rattle.std.proofs.Common.{◌≡◌, ◌∙◌, ℕ, zero, suc, ◌+◌, ◌*◌, ◌<◌, List, ◌∷◌, ◌++◌, map, length, get_or, refl, ap}
 use Rattle.std.proofs.Common.{arith}
 use Rattle.std.specs.List.{range_with_len}
 use Rattle.std.proofs.lemmas.List.FromFn.{length-map-range_with_len, get_or-map-range_with_len}
 
--- the literals of that many variables from one on
+-- the literals of `count` variables from variable `from` on
 abbrev pub even_literals : ℕ → ℕ → List ℕ
 even_literals from count = map (λ v. 2 * v) (range_with_len from count)
 

@@ -1,4 +1,4 @@
--- Machines that do the same have the same wires.
+-- Machines with the same behaviour have the same wires.
 use Rattle.std.proofs.Common.{rules, arith, ◌≡◌, ℕ, zero, suc, ◌+◌, ◌^◌, ◌<◌, Bool, List, [], ◌∷◌, map, refl}
 use Rattle.std.proofs.lemmas.Bool.{ltb-true}
 use Rattle.ps_machine.specs.Behaviours.{Behaviour}
@@ -9,7 +9,7 @@ use Rattle.ps_aiger.specs.Encoded.{letter_over, memory_at}
 use Rattle.ps_aiger.specs.Wires.{StepBit, code_made, next_wires, output_wires, wired}
 use Rattle.ps_aiger.proofs.OverLemmas.{over-same}
 
--- a code stands for a memory
+-- each code stands for a memory state
 pub memory_within : (b : Behaviour) (code : ℕ) → 0 < b.memories → memory_at b code < b.memories
 memory_within b code some = grind (arith, bool_cases, ltb-true)
 
@@ -32,7 +32,7 @@ module _ (b o : Behaviour) (some : 0 < b.memories) (same : BehavesAs b o) where
     code_same f g latch code (code_made o g latch (code + 2 ^ latch) d).draft agree,
   )
 
-  -- bits of the two machines that agree, one after another
+  -- if bits of two machines agree, their literals have the same wires
   wired_same : (f g : ℕ → StepBit) (latches : ℕ) (ns : List ℕ) (d : Drafted) → ((n : ℕ) → AgreeAt (f n) (g n)) →
       wired b latches (map f ns) d ≡ wired o latches (map g ns) d
   unfolding wired

@@ -1,4 +1,4 @@
--- What is wired comes after what was there.
+-- Building wires adds gates after the existing ones.
 use Rattle.std.proofs.Common.{rules, arith, ◌≡◌, ℕ, zero, suc, ◌+◌, ◌^◌, List, [], ◌∷◌, length, refl, ap}
 use Rattle.std.proofs.lemmas.List.FromFn.{length-map-range_with_len}
 use Rattle.ps_machine.specs.Behaviours.{Behaviour}

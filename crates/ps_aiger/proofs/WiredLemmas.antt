@@ -1,4 +1,4 @@
--- The gates of a whole circuit, made one function after another.
+-- The gates of a whole circuit, built for one function after another.
 use Rattle.std.proofs.Common.{rules, ◌≡◌, ◌∙◌, ℕ, suc, ◌+◌, ◌*◌, ◌^◌, ◌<◌, ◌≤◌, List, [], ◌∷◌, ◌++◌, map, length, drop}
 use Rattle.std.proofs.Common.{slice_get, Option, Some, refl, sym, ap, subst, arith, eqb, cond, inl, inr, append_assoc}
 use Rattle.std.proofs.Common.{append-nil}
@@ -28,7 +28,7 @@ use Rattle.ps_circuit.proofs.MadeLemmas.{above-extends, mux-extends}
 use Rattle.ps_aiger.proofs.OverLemmas.{choose, inputs-again}
 use Rattle.ps_aiger.proofs.WireLemmas.{wired-extends}
 
--- ## A choice of what was made before
+-- ## A choice between two literals that were built before
 
 pub choice-made : (whole high : Made) (low : Drafted → Made) (a b : Drafted) (s t f : ℕ) →
     whole ≡ choose s high (low high.draft) → high ≡ record { draft = a; literal = t } →
@@ -80,7 +80,7 @@ code-suc m w latches latch code upper s d es eu e = grind arith
 
 -- ## One function after another
 
--- these literals, and then the rest
+-- the given literals, and then the rest
 abbrev pub behind : List ℕ → Wired → Wired
 behind literals rest = record { draft = rest.draft; literals = literals ++ rest.literals }
 
@@ -125,7 +125,7 @@ pub first_wired : (m : MachineData) (latches : ℕ) (bits given_bits : List Want
     bits_wired m latches given_bits d ≡ next_wires (behaviour m) latches
 first_wired m latches bits given_bits d eb is given none = grind (arith, map-map, drafted_are)
 
--- the outputs are wired after the next values
+-- the literals of the outputs are built after those of the next values
 pub all_wired : (m : MachineData) (latches : ℕ) (bits : List Wanted) (d : Drafted) →
     d ≡ (next_wires (behaviour m) latches).draft → bits ≡ map Output m.outputs →
     output_wires (behaviour m) latches ≡ bits_wired m latches bits d

@@ -1,4 +1,4 @@
--- The literals of a machine's step: if there is one for each variable, their gates are sound, and they have the bits of
+-- If there is a literal for each variable, the gates of a machine's step are sound, and its literals have the bits of
 -- the step.
 use Rattle.std.proofs.Common.{◌≡◌, ◌∙◌, ℕ, zero, suc, ◌+◌, ◌*◌, ◌/◌, ◌^◌, ◌<◌, ◌≤◌, Bool, true, false, cond, List, []}
 use Rattle.std.proofs.Common.{◌∷◌, All, map, length, get_or, slice_get, Some, refl, sym, ap, ap₂, subst, arith}
@@ -41,7 +41,7 @@ choose_made d high low s p q within xh xl h l room =
 by_head : (f : Bool → Bool) (b : Bool) → cond b (f true) (f false) ≡ f b
 by_head f b = grind arith
 
--- a function of these variables' bits
+-- the literal of a function of the variables' bits has the value of the function
 over-made : (vs : List ℕ) (f : List Bool → Bool) (d : Drafted) → IsSoundDraft d → All (λ v. v ≤ d.given) vs →
     HasRoom (over_variables vs f d).draft → IsMade (over_variables vs f d) (λ v. f (map v vs))
 unfolding over_variables
@@ -67,7 +67,7 @@ over-made (s ∷ vs) f d sound within room =
 
 -- ## Bits of a step
 
--- the letter that the variables of the inputs make, and the code that those of the first latches make
+-- the letter that the variables of the inputs give, and the code that the variables of the first latches give
 abbrev pub letter_read : Behaviour → (ℕ → Bool) → ℕ
 letter_read b v = letter_over b.inputs (map v (range_with_len 1 (length b.inputs)))
 
@@ -77,7 +77,7 @@ code_read b latches v = letter_of latches (λ j. v (length b.inputs + 1 + j))
 abbrev bit_read : Behaviour → StepBit → ℕ → ℕ → (ℕ → Bool) → Bool
 bit_read b f latches code v = f (memory_at b (code + code_read b latches v)) (letter_read b v)
 
--- the literal has that bit of the step, at the memory whose code the latches hold
+-- the literal has a bit of the step, for the memory state whose code the latches hold
 abbrev pub IsBit : Behaviour → ℕ → StepBit → Drafted → ℕ → Type 0
 IsBit b latches f d literal =
     IsMade (record { draft = d; literal = literal }) (λ v. f (memory_at b (0 + code_read b latches v))
@@ -117,7 +117,7 @@ code-made b f (suc latch) code d sound given room =
 
 -- ## One bit after another
 
--- a literal for each of these bits
+-- literals for the given bits of the step
 pub record AreBits (b : Behaviour) (latches : ℕ) (g : ℕ → StepBit) (ns : List ℕ) (d : Drafted) (literals : List ℕ) :
     Type 0 where
   pub sound : IsSoundDraft d
@@ -158,7 +158,7 @@ wired-made b latches g (n ∷ ns) d sound given room =
 
 -- ## The whole
 
--- the next values of the latches, and the outputs
+-- the literals of the next values of the latches, and those of the outputs
 pub record AreWires (b : Behaviour) (latches : ℕ) : Type 0 where
   pub next : AreBits b latches (next_bit b) (range_with_len 0 latches) (output_wires b latches).draft
       (next_wires b latches).literals

@@ -1,9 +1,9 @@
 -- The circuit of a machine.
 --     number_of bits      the first bit counts 1, the next one 2, then 4, and so on
---     memory_at b code      the memory with that code; memory 0 for a code of no memory
---     memory_of b latches      the memory whose code the latches hold
---     Encodes b c      the circuit begins at memory 0, and its step is the machine's
---     IsTidy c      how its variables are numbered, and which gates it has
+--     memory_at b code      the memory state with a code; memory state 0 for a code that belongs to none
+--     memory_of b latches      the memory state whose code the latches hold
+--     Encodes b c      the circuit begins in memory state 0, and its step is the machine's
+--     IsTidy c      how the circuit's variables are numbered, and which gates it has
 use Rattle.std.specs.Prelude.{◌≡◌, ◌≢◌, ℕ, ◌+◌, ◌*◌, ◌^◌, ◌<◌, ◌≤◌, Bool, false, cond, List, [], ◌∷◌, length, map}
 use Rattle.std.specs.Prelude.{Option, Some, None, All, AllPairs, nat_lt, if◌then◌else◌, slice_index_or}
 use Rattle.std.specs.List.{range_with_len}
@@ -18,28 +18,28 @@ abbrev pub number_of : List Bool → ℕ
 number_of [] = 0
 number_of (bit ∷ bits) = cond bit 1 0 + 2 * number_of bits
 
--- a code of no memory stands for memory 0
+-- a code that belongs to no memory state stands for memory state 0
 abbrev pub memory_at : Behaviour → ℕ → ℕ
 memory_at b code = if nat_lt code b.memories then code else 0
 
 abbrev pub memory_of : Behaviour → List Bool → ℕ
 memory_of b latches = memory_at b (number_of latches)
 
--- the letter with these bits at these propositions, and with no other bit
+-- the letter with the given bits at the given propositions, and with no other bit
 abbrev pub letter_over : List ℕ → List Bool → ℕ
 letter_over [] bits = 0
 letter_over (p ∷ ps) [] = 0
 letter_over (p ∷ ps) (bit ∷ bits) = cond bit (2 ^ p) 0 + letter_over ps bits
 
--- the bits of a letter at these propositions
+-- the bits of a letter at the given propositions
 abbrev pub bits_over : List ℕ → ℕ → List Bool
 bits_over ps letter = map (λ p. is_in p letter) ps
 
--- the names of these propositions as symbols
+-- the names of the given propositions as symbols
 abbrev pub symbols_of : List (List ℕ) → List ℕ → List (Option (List ℕ))
 symbols_of names ps = map (λ p. Some (slice_index_or names p [])) ps
 
--- at latches and inputs the outputs and the next latches are those of the machine's step
+-- for these latches and inputs, the outputs and the next latches are those of the machine's step
 pub record StepsAs (b : Behaviour) (latches inputs outputs next : List Bool) : Type 0 where
   pub outputs_are : outputs ≡ bits_over b.outputs (b.plays (memory_of b latches) (letter_over b.inputs inputs))
   pub next_is : number_of next ≡ b.next (memory_of b latches) (letter_over b.inputs inputs)
@@ -51,12 +51,13 @@ pub record Encodes (b : Behaviour) (c : CircuitData) : Type 0 where
   pub latch_names : All (λ name. name ≡ None) c.latch_names
   pub resets_are : All (λ bit. bit ≡ false) (resets c)
   pub room : b.memories ≤ 2 ^ length c.latches
-  -- no more latches than needed
+  -- there are no more latches than needed
   pub needed : (n : ℕ) → b.memories ≤ 2 ^ n → length c.latches ≤ n
   pub steps : (latches inputs outputs next : List Bool) → Steps c latches inputs outputs next →
       StepsAs b latches inputs outputs next
 
--- two literals of different variables, neither constant, the greater first and less than the gate's own
+-- a gate of two literals with different variables, neither of which is constant; the first literal is the greater one,
+-- and is less than the gate's own
 pub record IsTidyGate (g : Gate) : Type 0 where
   pub below : g.first < g.literal
   pub falls : g.second < g.first

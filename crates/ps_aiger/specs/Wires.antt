@@ -1,10 +1,10 @@
--- The gates of a machine's circuit in the order in which they are made, without a limit on their number.
+-- The gates of a machine's circuit in the order in which they are built, without a limit on their number.
 --     over_variables variables f d      the literal of a function of the variables' bits
---     next_bit b j, output_bit b p      a bit of the machine's step, by memory and input letter
---     code_made b f latches code d      the literal of such a bit, at the memories whose code begins so
---     next_wires, output_wires b latches      the literals of all: the next values of the latches, and then the outputs
---     IsWired b c      the circuit's literals and gates are these, in their order
---     IsOutOfLiterals b      when no circuit is made: the gates need too many variables
+--     next_bit b j, output_bit b p      a bit of the machine's step, by memory state and input letter
+--     code_made b f latches code d      the literal of such a bit, for the memory states whose codes begin like `code`
+--     next_wires, output_wires b latches      all literals: the next values of the latches, and then the outputs
+--     IsWired b c      the literals and gates of the circuit are these, in their order
+--     IsOutOfLiterals b      the gates need too many variables, so that there is no circuit
 use Rattle.std.specs.Prelude.{◌≡◌, ℕ, zero, suc, ◌+◌, ◌*◌, ◌^◌, ◌<◌, ◌≤◌, Bool, true, false, if◌then◌else◌, List, []}
 use Rattle.std.specs.Prelude.{◌∷◌, length, map, slice_get, Some}
 use Rattle.std.specs.List.{range_with_len}
@@ -19,8 +19,9 @@ use Rattle.ps_aiger.specs.Encoded.{letter_over, memory_at}
 
 -- ## Functions
 
--- A function of the bits of these variables: first its value if the first variable is true, then if it is false, then
--- the choice. If it does not depend on that variable the two are one literal, and the choice needs no gate.
+-- The literal of a function of the bits of variables. First comes the value if the first variable is true, then the
+-- value if it is false, then the choice. If the function does not depend on that variable, both values are the same
+-- literal, and the choice needs no gate.
 unfoldable pub over_variables : List ℕ → (List Bool → Bool) → Drafted → Made
 over_variables [] f d = record { draft = d; literal = if f [] then 1 else 0 }
 over_variables (v ∷ vs) f d =
@@ -30,19 +31,19 @@ over_variables (v ∷ vs) f d =
 
 -- ## Bits of a step
 
--- by memory and input letter
+-- a bit of a step, by memory state and input letter
 abbrev pub StepBit : Type 0
 StepBit = ℕ → ℕ → Bool
 
--- of the next memory, and of the letter that is played
+-- a bit of the number of the next memory state, and a bit of the letter that the machine outputs
 abbrev pub next_bit : Behaviour → ℕ → StepBit
 next_bit b j memory x = is_in j (b.next memory x)
 
 abbrev pub output_bit : Behaviour → ℕ → StepBit
 output_bit b p memory x = is_in p (b.plays memory x)
 
--- That bit at each memory whose code begins so, while that many latches are free: the last of them goes first. At one
--- memory it is a function of the inputs.
+-- The literal of a bit, for the memory states whose codes are `code` plus a number less than 2^latches. The first
+-- choice is by the highest of these latches. For one memory state, the bit is a function of the inputs.
 unfoldable pub code_made : Behaviour → StepBit → ℕ → ℕ → Drafted → Made
 code_made b f zero code d =
     over_variables (range_with_len 1 (length b.inputs)) (λ bits. f (memory_at b code) (letter_over b.inputs bits)) d
@@ -57,7 +58,7 @@ pub record Wired : Type 0 where
   pub draft : Drafted
   pub literals : List ℕ
 
--- these bits, one after another
+-- the literals of the given bits, one after another
 unfoldable pub wired : Behaviour → ℕ → List StepBit → Drafted → Wired
 wired b latches [] d = record { draft = d; literals = [] }
 wired b latches (f ∷ fs) d =
@@ -73,13 +74,13 @@ next_wires b latches =
 abbrev pub output_wires : Behaviour → ℕ → Wired
 output_wires b latches = wired b latches (map (output_bit b) b.outputs) (next_wires b latches).draft
 
--- the gates with these sides, from that variable on
+-- the gates with the given sides, from variable `from` on
 pub record AreGates (from : ℕ) (sides : List Sides) (gates : List Gate) : Type 0 where
   pub many : length gates ≡ length sides
   pub each : (k : ℕ) (s : Sides) → slice_get sides k ≡ Some s →
       slice_get gates k ≡ Some (record { literal = 2 * (from + k); first = s.first; second = s.second })
 
--- the next values of the latches, the outputs and the gates are those that are made for as many latches
+-- the next values of the latches, the outputs and the gates are those that are built for a given number of latches
 pub record IsWiredBy (b : Behaviour) (c : CircuitData) (latches : ℕ) : Type 0 where
   pub next : map (λ l. l.next) c.latches ≡ (next_wires b latches).literals
   pub outputs : c.outputs ≡ (output_wires b latches).literals
@@ -88,7 +89,8 @@ pub record IsWiredBy (b : Behaviour) (c : CircuitData) (latches : ℕ) : Type 0 
 abbrev pub IsWired : Behaviour → CircuitData → Type 0
 IsWired b c = IsWiredBy b c (length c.latches)
 
--- With as many latches as are needed, the circuit's gates take more variables than there are literals.
+-- The circuit has the fewest latches that suffice for the memory states, and yet needs more variables than there are
+-- literals.
 pub record IsOutOfLiterals (b : Behaviour) : Type 0 where
   pub latches : ℕ
   pub room : b.memories ≤ 2 ^ latches

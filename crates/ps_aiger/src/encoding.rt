@@ -1,4 +1,4 @@
-//! The circuit of a machine.
+//! Building the circuit of a machine.
 
 ghost use Rattle.std.specs.Prelude.{◌≡◌, ◌≢◌, ℕ, ◌+◌, ◌*◌, ◌^◌, ◌<◌, ◌≤◌, All, IfOk, IsTrue, Some, None, [], length};
 ghost use Rattle.std.specs.Prelude.{map, replicate, slice_get, slice_index};
@@ -19,12 +19,13 @@ use ps_circuit::{Builder, Circuit, EncodeFault, Gate, Latch, Literal, Parts, Sid
 use ps_machine::Machine;
 use std::alloc::{AllocError, Global};
 
-/// The circuit whose step is the machine's. It begins in memory 0; its latches hold the code of a memory, and a code of
-/// no memory stands for memory 0. Inputs and outputs have the names of their propositions.
+/// Builds the circuit whose step is the machine's. The circuit begins in memory state 0. The latches hold the code of a
+/// memory state; a code that belongs to no memory state stands for memory state 0. Inputs and outputs have the names of
+/// their propositions.
 ///
 /// # Errors
 ///
-/// Fails if 2147483647 variables exist and one more is needed, or if out of memory.
+/// Fails if the circuit needs more than 2147483647 variables, or if out of memory.
 pub fn encode(alloc: Global, machine: &Machine) -> Result<Circuit, EncodeFault>
     ensures encodes { IfOk result (λ circuit. Encodes (behaviour machine.now) circuit) }
     ensures tidy { IfOk result (λ circuit. IsTidy circuit) }
@@ -40,7 +41,7 @@ pub fn encode(alloc: Global, machine: &Machine) -> Result<Circuit, EncodeFault>
     Ok(circuit)
 }
 
-/// The literals of the next values of the latches. They are made before any others.
+/// The literals of the next values of the latches. The gates of these literals are built before those of the outputs.
 fn next_literals(
     alloc: Global,
     builder: &mut Builder,
@@ -61,7 +62,7 @@ fn next_literals(
     literals_of(alloc, builder, machine, latches, &next_bits)
 }
 
-/// The literals of the outputs, made after those of the next values of the latches.
+/// The literals of the outputs. The gates of these literals are built after those of the next values of the latches.
 fn output_literals(
     alloc: Global,
     builder: &mut Builder,
@@ -82,7 +83,7 @@ fn output_literals(
     literals_of(alloc, builder, machine, latches, &output_bits)
 }
 
-/// The circuit with these next literals and outputs.
+/// The circuit with the given next literals and outputs.
 fn circuit_of(
     alloc: Global,
     builder: &Builder,
@@ -107,7 +108,7 @@ fn circuit_of(
     Circuit::in_order(alloc, parts)
 }
 
-/// The least number of latches that have a code for each memory.
+/// The smallest number of latches that have a code for each memory state.
 fn latches_for(memories: usize) -> u32
     ensures enough { memories ≤ 2 ^ result }
     ensures least { (n : ℕ) → memories ≤ 2 ^ n → result ≤ n }
@@ -121,7 +122,7 @@ fn latches_for(memories: usize) -> u32
     64
 }
 
-/// The bits of the next memory.
+/// The bits of the number of the next memory state.
 fn next_bits(alloc: Global, latches: u32) -> Result<Vec<Wanted>, AllocError>
     ensures many { IfOk result (λ bits. length bits.items ≡ latches) }
     ensures each { IfOk result (λ bits. (k : ℕ) → k < latches → slice_get bits.items k ≡ Some (Next k)) }
@@ -133,7 +134,7 @@ fn next_bits(alloc: Global, latches: u32) -> Result<Vec<Wanted>, AllocError>
     Ok(bits)
 }
 
-/// The propositions that are played.
+/// The propositions that the machine outputs.
 fn output_bits(alloc: Global, machine: &Machine) -> Result<Vec<Wanted>, AllocError>
     ensures { IfOk result (λ bits. bits.items ≡ map Output machine.now.outputs) }
 {
@@ -144,7 +145,7 @@ fn output_bits(alloc: Global, machine: &Machine) -> Result<Vec<Wanted>, AllocErr
         .collect(alloc)
 }
 
-/// The literals of these bits.
+/// The literals of the given bits.
 fn literals_of(
     alloc: Global,
     builder: &mut Builder,
@@ -170,7 +171,7 @@ fn literals_of(
     Ok(literals)
 }
 
-/// The parts of the circuit with these next literals and outputs.
+/// The parts of the circuit with the given next literals and outputs.
 fn parts_of(
     alloc: Global,
     builder: &Builder,
@@ -199,7 +200,7 @@ fn parts_of(
     })
 }
 
-/// The literals of `count` variables, from the first one on.
+/// The literals of `count` variables from variable `first` on.
 fn literals_from(alloc: Global, first: u32, count: u32) -> Result<Vec<Literal>, AllocError>
     requires { first + count ≤ 2 ^ 31 }
     ensures { IfOk result (λ literals. literals.items ≡ map (λ v. 2 * v) (range_with_len first count)) }
@@ -211,7 +212,7 @@ fn literals_from(alloc: Global, first: u32, count: u32) -> Result<Vec<Literal>, 
     Ok(literals)
 }
 
-/// The latches from the first variable on, with these next literals.
+/// Latches with the given next literals, from variable `first` on.
 fn latches_of(alloc: Global, first: u32, next: &[Literal]) -> Result<Vec<Latch>, AllocError>
     requires { first + length next.now ≤ 2 ^ 31 }
     ensures { IfOk result (λ latches. AreLatches first next.now latches.items) }
@@ -243,7 +244,7 @@ fn gates_of(alloc: Global, builder: &Builder) -> Result<Vec<Gate>, AllocError>
     Ok(gates)
 }
 
-/// The names of these propositions.
+/// The names of the given propositions.
 fn symbols(
     alloc: Global,
     machine: &Machine,

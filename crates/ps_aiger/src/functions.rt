@@ -20,14 +20,14 @@ use std::alloc::Global;
 /// One bit of a machine's row.
 #[derive(Debug, Clone, Copy, PartialEq, Eq)]
 pub(crate) enum Wanted {
-    /// That bit of the number of the next memory.
+    /// The bit with this index in the number of the next memory state.
     Next(u32),
-    /// That proposition of the letter that is played.
+    /// The bit of this proposition in the letter that the machine outputs.
     Output(u32),
 }
 
-/// The literal that has, in each memory and at each input letter, the wanted bit of the row. Input k is variable k + 1,
-/// and the latches come after the inputs.
+/// The literal of the wanted bit of the row, for each memory state and each input letter. Input k is variable k + 1,
+/// and the variables of the latches follow those of the inputs.
 pub(crate) fn literal_of(
     alloc: Global,
     builder: &mut Builder,
@@ -49,8 +49,8 @@ pub(crate) fn literal_of(
     over_latches(builder, machine, wanted, &mut known, latches, 0)
 }
 
-/// The same for the memories whose codes have a given beginning. The code of the first of them is given, and how many
-/// latches are free.
+/// The literal of the wanted bit, for the memory states whose codes are `code` plus a number less than 2^`latches`. The
+/// lowest `latches` latches are free, and the others are fixed by `code`.
 fn over_latches(
     builder: &mut Builder,
     machine: &Machine,
@@ -83,7 +83,7 @@ fn over_latches(
     builder.mux(Literal::positive(variable), where_true, where_false)
 }
 
-/// The diagram of the memory with that code; a code of no memory stands for memory 0.
+/// The diagram of the memory state with a given code; a code that belongs to no memory state stands for memory state 0.
 fn node_at(machine: &Machine, code: usize) -> Node
     ensures node { result ≡ slice_index machine.now.nodes (memory_at (behaviour machine.now) code) }
     ensures held { IsNode machine.now.store result }
@@ -95,7 +95,8 @@ fn node_at(machine: &Machine, code: usize) -> Node
     }
 }
 
-/// The same for one memory, given its diagram. The table has the literals of earlier nodes.
+/// The literal of the wanted bit, for one memory state, given its diagram. The table `known` has the literals that were
+/// already computed for nodes.
 fn over_inputs(
     builder: &mut Builder,
     machine: &Machine,
@@ -140,7 +141,7 @@ fn over_inputs(
     }
 }
 
-/// The literal of the wanted bit of the row that a leaf names.
+/// The constant literal of the wanted bit, for the row to which a leaf refers.
 fn constant(machine: &Machine, wanted: Wanted, leaf: u64) -> Literal
     requires { wanted_place wanted < 64 }
     ensures { result ≡ (if wanted_bit wanted (row_of machine.now leaf) then 1 else 0) }
@@ -162,7 +163,7 @@ fn bit_of_row(wanted: Wanted, row: Row) -> bool
     }
 }
 
-/// The place of a proposition in a list.
+/// The index of a proposition in a list.
 fn place_among(list: &[u32], proposition: u32) -> Option<usize>
     ensures found { IfSome result (λ place. slice_get list.now place ≡ Some proposition) }
     ensures none { IfNone result (is_among proposition list.now ≡ false) }

@@ -1,4 +1,4 @@
-//! Laws on the definitions.
+//! Laws about the definitions.
 
 ghost use Rattle.std.specs.Prelude.{◌≡◌, ◌⊎◌};
 ghost use Rattle.ps_machine.specs.Behaviours.{Behaviour, IsMachine};
@@ -7,7 +7,8 @@ ghost use Rattle.ps_circuit.specs.Circuits.{CircuitData};
 ghost use Rattle.ps_aiger.specs.Encoded.{Encodes, IsTidy};
 ghost use Rattle.ps_aiger.specs.Wires.{IsOutOfLiterals, IsWired};
 
-/// Machines that do the same have at most one circuit: any two of them are equal, in everything that is printed.
+/// Machines with the same behaviour have at most one circuit: any two of their circuits are equal, in everything that
+/// is printed.
 pub fn one_circuit()
     ensures { (b o : Behaviour) (c d : CircuitData) → IsMachine b → BehavesAs b o → Encodes b c →
         IsTidy c → IsWired b c →

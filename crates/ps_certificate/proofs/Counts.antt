@@ -18,20 +18,21 @@ use Rattle.ps_certificate.proofs.Edges.{place_of, IsSomeAnd-at, Remains-own}
 use Rattle.ps_certificate.proofs.FirstFlaws.{first_of_stage, closed_has_no_flaw, stage_cases, IsClosed-from_sound}
 use Rattle.ps_certificate.proofs.Lists.{rising_far}
 
--- the lists of opposing priorities rise
+-- the opposing priorities are in ascending order
 pub opposing_rises : {game : ParityGame} {certificate : CertificateData} (player : ℕ) → Fits game certificate →
     IsStrictlyIncreasing (opposing certificate player)
 unfolding opposing
 opposing_rises {certificate} player fits = search rules
 
--- and have the priority of each vertex by which the player loses
+-- if the player loses by the priority of a vertex, that priority is one of the opposing priorities
 pub opposing_complete : {game : ParityGame} {certificate : CertificateData} (player : ℕ) → Fits game certificate →
     player < 2 → (v : ℕ) → v < vertex_count game → priority_of game v % 2 ≢ player →
     Contains (opposing certificate player) (priority_of game v)
 unfolding opposing
 opposing_complete player h k v m n = search rules
 
--- two counts and an ascending list of priorities, of which those from `start` on are at least both ends'
+-- the counts of both ends of an edge, and an ascending list of priorities; from index `start` on, the priorities are at
+-- least those of both ends
 pub record Compared (game : ParityGame) (certificate : CertificateData) (v w : ℕ) (priorities before after : List ℕ)
     (top start : ℕ) : Type 0 where
   pub priorities_are : priorities ≡ opposing certificate (winner_of certificate v)
@@ -42,12 +43,12 @@ pub record Compared (game : ParityGame) (certificate : CertificateData) (v w : �
   pub lower : (j : ℕ) → j < start → slice_index priorities j < top
   pub higher : (j : ℕ) → start ≤ j → j < length priorities → top ≤ slice_index priorities j
 
--- the count falls where the first of these is the vertex's own priority
+-- if the priority at index `start` is that of the vertex, the count at `start` falls along the edge
 abbrev pub FallsAtStart : ParityGame → ℕ → List ℕ → List ℕ → List ℕ → ℕ → Type 0
 FallsAtStart game v priorities before after start = start < length priorities →
     slice_index priorities start ≡ priority_of game v → slice_index after start < slice_index before start
 
--- below the start there is nothing to keep
+-- for priorities before index `start` the rule requires nothing
 KeepsCount-lower : {game : ParityGame} {certificate : CertificateData} {v w : ℕ} {priorities before after : List ℕ}
     {top start : ℕ} (k : ℕ) → Compared game certificate v w priorities before after top start → k < start →
     KeepsCount game certificate v w k
@@ -81,7 +82,7 @@ KeepsCount-compared {game} {certificate} {v} {w} {priorities} {before} {after} {
           }
     ]
 
--- a count that rises
+-- if the count at index `start` keeps the rule, the first count that rises along the edge is the first to break it
 pub IsFirstBroken-behind : {game : ParityGame} {certificate : CertificateData} {v w : ℕ}
     {priorities before after : List ℕ} {top start : ℕ} (place : ℕ) → Compared game certificate v w priorities before
     after top start → FallsAtStart game v priorities before after start → start ≤ place → place < length priorities →
@@ -102,7 +103,7 @@ IsFirstBroken-behind {game} {certificate} {v} {w} {priorities} {before} {after} 
       earlier = λ k early. KeepsCount-compared k compared strict (omega arith) (λ from_start. grind arith);
     }
 
--- of one edge, the least priority comes first
+-- of the priorities for which one edge breaks the rule, the smallest comes first
 same_edge : {game : ParityGame} {certificate : CertificateData} {v w p p' : ℕ} → Fits game certificate →
     IsFirstBroken game certificate v w p → BreaksCount game certificate v w p' →
     (Rank v w p ≡ Rank v w p') ⊎ Precedes game (Rank v w p) (Rank v w p')
@@ -116,7 +117,8 @@ same_edge {certificate} {v} {w} fits first other = elim (cases_order other.place
       inr (inr (refl, refl, omega (arith, less, first.priority, other.priority)))
 ]
 
--- the first broken priority of the first edge that breaks the rule is the first flaw of the vertex
+-- the first flaw of a vertex in its counts is the first edge that breaks the rule, with the first priority for which it
+-- does
 pub IsFirstFlawAt-rank : {game : ParityGame} {certificate : CertificateData} {v w p : ℕ} →
     Fits game certificate → Remains game certificate v w → winner_of certificate w ≡ winner_of certificate v →
     IsFirstBroken game certificate v w p → ((w' : ℕ) → Remains game certificate v w' → (w' ≡ w) ⊎ (KeepsCounts
@@ -142,12 +144,12 @@ pub own_edge : {game : ParityGame} {certificate : CertificateData} {v w : ℕ} �
     owner_of game v ≡ winner_of certificate v → choice_of certificate v ≡ Some w → Remains game certificate v w
 own_edge {game} {certificate} {v} {w} right own is = search (rules, Remains-own, IsSomeAnd-at)
 
--- a vertex that its winner owns has one edge that remains
+-- a vertex that its winner owns has only one remaining edge
 pub own_edges : (game : ParityGame) (certificate : CertificateData) (v : ℕ) {w : ℕ} → owner_of game
     v ≡ winner_of certificate v → choice_of certificate v ≡ Some w → {w' : ℕ} → Remains game certificate v w' → w' ≡ w
 own_edges game certificate v own is {w'} remains = search rules
 
--- after edges that keep the rule, in the order of successors
+-- if the edges before a given one keep the rule, each other edge keeps the rule or comes later
 pub other_edges : (game : ParityGame) (certificate : CertificateData) (v w number : ℕ) →
     number < length (successors_of game v) → w ≡ slice_index (successors_of game v) number →
     ((k : ℕ) → k < number → KeepsCounts game certificate v (get_or (successors_of game v) k 0)) → (w' : ℕ) → Remains
@@ -163,12 +165,12 @@ KeepsCountsAt-from_all game certificate v each w remains =
     let (j, j_within, j_is) = place_of (successors_of game v) remains.edge.1 in
     grind arith
 
--- a vertex that keeps the rule has no flaw in its counts
+-- a vertex whose edges keep the rule has no flaw in its counts
 kept_has_no_flaw : (game : ParityGame) (certificate : CertificateData) (flaw : Flaw) →
     KeepsCountsAt game certificate (vertex_of flaw) → IsFlaw game certificate flaw → stage_of flaw ≡ 1 → ⊥
 kept_has_no_flaw game certificate flaw h k m = search rules
 
--- the first flaw in the counts of a closed certificate is the first of all
+-- in a closed certificate, the first flaw in the counts is the first of all flaws
 pub first_unranked : {game : ParityGame} {certificate : CertificateData} {v : ℕ} {flaw : Flaw} →
     IsClosed game certificate → ((u : ℕ) → u < v → KeepsCountsAt game certificate u) →
     IsFirstFlawAt game certificate 1 v flaw → IsFirstFlaw game certificate flaw
@@ -186,7 +188,7 @@ pub valid_has_no_flaw : {game : ParityGame} {certificate : CertificateData} (fla
     IsFlaw game certificate flaw → ⊥
 valid_has_no_flaw flaw h k = search (rules, closed_has_no_flaw)
 
--- a certificate whose vertices are all sound, with no flaw found in counts
+-- a certificate is valid if all its vertices are sound and no flaw was found in its counts
 pub valid_in_the_end : {game : ParityGame} {certificate : CertificateData} (n : ℕ) {found : Option Flaw} →
     vertex_count game ≤ n → ((v : ℕ) → v < n → IsSoundAt game certificate v) →
     IfNone found (KeepCountsBefore game certificate n) → found ≡ None → IsValid game certificate

@@ -1,4 +1,4 @@
--- Edges by their places in the lists of successors.
+-- Edges by their indices in the lists of successors.
 use Rattle.std.proofs.Common.{◌≡◌, ◌≢◌, ℕ, ◌<◌, ◌∙◌, List, length, get_or, sym, ap, arith, Option, Some, subst, rules}
 use Rattle.std.specs.Prelude.{slice_index, IsSomeAnd}
 use Rattle.std.specs.List.{Contains}
@@ -15,7 +15,7 @@ Contains-at xs k {x} within is = (k, within, get_or_default xs k x 0 within ∙ 
 pub place_of : (xs : List ℕ) {x : ℕ} → Contains xs x → (k : ℕ) × (k < length xs) × (slice_index xs k ≡ x)
 place_of xs {x} (k, within, is) = (k, within, get_or_default xs k 0 x within ∙ is)
 
--- an edge by its place
+-- the vertex at an index of the list of successors is the end of an edge
 pub HasEdge-at : (game : ParityGame) (v k : ℕ) {w : ℕ} → v < vertex_count game → k < length (successors_of game v) →
     w ≡ slice_index (successors_of game v) k → HasEdge game v w
 HasEdge-at game v k in_range within is = (in_range, Contains-at (successors_of game v) k within is)
@@ -27,7 +27,7 @@ pub has_entry : {game : ParityGame} (certificate : CertificateData) →
 has_entry {game} certificate well each v k {w} in_range within is = let below : w < vertex_count game =
     well.within v w (HasEdge-at game v k in_range within is) in omega (arith, each)
 
--- each edge of a vertex of the loser remains
+-- each edge that leaves a vertex of the loser remains
 pub Remains-other : (game : ParityGame) (certificate : CertificateData) (v w : ℕ) →
     owner_of game v ≢ winner_of certificate v → HasEdge game v w → Remains game certificate v w
 Remains-other game certificate v w other edge = record { edge = edge; chosen = λ own. absurd (other own) }
@@ -40,7 +40,7 @@ Remains-own game certificate v is edge = record { edge = edge; chosen = λ _. is
 pub IsSomeAnd-at : {A : Type 0} {o : Option A} (P : A → Type 0) {x : A} → o ≡ Some x → IsSomeAnd o P → P x
 IsSomeAnd-at {A} P is holds = let F : Option A → Type 0 = λ p. IsSomeAnd p P in subst F is holds
 
--- what an option holds
+-- the value that an option holds
 pub some_of : {A : Type 0} (o : Option A) (P : A → Type 0) → IsSomeAnd o P → (x : A) × (o ≡ Some x) × P x
 some_of o P h = search rules
 
@@ -55,12 +55,12 @@ pub HasWrongMove-from_not_right : (game : ParityGame) (certificate : Certificate
 HasWrongMove-from_not_right game certificate v not_right =
     grind (arith, cases_eq (owner_of game v) (winner_of certificate v))
 
--- and a right one is not
+-- a move that is right is not wrong
 pub not_wrong_when_right : {game : ParityGame} {certificate : CertificateData} {v : ℕ} →
     HasRightMove game certificate v → HasWrongMove game certificate v → ⊥
 not_wrong_when_right h k = search rules
 
--- the first successor with the other winner is the first escape
+-- if a successor is the first that has the other winner, its edge is the first escape
 pub IsFirstEscape-at : {game : ParityGame} {certificate : CertificateData} {v : ℕ} (k : ℕ) {w : ℕ} → v <
     vertex_count game → owner_of game v ≢ winner_of certificate v → k < length (successors_of game v) → w ≡ slice_index
     (successors_of game v) k → ((j : ℕ) → j < k → winner_of certificate (get_or (successors_of game v) j 0)
@@ -72,7 +72,7 @@ IsFirstEscape-at {game} {certificate} {v} k {w} in_range other_owner within is b
       grind (arith, cases_order);
 }
 
--- if no successor has the other winner, the edges that remain stay inside
+-- if no successor has the other winner, the remaining edges stay with the winner
 pub StaysInside-from_all : (game : ParityGame) (certificate : CertificateData) (v : ℕ) →
     ((j : ℕ) → j < length (successors_of game v) → winner_of certificate (get_or (successors_of game v) j 0) ≡ winner_of
     certificate v) → StaysInside game certificate v

@@ -1,4 +1,4 @@
--- How moves, the lines of vertices and the text are read, and how reading them fails.
+-- How moves, the lines of vertices and the whole text are read, and how reading them fails.
 --     choice_dash, choice_fails, choice_reads      a move
 --     past_id, .., entry_reads      the line of a vertex, after the fields that were read
 --     past_first, .., head_read      what precedes these lines, after the parts that were read
@@ -65,7 +65,7 @@ module _ (ids : List ℕ) (old : Stream Seen) where
   choice_reads h {new = new} m e = subst (λ v. Reads (choice ids) old v new) (sym e)
       (reads_as (no_dash h) (reads_mapped (vertex_of ids) m))
 
--- the place of an id is its vertex
+-- the index of an id is the number of its vertex
 first_same : (id : ℕ) (ids : List ℕ) → prefix_len (λ other. not (eqb id other)) ids ≡ prefix_len
     (λ other. not (eqb other id)) ids
 first_same id ids = search (rules, nat_tests)
@@ -79,7 +79,7 @@ module _ (compact : Bool) (odd even ids : List ℕ) (id : ℕ) where
   abbrev line : Field EntryData
   line = entry compact odd even ids id
 
-  -- what is left of the line after the fields that were read
+  -- what remains of the line after the fields that were read
   module _ {old s1 : Stream Seen} {n : ℕ} (m1 : Reads (number (λ n. n ≡ id → ⊥)) old n s1) where
     pub past_id : Left line old (behind_id compact odd even ids) s1
     past_id = past (chain_id compact odd even ids id) unread m1

@@ -1,4 +1,4 @@
--- What is read fits the game.
+-- The certificate that a text describes fits the game.
 use Rattle.std.proofs.Common.{◌≡◌, ℕ, zero, suc, ◌<◌, Bool, true, false, List, [], ◌∷◌, length, Option, ap, ◌∙◌, sym}
 use Rattle.std.proofs.Common.{subst, rules}
 use Rattle.std.specs.Prelude.{IfSome, All}

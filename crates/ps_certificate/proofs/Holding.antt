@@ -1,5 +1,6 @@
--- A valid certificate's moves win each loop: along the edges that remain the count for the loop's
--- priority never rises, and where the loop meets that priority it falls; but both ends are one vertex.
+-- The moves of a valid certificate win every loop of a path that follows them. Suppose that the winner loses a loop.
+-- Along the edges of the loop, the count for the loop's priority never rises, and it falls at the vertex that has that
+-- priority. But the loop ends at the vertex where it begins, so the count is the same at both ends.
 use Rattle.std.proofs.Common.{◌≡◌, ◌≢◌, ℕ, ◌+◌, ◌-◌, ◌%◌, ◌<◌, ◌≤◌, ◌∙◌, List, length, inl, inr, sym, ap, arith, zero}
 use Rattle.std.proofs.Common.{suc, rules}
 use Rattle.std.specs.Prelude.{slice_index}
@@ -16,14 +17,14 @@ use Rattle.ps_certificate.proofs.Edges.{place_of}
 use Rattle.ps_certificate.proofs.Counts.{opposing_complete}
 use Rattle.ps_certificate.proofs.Keeping.{path_stays, BothKeep-from_closed}
 
--- numbers that do not rise from each place to the next
+-- if numbers never rise from one index to the next, the last number is at most the first
 pub never_rises_along : (f : ℕ → ℕ) (i d : ℕ) → ((k : ℕ) → i ≤ k → k < i + d → f (k + 1) ≤ f k) → f (i + d) ≤ f i
 never_rises_along f i zero step = (let e : f (i + 0) ≡ f i = ap f (omega arith) in omega arith)
 never_rises_along f i (suc d) step =
     let before : f (i + d) ≤ f i = never_rises_along f i d (λ k after below. step k after (omega arith)) in
     grind arith
 
--- and fall once, end lower
+-- if numbers never rise from one index to the next, and fall once, the last number is less than the first
 pub falls_in_the_end : (f : ℕ → ℕ) (i j m : ℕ) → i ≤ m → m < j → ((k : ℕ) → i ≤ k → k < j → f (k + 1) ≤ f k) →
     f (m + 1) < f m → f j < f i
 falls_in_the_end f i j m after below step falls =
@@ -32,7 +33,7 @@ falls_in_the_end f i j m after below step falls =
     never_rises_along f (m + 1) (j - (m + 1)) (λ k k_after k_below. step k (omega arith) (omega arith)) in
     grind arith
 
--- a loop that the player loses, and the place of its priority among those by which the player loses
+-- a loop that the player loses, and the index of the loop's priority among the priorities by which the player loses
 record LostLoop (game : ParityGame) (certificate : CertificateData) (player : ℕ) (path : List ℕ)
     (i j place : ℕ) : Type 0 where
   pub fits : Fits game certificate
@@ -44,7 +45,7 @@ record LostLoop (game : ParityGame) (certificate : CertificateData) (player : �
   pub within : place < length (opposing certificate player)
   pub is : slice_index (opposing certificate player) place ≡ loop_priority game path i j
 
--- no vertex of the loop has a greater priority, its end included
+-- no vertex of the loop, including its end, has a greater priority
 bounded : (game : ParityGame) (certificate : CertificateData) (player : ℕ) (path : List ℕ) (i j place : ℕ) →
     LostLoop game certificate player path i j place → (k : ℕ) → i ≤ k → k ≤ j →
     priority_of game (slice_index path k) ≤ loop_priority game path i j
@@ -58,13 +59,13 @@ winner_along : {game : ParityGame} {certificate : CertificateData} {player : ℕ
     winner_of certificate (slice_index path k) ≡ player
 winner_along {game} {certificate} {player} {path} lost k before = search (rules, path_stays)
 
--- the opposing priority at the place, at each vertex of the loop
+-- at each vertex of the loop, the opposing priority with that index is the loop's priority
 at_place : {game : ParityGame} {certificate : CertificateData} {player : ℕ} {path : List ℕ} {i j place : ℕ} →
     LostLoop game certificate player path i j place → (k : ℕ) → k ≤ j →
     opposing_at certificate (slice_index path k) place ≡ loop_priority game path i j
 at_place {certificate} {place} lost k before = grind (arith, winner_along lost k before)
 
--- each step of the loop keeps the rule for its priority
+-- each step of the loop keeps the rule of counts for the loop's priority
 step_keeps : {game : ParityGame} {certificate : CertificateData} {player : ℕ} {path : List ℕ} {i j place : ℕ} →
     LostLoop game certificate player path i j place → (k : ℕ) → i ≤ k → k < j →
     KeepsCount game certificate (slice_index path k) (slice_index path (k + 1)) place
@@ -82,7 +83,7 @@ step_at_most {game} {certificate} {player} {path} {i} {j} {place} lost k after b
   step_keeps lost k after below,
 )
 
--- so there is no such loop
+-- the player loses no loop
 no_lost_loop : {game : ParityGame} {certificate : CertificateData} {player : ℕ} {path : List ℕ} {i j place : ℕ} →
     LostLoop game certificate player path i j place → ⊥
 no_lost_loop {game} {certificate} {player} {path} {i} {j} {place} lost =

@@ -1,4 +1,4 @@
--- A closed certificate's regions keep the paths that follow its moves.
+-- Paths that follow the moves of a closed certificate stay in their region.
 use Rattle.std.proofs.Common.{◌≡◌, ℕ, ◌<◌, List, length, arith, zero, suc, rules}
 use Rattle.std.specs.Prelude.{slice_index}
 use Rattle.std.proofs.lemmas.Bool.{eqb-true, eq-eqb}
@@ -7,7 +7,7 @@ use Rattle.ps_game.specs.Plays.{IsPath, Follows}
 use Rattle.ps_certificate.specs.Certificates.{CertificateData, IsClosed, winner_of, choice_of}
 use Rattle.ps_certificate.specs.Regions.{BothKeep}
 
--- each vertex of such a path has the same winner
+-- each vertex of a path that follows the winner's moves has the same winner
 pub path_stays : (game : ParityGame) (certificate : CertificateData) (player : ℕ) (path : List ℕ) → IsClosed
     game certificate → IsPath game path → Follows game player (choice_of certificate) path → winner_of certificate
     (slice_index path 0) ≡ player → (k : ℕ) → k < length path → winner_of certificate (slice_index path k) ≡ player

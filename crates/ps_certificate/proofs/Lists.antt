@@ -1,4 +1,4 @@
--- Rising lists, searches in them, and parts of lists.
+-- Ascending lists, searches in them, and parts of lists.
 use Rattle.std.proofs.Common.{◌≡◌, ℕ, ◌<◌, ◌≤◌, List, length, get_or, arith, zero, suc, Result, true}
 use Rattle.std.proofs.Common.{false, replicate, rules}
 use Rattle.std.specs.Prelude.{slice_index}
@@ -20,18 +20,18 @@ pub rising_near : (xs : List ℕ) → IsStrictlyIncreasing xs → (i j : ℕ) �
     slice_index xs i ≤ slice_index xs j
 rising_near xs rising i j at_most within = search (rules, cases_eq, rising_far)
 
--- what a binary search of an ascending list answers
+-- what the result of a binary search of an ascending list means
 pub search_result : (xs : List ℕ) (x : ℕ) (r : Result ℕ ℕ) → IsStrictlyIncreasing xs →
     IsBinarySearchResult (λ y. nat_cmp y x) xs r → MatchResult r (λ i. (i < length xs) × (get_or xs i 0 ≡ x)) (λ i.
     (i ≤ length xs) × ((k : ℕ) → k < i → get_or xs k 0 < x) × ((k : ℕ) → i ≤ k → k < length xs → x < get_or xs k 0))
 search_result xs x r rising answer = searched xs x r answer (rising_near xs rising)
 
--- if a search ends between smaller and greater numbers, the number is not in the list
+-- if the numbers before some index are smaller than x, and all others are greater, x is not in the list
 pub not_between : (xs : List ℕ) (x i : ℕ) → ((k : ℕ) → k < i → get_or xs k 0 < x) →
     ((k : ℕ) → i ≤ k → k < length xs → x < get_or xs k 0) → Contains xs x → ⊥
 not_between xs x i below above (k, within, is) = grind (arith, get_or_default xs k 0 x within, cases_lt k i)
 
--- nothing is marked in a fresh table
+-- a new table has no marks
 pub nothing_marked : (n k : ℕ) → get_or (replicate n false) k false ≡ true → ⊥
 nothing_marked zero k marked = cc
 nothing_marked (suc n) zero marked = cc

@@ -1,8 +1,7 @@
--- What a loop of the reader has read, and what it still reads.
---     fails      the exit of a `?`, where the part's first fault was found
---     word_next, word_fails, word_ends      a word, byte by byte
+-- What a loop of the parser has read, and what it has yet to read.
+--     fails      the exit of a `?`, at the first error of the part
 --     priorities_fail, priorities_end      the numbers of a line of priorities
---     Listing      what is left is read, after a front of a list
+--     Listing      the rest of a list is yet to be read, after its front
 use Rattle.std.proofs.Common.{◌≡◌, ℕ, suc, ◌+◌, ◌-◌, ◌<◌, ◌≤◌, Bool, true, false, not, eqb, List, [], ◌∷◌, ◌++◌, length}
 use Rattle.std.proofs.Common.{get_or, drop, Option, Some, Result, Ok, Err, IsErrAnd, sym, subst, append_assoc, arith}
 use Rattle.std.proofs.Common.{rules}
@@ -43,7 +42,7 @@ module _ (ps : List ℕ) where
   listed_reads {old} {new} m k e = subst (λ xs. Reads (priority ps) old xs new) (sym e)
       (reads_then (chain_listed ps).joint m (reads_mapped (λ _. drop 1 ps) k))
 
-  -- what the test of the next number says
+  -- the test of the next number decides whether it is the first of the list
   pub is_not_next : (n : ℕ) {o : Option ℕ} → o ≡ slice_get ps 0 → true ≡ not (option_eq eqb o (Some n)) → NotNext ps n
   is_not_next n {o} e h is = search (rules, eq-eqb)
 
@@ -74,7 +73,7 @@ abbrev pub behind : {A : Type 0} → List A → Result (List A) (Option (Found C
 behind front (Ok others) = Ok (front ++ others)
 behind front (Err o) = Err o
 
--- reading the rest gives what is left of the whole, whose front was read
+-- reading the rest of a list gives the elements of the whole list that follow those already read
 pub record Listing {A : Type 0} (whole : Field (List A)) (start : Stream Seen) (rest : Field (List A))
     (now : Stream Seen) (front : List A) : Type 0 where
   pub carries : (r : Result (List A) (Option (Found CertCause))) (new : Stream Seen) → Goes causes rest now r new

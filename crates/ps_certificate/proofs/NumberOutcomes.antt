@@ -1,6 +1,6 @@
--- Numbers are lawful: what they are judged by is decided, so that a number has an outcome from each list of signs.
---     judged_by, number_by      a number that is judged; one of which some values are another game's
---     decide_next, judge_priority, judge_zero, judge_missing      what is wrong with numbers, and with a line's end
+-- Numbers are lawful. Each condition on a number is decidable, so that a number has an outcome from each list of signs.
+--     judged_by, number_by      a number with a condition; a number of which some values are another game's
+--     decide_next, judge_priority, judge_zero, judge_missing      the errors of numbers, and of the end of a line
 use Rattle.std.proofs.Common.{◌≡◌, ℕ, ◌^◌, ◌<◌, ◌≤◌, ◌⊎◌, List, [], ◌∷◌, length, drop, refl, inl, inr, arith, rules}
 use Rattle.std.specs.List.{Contains}
 use Rattle.std.proofs.lemmas.Bool.{cases_lt, cases_eq}
@@ -32,7 +32,7 @@ no_length [] l = refl
 no_length (x ∷ xs) l = absurd (omega (arith, l))
 
 module _ (Wrong : Verdict) (settled : Settled Wrong) where
-  -- what a number is judged by decides its outcome
+  -- if the condition on a number is decidable, the number has an outcome
   module _ (judge : (more : List ℕ) (n : ℕ) → Judged cause_number (Wrong more n)) where
     here : (all : List Seen) (f : CertCause) → IsFaultAt causes (judged Wrong) [] (first_of all) f →
         Outcome causes (judged Wrong) all
@@ -75,7 +75,7 @@ module _ (Wrong : Verdict) (settled : Settled Wrong) where
     pub judged_by : Lawful (judged Wrong) AtDigit AtDigit ⊥
     judged_by = record { laws = laws_judged Wrong; has = has_judged }
 
--- ## What a number is judged by
+-- ## The conditions on numbers
 
 decide_end : (bytes : List ℕ) → Decided (EndsField bytes)
 decide_end [] = inr (λ h. h)

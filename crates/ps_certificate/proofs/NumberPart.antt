@@ -36,12 +36,12 @@ dropped zero at bytes = let e : at ≡ at + 0 = omega arith in ap (λ a. signs (
 dropped (suc n) at [] = refl
 dropped (suc n) at (b ∷ bytes) = grind (arith, dropped n (at + 1) bytes)
 
--- ## What is wrong with the number that bytes begin with
+-- ## The errors of the number with which bytes begin
 
 abbrev pub run_length : List ℕ → ℕ
 run_length bytes = length (numeral bytes)
 
--- if the verdict says something about a number, it is the longest one: something ends it, or it is 0
+-- a verdict rejects a number only if the end of a field follows the number, or if the number is 0
 abbrev pub Settled : Verdict → Type 0
 Settled Wrong = (more : List ℕ) (n : ℕ) (f : CertCause) → Wrong more n f → EndsField more ⊎ (n ≡ 0)
 
@@ -90,7 +90,7 @@ wrong_run_is {bytes} e l w = grind (arith, numeral_split bytes, numeral_plain by
 one_byte : (b : ℕ) (more : List ℕ) → IsPlainNumber (b ∷ more) → IsPlainNumber (b ∷ [])
 one_byte b more h = plain_front (b ∷ []) more (omega arith) h
 
--- the first sign is a digit, and there is no cause at it
+-- the bytes begin with a digit, and their number has no error
 module _ (Wrong : Verdict) (settled : Settled Wrong) (t : Seen) (after : List Seen)
     (long : 0 < run_length (t.byte ∷ t.behind))
     (right : (f : CertCause) → IsWrongRun Wrong (t.byte ∷ t.behind) f → ⊥) where
@@ -161,7 +161,7 @@ read_run {Wrong} settled at (b ∷ more) {n} {rest} long value small behind righ
     none : (f : CertCause) → IsWrongRun Wrong (b ∷ more) f → ⊥
     none f h = grind arith
 
--- the number is the longest one that its bytes begin with
+-- the number that was read is the longest one with which the bytes begin
 module _ {old new : Stream Seen} {n : ℕ} (r : IsNumberRead old new n) where
   abbrev pub read_bytes : List ℕ
   read_bytes = r.digits ++ r.rest
@@ -198,7 +198,7 @@ judged_begins Wrong = record {
   is_text = (numeral_plain (48 ∷ []) (omega arith), refl);
 }
 
--- the cause or the refusal at the first sign
+-- an error of a part at the first sign is the first error of the part
 pub at_front : {V : Type 0} {P : Field V} {all : List Seen} {f : CertCause} →
     IsFaultAt causes P [] (first_of all) f → IsFault causes P all f all
 at_front h = record { front = []; split = refl; clean = λ front more t g e l c. absurd (omega (arith, l)); fault = h }
@@ -214,7 +214,7 @@ stops_there {P = P} {old = old} at ahead {f = f} e h = record {
   offset = refl;
 }
 
--- no number begins there
+-- the bytes don't begin with a number
 pub nothing_there : (Wrong : Verdict) (at : ℕ) (bytes : List ℕ) → numeral bytes ≡ []
     → IsFaultAt causes (judged Wrong) [] (first_of (signs (pieces_at at bytes))) Syntax
 nothing_there Wrong at [] e = grind (arith, judged_begins Wrong, stops)
@@ -234,7 +234,7 @@ too_large Wrong at [] l h = absurd (omega arith)
 too_large Wrong at (b ∷ bytes) l h = let sign : Seen = record { byte = b; at = at; behind = bytes } in
     is_cause sign refl (refl, wrong_run_is refl l (inl (refl, h))) (λ g c. syntax_least g)
 
--- a number of which the verdict speaks
+-- the verdict rejects a number
 pub wrong_number : {Wrong : Verdict} → Settled Wrong → (at : ℕ) (bytes : List ℕ) {n : ℕ} {rest : List ℕ}
     {f : CertCause} → 0 < run_length bytes → decimal_value (numeral bytes) ≡ n → n < 2 ^ 64 → drop (run_length bytes)
     bytes ≡ rest → Wrong rest n f → ((g : CertCause) → Wrong rest n g → cause_number f ≤ cause_number g) →
@@ -268,7 +268,7 @@ judged_wrong settled f r wrong first is =
     stops_at_place (stops_there r.at (read_bytes r) r.old_is (wrong_number settled r.at (read_bytes r)
     (read_long r) (read_value r) r.small (read_behind r) wrong first)) is
 
--- a number that is complete and not the game's
+-- a number, if `Wrong` states which numbers are not the game's
 module _ (Wrong : ℕ → Type 0) {old new : Stream Seen} {n : ℕ} (r : IsNumberRead old new n) where
   pub number_reads : (EndsField r.rest → Wrong n → ⊥) → Reads (number Wrong) old n new
   number_reads right = judged_reads (OfOtherGame Wrong) (settled_other Wrong) r (λ f w. right w.1 w.2)

@@ -1,4 +1,4 @@
--- Of two different flaws at most one comes before the other, so there is one first flaw.
+-- Of two different flaws, at most one comes before the other, so the first flaw is unique.
 use Rattle.std.proofs.Common.{◌≡◌, ◌≢◌, ℕ, ◌<◌, List, length, rules}
 use Rattle.std.specs.Prelude.{slice_index}
 use Rattle.std.specs.List.{AllPairs}
@@ -8,7 +8,7 @@ use Rattle.ps_certificate.specs.declared.flaw.Flaw.{Flaw}
 use Rattle.ps_certificate.specs.Certificates.{CertificateData, IsFlaw, StandsBefore, EdgePrecedes, Precedes}
 use Rattle.ps_certificate.specs.Certificates.{IsFirstFlaw}
 
--- in a list of different numbers a number has one place
+-- a list of different numbers has each number at only one index
 one_place : (xs : List ℕ) → AllPairs (λ x y. x ≢ y) xs → {i j : ℕ} → i < length xs → j < length xs →
     slice_index xs i ≡ slice_index xs j → i ≡ j
 one_place xs different {i} {j} i_within j_within same = search (rules, cases_order)

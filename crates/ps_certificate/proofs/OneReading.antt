@@ -1,4 +1,4 @@
--- A text has one answer for a game, and it has one.
+-- A text has exactly one answer for a game.
 use Rattle.std.proofs.Common.{◌≡◌, ℕ, suc, ◌<◌, ◌≤◌, List, [], ◌∷◌, Result, refl, ap₂, arith, rules}
 use Rattle.std.specs.List.{All, AllPairs, Contains}
 use Rattle.std.proofs.lemmas.List.Elements.{All-contains}
@@ -18,7 +18,7 @@ use Rattle.ps_text.specs.Bytes.{stream_at}
 use Rattle.ps_certificate.specs.Texts.{causes, certificate, ReadsCertificate}
 use Rattle.ps_certificate.proofs.TextLaws.{lawful_certificate}
 
--- each number is below all that follow it
+-- each number is less than all the numbers after it
 abbrev pub Rises : List ℕ → Type 0
 Rises [] = Unit {0}
 Rises (x ∷ xs) = All (λ y. x < y) xs × Rises xs
@@ -45,7 +45,7 @@ above x xs p r c = omega (arith, r.0 c.0 p c.1, c.2)
 abbrev Within : List ℕ → List ℕ → Type 0
 Within xs ys = (p : ℕ) → Contains xs p → Contains ys p
 
--- ascending lists of the same numbers are the same
+-- ascending lists of the same numbers are equal
 same_list : (xs ys : List ℕ) → Rises xs → Rises ys → Within xs ys → Within ys xs → xs ≡ ys
 same_list [] [] r s a b = refl
 same_list [] (y ∷ ys) r s a b = absurd (omega (arith, (b y (head_in y ys)).1))
@@ -80,7 +80,7 @@ one_reading game text answer other a b =
     other a.answers
     (grind (arith, one_list b.odd_listed a.odd_listed, one_list b.even_listed a.even_listed))
 
--- the priorities of the game are listed, and the grammar has an outcome
+-- a text has an answer for a game
 pub some_reading : (game : NamedGameData) (text : List ℕ) → (answer : Result CertificateData (Found CertCause)) ×
     ReadsCertificate game text answer
 some_reading game text =

@@ -1,5 +1,6 @@
--- Valid certificates of one game have the same winners: else a play by the moves of both, from a vertex that one player
--- wins by the one and the other player by the other, would have a loop that both win.
+-- Valid certificates of one game have the same winners. Suppose that one certificate gives a vertex to one player, and
+-- the other certificate gives it to the other player. If each player moves by the certificate that gives the vertex to
+-- that player, the play has a loop that both players win, which is impossible.
 use Rattle.std.proofs.Common.{◌≡◌, ◌≢◌, ◌∙◌, ℕ, zero, suc, ◌+◌, ◌%◌, ◌<◌, inl, inr, Bool, true, false, List, [], ◌∷◌}
 use Rattle.std.proofs.Common.{length, Option, Some, refl, sym, ap, subst, arith, eqb, rules}
 use Rattle.std.specs.Prelude.{IsSomeAnd, IfSome, slice_index, unwrap_or}
@@ -13,14 +14,14 @@ use Rattle.ps_certificate.proofs.Holding.{BothHold-from_valid}
 some_and : (P Q : ℕ → Type 0) (o : Option ℕ) → IsSomeAnd o P → IfSome o Q → (w : ℕ) × (o ≡ Some w) × P w × Q w
 some_and P Q o h k = search rules
 
--- the winner's move, if the winner moves there
+-- the winner's move, if the winner owns the vertex
 given : (game : ParityGame) (certificate : CertificateData) → Fits game certificate → IsValid game certificate →
     (v : ℕ) → v < vertex_count game → owner_of game v ≡ winner_of certificate v
     → (w : ℕ) × (choice_of certificate v ≡ Some w) × HasEdge game v w × (w < vertex_count game)
 given game certificate fits valid v within own = some_and (HasEdge game v) (λ w. w < vertex_count game)
     (choice_of certificate v) ((valid.closed.moves v within).own own) (fits.choices v within)
 
--- steps from a vertex
+-- the first vertices of the play from a vertex
 steps : (ℕ → ℕ) → ℕ → ℕ → List ℕ
 steps next v zero = []
 steps next v (suc n) = v ∷ steps next (next v) n
@@ -57,7 +58,7 @@ module _ (game : ParityGame) (one other : CertificateData) (owners : (v : ℕ) �
   next_if true v = unwrap_or (choice_of one v) 0
   next_if false v = unwrap_or (choice_of other v) 0
 
-  -- p moves by the one certificate, and q by the other
+  -- player p moves by the first certificate, and player q by the other
   next : ℕ → ℕ
   next v = next_if (eqb (owner_of game v) p) v
 

@@ -1,4 +1,4 @@
--- What the loop over the pairs of a line has read, and what it still reads.
+-- What the loop over the pairs of a line has read, and what it has yet to read.
 use Rattle.std.proofs.Common.{◌≡◌, ℕ, zero, suc, ◌<◌, true, cond, eqb, List, [], ◌∷◌, length, get_or, Option, Some}
 use Rattle.std.proofs.Common.{None, Ok, refl, sym, ap₂, subst, arith, rules}
 use Rattle.std.specs.Prelude.{map, set, slice_index, replicate}
@@ -24,14 +24,14 @@ use Rattle.ps_certificate.proofs.TextLaws.{digit_no_space, behind_space, laws_pa
 use Rattle.ps_certificate.proofs.OneReading.{Rises, rises}
 use Rattle.ps_text.proofs.Bytes.Single.{avoids, enters_byte}
 
--- ## A count that is put into its place
+-- ## Storing a count at its index
 
 same_map : (f g : ℕ → ℕ) (ps : List ℕ) → All (λ p. f p ≡ g p) ps → map f ps ≡ map g ps
 same_map f g [] h = refl
 same_map f g (p ∷ ps) h = ap₂ (λ (x : ℕ) (xs : List ℕ). x ∷ xs) (All-head (λ p. f p ≡ g p) p ps h)
     (same_map f g ps (All-tail (λ p. f p ≡ g p) p ps h))
 
--- a function that has another value at one number
+-- a function that was changed at one number
 abbrev pub put : (ℕ → ℕ) → ℕ → ℕ → ℕ → ℕ
 put f p m q = cond (eqb q p) m (f q)
 
@@ -46,7 +46,7 @@ set_is_put f m (q ∷ ps) (suc k) r lt = grind (arith, set_is_put f m ps k r.1 (
 
 -- ## The loop
 
--- what was read so far
+-- the pairs that were read so far
 pub record PairsSoFar (ps : List ℕ) (start : Stream Seen) (now : Stream Seen) (last : Option ℕ)
     (counts : List ℕ) : Type 0 where
   pub pairs : Pairs
@@ -63,12 +63,12 @@ no_pairs_yet {ps} {start} {n} e = record {
   carries = carries_start causes (many (pair ps) no_pairs) start;
 }
 
--- what a pair says, after any pairs with that last priority
+-- after every list of pairs with the given last priority, one more pair was read
 abbrev pub ReadsPair : List ℕ → Option ℕ → Stream Seen → ℕ → ℕ → Stream Seen → Type 0
 ReadsPair ps last old p m new = (pairs : Pairs) → pairs.last ≡ last
     → Reads (pair ps pairs) old (with_pair pairs p m) new
 
--- a pair leaves fewer bytes
+-- reading a pair leaves fewer bytes
 pub pair_shrinks : (ps : List ℕ) (last : Option ℕ) (now next : Stream Seen) (p m : ℕ) → ReadsPair ps last now p m next
     → length next.pieces < length now.pieces
 pair_shrinks ps last now next p m read = let pairs : Pairs = record { last = last; count = λ _. 0 } in

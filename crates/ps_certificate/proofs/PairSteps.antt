@@ -1,6 +1,6 @@
 -- How the pair of a priority and its count is read, and how reading it fails.
 --     zero_fails, positive_reads      a count, which must not be 0
---     priority_fails, priority_open, priority_low, priority_unknown, priority_reads      its priority
+--     priority_fails, priority_open, priority_low, priority_unknown, priority_reads      the priority of a count
 --     past_priority, past_colon, pair_priority      the pair
 use Rattle.std.proofs.Common.{◌≡◌, ℕ, ◌≤◌, ◌⊎◌, true, false, List, Option, Some, ap, ◌∙◌, Result, Err, IsErrAnd, refl}
 use Rattle.std.proofs.Common.{sym, subst, inl, inr, arith, rules}
@@ -101,7 +101,7 @@ priority_exits ps pairs old new e r m i = search (rules, err_from_is_err_and)
 
 -- ## The pair
 
--- what is left of it after its space, its priority and its colon
+-- what remains of the pair after its space, its priority and its colon
 module _ (ps : List ℕ) (pairs : Pairs) {old mid : Stream Seen} (m : Reads {F = CertCause} (byte 32) old tt mid) where
   past_space : Left (pair ps pairs) old (behind_space ps pairs) mid
   past_space = past (chain_pair ps pairs) unread m

@@ -1,4 +1,4 @@
--- What is written is read again.
+-- Parsing the text that was written for a certificate gives that certificate.
 
 pub mod WritingSteps
 pub mod CountsOfPairs

@@ -1,4 +1,4 @@
--- Rows that keep the counts that are not 0.
+-- Rows that store only their nonzero counts.
 
 pub mod Sparse
 pub mod Lines

@@ -1,8 +1,8 @@
--- How the reader's functions read their parts of the text, and fail at them, byte by byte.
+-- How the functions of the parser read their parts of a text byte by byte, and how they fail.
 --     two_first, two_second, two_fails      one of two bytes
 --     zero_passed, digits_passed, none_passed      a number, or none
---     end_reads, end_missing, end_fails      the end of a line of priorities, where some of these are left
---     ends_true, ends_false      what the test of a field's end says
+--     end_reads, end_missing, end_fails      the end of a line of priorities, when some priorities may be missing
+--     ends_true, ends_false      the test for the end of a field
 use Rattle.std.proofs.Common.{◌≡◌, ℕ, ◌+◌, ◌^◌, ◌<◌, ◌≤◌, ◌⊎◌, Bool, true, false, List, [], ◌∷◌, ◌++◌, length, take}
 use Rattle.std.proofs.Common.{Some, refl, sym, ap, inl, inr, ◌∙◌, arith, rules}
 use Rattle.std.proofs.Math.Seq.{take-append_seam}
@@ -82,7 +82,7 @@ module _ {old new : Stream Seen} {digits : List ℕ} (other : next_byte old ≡ 
   no_zero at [] e = refl
   no_zero at (b ∷ more) e = ne_eqb b 48 (λ z. other (next_at old at (b ∷ more) e ∙ ap Some z))
 
-  -- digits that don't begin with 0 are the longest number
+  -- a maximal run of digits that doesn't begin with 0 is the longest number
   whole_run : numeral (digits ++ x.rest) ≡ digits
   whole_run = rw (no_zero x.at (digits ++ x.rest) x.old_is)
       (ap (λ n. take n (digits ++ x.rest)) (run_len is_ascii_digit digits x.rest x.all x.longest) ∙

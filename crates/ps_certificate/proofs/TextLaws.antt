@@ -1,6 +1,6 @@
--- The parts of a certificate text are lawful (`ps_text`): with which signs a part begins, and with which it continues.
--- Only numbers and moves continue, with digits, and what follows them begins with a space or a newline. A chain is
--- named after its first part.
+-- The parts of a certificate text are lawful (`ps_text`): the lemmas state with which signs a part begins, and with
+-- which signs it can continue. Only numbers and moves can continue, with digits, and the part after them begins with a
+-- space, a colon or a newline. A chain is named after its first part.
 use Rattle.std.proofs.Common.{◌≡◌, ℕ, zero, suc, ◌⊎◌, Bool, true, false, cond, eqb, List, [], ◌∷◌, length, drop, Option}
 use Rattle.std.proofs.Common.{Some, None, refl, ap, inl, inr, arith, rules}
 use Rattle.std.specs.Prelude.{codes, map}
@@ -45,13 +45,13 @@ digit_no_colon t d e = omega (arith, e, d.1)
 numbers_end : Apart (Or AtDigit (At 32)) (At 10)
 numbers_end = search rules
 
--- a space, and what follows it
+-- a space, and then another part
 spaced : {B : Type 0} {Q : Unit {0} → Field B} {First More : Seen → Type 0} {Null : Type 0} →
     ((u : Unit {0}) → Lawful (Q u) First More Null) → Chain (byte 32) Q Separates More ⊥
 spaced q = chained (byte_of 32) q (λ t h k. h) (λ t h. inl h) (λ t h. absurd h.0) (λ t h. h) (λ t h. absurd h.1)
     (λ n. n.0)
 
--- items after spaces, and a newline
+-- items after spaces, and then a newline
 line : {A B : Type 0} {P : Field A} {Q : A → Field B} → Lawful P (At 32) (Or AtDigit (At 32)) (Unit {0}) →
     ((a : A) → Lawful (Q a) (At 10) Nothing ⊥) → Chain P Q Separates Nothing ⊥
 line p q = chained p q numbers_end (λ t h. inl h) (λ t h. inr h.1) (λ t h. h) (λ t h. absurd h.0) (λ n. n.1)

@@ -1,5 +1,4 @@
--- Certificates of parity games: when they fit a game, when they are valid, and what is wrong with one
--- that is not.
+-- Certificates of parity games: when a certificate fits a game, when it is valid, and what its flaws are.
 use Rattle.std.specs.Prelude.{◌≡◌, ◌≢◌, ℕ, ◌<◌, ◌≤◌, ◌⊎◌, List, [], length, Option, None, IfSome, IsSome, IsSomeAnd}
 use Rattle.std.specs.Prelude.{if◌then◌else◌, ◌==◌, slice_index, slice_index_or}
 use Rattle.ps_game.specs.Games.{ParityGame, vertex_count, owner_of, priority_of, successors_of, HasEdge}
@@ -7,7 +6,7 @@ use Rattle.ps_game.specs.Ranking.{RemainsFor, ListsPriorities, KeepsRule}
 use Rattle.ps_certificate.specs.declared.flaw.Flaw.{Flaw}
 use Rattle.ps_certificate.specs.declared.flaw.Flaw.TheVariants.{Move, Escape, Rank}
 
--- what is said about one vertex: who wins it, the winner's move, and the counts
+-- the entry of one vertex: who wins it, the winner's move, and the counts
 pub record EntryData : Type 0 where
   pub winner : ℕ
   pub choice : Option ℕ
@@ -19,7 +18,7 @@ pub record CertificateData : Type 0 where
   pub even : List ℕ
   pub entries : List EntryData
 
--- what is read after the last entry: nobody wins there
+-- the default entry for an index past the last one; its winner, 2, is not a player
 abbrev pub no_entry : EntryData
 no_entry = record { winner = 2; choice = None; counts = [] }
 
@@ -47,44 +46,44 @@ pub record Fits (game : ParityGame) (certificate : CertificateData) : Type 0 whe
   pub count_each : (v : ℕ) → v < vertex_count game → length (counts_of certificate v) ≡ length
       (opposing certificate (winner_of certificate v))
 
--- an edge remains if it leaves a vertex of the loser, or is the winner's move
+-- an edge remains if it leaves a vertex that the loser owns, or is the winner's move
 abbrev pub Remains : ParityGame → CertificateData → ℕ → ℕ → Type 0
 Remains game certificate v w = RemainsFor game (winner_of certificate v) (choice_of certificate) v w
 
--- a vertex that its winner owns has a move, which is a successor; one that its loser owns has none
+-- a vertex that its winner owns has a move, which is a successor; a vertex that its loser owns has no move
 pub record HasRightMove (game : ParityGame) (certificate : CertificateData) (v : ℕ) : Type 0 where
   pub own : owner_of game v ≡ winner_of certificate v → IsSomeAnd (choice_of certificate v) (HasEdge game v)
   pub other : owner_of game v ≢ winner_of certificate v → choice_of certificate v ≡ None
 
--- moves are right, and edges that remain stay with the winner
+-- moves are right, and remaining edges stay with the winner
 pub record IsClosed (game : ParityGame) (certificate : CertificateData) : Type 0 where
   pub moves : (v : ℕ) → v < vertex_count game → HasRightMove game certificate v
   pub stays : (v w : ℕ) → Remains game certificate v w → winner_of certificate w ≡ winner_of certificate v
 
--- the opposing priority at a place, for the winner of a vertex
+-- the opposing priority with a given index, for the winner of a vertex
 abbrev pub opposing_at : CertificateData → ℕ → ℕ → ℕ
 opposing_at certificate v k = slice_index (opposing certificate (winner_of certificate v)) k
 
--- an edge keeps the rule of counts for the opposing priority at a place
+-- an edge keeps the rule of counts for the opposing priority with a given index
 abbrev pub KeepsCount : ParityGame → CertificateData → ℕ → ℕ → ℕ → Type 0
 KeepsCount game certificate v w k =
     KeepsRule (opposing_at certificate v k) (priority_of game v) (priority_of game w)
     (slice_index (counts_of certificate v) k) (slice_index (counts_of certificate w) k)
 
--- a valid certificate is closed, and each edge that remains between two vertices of one winner keeps
--- the rule of counts for each opposing priority
+-- a valid certificate is closed, and each remaining edge between two vertices of one winner keeps the rule of counts
+-- for each opposing priority
 pub record IsValid (game : ParityGame) (certificate : CertificateData) : Type 0 where
   pub closed : IsClosed game certificate
   pub counts : (v w k : ℕ) → Remains game certificate v w → winner_of certificate w ≡ winner_of certificate v →
       k < length (opposing certificate (winner_of certificate v)) → KeepsCount game certificate v w k
 
--- the winner owns the vertex, and its move is missing or not a successor; or the loser owns it, and a move is given
+-- the winner owns the vertex, and its move is missing or is not a successor; or the loser owns it, and it has a move
 abbrev pub HasWrongMove : ParityGame → CertificateData → ℕ → Type 0
 HasWrongMove game certificate v =
     ((owner_of game v ≡ winner_of certificate v) × ¬ IsSomeAnd (choice_of certificate v) (HasEdge game v))
     ⊎ ((owner_of game v ≢ winner_of certificate v) × IsSome (choice_of certificate v))
 
--- an edge that remains between two vertices of one winner breaks the rule of counts for a priority
+-- a remaining edge between two vertices of one winner breaks the rule of counts for a priority
 pub record BreaksCount (game : ParityGame) (certificate : CertificateData) (v w p : ℕ) : Type 0 where
   pub remains : Remains game certificate v w
   pub same_winner : winner_of certificate w ≡ winner_of certificate v
@@ -93,7 +92,7 @@ pub record BreaksCount (game : ParityGame) (certificate : CertificateData) (v w 
   pub priority : opposing_at certificate v place ≡ p
   pub broken : ¬ KeepsCount game certificate v w place
 
--- each flaw with its cause
+-- a certificate has a given flaw
 abbrev pub IsFlaw : ParityGame → CertificateData → Flaw → Type 0
 IsFlaw game certificate (Move v choice) =
     (v < vertex_count game) × (choice_of certificate v ≡ choice) × HasWrongMove game certificate v
@@ -101,17 +100,18 @@ IsFlaw game certificate (Escape v w) =
     Remains game certificate v w × (winner_of certificate w ≢ winner_of certificate v)
 IsFlaw game certificate (Rank v w p) = BreaksCount game certificate v w p
 
--- one number comes before another in a list
+-- one number occurs before another in a list
 abbrev pub StandsBefore : List ℕ → ℕ → ℕ → Type 0
 StandsBefore xs x y =
     (i : ℕ) × (j : ℕ) × (i < j) × (j < length xs) × (slice_index xs i ≡ x) × (slice_index xs j ≡ y)
 
--- the edge from v to w comes before the one from v' to w': by vertex, then in the order of successors
+-- the edge from v to w comes before the edge from v' to w': edges are ordered by vertex, then as in the list of
+-- successors
 abbrev pub EdgePrecedes : ParityGame → ℕ → ℕ → ℕ → ℕ → Type 0
 EdgePrecedes game v w v' w' = (v < v') ⊎ ((v ≡ v') × StandsBefore (successors_of game v) w w')
 
--- the order of flaws: moves and escapes by vertex, at one vertex the move first, then escapes in the order of
--- successors; after all of them ranks, by vertex, successor and priority
+-- The order of flaws: wrong moves and escapes come first, by vertex. At one vertex the move precedes the escapes, which
+-- are in the order of successors. Flaws in counts follow, by vertex, successor and priority.
 abbrev pub Precedes : ParityGame → Flaw → Flaw → Type 0
 Precedes game (Move v _) (Move v' _) = v < v'
 Precedes game (Move v _) (Escape v' _) = v ≤ v'
@@ -123,7 +123,7 @@ Precedes game (Escape _ _) (Rank _ _ _) = Unit {0}
 Precedes game (Rank _ _ _) (Move _ _) = ⊥
 Precedes game (Rank _ _ _) (Escape _ _) = ⊥
 
--- a flaw that comes before every other
+-- a flaw that comes before every other flaw
 pub record IsFirstFlaw (game : ParityGame) (certificate : CertificateData) (flaw : Flaw) : Type 0 where
   pub is_flaw : IsFlaw game certificate flaw
   pub first : (other : Flaw) → IsFlaw game certificate other → (flaw ≡ other) ⊎ Precedes game flaw other

@@ -1,5 +1,4 @@
--- The causes for which the text of a certificate is refused, and the flaws of a certificate: the number and name of
--- each.
+-- The numbers and names of the errors of a certificate text, and of the flaws of a certificate.
 use Rattle.std.specs.Prelude.{ℕ, List, codes}
 use Rattle.ps_text.specs.declared.faults.Fault.{Fault}
 use Rattle.ps_certificate.specs.declared.fault.CertCause.{CertCause}
@@ -7,7 +6,7 @@ use Rattle.ps_certificate.specs.declared.fault.CertCause.TheVariants.{Syntax, Ot
 use Rattle.ps_certificate.specs.declared.flaw.Flaw.{Flaw}
 use Rattle.ps_certificate.specs.declared.flaw.Flaw.TheVariants.{Move, Escape, Rank}
 
--- a cause and its place, or out of memory
+-- an error with its offset, or out of memory
 abbrev pub CertFault : Type 0
 CertFault = Fault CertCause
 

@@ -1,6 +1,6 @@
--- Certificates with the same winners and moves, and the least counts among them.
+-- Certificates that have the same winners and moves, and the one with the least counts among them.
 --     SaysTheSame game c d      the same winners and moves
---     DiffersInCounts game c d      also the same priorities
+--     DiffersInCounts game c d      the same winners, moves and priorities
 --     HasLeastCounts game c      no valid certificate with its winners and moves has a smaller count
 use Rattle.std.specs.Prelude.{◌≡◌, ℕ, ◌<◌, ◌≤◌, length, slice_index}
 use Rattle.ps_game.specs.Games.{ParityGame, priority_of, vertex_count}
@@ -18,8 +18,8 @@ pub record DiffersInCounts (game : ParityGame) (one other : CertificateData) : T
   pub even : one.even ≡ other.even
   pub same : SaysTheSame game one other
 
--- each count is the least among valid certificates that differ only in counts, and 0 for a priority less than the
--- vertex's own, where it has no meaning
+-- each count is the least among the valid certificates that differ only in counts; for a priority less than the
+-- vertex's own, a count has no meaning and is 0
 pub record HasLeastCounts (game : ParityGame) (certificate : CertificateData) : Type 0 where
   pub least : (other : CertificateData) → Fits game other → IsValid game other →
       DiffersInCounts game certificate other →

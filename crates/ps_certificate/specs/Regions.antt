@@ -1,4 +1,4 @@
--- What a certificate claims about a game: each player's region, held by the given moves.
+-- What a certificate claims about a game: each player holds a region by the given moves.
 use Rattle.std.specs.Prelude.{◌≢◌, ℕ, ◌<◌, Bool, ◌==◌}
 use Rattle.ps_game.specs.Games.{ParityGame, vertex_count}
 use Rattle.ps_game.specs.Plays.{KeepsTo, Holds}
@@ -14,12 +14,12 @@ abbrev pub BothKeep : ParityGame → CertificateData → Type 0
 BothKeep game certificate =
     (player : ℕ) → player < 2 → KeepsTo game player (region_of certificate player) (choice_of certificate)
 
--- each player holds the player's region by the given moves
+-- by the given moves, each player holds the region of that player
 abbrev pub BothHold : ParityGame → CertificateData → Type 0
 BothHold game certificate =
     (player : ℕ) → player < 2 → Holds game player (region_of certificate player) (choice_of certificate)
 
--- outside a player's region the player wins neither by a strategy of finite memory nor by a history table
+-- outside a player's region, that player wins neither by a strategy of finite memory nor by a history table
 pub record WinsNothingAt (game : ParityGame) (player v : ℕ) : Type 0 where
   pub by_memory : WinsByNoMemory game player v
   pub by_histories : AllHistoriesBeaten game player v

@@ -1,19 +1,20 @@
--- The text of a certificate of a given game, by parts (`ps_text`), and what may be wrong with it.
+-- The text of a certificate of a given game, by parts (`ps_text`), and its possible errors.
 --     psyncert 1                      psyncert 2
 --     vertices n                      vertices n
 --     odd p p ..                      odd p p ..
 --     even p p ..                     even p p ..
 --     id winner move m m ..           id winner move p:m p:m ..
 -- Each line ends with one newline, fields are separated by one space, and numbers have no leading zeros. The second
--- line has the number of vertices, the next two the priorities of the game, ascending. Then there is one line for each
--- vertex, in the game's order: its id, the winner, 0 or 1, the winner's move, which is the id of a vertex or `-`, and
--- one count for each priority by which the winner loses. The compact text, on the right, has a count only if it is not
--- 0, after its priority, and these priorities ascend. Any number is well formed where a number of vertices, a priority,
--- an id or a move is expected, and any number of priorities may be listed. A text that does not have this form is
--- refused by 53 (`Syntax`). So is a number that does not fit in 64 bits, at its first digit; a count 0 after its
--- priority; and a count's priority that does not ascend, at its first digit, if a space, a newline or a colon follows
--- it. A text is refused by 54 (`OtherGame`) at a number that is not the game's, if one of these three follows it, and
--- at the newline where a priority is missing.
+-- line gives the number of vertices, and the next two list the priorities of the game in ascending order. One line for
+-- each vertex follows, in the game's order: its id, the winner (0 or 1), the winner's move, and one count for each
+-- priority by which the winner loses. The move is the id of a vertex or `-`. The compact text, on the right, has only
+-- the nonzero counts, each after its priority, and these priorities ascend. A text that does not have this form is
+-- rejected with fault 53 (`Syntax`). The form allows any number as the number of vertices, as a priority, as an id and
+-- as a move, and any number of listed priorities. Three kinds of numbers are rejected with fault 53 at their first
+-- digit. The first is a number that does not fit in 64 bits, and the second is a count 0 after its priority. The third
+-- is a count's priority that is not greater than the previous one in the line, if a space, a newline or a colon follows
+-- the priority. A text is rejected with fault 54 (`OtherGame`) at a number that is not the game's, if a space, a
+-- newline or a colon follows the number. The fault is also 54 at a newline where a priority is missing.
 use Rattle.std.specs.Prelude.{◌≡◌, ◌≢◌, ℕ, zero, suc, ◌^◌, ◌<◌, ◌≤◌, ◌⊎◌, List, [], ◌∷◌, ◌++◌, length, map, drop}
 use Rattle.std.specs.Prelude.{Option, Some, None, Result, Bool, true, false, ◌==◌, if◌then◌else◌, slice_get, position}
 use Rattle.std.specs.List.{Contains}
@@ -39,7 +40,7 @@ Field V = Part Seen V CertCause
 
 -- ## Bytes
 
--- one of two bytes, each with its value
+-- one of two bytes, each with its own value
 abbrev pub take_two : {V : Type 0} → ℕ → ℕ → V → V → Seen → Option V
 take_two a b v w s = if s.byte == a then Some v else if s.byte == b then Some w else None
 
@@ -48,16 +49,16 @@ two a b v w = one (take_two a b v w) NoBad
 
 -- ## Numbers
 
--- a space, a newline or a colon comes first
+-- the bytes begin with a space, a newline or a colon
 abbrev pub EndsField : List ℕ → Type 0
 EndsField [] = ⊥
 EndsField (b ∷ bytes) = (b ≡ 32) ⊎ (b ≡ 10) ⊎ (b ≡ 58)
 
--- what may be wrong with a number at its place: a cause, by what follows it and by its value
+-- the errors that a number may have at its first digit, given the bytes after the number and its value
 abbrev pub Verdict : Type 1
 Verdict = List ℕ → ℕ → CertCause → Type 0
 
--- the digits that begin at that byte are of a number that is too large, or wrong there
+-- the digits from this byte on are a number that is too large, or one that `Wrong` rejects
 pub record IsBadNumber (Wrong : Verdict) (s : Seen) (f : CertCause) : Type 0 where
   pub digits : List ℕ
   pub more : List ℕ
@@ -72,11 +73,11 @@ judged Wrong = record {
   IsCause = λ front s f. (front ≡ []) × IsBadNumber Wrong s f;
 }
 
--- the number is complete, and not the game's
+-- a space, a newline or a colon follows the number, and it is not the game's
 abbrev pub OfOtherGame : (ℕ → Type 0) → Verdict
 OfOtherGame Wrong more n f = (f ≡ OtherGame) × EndsField more × Wrong n
 
--- a number; Wrong says which ones are not the game's
+-- a number; `Wrong` states which numbers are not the game's
 abbrev pub number : (ℕ → Type 0) → Field ℕ
 number Wrong = judged (OfOtherGame Wrong)
 
@@ -85,19 +86,19 @@ Never n = ⊥
 
 -- ## Lines of priorities
 
--- the number is not the next one of the list
+-- the number is not the first of the list
 abbrev pub NotNext : List ℕ → ℕ → Type 0
 NotNext ps n = slice_get ps 0 ≢ Some n
 
--- a number after a space; what is left of the list is the value
+-- a number after a space; the value is the list without its first number
 abbrev pub priority : List ℕ → Field (List ℕ)
 priority ps = then_by (byte 32) (λ _. mapped (λ _. drop 1 ps) (number (NotNext ps)))
 
--- there is a newline although a priority of the list is missing
+-- a newline where a priority of the list is missing
 abbrev pub IsMissing : List ℕ → Seen → CertCause → Type 0
 IsMissing ps s f = (s.byte ≡ 10) × (0 < length ps) × (f ≡ OtherGame)
 
--- the rest of a line that must list these priorities
+-- the rest of a line that must list the given priorities
 abbrev pub priorities : List ℕ → Field (Unit {0})
 priorities ps = then_by (many priority ps) (λ left. one (take_byte 10) (IsMissing left))
 
@@ -106,7 +107,7 @@ priorities ps = then_by (many priority ps) (λ left. one (take_byte 10) (IsMissi
 abbrev pub winner : Field ℕ
 winner = two 48 49 0 1
 
--- the vertex that has the id
+-- the vertex that has a given id
 abbrev pub vertex_of : List ℕ → ℕ → Option ℕ
 vertex_of ids id = position (λ other. other == id) ids
 
@@ -114,27 +115,28 @@ vertex_of ids id = position (λ other. other == id) ids
 abbrev pub choice : List ℕ → Field (Option ℕ)
 choice ids = either (mapped (λ _. None) (byte 45)) (mapped (vertex_of ids) (number (λ id. ¬ Contains ids id)))
 
--- a number of counts, each after a space, and the end of the line
+-- a given number of counts, each after a space, and the end of the line
 abbrev pub counts : ℕ → Field (List ℕ)
 counts zero = mapped (λ _. []) (byte 10)
 counts (suc n) = then_by (byte 32) (λ _. then_by (number Never) (λ count. mapped (λ others. count ∷ others) (counts n)))
 
--- the priority of a count is complete, and does not ascend, or is not one by which the winner loses
+-- the priority of a count is complete, but is not greater than the previous one, or is not a priority by which the
+-- winner loses
 abbrev pub WrongPriority : List ℕ → Pairs → Verdict
 WrongPriority ps pairs more n f =
     EndsField more × (((f ≡ Syntax) × DoesNotRise pairs n) ⊎ ((f ≡ OtherGame) × ¬ Contains ps n))
 
--- a count 0 is not written
+-- a count 0 is an error
 abbrev pub IsZero : Verdict
 IsZero more n f = (f ≡ Syntax) × (n ≡ 0)
 
--- a count after a space, its priority and a colon
+-- a space, a priority, a colon and the count of the priority
 abbrev pub pair : List ℕ → Pairs → Field Pairs
 pair ps pairs =
     then_by (byte 32) (λ _. then_by (judged (WrongPriority ps pairs)) (λ p.
     then_by (byte 58) (λ _. mapped (λ m. with_pair pairs p m) (judged IsZero))))
 
--- the counts for these priorities, and the end of the line: all of them, or those that are not 0 with their priorities
+-- the counts for the given priorities, and the end of the line: all counts, or the nonzero ones after their priorities
 abbrev pub counts_in : Bool → List ℕ → Field (List ℕ)
 counts_in false ps = counts (length ps)
 counts_in true ps = then_by (many (pair ps) no_pairs) (λ pairs. mapped (λ _. map pairs.count ps) (byte 10))
@@ -143,7 +145,7 @@ counts_in true ps = then_by (many (pair ps) no_pairs) (λ pairs. mapped (λ _. m
 abbrev pub lost_by : List ℕ → List ℕ → ℕ → List ℕ
 lost_by odd even winner = if winner == 0 then odd else even
 
--- the line of the vertex with that id
+-- the line of the vertex with a given id
 abbrev pub entry : Bool → List ℕ → List ℕ → List ℕ → ℕ → Field EntryData
 entry compact odd even ids id =
     then_by (number (λ n. n ≢ id)) (λ _. then_by (byte 32) (λ _.
@@ -151,7 +153,7 @@ entry compact odd even ids id =
     then_by (choice ids) (λ c. mapped (λ cs. record { winner = w; choice = c; counts = cs })
     (counts_in compact (lost_by odd even w)))))))
 
--- a line for each of these ids
+-- a line for each of the given ids
 abbrev pub entries : Bool → List ℕ → List ℕ → List ℕ → List ℕ → Field (List EntryData)
 entries compact odd even all [] = give []
 entries compact odd even all (id ∷ ids) =
@@ -172,7 +174,7 @@ certificate odd even ids =
     then_by (word even_word) (λ _. then_by (priorities even) (λ _.
     mapped (λ es. record { odd = odd; even = even; entries = es }) (entries compact odd even ids ids)))))))))
 
--- the answer to a text, for a given game: its certificate, or the first cause in it
+-- the answer to a text for a given game: its certificate, or its first error
 pub record ReadsCertificate (game : NamedGameData) (text : List ℕ)
     (answer : Result CertificateData (Found CertCause)) : Type 0 where
   pub odd : List ℕ
@@ -181,6 +183,6 @@ pub record ReadsCertificate (game : NamedGameData) (text : List ℕ)
   pub even_listed : ListsPriorities game.game 0 even
   pub answers : PartAnswers causes (certificate odd even game.ids) (stream_at 0 text) answer
 
--- what the reader returns: this, unless memory runs out
+-- what the parser returns: the answer to the text, or out of memory
 abbrev pub IsCertificateAnswer : NamedGameData → List ℕ → Result CertificateData CertFault → Type 0
 IsCertificateAnswer game text result = UnlessMemory (ReadsCertificate game text) result

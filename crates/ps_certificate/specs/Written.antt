@@ -1,12 +1,12 @@
--- The bytes of a certificate that is written.
+-- The bytes of the texts of a certificate.
 --     fields xs      each of the numbers after one space
---     pairs ps cs      each count that is not 0, after one space, its priority and a colon
---     entry_line compact odd even ids id entry      the line of the vertex with that id
---     IsWritable count odd even entry      what is needed of an entry to write its line
---     IsWord n, HasWords ids c      numbers that the code can hold in words
+--     pairs ps cs      each nonzero count, after one space, its priority and a colon
+--     entry_line compact odd even ids id entry      the line of the vertex with the given id
+--     IsWritable count odd even entry      the condition under which the line of an entry can be written
+--     IsWord n, HasWords ids c      numbers that fit in 64 bits
 --     text_in compact game c      the first line, the number of vertices, the odd and the even priorities, and a line
 --               for each vertex
---     certificate_text, compact_text      in each of the two forms
+--     certificate_text, compact_text      the plain text and the compact text
 use Rattle.std.specs.Prelude.{◌≡◌, ℕ, ◌+◌, ◌^◌, ◌<◌, Bool, true, false, ◌==◌, if◌then◌else◌, List, [], ◌∷◌, ◌++◌}
 use Rattle.std.specs.Prelude.{length, decimal, Option, Some, None, IfSome, slice_index}
 use Rattle.std.specs.List.{All}
@@ -19,7 +19,7 @@ abbrev pub fields : List ℕ → List ℕ
 fields [] = []
 fields (x ∷ xs) = 32 ∷ decimal x ++ fields xs
 
--- the counts of these priorities
+-- the nonzero counts of the given priorities
 abbrev pub pairs : List ℕ → List ℕ → List ℕ
 pairs [] cs = []
 pairs (p ∷ ps) [] = []
@@ -39,12 +39,12 @@ pub record IsWritable (count : ℕ) (odd even : List ℕ) (entry : EntryData) : 
   pub choice : IfSome entry.choice (λ w. w < count)
   pub counts : length entry.counts ≡ length (lost_by odd even entry.winner)
 
--- the id of the vertex to go to, or `-`
+-- the id of the successor, or `-`
 abbrev pub move_text : List ℕ → Option ℕ → List ℕ
 move_text ids None = 45 ∷ []
 move_text ids (Some v) = decimal (slice_index ids v)
 
--- the id, the winner, 0 or 1, the move, the counts for these priorities
+-- the id, the winner (0 or 1), the move, and the counts for the given priorities
 abbrev pub line_with : Bool → List ℕ → List ℕ → ℕ → EntryData → List ℕ
 line_with compact ps ids id entry =
     decimal id ++ 32 ∷ (48 + entry.winner) ∷ 32 ∷ move_text ids entry.choice ++
@@ -53,7 +53,7 @@ line_with compact ps ids id entry =
 abbrev pub entry_line : Bool → List ℕ → List ℕ → List ℕ → ℕ → EntryData → List ℕ
 entry_line compact odd even ids id entry = line_with compact (lost_by odd even entry.winner) ids id entry
 
--- the lines of the vertices from v on
+-- the lines of the vertices from `v` on
 abbrev pub entry_lines : Bool → List ℕ → List ℕ → List ℕ → ℕ → List EntryData → List ℕ
 entry_lines compact odd even ids v [] = []
 entry_lines compact odd even ids v (entry ∷ entries) =
@@ -73,14 +73,14 @@ text_in compact game certificate =
     head_text compact (length game.ids) certificate.odd certificate.even ++
     entry_lines compact certificate.odd certificate.even game.ids 0 certificate.entries
 
--- with all counts, or with those that are not 0
+-- the text with all counts, and the text with the nonzero counts
 abbrev pub certificate_text : NamedGameData → CertificateData → List ℕ
 certificate_text game certificate = text_in false game certificate
 
 abbrev pub compact_text : NamedGameData → CertificateData → List ℕ
 compact_text game certificate = text_in true game certificate
 
--- the ids of a game, their number, and the numbers of a certificate fit in words
+-- the ids of a game, their number, and the numbers of a certificate fit in 64 bits
 pub record HasWords (all : List ℕ) (certificate : CertificateData) : Type 0 where
   pub count : IsWord (length all)
   pub ids : All IsWord all

@@ -7,7 +7,7 @@ use crate::entries::Entries;
 use crate::row::Row;
 use std::marker::Model;
 
-/// Who wins each vertex of a game, by which moves, with the counts that prove it.
+/// Who wins each vertex of a game, by which moves, and the counts that prove it.
 #[derive(Debug, Drop)]
 pub struct Certificate {
     /// The odd priorities of the game, ascending. Player 0 loses by them.

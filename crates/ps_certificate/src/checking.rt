@@ -1,4 +1,4 @@
-//! The whole check: the certificate is closed, and each edge that remains keeps the rule of counts.
+//! The whole check: the certificate is closed, and each remaining edge keeps the rule of counts.
 
 ghost use Rattle.std.specs.Prelude.{◌≡◌, ℕ, ◌+◌, ◌<◌, ◌↔◌, IsTrue, IsOk, IfErr, OnOk, IfNone, IfSome};
 ghost use Rattle.ps_game.specs.Games.{vertex_count};
@@ -14,8 +14,8 @@ use crate::flaw::Flaw;
 use crate::rising::first_at_least;
 use ps_game::Arena;
 
-/// The first opposing priority for which an edge breaks the rule of counts. A search skips priorities less than those
-/// of the edge's ends; from there on only counts that are not 0 are compared.
+/// The first opposing priority for which an edge breaks the rule of counts. A search skips each priority that is less
+/// than the priority of an end of the edge. From there on, only nonzero counts are compared.
 fn broken_priority<A: Arena>(
     arena: &A,
     certificate: &Certificate,
@@ -46,7 +46,7 @@ fn broken_priority<A: Arena>(
     }
 }
 
-/// The first flaw of a vertex in the counts of the edges that remain.
+/// The first remaining edge of a vertex that breaks the rule of counts, as a flaw.
 fn unranked_at<A: Arena>(arena: &A, certificate: &Certificate, vertex: usize) -> Option<Flaw>
     requires fits { Fits (A.game arena.now) certificate.now }
     requires vertex { vertex < vertex_count (A.game arena.now) }
@@ -81,7 +81,7 @@ fn unranked_at<A: Arena>(arena: &A, certificate: &Certificate, vertex: usize) ->
     None
 }
 
-/// The first flaw in the counts of the vertices up to one, given that of the earlier ones.
+/// The first flaw in the counts of the vertices up to and including `vertex`, given the first flaw of the earlier ones.
 fn unranked_through<A: Arena>(
     arena: &A,
     certificate: &Certificate,
@@ -102,9 +102,9 @@ fn unranked_through<A: Arena>(
     }
 }
 
-/// Whether a certificate is valid: it is closed, and each edge that remains keeps the rule of counts. Otherwise returns
-/// the first flaw: that of [`crate::closed`] if there is one, else the first edge that breaks the rule, by vertex, then
-/// successor, then priority. Takes no memory.
+/// Checks whether a certificate is valid: it is closed, and each remaining edge keeps the rule of counts. Otherwise
+/// returns the first flaw: the flaw that [`crate::closed`] returns, if there is one, or else the first edge that breaks
+/// the rule, ordered by vertex, then successor, then priority. Allocates no memory.
 ///
 /// # Errors
 ///

@@ -1,4 +1,4 @@
-//! The first half of the check: moves are right, and edges that remain stay with the winner.
+//! The first half of the check: moves are right, and remaining edges stay with the winner.
 
 ghost use Rattle.std.specs.Prelude.{◌≡◌, ◌≢◌, ℕ, ◌<◌, ◌↔◌, IsTrue, IsOk, IfErr, OnOk, IfNone, IfSome, length};
 ghost use Rattle.ps_game.specs.Games.{vertex_count, owner_of, successors_of, HasEdge};
@@ -23,7 +23,7 @@ fn has_edge<A: Arena>(arena: &A, vertex: usize, successor: usize) -> bool
     false
 }
 
-/// Whether the move of a vertex is right: a successor if the winner owns the vertex, else none.
+/// Whether the move of a vertex is right: a successor if the winner owns the vertex, and otherwise none.
 fn has_right_move<A: Arena>(arena: &A, certificate: &Certificate, vertex: usize) -> bool
     requires entry_each { length certificate.now.entries ≡ vertex_count (A.game arena.now) }
     requires vertex { vertex < vertex_count (A.game arena.now) }
@@ -39,7 +39,7 @@ fn has_right_move<A: Arena>(arena: &A, certificate: &Certificate, vertex: usize)
     }
 }
 
-/// The first edge of a vertex that remains and leads to the other winner.
+/// The first remaining edge of a vertex that leads to a vertex with the other winner.
 fn first_escape<A: Arena>(arena: &A, certificate: &Certificate, vertex: usize) -> Option<usize>
     requires entry_each { length certificate.now.entries ≡ vertex_count (A.game arena.now) }
     requires vertex { vertex < vertex_count (A.game arena.now) }
@@ -64,7 +64,7 @@ fn first_escape<A: Arena>(arena: &A, certificate: &Certificate, vertex: usize) -
     None
 }
 
-/// The first flaw of a vertex in its move or in its edges that remain.
+/// The first flaw of a vertex in its move or in its remaining edges.
 pub(crate) fn unsound_at<A: Arena>(
     arena: &A,
     certificate: &Certificate,
@@ -85,9 +85,9 @@ pub(crate) fn unsound_at<A: Arena>(
     }
 }
 
-/// Whether moves are right, and every edge that remains stays with the winner. Otherwise returns the first flaw, by
-/// vertex; at one vertex the move comes before the escapes, and these are in the order of successors. Ignores
-/// priorities and counts. Takes no memory.
+/// Checks whether moves are right and every remaining edge stays with the winner. Otherwise returns the first flaw by
+/// vertex. At one vertex, a wrong move precedes the edges to the other winner, which are in the order of successors.
+/// Ignores priorities and counts. Allocates no memory.
 ///
 /// # Errors
 ///

@@ -1,4 +1,4 @@
-//! Why the text of a certificate is refused.
+//! Why the text of a certificate is rejected.
 
 ghost use Rattle.ps_certificate.specs.Faults.{cause_number, cause_name};
 
@@ -13,7 +13,7 @@ pub enum CertCause {
     OtherGame,
 }
 
-/// Why no certificate was read.
+/// Why the parser returned no certificate.
 pub type CertFault = Fault<CertCause>;
 
 impl Cause for CertCause {

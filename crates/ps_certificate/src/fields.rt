@@ -13,14 +13,14 @@ use crate::fault::{CertCause, CertFault};
 use ps_ids::Ids;
 use ps_text::cursor::Cursor;
 
-/// Whether a space, a newline or a colon comes next.
+/// Whether the next byte is a space, a newline or a colon.
 pub(crate) fn ends(cursor: &Cursor) -> bool
     ensures { result ≡ is_end (next_byte cursor.now) }
 {
     matches!(cursor.peek(), Some(b' ' | b'\n' | b':'))
 }
 
-/// The number that comes next: a single 0, or digits that don't begin with 0.
+/// Parses the next number: a single 0, or digits that don't begin with 0.
 pub(crate) fn number(cursor: &mut Cursor) -> Result<u64, CertFault>
     ensures { TellsNumber cursor.old result cursor.new }
 {
@@ -39,7 +39,7 @@ pub(crate) fn number(cursor: &mut Cursor) -> Result<u64, CertFault>
     }
 }
 
-/// The number that comes next, which must be the wanted one if it is complete.
+/// Parses the next number, which must be the wanted number if a space, a newline or a colon follows it.
 pub(crate) fn exactly(cursor: &mut Cursor, wanted: u64) -> Result<u64, CertFault>
     ensures { Tells (λ n. n) (parts.number (λ n. n ≢ wanted)) cursor.old result cursor.new }
 {
@@ -62,7 +62,7 @@ pub(crate) fn priorities(cursor: &mut Cursor, priorities: &[u64]) -> Result<(), 
     line_end(cursor, left)
 }
 
-/// Moves past a space and a number, which must be the first of these. Returns those that are left.
+/// Moves past a space and a number, which must be the first of the list. Returns the rest of the list.
 fn listed<'p>(cursor: &mut Cursor, priorities: &'p [u64]) -> Result<&'p [u64], CertFault>
     ensures { Tells (λ left. left.now) (parts.priority priorities.now) cursor.old result cursor.new }
 {
@@ -75,7 +75,7 @@ fn listed<'p>(cursor: &mut Cursor, priorities: &'p [u64]) -> Result<&'p [u64], C
     Ok(without_first(priorities))
 }
 
-/// Moves to the next line; none of these numbers may be left.
+/// Moves past the end of a line; no number of the list may be left.
 fn line_end(cursor: &mut Cursor, left: &[u64]) -> Result<(), CertFault>
     ensures { Tells (λ u. u) (one (take_byte 10) (IsMissing left.now)) cursor.old result cursor.new }
 {
@@ -89,7 +89,7 @@ fn line_end(cursor: &mut Cursor, left: &[u64]) -> Result<(), CertFault>
     Ok(())
 }
 
-/// The version that comes next, 1 or 2: whether the text is a compact one.
+/// Parses the version, 1 or 2. Returns whether the text is compact.
 pub(crate) fn version(cursor: &mut Cursor) -> Result<bool, CertFault>
     ensures { Tells (λ v. v) parts.version cursor.old result cursor.new }
 {
@@ -104,7 +104,7 @@ pub(crate) fn version(cursor: &mut Cursor) -> Result<bool, CertFault>
     Err(cursor.refusal(CertCause::Syntax))
 }
 
-/// The winner that comes next, 0 or 1.
+/// Parses the winner, 0 or 1.
 pub(crate) fn winner(cursor: &mut Cursor) -> Result<u8, CertFault>
     ensures { Tells (λ w. w) parts.winner cursor.old result cursor.new }
 {
@@ -119,7 +119,7 @@ pub(crate) fn winner(cursor: &mut Cursor) -> Result<u8, CertFault>
     Err(cursor.refusal(CertCause::Syntax))
 }
 
-/// The move that comes next: none, or the vertex with the given id.
+/// Parses a move: `-` for none, or the id of a vertex.
 pub(crate) fn choice(cursor: &mut Cursor, ids: &Ids) -> Result<Option<usize>, CertFault>
     ensures { Tells (λ c. c) (parts.choice ids.now) cursor.old result cursor.new }
 {
@@ -136,7 +136,7 @@ pub(crate) fn choice(cursor: &mut Cursor, ids: &Ids) -> Result<Option<usize>, Ce
     Ok(vertex)
 }
 
-/// So many counts, each after a space, and the end of the line.
+/// Parses `count` counts, each after a space, and then the end of the line.
 pub(crate) fn all_counts(
     cursor: &mut Cursor,
     count: usize,

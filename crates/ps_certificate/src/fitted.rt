@@ -1,4 +1,4 @@
-//! Whether a certificate has the form that a game asks for.
+//! Whether a certificate has the form that a game requires.
 
 ghost use Rattle.std.specs.Prelude.{◌≡◌, ℕ, ◌+◌, ◌%◌, ◌<◌, ◌≤◌, ◌↔◌, IsTrue, length};
 ghost use Rattle.std.specs.List.{All};
@@ -12,10 +12,10 @@ use crate::certificate::Certificate;
 use crate::rising::{is_rising, place_of};
 use ps_game::Arena;
 
-/// How many listed priorities are looked for in one pass over the vertices.
+/// How many listed priorities are searched for in one pass over the vertices.
 const WINDOW: usize = 1024;
 
-/// Whether an ascending list has the priority of each vertex of one parity.
+/// Whether an ascending list contains the priority of every vertex whose priority has a given parity.
 fn is_complete<A: Arena>(arena: &A, parity: u64, list: &[u64]) -> bool
     requires { IsStrictlyIncreasing list.now }
     ensures { IsTrue result ↔ IsComplete (A.game arena.now) parity list.now }
@@ -29,8 +29,8 @@ fn is_complete<A: Arena>(arena: &A, parity: u64, list: &[u64]) -> bool
     true
 }
 
-/// Whether each number of a short ascending list is the priority of some vertex. Makes one pass over the vertices, with
-/// a search of the list at each.
+/// Whether each number of a short ascending list is the priority of some vertex. Makes one pass over the vertices, and
+/// searches the list at each vertex.
 fn window_present<A: Arena>(arena: &A, window: &[u64]) -> bool
     requires rising { IsStrictlyIncreasing window.now }
     requires short { length window.now ≤ 1024 }
@@ -51,7 +51,7 @@ fn window_present<A: Arena>(arena: &A, window: &[u64]) -> bool
 }
 
 /// Whether a short ascending list of one parity has exactly the priorities of that parity. Makes one pass over the
-/// vertices, with a search of the list at each of the parity.
+/// vertices, and searches the list at each vertex whose priority has that parity.
 fn is_just<A: Arena>(arena: &A, parity: u64, list: &[u64]) -> bool
     requires rising { IsStrictlyIncreasing list.now }
     requires right_parity { All (λ p. p % 2 ≡ parity) list.now }
@@ -78,8 +78,8 @@ fn is_just<A: Arena>(arena: &A, parity: u64, list: &[u64]) -> bool
     true
 }
 
-/// Whether each number of an ascending list is the priority of some vertex. To need no memory, this makes one pass over
-/// the vertices for each 1024 numbers.
+/// Whether each number of an ascending list is the priority of some vertex. Makes one pass over the vertices for every
+/// 1024 numbers, so that no memory is allocated.
 fn all_present<A: Arena>(arena: &A, list: &[u64]) -> bool
     requires { IsStrictlyIncreasing list.now }
     ensures { IsTrue result ↔ All (HasPriority (A.game arena.now)) list.now }
@@ -95,7 +95,7 @@ fn all_present<A: Arena>(arena: &A, list: &[u64]) -> bool
     true
 }
 
-/// Whether a list has exactly the priorities of one parity that the game has, ascending.
+/// Whether a list has exactly the game's priorities of one parity, in ascending order.
 fn lists_priorities<A: Arena>(arena: &A, parity: u64, list: &[u64]) -> bool
     ensures { IsTrue result ↔ ListsPriorities (A.game arena.now) parity list.now }
 {
@@ -111,8 +111,8 @@ fn lists_priorities<A: Arena>(arena: &A, parity: u64, list: &[u64]) -> bool
     is_complete(arena, parity, list) && all_present(arena, list)
 }
 
-/// Whether the entry of a vertex has a winner 0 or 1, a vertex or none as its move, and one count for each priority by
-/// which the winner loses.
+/// Whether the entry of a vertex has 0 or 1 as its winner, a vertex or none as its move, and one count for each
+/// priority by which the winner loses.
 fn entry_fits(certificate: &Certificate, vertices: usize, vertex: usize) -> bool
     requires { vertex < length certificate.now.entries }
     ensures { IsTrue result ↔ EntryFits vertices certificate.now vertex }
@@ -127,9 +127,9 @@ fn entry_fits(certificate: &Certificate, vertices: usize, vertex: usize) -> bool
     }
 }
 
-/// Whether a certificate fits a game: it has one entry for each vertex, winners 0 or 1, moves that are vertices,
-/// exactly the priorities that the game has, ascending, and one count for each priority by which the winner loses.
-/// Takes no memory.
+/// Whether a certificate fits a game: it has one entry for each vertex, winners 0 or 1, and moves that are vertices.
+/// The certificate lists exactly the game's priorities in ascending order, and has one count for each priority by which
+/// the winner loses. Allocates no memory.
 pub fn fits<A: Arena>(arena: &A, certificate: &Certificate) -> bool
     ensures { IsTrue result ↔ Fits (A.game arena.now) certificate.now }
 {

@@ -2,15 +2,15 @@
 
 ghost use Rattle.std.specs.Prelude.{◌≡◌};
 
-/// The first thing that is wrong with a certificate. Vertices are given by place, from 0.
+/// The first thing that is wrong with a certificate. Vertices are given by their indices, from 0.
 #[derive(Clone, Copy, Debug, PartialEq, Eq)]
 pub enum Flaw {
-    /// The winner owns the vertex, and its move is missing or not a successor; or the loser owns it, and a move is
-    /// given.
+    /// The winner owns the vertex, and the move is missing or is not a successor; or the loser owns the vertex, and it
+    /// has a move.
     Move {
         /// The vertex.
         vertex: usize,
-        /// Its move.
+        /// The move of the vertex.
         choice: Option<usize>,
     },
     /// The winner's move, or an edge of a vertex that the loser owns, leads to a vertex with the other winner.
@@ -20,11 +20,11 @@ pub enum Flaw {
         /// The successor that the other player wins.
         successor: usize,
     },
-    /// An edge that remains breaks the rule of counts for an opposing priority.
+    /// A remaining edge breaks the rule of counts for an opposing priority.
     Rank {
-        /// The vertex.
+        /// The vertex that the edge leaves.
         vertex: usize,
-        /// The successor.
+        /// The vertex that the edge enters.
         successor: usize,
         /// The opposing priority.
         priority: u64,

@@ -1,4 +1,4 @@
-//! Laws on certificates. Each is the contract of a function with an empty body.
+//! Laws about certificates. Each law is the contract of a function with an empty body.
 
 ghost use Rattle.std.specs.Prelude.{◌≡◌, ◌<◌, ℕ};
 ghost use Rattle.ps_game.specs.Games.{ParityGame, IsGame, owner_of, vertex_count};
@@ -24,7 +24,7 @@ pub fn no_strategy_wins_outside()
         IsValid game certificate → NoneWinsOutside game certificate }
 {}
 
-/// Valid certificates of a game whose vertices belong to the two players give each vertex the same winner.
+/// If each vertex of a game belongs to one of the two players, its valid certificates give each vertex the same winner.
 pub fn winners_are_one()
     ensures { (game : ParityGame) (one other : CertificateData) →
         ((v : ℕ) → v < vertex_count game → owner_of game v < 2) →

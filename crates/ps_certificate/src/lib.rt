@@ -1,9 +1,9 @@
-//! Certificates of parity games, which say who wins each vertex, by which move, and why.
+//! Certificates of parity games, which state who wins each vertex, by which move, and why.
 //!
-//! The reason is given by counts: each vertex has one for each priority by which its winner loses. Take an edge that
-//! remains when the winner moves by the certificate, and neither end of which has a greater priority. Along it the
-//! count does not rise, and it falls if the edge leaves a vertex of that priority. docs/CERTIFICATES.md has the format
-//! and the rule, for those who write another checker.
+//! The reason is given by counts: each vertex has one count for each priority by which its winner loses. Take a
+//! priority and an edge that remains when the winner moves by the certificate, such that neither end of the edge has a
+//! greater priority. Along the edge the count does not rise, and it falls if the edge leaves a vertex of that priority.
+//! docs/CERTIFICATES.md describes the format and the rule, for those who write another checker.
 //!
 //! | Call | What it gives |
 //! |---|---|
@@ -11,21 +11,21 @@
 //! | `fits(arena, certificate)` | exactly whether a certificate has the form that the checks need |
 //! | `closed(arena, certificate)` | Ok exactly if moves are right and stay in their region; else the first `Flaw` |
 //! | `check(arena, certificate)` | Ok exactly if the certificate is valid; else the first `Flaw` |
-//! | `ids_of(game)` | the ids of a game, with a table of their places |
-//! | `write`, `write_compact` | the text with all counts; with those that are not 0, each after its priority |
-//! | `Certificate::winner`, `choice`, `counts`, `opposing` | what it says of a vertex; a player's opposing priorities |
-//! | `Entries::push`, `len`, `winner`, `choice`, `counts` | entries as a list; if memory runs out, nothing changes |
-//! | `Row::at`, `len`, `copy_into` | the counts of a vertex as a list, of which only those that are not 0 are stored |
+//! | `ids_of(game)` | the ids of a game, with a table of their indices |
+//! | `write`, `write_compact` | the text with all counts; the text with the nonzero counts, each after its priority |
+//! | `Certificate::winner`, `choice`, `counts`, `opposing` | the parts of an entry; a player's opposing priorities |
+//! | `Entries::push`, `len`, `winner`, `choice`, `counts` | entries as a list; if out of memory, nothing changes |
+//! | `Row::at`, `len`, `copy_into` | the counts of a vertex as a list, of which only the nonzero counts are stored |
 //! | `Flaw::number`, `name` | the number and name of a flaw in psyn's list of faults |
 //!
-//! `fits`, `closed` and `check` take no memory. `closed` ignores priorities and counts, and takes time proportional to
-//! the edges; `check` takes that time for each priority.
+//! `fits`, `closed` and `check` allocate no memory. `closed` ignores priorities and counts, and takes time proportional
+//! to the number of edges. For each priority, `check` takes time proportional to the number of edges.
 //!
 //! | Law | What it says |
 //! |---|---|
 //! | `closed_regions_are_kept` | paths that follow the moves of a closed certificate stay in their region |
 //! | `valid_regions_are_held` | the moves of a valid certificate win every loop of every path from their region |
-//! | `no_strategy_wins_outside` | outside it no strategy of finite memory wins, and every history table is beaten |
+//! | `no_strategy_wins_outside` | no strategy of finite memory and no history table wins outside its player's region |
 //! | `winners_are_one` | valid certificates of one game have the same winner at each vertex |
 //! | `first_flaw_is_one` | a certificate has at most one first flaw |
 //! | `certificate_text_has_one_answer`, `certificate_text_has_some_answer` | a text has exactly one answer for a game |

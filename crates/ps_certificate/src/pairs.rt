@@ -1,4 +1,4 @@
-//! The counts of a line of a compact text, each after its priority.
+//! The nonzero counts in a line of a compact text, each after its priority.
 
 ghost use Rattle.std.specs.Prelude.{◌≡◌, ◌<◌, IfOk, length, slice_index, true};
 ghost use Rattle.std.specs.List.Sorted.{IsStrictlyIncreasing};
@@ -12,8 +12,8 @@ use crate::fields::{all_counts, ends, number};
 use crate::rising::place_of;
 use ps_text::cursor::Cursor;
 
-/// Reads the counts for these priorities, and the end of the line: all counts, or in a compact text those that are not
-/// 0. They replace the contents of a list.
+/// Parses the counts for the given priorities, and the end of the line: all counts, or the nonzero ones in a compact
+/// text. The counts replace the contents of the list `counts`.
 pub(crate) fn counts_for(
     cursor: &mut Cursor,
     priorities: &[u64],
@@ -30,7 +30,7 @@ pub(crate) fn counts_for(
     }
 }
 
-/// Pairs of a priority and its count, each after a space, and the end of the line. A count that is left out is 0.
+/// Parses pairs of a priority and its count, each after a space, and the end of the line. An omitted count is 0.
 fn pairs(cursor: &mut Cursor, priorities: &[u64], counts: &mut Vec<u64>) -> Result<(), CertFault>
     requires { IsStrictlyIncreasing priorities.now }
     ensures { Tells (λ _. counts.new.items) (parts.counts_in true priorities.now) cursor.old result cursor.new }
@@ -47,7 +47,7 @@ fn pairs(cursor: &mut Cursor, priorities: &[u64], counts: &mut Vec<u64>) -> Resu
     Ok(())
 }
 
-/// The place of a priority above the last one, and its count.
+/// Parses a pair. Returns the index of the priority, which must be greater than `last`, and the count.
 fn pair(
     cursor: &mut Cursor,
     priorities: &[u64],
@@ -66,7 +66,7 @@ fn pair(
     Ok((place, count))
 }
 
-/// The place of the priority that comes next, which must be above the last one.
+/// Parses the priority of a pair, which must be greater than `last`. Returns its index.
 fn priority(cursor: &mut Cursor, priorities: &[u64], last: Option<u64>) -> Result<usize, CertFault>
     requires { IsStrictlyIncreasing priorities.now }
     ensures read { (pairs : Pairs) → pairs.last ≡ last → TellsPriority priorities.now pairs cursor.old
@@ -88,7 +88,7 @@ fn priority(cursor: &mut Cursor, priorities: &[u64], last: Option<u64>) -> Resul
     }
 }
 
-/// The count that comes next, which is not 0.
+/// Parses a count, which must not be 0.
 fn positive(cursor: &mut Cursor) -> Result<u64, CertFault>
     ensures { Tells (λ n. n) (parts.judged IsZero) cursor.old result cursor.new }
 {
@@ -100,7 +100,7 @@ fn positive(cursor: &mut Cursor) -> Result<u64, CertFault>
     Ok(count)
 }
 
-/// Whether a number is above the last one, if there is one.
+/// Whether a number is greater than `last`, if there is a last number.
 fn is_above(number: u64, last: Option<u64>) -> bool
     ensures { result ≡ rises last number }
 {

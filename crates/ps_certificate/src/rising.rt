@@ -5,7 +5,7 @@ ghost use Rattle.std.specs.List.{Contains};
 ghost use Rattle.std.specs.List.Sorted.{IsStrictlyIncreasing};
 ghost use Rattle.ps_certificate.specs.Inner.Prefixes.{IsAt};
 
-/// Whether each number is less than the next one.
+/// Whether each number is less than the number after it.
 pub(crate) fn is_rising(list: &[u64]) -> bool
     ensures { IsTrue result ↔ IsStrictlyIncreasing list.now }
 {
@@ -19,7 +19,7 @@ pub(crate) fn is_rising(list: &[u64]) -> bool
     true
 }
 
-/// The place of a number in an ascending list.
+/// The index of a number in an ascending list.
 pub(crate) fn place_of(list: &[u64], number: u64) -> Option<usize>
     requires { IsStrictlyIncreasing list.now }
     ensures none { IfNone result (¬ Contains list.now number) }
@@ -31,7 +31,7 @@ pub(crate) fn place_of(list: &[u64], number: u64) -> Option<usize>
     }
 }
 
-/// The place of the first number of an ascending list that is at least a given one.
+/// The index of the first number of an ascending list that is at least `number`.
 pub(crate) fn first_at_least(list: &[u64], number: u64) -> usize
     requires { IsStrictlyIncreasing list.now }
     ensures within { result ≤ length list.now }

@@ -1,4 +1,4 @@
-//! The counts of an entry. Most are 0; only the others are stored, each with its place.
+//! The counts of an entry. Most counts are 0; only the nonzero counts are stored, each with its index.
 
 ghost use Rattle.std.specs.Bool.{OnTrue};
 ghost use Rattle.std.specs.Prelude.{◌≡◌, ◌==◌, ◌<◌, length, slice_index, IfNone, IfSome, OnOk};
@@ -7,7 +7,7 @@ ghost use Rattle.ps_certificate.specs.Sparse.{IsFirstFrom, IsFirstAbove, AreAtMo
 use std::alloc::AllocError;
 use std::marker::Model;
 
-/// A count that is not 0, and its place among the counts of an entry.
+/// A nonzero count, and its index among the counts of an entry.
 #[derive(Clone, Copy, Debug, PartialEq)]
 pub(crate) struct PlacedCount {
     pub(crate) place: usize,
@@ -33,21 +33,21 @@ impl<'a> Model for Row<'a> {
 }
 
 impl<'a> Row<'a> {
-    /// How many counts there are.
+    /// The number of counts.
     pub fn len(&self) -> usize
         ensures { result ≡ length self.now }
     {
         self.width
     }
 
-    /// Whether there are none.
+    /// Whether there are no counts.
     pub fn is_empty(&self) -> bool
         ensures { result ≡ (length self.now == 0) }
     {
         self.width == 0
     }
 
-    /// The count at a place.
+    /// The count at an index.
     pub fn at(&self, place: usize) -> u64
         requires { place < length self.now }
         ensures { result ≡ slice_index self.now place }
@@ -56,7 +56,7 @@ impl<'a> Row<'a> {
         count_in(self.placed, place, number)
     }
 
-    /// Replaces the contents of a list by these counts. Fails if out of memory.
+    /// Replaces the contents of a list by the counts of the row. Fails if out of memory.
     pub fn copy_into(&self, list: &mut Vec<u64>) -> Result<(), AllocError>
         ensures { OnOk result (list.new.items ≡ self.now) }
     {
@@ -70,7 +70,7 @@ impl<'a> Row<'a> {
         Ok(())
     }
 
-    /// The first place, from a given one on, where the count is above that of another row.
+    /// The first index, from a given one on, at which the count is greater than that of another row.
     pub(crate) fn first_above(&self, other: &Row<'_>, from: usize) -> Option<usize>
         requires { length other.now ≡ length self.now }
         ensures none { IfNone result (AreAtMost self.now other.now from (length self.now)) }
@@ -90,8 +90,8 @@ impl<'a> Row<'a> {
     }
 }
 
-/// The number of the first of some counts whose place is at least a given one. The search starts at a hint, unless the
-/// result comes before it.
+/// The number of stored counts whose index is less than `place`. The search starts at the hint, unless the result is
+/// smaller.
 fn first_from(placed: &[PlacedCount], hint: usize, place: usize) -> usize
     requires { AreRising placed.now }
     ensures { IsFirstFrom placed.now place result }
@@ -107,7 +107,7 @@ fn first_from(placed: &[PlacedCount], hint: usize, place: usize) -> usize
     number
 }
 
-/// Whether all counts before a number have places less than a given one.
+/// Whether the first `number` stored counts all have indices less than `place`.
 fn is_before(placed: &[PlacedCount], number: usize, place: usize) -> bool
     requires { AreRising placed.now }
     ensures { OnTrue result (AreBefore placed.now place number) }
@@ -115,7 +115,7 @@ fn is_before(placed: &[PlacedCount], number: usize, place: usize) -> bool
     number == 0 || number <= placed.len() && placed[number - 1].place < place
 }
 
-/// The count at a place, given the number of the first count from there on.
+/// The count at an index, given the number of stored counts with smaller indices.
 fn count_in(placed: &[PlacedCount], place: usize, number: usize) -> u64
     requires rising { AreRising placed.now }
     requires number { IsFirstFrom placed.now place number }

@@ -1,4 +1,4 @@
-//! Reading the text of a certificate.
+//! Parsing the text of a certificate.
 
 ghost use Rattle.std.specs.Prelude.{◌≡◌, ℕ, List, Result, IfOk, length};
 ghost use Rattle.std.specs.List.Sorted.{IsStrictlyIncreasing};
@@ -21,7 +21,7 @@ use ps_ids::Ids;
 use ps_text::cursor::Cursor;
 use std::alloc::{AllocError, Global};
 
-/// What is known about a game before the text is read.
+/// What the parser knows about the game before it reads the text.
 #[derive(Drop)]
 struct Known {
     /// The odd priorities, ascending.
@@ -45,7 +45,7 @@ impl Known {
     }
 }
 
-/// The ids of a game, with a table of their places. Fails if out of memory.
+/// The ids of a game, with a table of their indices. Fails if out of memory.
 pub fn ids_of(alloc: Global, game: &NamedGame) -> Result<Ids, AllocError>
     ensures { IfOk result (λ ids. ids ≡ game.now.ids) }
 {
@@ -56,7 +56,7 @@ pub fn ids_of(alloc: Global, game: &NamedGame) -> Result<Ids, AllocError>
     Ok(ids)
 }
 
-/// Moves past the lines before those of the vertices, and returns whether the text is a compact one.
+/// Moves past the lines before those of the vertices, and returns whether the text is compact.
 fn head(cursor: &mut Cursor, known: &Known, count: usize) -> Result<bool, CertFault>
     ensures { (ids : List ℕ) → count ≡ length ids → TellsHead known.now.odd.items known.now.even.items ids cursor.old
         result cursor.new }
@@ -72,14 +72,15 @@ fn head(cursor: &mut Cursor, known: &Known, count: usize) -> Result<bool, CertFa
     Ok(compact)
 }
 
-/// Who wins a vertex, by which move.
+/// Who wins a vertex, and by which move.
 #[derive(Clone, Copy)]
 struct Won {
     winner: u8,
     choice: Option<usize>,
 }
 
-/// Who wins the vertex with an id, by which move, read from its line. Its counts replace the contents of a list.
+/// Parses the line of the vertex with the given id. Returns the vertex's winner and move; the vertex's counts replace
+/// the contents of `counts`.
 fn entry(
     cursor: &mut Cursor,
     known: &Known,
@@ -102,7 +103,7 @@ fn entry(
     Ok(Won { winner, choice })
 }
 
-/// The entries of all vertices, one line each.
+/// Parses the entries of all vertices, one line each.
 fn entries(
     alloc: Global,
     cursor: &mut Cursor,
@@ -129,7 +130,7 @@ fn entries(
     Ok(entries)
 }
 
-/// The entries of a text from its first to its last byte.
+/// Parses the entries from a whole text.
 fn entries_of(
     alloc: Global,
     text: &[u8],
@@ -151,14 +152,14 @@ fn entries_of(
     }
 }
 
-/// Reads the text of a certificate of a game, plain or compact. Winners are 0 or 1; moves are read as ids of the game
-/// and stored as places.
+/// Parses the text of a certificate of a game, plain or compact. Winners are 0 or 1. The text gives each move by the id
+/// of a vertex, and the certificate stores the vertex's index.
 ///
 /// # Errors
 ///
-/// [`CertFault::Text`] with the first cause in the text's order, at its byte; out of memory.
+/// [`CertFault::Text`] with the first error of the text and its offset; out of memory.
 pub fn read(alloc: Global, text: &[u8], game: &NamedGame) -> Result<Certificate, CertFault>
-    // The text's certificate, or the first cause for which it is not one.
+    // The certificate of the text, or the first error of the text.
     ensures exact { IsCertificateAnswer game.now text.now result }
     ensures fits { IfOk result (Fits game.now.game) }
 {
@@ -172,14 +173,14 @@ pub fn read(alloc: Global, text: &[u8], game: &NamedGame) -> Result<Certificate,
     Ok(Certificate { odd, even, entries })
 }
 
-/// The text of a certificate has at most one answer for a game.
+/// The text of a certificate has at most one answer for a given game.
 pub fn certificate_text_has_one_answer()
     ensures { (game : NamedGameData) (text : List ℕ) (answer other : Result CertificateData (Found CertCause)) →
         ReadsCertificate game text answer → ReadsCertificate game text other → answer ≡ other }
 {}
 
-/// The text of a certificate has an answer for a game. The law is about texts, not about calls: out of memory is not
-/// one of the answers.
+/// The text of a certificate has an answer for a given game. This law concerns texts and not calls, so out of memory is
+/// not one of the answers.
 pub fn certificate_text_has_some_answer()
     ensures { (game : NamedGameData) (text : List ℕ) → (answer : Result CertificateData (Found CertCause)) ×
         ReadsCertificate game text answer }

@@ -1,4 +1,4 @@
-//! Writing the texts of a certificate.
+//! Writing the two texts of a certificate, plain and compact.
 
 ghost use Rattle.std.specs.Prelude.{◌≡◌, ◌++◌, ◌+◌, ◌∷◌, [], ◌<◌, ◌≤◌, length, decimal, replicate, OnOk, IfOk, IfSome};
 ghost use Rattle.std.specs.Prelude.{Ok, slice_index};
@@ -20,11 +20,11 @@ use std::alloc::{AllocError, Global};
 const ZEROS: &[u8; 80] =
     b" 0 0 0 0 0 0 0 0 0 0 0 0 0 0 0 0 0 0 0 0 0 0 0 0 0 0 0 0 0 0 0 0 0 0 0 0 0 0 0 0";
 
-/// How many bytes a line has besides its counts, if ids have six digits.
+/// The number of bytes of a line apart from its counts, if ids have six digits.
 const LINE: usize = 18;
 
 /// Writes a certificate of a game: the first line, the number of vertices, the odd and the even priorities, and a line
-/// for each vertex, with all its counts. Fails if out of memory.
+/// for each vertex with all its counts. Fails if out of memory.
 pub fn write(
     alloc: Global,
     certificate: &Certificate,
@@ -37,8 +37,8 @@ pub fn write(
     write_text(alloc, certificate, game, false)
 }
 
-/// The same as a compact text, which has only the counts that are not 0, each after its priority. Fails if out of
-/// memory.
+/// Writes a certificate of a game as a compact text, which has only the nonzero counts, each after its priority. Fails
+/// if out of memory.
 pub fn write_compact(
     alloc: Global,
     certificate: &Certificate,
@@ -51,7 +51,7 @@ pub fn write_compact(
     write_text(alloc, certificate, game, true)
 }
 
-/// Writes one form or the other.
+/// Writes the plain or the compact text.
 fn write_text(
     alloc: Global,
     certificate: &Certificate,
@@ -70,7 +70,7 @@ fn write_text(
     Ok(out)
 }
 
-/// How many bytes most texts need, so that the buffer need not move.
+/// The number of bytes that suffices for most texts, so that the buffer need not move.
 fn room_for(entries: &Entries, compact: bool) -> usize {
     let mut room: usize = 0;
     for vertex in 0..entries.len() {
@@ -154,7 +154,7 @@ fn lost_by<'a>(odd: &'a [u64], even: &'a [u64], player: u8) -> &'a [u64]
     if player == 0 { odd } else { even }
 }
 
-/// Writes the line of a vertex, whose winner loses by these priorities.
+/// Writes the line of a vertex whose winner loses by the given priorities.
 fn write_entry(
     out: &mut Vec<u8>,
     game: &NamedGame,
@@ -183,7 +183,7 @@ fn write_entry(
     Ok(())
 }
 
-/// Writes the counts of these priorities: all of them, or those that are not 0, each after its priority.
+/// Writes the counts of the given priorities: all of them, or the nonzero ones, each after its priority.
 fn write_counts(
     out: &mut Vec<u8>,
     priorities: &[u64],
@@ -201,7 +201,7 @@ fn write_counts(
     }
 }
 
-/// Writes the counts of these priorities that are not 0, each after its priority.
+/// Writes the nonzero counts of the given priorities, each after its priority.
 fn write_pairs(out: &mut Vec<u8>, priorities: &[u64], counts: &[u64]) -> Result<(), AllocError>
     requires { length counts.now ≡ length priorities.now }
     ensures bytes { OnOk result (out.new.items ≡ out.old.items ++ pairs priorities.now counts.now) }
@@ -215,7 +215,7 @@ fn write_pairs(out: &mut Vec<u8>, priorities: &[u64], counts: &[u64]) -> Result<
     Ok(())
 }
 
-/// Writes a space, a priority, a colon and its count.
+/// Writes a space, a priority, a colon and the priority's count.
 fn write_pair(out: &mut Vec<u8>, priority: u64, count: u64) -> Result<(), AllocError>
     ensures { OnOk result (out.new.items ≡ out.old.items ++ 32 ∷ decimal priority ++ 58 ∷ decimal count) }
 {

@@ -3,7 +3,7 @@
 ghost use Rattle.std.specs.Prelude.{◌≡◌, ℕ, ◌+◌, ◌<◌, ◌≤◌, length, take, replicate, slice_index};
 ghost use Rattle.std.specs.Bool.{OnTrue};
 
-/// How many zeros a list begins with, up to a stated number of them.
+/// The number of leading zeros of a list, capped at `most`.
 pub(crate) fn leading_zeros(numbers: &[u64], most: usize) -> usize
     ensures within { result ≤ length numbers.now }
     ensures few { result ≤ most }
@@ -17,7 +17,7 @@ pub(crate) fn leading_zeros(numbers: &[u64], most: usize) -> usize
     zeros
 }
 
-/// How many zeros a list begins with, counted by eights, up to a place.
+/// The number of leading zeros of a list before index `end`, counted in whole blocks of eight.
 fn zero_blocks(numbers: &[u64], end: usize) -> usize
     requires { end ≤ length numbers.now }
     ensures within { result ≤ end }
@@ -30,7 +30,7 @@ fn zero_blocks(numbers: &[u64], end: usize) -> usize
     zeros
 }
 
-/// Whether the eight numbers from a place on are 0.
+/// Whether the eight numbers from index `place` on are 0.
 fn are_zero(numbers: &[u64], place: usize) -> bool
     requires { place + 8 ≤ length numbers.now }
     ensures { OnTrue result ((k : ℕ) → k < 8 → slice_index numbers.now (place + k) ≡ 0) }

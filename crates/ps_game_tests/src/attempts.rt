@@ -1,4 +1,4 @@
-//! Solvers that may give nothing: how far a budget or fuel goes, and that an answer is that of the sure solver.
+//! Solvers that may give no result: when budgets and fuel suffice, and whether a result agrees with the sure solver.
 
 use ps_game::{Counts, Game, Region, Strategy};
 use ps_improvement::{Attempted, attempt};
@@ -7,10 +7,11 @@ use ps_zielonka::{regions, regions_within};
 use std::alloc::{AllocError, Global};
 use std::test::Fail;
 
-/// Player 0 wins 0 and 1 by 0 to 1, player 1 wins 2 and 3 by 3 to 2; 4 is player 1's and leads to 1 and 2.
+/// Player 0 wins 0 and 1 by moving from 0 to 1. Player 1 wins 2 and 3 by moving from 3 to 2. Vertex 4 is player 1's and
+/// leads to 1 and 2.
 const BOTH: &[u8] = b"0 1 0 0,1; 1 2 1 0; 2 3 0 3; 3 0 1 2,0; 4 5 1 1,2;";
 
-/// Two rungs of a ladder and a loop that player 1 wins, which is a component of its own.
+/// Two rungs of a ladder; and a loop that player 1 wins, which is a component of its own.
 const RUNGS: &[u8] =
     b"0 1 1 1; 1 1 0 0,7; 2 4 1 1,3; 3 3 0 4; 4 5 0 6,3; 5 0 0 6; 6 0 1 5; 7 7 0 6,8; 8 6 1 9,3;
     9 8 1 8; 10 1 1 10;";
@@ -28,7 +29,7 @@ fn are_same(one: &Region, other: &Region) -> bool {
     true
 }
 
-/// Whether an answer has the region of the sure solver.
+/// Whether a result has the region of the sure solver.
 fn is_right(
     alloc: Global,
     game: &Game,
@@ -64,7 +65,8 @@ fn attempts_end_with_their_fuel(rt: HostRuntime) -> Result<(), Fail> {
     Ok(())
 }
 
-/// A path of 1,000 vertices of player 0, each of a greater even priority than the next, has rows of 500,000 cells.
+/// A path of 1,000 vertices of player 0, each of which has a greater even priority than the next one. Its rows have
+/// 500,000 cells.
 #[test]
 fn attempts_end_where_there_is_no_room(rt: HostRuntime) -> Result<(), Fail> {
     let mut text = String::new(rt.alloc());

@@ -1,4 +1,4 @@
-//! Certificates are read and written when memory is enough, and are checked against a game in any form.
+//! Certificates are read and written if there is enough memory, and are checked against a game in each form.
 
 use ps_certificate::{Certificate, Flaw, check, closed, fits, read, write, write_compact};
 use ps_game::{Arena, FlatGame, Game, NamedGame, fits_narrow};
@@ -10,24 +10,24 @@ const GAME: &[u8] = b"7 0 1 9; 9 1 1 9;";
 /// A certificate of that game.
 const TEXT: &[u8] = b"psyncert 1\nvertices 2\nodd 1\neven 0\n7 1 9 0\n9 1 - 12\n";
 
-/// The same as a compact text.
+/// The certificate `TEXT` as a compact text.
 const COMPACT: &[u8] = b"psyncert 2\nvertices 2\nodd 1\neven 0\n7 1 9\n9 1 - 0:12\n";
 
-/// What is expected of a certificate that is read.
+/// The expected property of a certificate that is read.
 #[derive(Clone, Copy)]
 enum Wanted<'a> {
-    /// It is written as this text.
+    /// The certificate is written as this text.
     Text(&'a [u8]),
-    /// It is written as this compact text.
+    /// The certificate is written as this compact text.
     CompactText(&'a [u8]),
-    /// It is closed, and this is its first flaw.
+    /// The certificate is closed, and this is its first flaw.
     Flaw(Flaw),
-    /// The same, for the game in arrays.
+    /// The certificate is closed, and this is its first flaw, for the game in flat arrays.
     FlawInArrays(Flaw),
 }
 
 impl Wanted<'_> {
-    /// Whether a certificate of a game is as expected.
+    /// Whether a certificate of a game has the expected property.
     fn is_met(self, alloc: Global, game: &NamedGame, certificate: &Certificate) -> bool {
         if !fits(game.game(), certificate) {
             return false;
@@ -41,7 +41,7 @@ impl Wanted<'_> {
     }
 }
 
-/// Whether memory was enough for a text, and it is that one.
+/// Whether there was enough memory for a text, and it is the wanted text.
 fn is_text(text: Result<Vec<u8>, AllocError>, wanted: &[u8]) -> bool {
     match text {
         Ok(text) => text.as_slice() == wanted,
@@ -49,14 +49,14 @@ fn is_text(text: Result<Vec<u8>, AllocError>, wanted: &[u8]) -> bool {
     }
 }
 
-/// Whether a certificate fits, is closed, and has that first flaw.
+/// Whether a certificate fits a game, is closed, and has the given first flaw.
 fn has_flaw<A: Arena>(arena: &A, certificate: &Certificate, flaw: Flaw) -> bool {
     fits(arena, certificate)
         && closed(arena, certificate).is_ok()
         && check(arena, certificate) == Err(flaw)
 }
 
-/// The same, for the game in arrays.
+/// Whether a certificate fits a game in flat arrays, is closed, and has the given first flaw.
 fn has_flaw_in_arrays(alloc: Global, game: &Game, certificate: &Certificate, flaw: Flaw) -> bool {
     if !fits_narrow(game) {
         return false;
@@ -67,7 +67,7 @@ fn has_flaw_in_arrays(alloc: Global, game: &Game, certificate: &Certificate, fla
     }
 }
 
-/// Whether a certificate of a game, both given by their texts, is as expected.
+/// Whether a certificate of a game has the expected property; both are given by their texts.
 fn is_read(alloc: Global, game: &[u8], certificate: &[u8], wanted: Wanted) -> bool {
     let Ok(game) = ps_pgsolver::read(alloc, game) else {
         return false;

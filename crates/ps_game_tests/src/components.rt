@@ -1,11 +1,11 @@
-//! The components, orders and trails of small graphs, which were found by hand.
+//! The components, orders and trails of small graphs. The expected results were computed by hand.
 
 ghost use Rattle.std.specs.Prelude.{◌≡◌, ℕ, ◌+◌, ◌*◌, ◌/◌, ◌<◌, nat_lt, length, slice_index, Some, None, if◌then◌else◌};
 
 use ps_components::{Arrangement, Graph, arrange, components_from, components_of, way_back};
 use std::alloc::Global;
 
-/// Two targets for each vertex. A number that is not a vertex means no target.
+/// Two targets for each vertex. A number that is not a vertex stands for no target.
 #[derive(Drop)]
 struct Table<'a> {
     targets: &'a [usize],
@@ -41,7 +41,7 @@ impl Graph for Table<'_> {
 /// 0 and 1 lead to one another and to 2; 2 leads to itself and to 3; 4 leads to 0 and 3.
 const TARGETS: [usize; 10] = [1, 2, 0, 9, 2, 3, 9, 9, 0, 3];
 
-/// The numbers of the components of all vertices, if memory is enough.
+/// The numbers of the components of all vertices, if there is enough memory.
 fn numbers_of_all(alloc: Global) -> Option<[Option<usize>; 5]> {
     let found = components_of(alloc, &Table { targets: &TARGETS }).ok()?;
     Some([
@@ -53,7 +53,7 @@ fn numbers_of_all(alloc: Global) -> Option<[Option<usize>; 5]> {
     ])
 }
 
-/// The numbers of the components of 0 and 2, among what the roots lead to.
+/// The numbers of the components of 0 and 2, among the vertices to which the roots lead.
 fn numbers_from_roots(alloc: Global) -> Option<[Option<usize>; 2]> {
     let found = components_from(alloc, &Table { targets: &TARGETS }, &[3, 2, 3]).ok()?;
     Some([found.number(0), found.number(2)])
@@ -66,7 +66,7 @@ fn numbers_of_components(rt: HostRuntime) {
     assert_eq!(rt; numbers_from_roots(rt.alloc()), Some([None, Some(1)]));
 }
 
-/// Whether the vertices of a graph can be arranged, and are in this order.
+/// Whether the vertices of a graph can be arranged, and are arranged in the wanted order.
 fn is_order(alloc: Global, targets: &[usize], wanted: &[usize]) -> bool {
     match arrange(alloc, &Table { targets }) {
         Ok(Arrangement::Order(order)) => order.as_slice() == wanted,
@@ -74,7 +74,7 @@ fn is_order(alloc: Global, targets: &[usize], wanted: &[usize]) -> bool {
     }
 }
 
-/// The first vertex that leads back to itself.
+/// The first vertex that lies on a cycle, if there is one.
 fn knot(alloc: Global, targets: &[usize]) -> Option<usize> {
     match arrange(alloc, &Table { targets }) {
         Ok(Arrangement::Cyclic(vertex)) => Some(vertex),
@@ -82,7 +82,7 @@ fn knot(alloc: Global, targets: &[usize]) -> Option<usize> {
     }
 }
 
-/// Whether this is a trail from one vertex to another.
+/// Whether the way back between two vertices is the wanted trail.
 fn is_way_back(alloc: Global, start: usize, end: usize, wanted: Option<&[usize]>) -> bool {
     let graph = Table { targets: &TARGETS };
     if start >= graph.count() {

@@ -1,10 +1,10 @@
-//! Texts of games are read and written when memory is enough, and faults have messages.
+//! Texts of games are read and written if there is enough memory, and faults have messages.
 
 use ps_game::Arena;
 use ps_pgsolver::{PgCause, PgFault, read, write};
 use std::alloc::Global;
 
-/// The text of the game of a text, if memory is enough.
+/// The text that is written for the game of a given text, if there is enough memory.
 fn written(alloc: Global, text: &[u8]) -> Option<Vec<u8>> {
     let game = read(alloc, text).ok()?;
     if game.game().count() > 0 {
@@ -14,7 +14,7 @@ fn written(alloc: Global, text: &[u8]) -> Option<Vec<u8>> {
     }
 }
 
-/// Whether writing the game that is read from the first text gives the second text.
+/// Whether reading the first text and writing its game gives the second text.
 fn is_written_as(alloc: Global, text: &[u8], wanted: &[u8]) -> bool {
     match written(alloc, text) {
         Some(again) => again.as_slice() == wanted,
@@ -43,7 +43,7 @@ fn a_game_is_read(rt: HostRuntime) {
     assert!(rt; is_written_as(rt.alloc(), text, wanted));
 }
 
-/// Whether a fault has this message.
+/// Whether a fault has the wanted message.
 fn is_told(alloc: Global, fault: PgFault, wanted: &str) -> bool {
     match format!(in alloc; "{fault}") {
         Ok(told) => told.as_str() == wanted,

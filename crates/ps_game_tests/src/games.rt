@@ -1,4 +1,4 @@
-//! Games that are built, and the same games in arrays.
+//! Games from a builder, and the same games in flat arrays.
 
 ghost use Rattle.std.specs.Prelude.{◌≡◌, ◌<◌, OnOk};
 ghost use Rattle.ps_game.specs.Drafts.{with_edge, with_vertex};
@@ -8,10 +8,10 @@ use ps_game::{Arena, FlatGame, Game, GameBuilder, GameFault, Width, fits_narrow,
 use std::alloc::{AllocError, Global};
 use std::test::Fail;
 
-/// A vertex as it is read: its owner, its priority and its successors.
+/// A vertex as an arena reports it: its owner, its priority and its successors.
 type Row<'a> = (u8, u64, &'a [usize]);
 
-/// Whether a vertex has these successors, in this order.
+/// Whether a vertex has the given successors, in this order.
 fn leads_to<A: Arena>(arena: &A, vertex: usize, successors: &[usize]) -> bool {
     if vertex >= arena.count() || arena.degree(vertex) != successors.len() {
         return false;
@@ -24,7 +24,7 @@ fn leads_to<A: Arena>(arena: &A, vertex: usize, successors: &[usize]) -> bool {
     true
 }
 
-/// Whether code over any arena reads these vertices.
+/// Whether an arena reports the given vertices.
 fn reads_as<A: Arena>(arena: &A, rows: &[Row]) -> bool {
     if arena.count() != rows.len() {
         return false;
@@ -40,7 +40,7 @@ fn reads_as<A: Arena>(arena: &A, rows: &[Row]) -> bool {
     true
 }
 
-/// Whether memory was enough for arrays, and they are read as these vertices.
+/// Whether there was enough memory for flat arrays, and they report the given vertices.
 fn flat_reads_as<W: Width>(flat: Result<FlatGame<W>, AllocError>, rows: &[Row]) -> bool {
     match flat {
         Ok(flat) => reads_as(&flat, rows),
@@ -48,7 +48,7 @@ fn flat_reads_as<W: Width>(flat: Result<FlatGame<W>, AllocError>, rows: &[Row]) 
     }
 }
 
-/// Whether the game and its arrays at each width are read as these vertices.
+/// Whether a game and its flat arrays of each width report the given vertices.
 fn all_read_as(alloc: Global, game: &Game, rows: &[Row]) -> bool {
     fits_narrow(game)
         && reads_as(game, rows)
@@ -56,8 +56,8 @@ fn all_read_as(alloc: Global, game: &Game, rows: &[Row]) -> bool {
         && flat_reads_as(FlatGame::<usize>::of(alloc, game), rows)
 }
 
-/// One more vertex. If an allocation failed, which `rt try --test --fail-alloc N` does, the same builder is asked once
-/// more.
+/// Adds one more vertex. If an allocation fails, which `rt try --test --fail-alloc N` causes, the call is repeated once
+/// on the same builder.
 #[tactic(auto, unfolding(ps_game::specs::Games::vertex_count))]
 fn vertex(builder: &mut GameBuilder, owner: u8, priority: u64) -> Result<usize, AllocError>
     requires { owner < 2 }
@@ -69,7 +69,7 @@ fn vertex(builder: &mut GameBuilder, owner: u8, priority: u64) -> Result<usize, 
     }
 }
 
-/// One more edge, in the same way.
+/// Adds one more edge. If an allocation fails, the call is repeated once on the same builder.
 fn edge(builder: &mut GameBuilder, from: usize, successor: usize) -> Result<(), AllocError>
     requires { from < vertex_count builder.old }
     ensures { OnOk result (builder.new ≡ with_edge builder.old from successor) }
@@ -80,7 +80,7 @@ fn edge(builder: &mut GameBuilder, from: usize, successor: usize) -> Result<(), 
     }
 }
 
-/// Three vertices; 0 leads twice to 1.
+/// Three vertices, of which vertex 0 leads twice to vertex 1.
 #[tactic(auto, unfolding(ps_game::specs::Games::vertex_count))]
 fn three_vertices(alloc: Global) -> Result<GameBuilder, AllocError> {
     let mut builder = GameBuilder::new(alloc);
@@ -95,7 +95,7 @@ fn three_vertices(alloc: Global) -> Result<GameBuilder, AllocError> {
     Ok(builder)
 }
 
-/// Two vertices without an edge from 1, and two edges from 0.
+/// Two vertices. Vertex 1 has no edge, and the edge from vertex 0 leads to a vertex that was not added.
 #[tactic(auto, unfolding(ps_game::specs::Games::vertex_count))]
 fn a_bare_vertex(alloc: Global) -> Result<GameBuilder, AllocError> {
     let mut builder = GameBuilder::new(alloc);
@@ -130,7 +130,7 @@ fn no_vertex_is_a_game(rt: HostRuntime) -> Result<(), Fail> {
     Ok(())
 }
 
-/// Whether these are the priorities of a parity.
+/// Whether the priorities of a parity are the wanted ones.
 fn are_priorities(alloc: Global, game: &Game, parity: u64, wanted: &[u64]) -> bool {
     match priorities_of(alloc, game, parity) {
         Ok(priorities) => priorities.as_slice() == wanted,

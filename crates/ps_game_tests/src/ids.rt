@@ -1,10 +1,10 @@
-//! Ids that begin at the first or anywhere.
+//! Ids that count up from the first one, and arbitrary ids.
 
 use ps_ids::Ids;
 use std::alloc::{AllocError, Global};
 use std::test::Fail;
 
-/// Ids that begin with the first where they need no tree.
+/// The ids of a list of numbers. Ids that count up from `first` need no tree.
 fn ids_of(alloc: Global, first: u64, numbers: &[u64]) -> Result<Ids, AllocError> {
     let mut ids = Ids::starting_at(alloc, first);
     for &id in numbers {
@@ -15,7 +15,7 @@ fn ids_of(alloc: Global, first: u64, numbers: &[u64]) -> Result<Ids, AllocError>
     Ok(ids)
 }
 
-/// Whether each number is at its place, and the number 6 nowhere.
+/// Whether each id has its index in the list, and the number 6 has no index.
 fn are_placed(ids: &Ids, numbers: &[u64]) -> bool {
     for (place, &id) in numbers.iter().enumerate() {
         if ids.place(id) != Some(place) {
@@ -25,7 +25,7 @@ fn are_placed(ids: &Ids, numbers: &[u64]) -> bool {
     ids.place(6).is_none() && ids.list() == numbers
 }
 
-/// Whether ids are found and listed in the order in which they came.
+/// Whether ids are located and listed in the order in which they were added.
 fn are_kept(alloc: Global, first: u64, numbers: [u64; 5]) -> Result<bool, AllocError> {
     let ids = ids_of(alloc, first, &numbers)?;
     Ok(are_placed(&ids, &numbers) && ids.into_list().as_slice() == numbers.as_slice())

@@ -1,11 +1,11 @@
-//! The laws of texts, at a format and at a lexicon.
+//! The laws of texts, applied to a format and to a lexicon.
 
 ghost use Rattle.std.specs.Prelude.{◌≡◌, [], ◌∷◌, length};
 
 use ps_text::answers::{Format, one_answer};
 use ps_text::tokens::{Lexicon, one_tokenisation};
 
-/// Any bytes, whose meaning is their number; none is refused.
+/// The format of arbitrary bytes. The value of a text is its length, and no text is rejected.
 struct Bytes;
 
 impl Format for Bytes {
@@ -22,7 +22,7 @@ impl Format for Bytes {
     ghost number = { λ cause. cause };
 }
 
-/// Each byte is a token, except spaces.
+/// The lexicon in which each byte is a token, except spaces.
 struct Marks;
 
 impl Lexicon for Marks {

@@ -1,5 +1,6 @@
-//! Tests of the libraries of games, one file for each topic. A crate with tests is proved once more with them, so they
-//! are in a crate of their own. What a command of psyn shows is a row of `examples/rows`, not a test.
+//! Tests of the libraries for games, one file for each topic. A crate that has tests is proved a second time with them,
+//! so the tests are in a crate of their own. The behaviour of psyn's commands is shown by rows of `examples/rows`, not
+//! by tests.
 #![tactic(auto)]
 
 #[cfg(test)]

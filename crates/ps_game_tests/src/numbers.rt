@@ -6,7 +6,7 @@ use ps_game::{Numbers, Strategy, Width};
 use std::alloc::{AllocError, Global};
 use std::test::Fail;
 
-/// Numbers that were inserted, overwritten and cut off.
+/// Numbers that were inserted and overwritten, in a table that was truncated.
 fn some_numbers<W: Width>(alloc: Global, greatest: usize) -> Result<[usize; 3], AllocError>
     requires { greatest ≤ W.LIMIT }
 {

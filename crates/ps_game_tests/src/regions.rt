@@ -1,12 +1,12 @@
-//! Regions are sets: tested below, at and above the ends of words and of groups of words.
+//! Regions are sets. The sizes of the tested regions are below, at and above the sizes of words and of groups of words.
 
 use ps_game::Region;
 use std::alloc::{AllocError, Global};
 
-/// Numbers of places.
+/// The sizes of the tested regions, in vertices.
 const PLACES: [usize; 8] = [0, 1, 63, 64, 65, 511, 512, 513];
 
-/// Sets of vertices below a number of places.
+/// Sets of vertices with indices below a given number.
 #[derive(Clone, Copy)]
 enum Set {
     None,
@@ -34,7 +34,7 @@ impl Set {
         }
     }
 
-    /// Whether a region is that set, by its vertices and by its count.
+    /// Whether a region is that set, judged by its vertices and by its count.
     fn is(self, region: &Region, places: usize) -> bool {
         let mut count: usize = 0;
         for vertex in 0..region.places() {
@@ -46,7 +46,7 @@ impl Set {
         region.places() == places && region.count() == count && region.is_empty() == (count == 0)
     }
 
-    /// Whether memory was enough for a region, and it is that set.
+    /// Whether there was enough memory for a region, and it is that set.
     fn is_made(self, region: Result<Region, AllocError>, places: usize) -> bool {
         match region {
             Ok(region) => self.is(&region, places),
@@ -55,7 +55,7 @@ impl Set {
     }
 }
 
-/// A region with each vertex of a set.
+/// A region with the vertices of a set.
 fn filled(alloc: Global, places: usize, set: Set) -> Result<Region, AllocError> {
     let mut region = Region::empty(alloc, places)?;
     for vertex in 0..places {
@@ -66,7 +66,7 @@ fn filled(alloc: Global, places: usize, set: Set) -> Result<Region, AllocError> 
     Ok(region)
 }
 
-/// The thirds and the fifths.
+/// The union of the thirds and the fifths.
 fn united(alloc: Global, places: usize) -> Result<Region, AllocError> {
     let mut united = filled(alloc, places, Set::Thirds)?;
     let fifths = filled(alloc, places, Set::Fifths)?;
@@ -76,7 +76,7 @@ fn united(alloc: Global, places: usize) -> Result<Region, AllocError> {
     Ok(united)
 }
 
-/// A copy of the thirds, from which the fifths were taken.
+/// A copy of the thirds, from which the fifths were removed.
 fn subtracted(alloc: Global, places: usize) -> Result<Region, AllocError> {
     let mut rest = filled(alloc, places, Set::Thirds)?.copy()?;
     let fifths = filled(alloc, places, Set::Fifths)?;

@@ -1,4 +1,5 @@
-//! Attractors, winning regions and counts of small games, which were found by hand, and how much work they took.
+//! Attractors, winning regions and counts of small games, and how much work they took. The expected results were
+//! computed by hand.
 
 ghost use Rattle.std.specs.Prelude.{◌≤◌};
 
@@ -13,8 +14,8 @@ use ps_zielonka::{regions, regions_in};
 use std::alloc::{AllocError, Global};
 use std::test::Fail;
 
-/// From 0, which is player 0's, edges lead to 1 and 2, and from 1, which is player 1's, to 0 and 3; 2 and 3 lead to
-/// themselves.
+/// Vertex 0 belongs to player 0 and leads to 1 and 2. Vertex 1 belongs to player 1 and leads to 0 and 3. Vertices 2 and
+/// 3 lead to themselves.
 const FORK: &[u8] = b"0 0 0 1,2; 1 0 1 0,3; 2 0 1 2; 3 0 0 3;";
 
 /// Vertex 0 leads to 1, which leads to itself, and 2 leads to itself and to 0.
@@ -30,7 +31,7 @@ fn has_just(region: &Region, vertices: &[usize]) -> bool {
     region.count() == vertices.len()
 }
 
-/// Whether a table has these moves.
+/// Whether a table has the given moves.
 fn has_moves(strategy: &Strategy, wanted: &[Option<usize>]) -> bool {
     if strategy.places() != wanted.len() {
         return false;
@@ -43,7 +44,7 @@ fn has_moves(strategy: &Strategy, wanted: &[Option<usize>]) -> bool {
     true
 }
 
-/// The attractor within the whole of an arena to some of its vertices.
+/// The attractor to given vertices of an arena, within the whole arena.
 fn attract_to<A: Arena>(
     alloc: Global,
     arena: &A,
@@ -60,7 +61,7 @@ fn attract_to<A: Arena>(
     attract(alloc, arena, &subgame, player, &target)
 }
 
-/// Whether a player attracts these vertices of the fork to some of them, by these moves.
+/// Whether a player attracts the wanted vertices of `FORK` to the given ones, by the wanted moves.
 fn attracts(
     alloc: Global,
     player: u8,
@@ -86,7 +87,7 @@ fn attractors(rt: HostRuntime) {
     assert!(rt; attracts(rt.alloc(), 1, &[3], &[1, 3], &[None, Some(3), None, None]));
 }
 
-/// Whether numbers that are kept at some width are these.
+/// Whether numbers that are stored at some width are the wanted ones.
 fn are_kept<W: Width>(kept: &[W], wanted: &[usize]) -> bool {
     kept.len() == wanted.len()
         && kept
@@ -95,7 +96,8 @@ fn are_kept<W: Width>(kept: &[W], wanted: &[usize]) -> bool {
             .all(|(number, wanted)| number.number() == *wanted)
 }
 
-/// Whether these vertices lead to vertex 3 of a game of four, with numbers of a stated width.
+/// Whether exactly the wanted vertices have an edge to vertex 3 of a game with four vertices, in tables of a given
+/// width.
 fn are_sources<W: Width>(alloc: Global, game: &Game, wanted: &[usize]) -> bool {
     if game.count() != 4 || !has_room::<Game, W>(game) {
         return false;
@@ -106,7 +108,7 @@ fn are_sources<W: Width>(alloc: Global, game: &Game, wanted: &[usize]) -> bool {
     }
 }
 
-/// Whether these are the places of some numbers, by lists of a stated width.
+/// Whether the indices of some numbers are the wanted ones, with lists of a given width.
 fn are_places<W: Width>(alloc: Global, wanted: &[usize]) -> Result<bool, AllocError>
     requires { 4 ≤ W.LIMIT }
 {
@@ -133,7 +135,8 @@ fn lists_by_number(rt: HostRuntime) -> Result<(), Fail> {
     Ok(())
 }
 
-/// Whether player 0 wins exactly these vertices of a game, by these moves, and player 1 the others, by those.
+/// Whether player 0 wins exactly the given vertices of a game, player 1 wins the others, and both win by the given
+/// moves.
 fn is_won(
     alloc: Global,
     game: &Game,
@@ -192,7 +195,7 @@ fn a_game_without_vertices_has_no_call(rt: HostRuntime) -> Result<(), Fail> {
     Ok(())
 }
 
-/// One vertex, or all.
+/// A region of one vertex, or of all vertices.
 fn region_of(alloc: Global, places: usize, only: Option<usize>) -> Result<Region, AllocError> {
     let Some(vertex) = only else {
         return Region::full(alloc, places);
@@ -204,7 +207,7 @@ fn region_of(alloc: Global, places: usize, only: Option<usize>) -> Result<Region
     Ok(region)
 }
 
-/// A move at one vertex.
+/// A table with a move at one vertex.
 fn moving(
     alloc: Global,
     places: usize,
@@ -217,17 +220,17 @@ fn moving(
     Ok(strategy)
 }
 
-/// What the counts of a region should be.
+/// The expected result for the counts of a region.
 #[derive(Clone, Copy)]
 enum Wanted<'a> {
-    /// One priority, and the count of each of three vertices.
+    /// The priority, and its count at each of three vertices.
     Counts(u64, [u64; 3]),
     /// A lost cycle.
     Cycle(&'a [usize]),
 }
 
 impl Wanted<'_> {
-    /// Whether that was found.
+    /// Whether a result is the expected one.
     fn is(self, alloc: Global, found: &Result<Ranks, MeasureFault>) -> bool {
         match (self, found) {
             (Wanted::Counts(priority, counts), Ok(ranks)) => {
@@ -241,7 +244,7 @@ impl Wanted<'_> {
     }
 }
 
-/// Whether these are the priority that is counted, and the counts.
+/// Whether the only priority and the counts of three vertices are the given ones.
 fn are_counts(alloc: Global, ranks: &Ranks, priority: u64, counts: [u64; 3]) -> bool {
     ranks.priorities.as_slice() == [priority].as_slice()
         && ranks.counts.len() == 3
@@ -250,7 +253,7 @@ fn are_counts(alloc: Global, ranks: &Ranks, priority: u64, counts: [u64; 3]) -> 
         && is_count(alloc, ranks, 2, counts[2])
 }
 
-/// Whether that is all that is counted at a vertex.
+/// Whether the given count is the only count of a vertex.
 fn is_count(alloc: Global, ranks: &Ranks, vertex: usize, count: u64) -> bool {
     if vertex >= ranks.counts.len() {
         return false;
@@ -262,7 +265,7 @@ fn is_count(alloc: Global, ranks: &Ranks, vertex: usize, count: u64) -> bool {
     }
 }
 
-/// Whether a player's region has the wanted counts, where the player moves from one vertex.
+/// Whether a player's region has the expected result, if the player has a move at only one vertex.
 fn is_ranked(
     alloc: Global,
     game: &Game,
@@ -283,7 +286,7 @@ fn is_ranked(
         )
 }
 
-/// The same of one vertex of the loops, or of all.
+/// Whether one vertex of `LOOPS`, or all its vertices, have the expected result as a player's region.
 fn are_ranked(
     alloc: Global,
     (player, only): (u8, Option<usize>),
@@ -323,7 +326,7 @@ fn counts_of_a_region(rt: HostRuntime) {
     assert!(rt; are_ranked(rt.alloc(), (0, None), (2, 0), &mut counts, lost));
 }
 
-/// Adds the vertices of a region, and the moves of a table.
+/// Appends the vertices of a region and the moves of a table.
 fn add_table(
     found: &mut Vec<Option<u64>>,
     region: &Region,
@@ -338,7 +341,7 @@ fn add_table(
     Ok(())
 }
 
-/// Adds what a player attracts to the first vertex.
+/// Appends the vertices, the moves and the ranks of a player's attractor to the first vertex.
 fn add_attracted<A: Arena>(
     alloc: Global,
     arena: &A,
@@ -353,7 +356,7 @@ fn add_attracted<A: Arena>(
     Ok(())
 }
 
-/// Adds what is won, by which moves, and the counts of player 0's region.
+/// Appends the winning region and the moves of both players, and the counts of player 0's region.
 fn add_won<A: Arena>(
     alloc: Global,
     arena: &A,
@@ -365,7 +368,7 @@ fn add_won<A: Arena>(
     add_counts(alloc, &ranks.counts, found)
 }
 
-/// Adds the vertices of a region, and the moves of both players' tables.
+/// Appends the vertices of a region and the moves of both players' tables.
 fn add_tables(
     found: &mut Vec<Option<u64>>,
     won: &Region,
@@ -376,7 +379,7 @@ fn add_tables(
     add_table(found, won, second)
 }
 
-/// Adds the counts of all vertices.
+/// Appends the counts of all vertices.
 fn add_counts(
     alloc: Global,
     counts: &CountTable,
@@ -392,7 +395,7 @@ fn add_counts(
     Ok(())
 }
 
-/// What is found of a game that is kept in some form.
+/// All results for a game that is stored in some form.
 fn found_in<A: Arena>(alloc: Global, arena: &A) -> Result<Vec<Option<u64>>, MeasureFault> {
     let mut found = Vec::new(alloc);
     add_attracted(alloc, arena, 0, &mut found)?;
@@ -401,7 +404,7 @@ fn found_in<A: Arena>(alloc: Global, arena: &A) -> Result<Vec<Option<u64>>, Meas
     Ok(found)
 }
 
-/// What is won of a game, and by which moves, by tables of a stated width.
+/// The winning region and the moves of a game, computed with tables of a given width.
 fn won_by_tables<W: Width>(alloc: Global, game: &Game) -> Result<Vec<Option<u64>>, AllocError> {
     if !has_room::<Game, W>(game) {
         return Ok(Vec::new(alloc));
@@ -422,13 +425,13 @@ fn tables_of(
     Ok(found)
 }
 
-/// Whether tables of both widths have the same answers to the game of a text.
+/// Whether tables of both widths give the same results for the game of a text.
 fn are_same_by_tables(alloc: Global, text: &[u8]) -> Result<bool, Fail> {
     let named = read(alloc, text)?;
     Ok(is_same_by_tables(alloc, named.game())?)
 }
 
-/// Whether tables of both widths have the same answers to a game.
+/// Whether tables of both widths give the same results for a game.
 fn is_same_by_tables(alloc: Global, game: &Game) -> Result<bool, AllocError> {
     let narrow = won_by_tables::<u32>(alloc, game)?;
     let wide = won_by_tables::<usize>(alloc, game)?;
@@ -444,7 +447,7 @@ fn tables_of_each_width_have_the_same_answers(rt: HostRuntime) -> Result<(), Fai
     Ok(())
 }
 
-/// What is found of a game in arrays of 4 bytes, where it fits them.
+/// All results for a game in flat arrays of 4-byte numbers, if the game fits into them.
 fn found_narrow(alloc: Global, game: &Game) -> Result<Vec<Option<u64>>, MeasureFault> {
     if !fits_narrow(game) {
         return Ok(Vec::new(alloc));
@@ -453,19 +456,19 @@ fn found_narrow(alloc: Global, game: &Game) -> Result<Vec<Option<u64>>, MeasureF
     found_in(alloc, &narrow)
 }
 
-/// What is found of a game in arrays of 8 bytes.
+/// All results for a game in flat arrays of 8-byte numbers.
 fn found_wide(alloc: Global, game: &Game) -> Result<Vec<Option<u64>>, MeasureFault> {
     let wide = FlatGame::<usize>::of(alloc, game)?;
     found_in(alloc, &wide)
 }
 
-/// Whether arrays of both widths have the answers that the game of a text has.
+/// Whether flat arrays of both widths give the same results as the game of a text.
 fn are_same_in_arrays(alloc: Global, text: &[u8]) -> Result<bool, Fail> {
     let named = read(alloc, text)?;
     Ok(is_same_in_arrays(alloc, named.game())?)
 }
 
-/// Whether arrays of both widths have the answers that a game has.
+/// Whether flat arrays of both widths give the same results as a game.
 fn is_same_in_arrays(alloc: Global, game: &Game) -> Result<bool, MeasureFault> {
     let found = found_in(alloc, game)?;
     Ok(

@@ -1,4 +1,4 @@
-//! The call.
+//! The call that attempts to solve a game.
 
 ghost use Rattle.std.specs.Prelude.{◌≡◌, ◌<◌, ◌≤◌, All, IfOk, length};
 ghost use Rattle.ps_game.specs.Games.{vertex_count};
@@ -15,34 +15,34 @@ use ps_attractor::has_room;
 use ps_game::{Arena, Region, Strategy};
 use std::alloc::{AllocError, Global};
 
-/// The number of cells that may be held in any game.
+/// The number of cells that may be stored for any game.
 const ROOM: u64 = 1 << 18;
 
-/// The number of cells of the fuel for which one more cell may be held.
+/// The amount of fuel, in cells, that allows one more cell to be stored.
 const FUEL_EACH: u64 = 256;
 
-/// The greatest number of further cells that may be held for each vertex and edge.
+/// The greatest number of further cells that may be stored for each vertex and each edge.
 const ROOM_EACH: u64 = 64;
 
 /// The result of an attempt.
 #[derive(Drop)]
 pub enum Attempted {
-    /// Nothing improves any more, so the players may win. It is not promised that they do.
+    /// No move improves any more. The result is not guaranteed: the players may or may not win as stated.
     Found {
         /// The vertices that player 0 may win.
         won: Region,
-        /// Moves by which it may.
+        /// The moves by which player 0 may win these vertices.
         first: Strategy,
-        /// Moves by which player 1 may win the others.
+        /// The moves by which player 1 may win the other vertices.
         second: Strategy,
     },
-    /// The fuel ended first, or the room that goes with it.
+    /// The fuel, or the number of cells that it allows, was used up before a result was reached.
     OutOfFuel,
-    /// There was no room for a row. With more fuel the result would be the same.
+    /// No room was left for a row. More fuel would not change this result.
     OutOfRoom,
 }
 
-/// Which vertices player 0 may win, and by which moves. Fails if memory runs out.
+/// Computes which vertices player 0 may win, and by which moves. Fails if out of memory.
 pub fn attempt<A: Arena>(alloc: Global, arena: &A, fuel: u64) -> Result<Attempted, AllocError>
     ensures { IfOk result (HasPlaces (vertex_count (A.game arena.now))) }
 {
@@ -67,7 +67,7 @@ pub fn attempt<A: Arena>(alloc: Global, arena: &A, fuel: u64) -> Result<Attempte
     }
 }
 
-/// The greatest number of cells that may be held for the vertices and edges of a game.
+/// The greatest number of further cells that may be stored for the vertices and edges of a game.
 fn most_room<A: Arena>(arena: &A) -> u64 {
     let mut room: u64 = 0;
     for vertex in 0..arena.count() {
@@ -77,8 +77,8 @@ fn most_room<A: Arena>(arena: &A) -> u64 {
     room
 }
 
-/// Improves the plan until nothing improves in any component, those without a way out first. Returns whether the fuel
-/// was enough.
+/// Improves the plan until nothing improves in any component. Components that no edge leaves come first. Returns
+/// whether the fuel sufficed.
 fn settle_all<A: Arena>(
     alloc: Global,
     ground: &Ground<'_, A>,
@@ -100,7 +100,7 @@ fn settle_all<A: Arena>(
     Ok(true)
 }
 
-/// The number of vertices at the front that are of one component.
+/// The number of vertices at the front of a list that are in the same component.
 fn length_of_part<A: Arena>(ground: &Ground<'_, A>, rest: &[usize]) -> usize
     requires { All (λ v. v < vertex_count (A.game ground.now.arena.now)) rest.now }
     ensures { result ≤ length rest.now }
@@ -114,7 +114,7 @@ fn length_of_part<A: Arena>(ground: &Ground<'_, A>, rest: &[usize]) -> usize
     }
 }
 
-/// Improves the plan until nothing improves in a component. Returns whether the fuel was enough.
+/// Improves the plan until nothing improves in a component. Returns whether the fuel sufficed.
 fn settle<A: Arena>(
     ground: &Ground<'_, A>,
     part: &[usize],
@@ -140,7 +140,7 @@ fn settle<A: Arena>(
     Ok(false)
 }
 
-/// The result of a plan: player 0 wins where plays go on for ever.
+/// The result of a plan: player 0 wins the vertices from which plays never stop.
 fn answer_of<A: Arena>(alloc: Global, arena: &A, plan: Plan) -> Result<Attempted, AllocError>
     requires { length plan.rows.items ≡ vertex_count (A.game arena.now) }
     ensures { IfOk result (HasPlaces (vertex_count (A.game arena.now))) }

@@ -1,4 +1,4 @@
-//! The values of a component, by what the players do.
+//! The values of the vertices of a component, given the choices of the players.
 
 ghost use Rattle.std.specs.Prelude.{◌≡◌, ◌<◌, All, length};
 ghost use Rattle.ps_game.specs.Games.{vertex_count};
@@ -10,8 +10,8 @@ use crate::waiting::Waiting;
 use ps_game::Arena;
 use std::alloc::AllocError;
 
-/// Computes the values of the vertices of a component: all are endless at first, and decrease. Fails if memory runs
-/// out.
+/// Computes the values of the vertices of a component. All values are endless at first, and are lowered until none
+/// changes or the fuel is spent. Fails if out of memory.
 pub fn evaluate<A: Arena>(
     ground: &Ground<'_, A>,
     part: &[usize],
@@ -40,7 +40,7 @@ pub fn evaluate<A: Arena>(
     Ok(())
 }
 
-/// Sets the values of these vertices to endless, and lets them wait.
+/// Sets the values of the given vertices to endless, and adds the vertices to the queue.
 fn forget_all(
     part: &[usize],
     plan: &mut Plan,
@@ -59,7 +59,7 @@ fn forget_all(
     Ok(())
 }
 
-/// Lets the vertices of the same component wait whose value may decrease with that of a vertex.
+/// Adds to the queue the vertices of the same component whose values may decrease with the value of `vertex`.
 fn wake<A: Arena>(
     ground: &Ground<'_, A>,
     vertex: usize,

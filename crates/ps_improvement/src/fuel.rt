@@ -1,23 +1,24 @@
-//! What bounds the work.
+//! The limits on the work.
 
-/// The number of cells that may still be read or written, and of further cells that may be held at one time.
+/// How many cells may still be read or written, and how many more cells may be stored at one time.
 #[derive(Drop)]
 pub struct Fuel {
-    /// Cells to be read or written.
+    /// The number of cells that may still be read or written.
     pub left: u64,
-    /// Cells that may be held besides those that are held now.
+    /// The number of cells that may be stored in addition to those that are stored now.
     pub room: u64,
-    /// Whether there was no room for a row.
+    /// Whether there was not enough room for some row.
     pub is_full: bool,
 }
 
 impl Fuel {
-    /// Counts `cells` cells, and one more, as read or written.
+    /// Spends fuel for `cells` cells that are read or written, and for one more.
     pub fn burn(&mut self, cells: usize) {
         self.left = self.left.saturating_sub(cells as u64).saturating_sub(1);
     }
 
-    /// Counts a row of `cells` cells as held instead of another one. If there is no room for it, no fuel is left.
+    /// Counts a row of `cells` cells as stored in place of a row of `instead` cells. If there is no room for the row,
+    /// all fuel is spent.
     pub fn hold(&mut self, cells: usize, instead: usize) {
         let room = self.room.saturating_add(instead as u64);
         if room < cells as u64 {

@@ -34,7 +34,7 @@ impl<'a, A: Arena> Graph for Edges<'a, A> {
     }
 }
 
-/// A game, with the edges to each vertex and the component of each vertex.
+/// A game, with the edges that lead to each vertex, and the component of each vertex.
 #[derive(Drop)]
 pub struct Ground<'a, A: Arena> {
     /// The game.
@@ -48,7 +48,7 @@ pub struct Ground<'a, A: Arena> {
 }
 
 impl<'a, A: Arena> Ground<'a, A> {
-    /// The ground of a game. Fails if memory runs out.
+    /// Computes the reversed edges and the components of a game. Fails if out of memory.
     pub fn of(alloc: Global, arena: &'a A) -> Result<Ground<'a, A>, AllocError>
         requires { HasRoom (A.game arena.now) usize.MAX }
         ensures { IfOk result (λ ground. A.game ground.arena.now ≡ A.game arena.now) }
@@ -60,14 +60,14 @@ impl<'a, A: Arena> Ground<'a, A> {
         })
     }
 
-    /// The vertices, component by component, those without a way out first.
+    /// The vertices, component by component. Components that no edge leaves come first.
     pub fn order(&self) -> &[usize]
         ensures { All (λ v. v < vertex_count (A.game self.now.arena.now)) result.now }
     {
         self.components.order()
     }
 
-    /// Whether two vertices are in one component.
+    /// Whether two vertices are in the same component.
     pub fn is_one_part(&self, vertex: usize, other: usize) -> bool
         requires vertex { vertex < vertex_count (A.game self.now.arena.now) }
         requires other { other < vertex_count (A.game self.now.arena.now) }

@@ -1,4 +1,4 @@
-//! Improves the plan where it is worth more to go on.
+//! Improves the plan where a choice is worth more than stopping or than the present move.
 
 ghost use Rattle.std.specs.Prelude.{◌≡◌, ◌<◌, All, length};
 ghost use Rattle.ps_game.specs.Games.{vertex_count};
@@ -9,8 +9,8 @@ use crate::row::Value;
 use ps_game::Arena;
 use std::cmp::Ordering;
 
-/// Lets player 0 go on where that is worth more, and opens the vertices of player 1 that are worth more than stopping,
-/// all by the present values. Returns whether anything improved.
+/// Improves the moves of player 0, and opens the vertices of player 1 that are worth more than stopping. All choices
+/// use the present values. Returns whether anything improved.
 pub fn improve<A: Arena>(arena: &A, part: &[usize], plan: &mut Plan, fuel: &mut Fuel) -> bool
     requires part { All (λ v. v < vertex_count (A.game arena.now)) part.now }
     requires rows { length plan.old.rows.items ≡ vertex_count (A.game arena.now) }
@@ -21,7 +21,7 @@ pub fn improve<A: Arena>(arena: &A, part: &[usize], plan: &mut Plan, fuel: &mut 
     moved || opened
 }
 
-/// Lets player 0 go where it is worth most. Returns whether a move improved.
+/// Lets player 0 move from each of its vertices to a successor that is worth most. Returns whether a move improved.
 fn go_on<A: Arena>(arena: &A, part: &[usize], plan: &mut Plan, fuel: &mut Fuel) -> bool
     requires part { All (λ v. v < vertex_count (A.game arena.now)) part.now }
     requires rows { length plan.old.rows.items ≡ vertex_count (A.game arena.now) }
@@ -36,7 +36,7 @@ fn go_on<A: Arena>(arena: &A, part: &[usize], plan: &mut Plan, fuel: &mut Fuel) 
     improved
 }
 
-/// Lets player 0 go from a vertex to where it is worth most. Returns whether its move improved.
+/// Lets player 0 move from one vertex to a successor that is worth most. Returns whether the move improved.
 fn go_on_at<A: Arena>(arena: &A, vertex: usize, plan: &mut Plan, fuel: &mut Fuel) -> bool
     requires vertex { vertex < vertex_count (A.game arena.now) }
     requires rows { length plan.old.rows.items ≡ vertex_count (A.game arena.now) }

@@ -1,18 +1,20 @@
-//! Regions and moves of a parity game by strategy improvement, without a promise: the caller has to check them.
+//! Computes regions and moves of a parity game by strategy improvement. The result is not guaranteed, so the caller has
+//! to check it.
 //!
-//! Player 0 improves. The value of a play is its row, which says how often each priority was met before the play
-//! stopped; a play that goes on for ever is worth more than any row. At first player 0 stops everywhere, and plays stop
-//! before each vertex of player 1 too: it is closed. In a round the values are computed, each being the least that
-//! player 1 can force. Then player 0 goes on where that is worth more, and vertices of player 1 are opened whose value
-//! is more than that of stopping. When nothing improves any more, player 0 wins the vertices from which plays go on for
-//! ever. Components of the game are settled one by one, those without a way out first.
+//! Player 0 improves. The value of a play is its row, which states how often the play meets each priority before it
+//! stops. A play that never stops is worth more than any row. At first, player 0 stops at every vertex, and every
+//! vertex of player 1 is closed: plays stop before they enter it. Each round computes the values, each of which is the
+//! least that player 1 can force. Then player 0 changes its moves to successors that are worth more, and each vertex of
+//! player 1 whose value is more than that of stopping is opened. When nothing improves any more, player 0 wins the
+//! vertices from which plays never stop. The components of the game are solved one after another, beginning with those
+//! that no edge leaves.
 //!
 //! | Call | What it gives |
 //! |---|---|
-//! | `attempt(arena, fuel)` | an `Attempted`: a region and the moves of both players, or what was lacking |
+//! | `attempt(arena, fuel)` | an `Attempted`: a region and the moves of both players, or the reason why there is none |
 //!
-//! Time is bounded by the fuel, which counts the cells of rows that are read or written, and memory by a number of cells
-//! for each vertex and edge.
+//! The fuel limits the time: it counts the cells of rows that are read or written. The memory is limited to a number of
+//! cells for each vertex and edge.
 #![tactic(auto)]
 
 mod attempting;

@@ -1,4 +1,4 @@
-//! What the players do so far, and the values that follow from it.
+//! The present choices of the players, and the values that follow from them.
 
 ghost use Rattle.std.specs.Prelude.{◌≡◌, ◌<◌, ℕ, IfOk, IfSome, OnOk, length};
 ghost use Rattle.std.specs.Option.{ForSome};
@@ -15,11 +15,11 @@ use std::cmp::Ordering;
 #[derive(Drop)]
 pub struct Plan {
     alloc: Global,
-    /// Where player 0 goes on to. It stops if it has no move.
+    /// The moves of player 0. At a vertex without a move, player 0 stops.
     pub first: Strategy,
-    /// The vertices of player 1 that are open.
+    /// The vertices of player 1 that are open, so that plays may enter them.
     pub opened: Region,
-    /// The row of each vertex, or none if its value is endless.
+    /// The row of each vertex; none if the value of the vertex is endless.
     pub rows: Vec<Option<Row>>,
     ghost moves: { length first ≡ length rows.items },
     ghost opens: { length opened ≡ length rows.items },
@@ -27,7 +27,7 @@ pub struct Plan {
 }
 
 impl Plan {
-    /// Player 0 stops everywhere, and no vertex of player 1 is open. Fails if memory runs out.
+    /// A plan in which player 0 stops at every vertex, and no vertex of player 1 is open. Fails if out of memory.
     pub fn new(alloc: Global, count: usize) -> Result<Plan, AllocError>
         ensures { IfOk result (λ plan. length plan.rows.items ≡ count) }
     {
@@ -39,7 +39,7 @@ impl Plan {
         })
     }
 
-    /// Whether plays stop before a vertex.
+    /// Whether plays stop before they enter a vertex.
     pub fn is_closed<A: Arena>(&self, arena: &A, vertex: usize) -> bool
         requires places { length self.now.rows.items ≡ vertex_count (A.game arena.now) }
         requires vertex { vertex < length self.now.rows.items }
@@ -47,7 +47,7 @@ impl Plan {
         arena.owner(vertex) == 1 && !self.opened.contains(vertex)
     }
 
-    /// Opens a vertex of player 1.
+    /// Opens a vertex of player 1, so that plays may enter it.
     pub fn open_up(&mut self, vertex: usize)
         requires { vertex < length self.old.rows.items }
         ensures { length self.new.rows.items ≡ length self.old.rows.items }
@@ -55,7 +55,7 @@ impl Plan {
         self.opened.insert(vertex);
     }
 
-    /// Lets player 0 go from a vertex to another.
+    /// Lets player 0 move from one vertex to another.
     pub fn go(&mut self, vertex: usize, to: usize)
         requires vertex { vertex < length self.old.rows.items }
         requires to { to < length self.old.rows.items }
@@ -74,7 +74,7 @@ impl Plan {
         }
     }
 
-    /// What it is worth to go to a vertex, or to stop if there is none.
+    /// The value of a move to a vertex, or of stopping if no vertex is given.
     pub fn seen<A: Arena>(&self, arena: &A, to: Option<usize>) -> Value<'_>
         requires places { length self.now.rows.items ≡ vertex_count (A.game arena.now) }
         requires to { IfSome to (λ vertex. vertex < length self.now.rows.items) }
@@ -104,8 +104,8 @@ impl Plan {
         self.rows[vertex] = None;
     }
 
-    /// Lowers the value of a vertex to what follows from where its player goes, if that is less. Returns whether it is.
-    /// Fails if memory runs out.
+    /// Lowers the value of a vertex to the value that follows from the choice of the vertex's owner, if that value is
+    /// less. Returns whether the value was lowered. Fails if out of memory.
     pub fn lower<A: Arena>(
         &mut self,
         arena: &A,
@@ -125,7 +125,8 @@ impl Plan {
         Ok(true)
     }
 
-    /// The row of a vertex that follows from where its player goes, if it is worth less than its value.
+    /// The new row of a vertex, which follows from the choice of the vertex's owner, if the new row is worth less than
+    /// the present value.
     fn lower_row<A: Arena>(
         &self,
         arena: &A,
@@ -158,7 +159,7 @@ impl Plan {
         }
     }
 
-    /// Where the player of a vertex goes: player 0 by its move, player 1 where it is worth least.
+    /// The successor that the owner of a vertex chooses: player 0 by its move, player 1 one that is worth least.
     fn target<A: Arena>(&self, arena: &A, vertex: usize, fuel: &mut Fuel) -> Option<usize>
         requires places { length self.now.rows.items ≡ vertex_count (A.game arena.now) }
         requires vertex { vertex < length self.now.rows.items }
@@ -171,7 +172,7 @@ impl Plan {
         }
     }
 
-    /// A successor of a vertex to which it is worth least to go.
+    /// A least valuable successor of a vertex.
     #[tactic(auto, using(crate::proofs::Within::successor_within))]
     pub fn least<A: Arena>(&self, arena: &A, vertex: usize, fuel: &mut Fuel) -> usize
         requires places { length self.now.rows.items ≡ vertex_count (A.game arena.now) }
@@ -190,7 +191,7 @@ impl Plan {
         least
     }
 
-    /// Where it is worth most to go from a vertex; its own move if none is worth more.
+    /// The most valuable successor of a vertex; or the present move of the vertex, if no successor is worth more.
     #[tactic(auto, using(crate::proofs::Within::successor_within))]
     pub fn best<A: Arena>(&self, arena: &A, vertex: usize, fuel: &mut Fuel) -> Option<usize>
         requires places { length self.now.rows.items ≡ vertex_count (A.game arena.now) }
@@ -210,7 +211,7 @@ impl Plan {
     }
 }
 
-/// Endless values for `count` vertices.
+/// The endless values of `count` vertices.
 fn endless(alloc: Global, count: usize) -> Result<Vec<Option<Row>>, AllocError>
     ensures { IfOk result (λ rows. length rows.items ≡ count) }
 {

@@ -1,32 +1,32 @@
-//! What plays are worth.
+//! The values of plays.
 
 use crate::fuel::Fuel;
 use std::alloc::{AllocError, Global};
 use std::cmp::Ordering;
 
-/// How often a priority is met.
+/// A priority, and how often a play meets it.
 #[derive(Clone, Copy, PartialEq, Eq)]
 pub struct Cell {
     /// The priority.
     pub priority: u64,
-    /// How often.
+    /// How often a play meets the priority.
     pub count: u64,
 }
 
-/// The priorities that are met before a play stops, decreasing, each with how often it is met, which is never 0 times.
+/// The priorities that a play meets before it stops, in descending order, each with how often it is met. No count is 0.
 pub type Row = Vec<Cell>;
 
-/// What a play is worth to player 0.
+/// The value of a play to player 0.
 #[derive(Clone, Copy)]
 pub enum Value<'a> {
-    /// It goes on for ever, which is worth most.
+    /// The play never stops, which is worth most.
     Endless,
-    /// It stops after these.
+    /// The play stops after meeting these priorities.
     Stops(&'a [Cell]),
 }
 
 impl Value<'_> {
-    /// Which of two values is worth more.
+    /// Compares two values. The greater value is worth more.
     pub fn order(self, other: Value<'_>, fuel: &mut Fuel) -> Ordering {
         match (self, other) {
             (Value::Endless, Value::Endless) => Ordering::Equal,
@@ -37,7 +37,7 @@ impl Value<'_> {
     }
 }
 
-/// Which of two rows is worth more: the first place where they differ decides.
+/// Compares two rows. The first cell in which the rows differ decides.
 fn order_of_rows(row: &[Cell], other: &[Cell], fuel: &mut Fuel) -> Ordering {
     let same = row
         .iter()
@@ -53,7 +53,7 @@ fn order_of_rows(row: &[Cell], other: &[Cell], fuel: &mut Fuel) -> Ordering {
     }
 }
 
-/// Which of two cells is worth more: the greater priority decides; if they have the same, how often it is met.
+/// Compares two cells. The greater priority decides; if the priorities are equal, the counts decide.
 fn order_of_cells(cell: Cell, beside: Cell) -> Ordering {
     match cell.priority.cmp(&beside.priority) {
         Ordering::Greater => worth_of(cell.priority),
@@ -63,7 +63,7 @@ fn order_of_cells(cell: Cell, beside: Cell) -> Ordering {
     }
 }
 
-/// Whether it is worth more or less to meet a priority once more.
+/// Compares meeting a priority once more with not meeting it.
 fn worth_of(priority: u64) -> Ordering {
     if priority % 2 == 0 {
         Ordering::Greater
@@ -72,7 +72,8 @@ fn worth_of(priority: u64) -> Ordering {
     }
 }
 
-/// A row with a priority once more, in parts: the cells of greater priorities, the cell of that one, and the others.
+/// A row with one more occurrence of a priority, in three parts: the cells of greater priorities, the cell of that
+/// priority, and the cells of smaller priorities.
 #[derive(Drop)]
 pub struct Raised<'a> {
     front: &'a [Cell],
@@ -81,7 +82,7 @@ pub struct Raised<'a> {
 }
 
 impl<'a> Raised<'a> {
-    /// The raised row of a row.
+    /// The row with one more occurrence of a priority.
     pub fn of(row: &'a [Cell], priority: u64) -> Raised<'a> {
         let (front, back) = row.split_at(row.partition_point(|cell| cell.priority > priority));
         let (count, rest) = match back.split_first() {
@@ -98,7 +99,7 @@ impl<'a> Raised<'a> {
         }
     }
 
-    /// Whether it is worth more or less than another row.
+    /// Compares the raised row with another row.
     pub fn order(&self, other: &[Cell], fuel: &mut Fuel) -> Ordering {
         let (begin, back) = other.split_at(self.front.len().min(other.len()));
         let fronts = order_of_rows(self.front, begin, fuel);
@@ -114,7 +115,7 @@ impl<'a> Raised<'a> {
         }
     }
 
-    /// The whole row. Fails if memory runs out.
+    /// The whole row. Fails if out of memory.
     pub fn row(&self, alloc: Global) -> Result<Row, AllocError> {
         let cells = self.front.len().saturating_add(1);
         let mut row = Vec::with_capacity(alloc, cells.saturating_add(self.rest.len()))?;

@@ -1,4 +1,4 @@
-//! Vertices that wait, each once.
+//! A queue of pending vertices.
 
 ghost use Rattle.std.specs.Prelude.{◌≡◌, ◌<◌, All, IfOk, IfSome, length};
 
@@ -6,17 +6,17 @@ use ps_game::Region;
 use std::alloc::{AllocError, Global};
 use std::collections::VecDeque;
 
-/// The vertices that wait, the first one first, each once.
+/// A queue of pending vertices, in which each vertex occurs at most once.
 #[derive(Drop)]
 pub struct Waiting {
     queue: VecDeque<usize>,
-    /// Which vertices wait.
+    /// The vertices that are in the queue.
     pub waits: Region,
     ghost within: { All (λ v. v < length waits) queue.items },
 }
 
 impl Waiting {
-    /// None of `count` vertices. Fails if memory runs out.
+    /// An empty queue for a game with `count` vertices. Fails if out of memory.
     pub fn none(alloc: Global, count: usize) -> Result<Waiting, AllocError>
         ensures { IfOk result (λ waiting. length waiting.waits ≡ count) }
     {
@@ -26,7 +26,7 @@ impl Waiting {
         })
     }
 
-    /// Lets a vertex wait, if it does not yet. Fails if memory runs out.
+    /// Appends a vertex to the queue, unless the queue has it already. Fails if out of memory.
     pub fn put(&mut self, vertex: usize) -> Result<(), AllocError>
         requires { vertex < length self.old.waits }
         ensures { length self.new.waits ≡ length self.old.waits }
@@ -38,7 +38,7 @@ impl Waiting {
         Ok(())
     }
 
-    /// The first one, which no longer waits.
+    /// Removes the first vertex from the queue, and returns it.
     pub fn take(&mut self) -> Option<usize>
         ensures places { length self.new.waits ≡ length self.old.waits }
         ensures within { IfSome result (λ vertex. vertex < length self.old.waits) }

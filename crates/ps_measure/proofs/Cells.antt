@@ -1,4 +1,4 @@
--- Chains of cells that hold counts: with one more cell, and as rows.
+-- Chains of cells that hold counts: how one more cell changes them, and the rows that they store.
 use Rattle.std.proofs.Common.{◌≡◌, ◌≢◌, ℕ, zero, suc, ◌+◌, ◌-◌, ◌<◌, ◌≤◌, ◌==◌, ◌∙◌, ◌++◌, ◌∷◌, [], List, length, map}
 use Rattle.std.proofs.Common.{max, get_or, inl, inr, refl, sym, ap, add-one, arith, Option, Some, cond}
 use Rattle.std.proofs.Common.{replicate, rules}
@@ -35,7 +35,7 @@ next_falls cells h i o k = search rules
 
 module _ (cells : List CountCell)
     (falls : (i : ℕ) (cell : CountCell) → slice_get cells i ≡ Some cell → cell.next ≤ i) where
-  -- a greater bound on the number of cells gives the same
+  -- two limits on the number of cells give the same count, if neither is less than the number of the first cell
   pub any_fuel : (f g n k : ℕ) → n ≤ f → n ≤ g → count_from cells f n k ≡ count_from cells g n k
   any_fuel f g zero k a b = from_none cells f k ∙ sym (from_none cells g k)
   any_fuel zero g (suc i) k a b = absurd (omega arith)
@@ -48,12 +48,12 @@ module _ (cells : List CountCell)
         any_fuel f g (next_of (slice_get cells i)) k (omega (arith, less, a)) (omega (arith, less, b)),
       )
 
-  -- the cell with a number, and those after it
+  -- the count of a chain is the greater of the count of its first cell and the count of the cells after it
   pub from_number : (i k : ℕ) (cell : CountCell) → slice_get cells i ≡ Some cell →
       count_from cells (suc i) (suc i) k ≡ max (count_here (Some cell) k) (count_from cells cell.next cell.next k)
   from_number i k cell at = search (rules, from_cell, any_fuel)
 
-  -- one more cell leaves the chains that were there
+  -- one more cell does not change the counts of the existing chains
   pub from_longer : (cell : CountCell) (f n k : ℕ) → n ≤ length cells →
       count_from (cells ++ cell ∷ []) f n k ≡ count_from cells f n k
   from_longer cell f zero k within = from_none (cells ++ cell ∷ []) f k ∙ sym (from_none cells f k)
@@ -64,13 +64,13 @@ module _ (cells : List CountCell)
       let less = falls i old at in
       search (rules, from_cell, slice_get-append_left, from_longer cell f old.next k (omega (arith, less, within)))
 
-  -- the chain that begins with the new cell
+  -- the count of the chain that begins with the new cell
   pub from_new : (cell : CountCell) (k : ℕ) → cell.next ≤ length cells →
       count_from (cells ++ cell ∷ []) (suc (length cells)) (suc (length cells)) k
       ≡ max (count_here (Some cell) k) (count_from cells cell.next cell.next k)
   from_new cell k within = search (rules, from_cell, slice_get-push, from_longer, any_fuel)
 
--- ---- one cell of a chain, taken into a row
+-- ## Adding one cell of a chain to a row
 
 abbrev pub cell_at : List CountCell → ℕ → CountCell
 cell_at cells n = get_or cells (n - 1) (record { place = 0; count = 0; next = 0 })
@@ -95,14 +95,14 @@ module _ {width : ℕ} {cells : List CountCell} {n : ℕ} (chained : AreChained 
   here_and_behind : (k : ℕ) → count_from cells n n k ≡ max (count_here (Some cell_here) k) (behind k)
   here_and_behind k = grind (arith, from_number cells chained.falls (n - 1) k cell_here there)
 
-  -- a row with the cell taken into account, but not yet the cells after it
+  -- raising a row by one cell leaves only the cells after it to be added
   pub row_step : (row new : List ℕ) →
       slice_index new cell_here.place ≡ max (slice_index row cell_here.place) cell_here.count →
       ((k : ℕ) → k ≢ cell_here.place → slice_index new k ≡ slice_index row k) → (k : ℕ) →
       max (slice_index new k) (behind k) ≡ max (slice_index row k) (count_from cells n n k)
   row_step row new here others k = search (rules, cases_eq, here_and_behind, eq-eqb, ne_eqb)
 
--- ---- the rows
+-- ## The rows
 
 module _ (width : ℕ) (heads : List ℕ) (cells : List CountCell) where
   pub rows_each : length (rows_in width heads cells) ≡ length heads
@@ -131,7 +131,7 @@ module _ (width : ℕ) (heads : List ℕ) (cells : List CountCell) where
   pub count_behind : (v k : ℕ) → v < length heads → width ≤ k → count_of (rows_in width heads cells) v k ≡ 0
   count_behind v k below past = search (rules, row_at, get_or_past, length-map-range_with_len)
 
--- ---- one more count
+-- ## One more count
 
 module _ {width : ℕ} {heads : List ℕ} {cells : List CountCell} {vertex place : ℕ} (headed : AreHeaded width heads cells)
     (count : ℕ) (below : vertex < length heads) (within : place < width) where
@@ -182,7 +182,7 @@ module _ {width : ℕ} {heads : List ℕ} {cells : List CountCell} {vertex place
         count_at width heads cells vertex k below inside,
       )
 
--- ---- no cell
+-- ## An empty list of cells
 
 pub none_headed : (width count : ℕ) → AreHeaded width (replicate count 0) []
 none_headed width count = search (rules, zeros_at)
@@ -193,7 +193,7 @@ none_zero width count = record {
   none = search (rules, cases_lt, count_past, count_behind, count_at, zeros_at, from_none);
 }
 
--- ---- a row that was raised from zeros
+-- ## A row of zeros, raised by a whole chain
 
 pub row_done : (width : ℕ) (heads : List ℕ) (cells : List CountCell) (v head : ℕ) (zeros row : List ℕ) →
     v < length heads → head ≡ slice_index heads v → zeros ≡ replicate width 0 → length row ≡ length zeros →

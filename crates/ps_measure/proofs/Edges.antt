@@ -1,4 +1,4 @@
--- Links of the graphs, and the edges that remain.
+-- The links of the graphs, and the remaining edges.
 use Rattle.std.proofs.Common.{rules, ◌≡◌, ℕ, ◌+◌, ◌<◌, ◌≤◌, ◌∙◌, length, inl, inr, refl, sym, ap}
 use Rattle.std.proofs.Common.{arith, Option, Some, Bool, true, false, cond, nat_le, not, ◌&&◌, ◌||◌}
 use Rattle.std.specs.Prelude.{slice_index, ◌==◌}
@@ -14,7 +14,7 @@ use Rattle.ps_measure.specs.Inner.Remaining.{RemainingData, is_move, remaining_g
 use Rattle.ps_measure.specs.Inner.Remaining.{LowData, low_graph, low_weight}
 use Rattle.ps_measure.specs.Sums.{counted}
 
--- the edges that remain within the region, of the data of a graph
+-- an edge that remains within the region, for the game, player and moves of a graph
 abbrev pub Remains : RemainingData → ℕ → ℕ → Type 0
 Remains r = RemainsWithin r.game r.player (has r.region) (move_at r.strategy)
 
@@ -32,13 +32,13 @@ is_move-some o w h = search (rules, eqb-true)
 some-is_move : (o : Option ℕ) (w : ℕ) → o ≡ Some w → is_move o w ≡ true
 some-is_move o w e = rw e (eq-eqb w w refl)
 
--- the places of a vertex that has places under a condition
+-- a number is n if b is true, and 0 otherwise; if k is less than that number, b is true, and k is less than n
 pub below_places : (b : Bool) (k n : ℕ) → k < cond b n 0 → (b ≡ true) × (k < n)
 below_places b k n below = search rules
 
--- ---- edges that remain, by a test
+-- ## Remaining edges, by a test
 
--- both ends are in the set, and the edge is a move where the player owns its source
+-- both ends are in the set; and if the player owns the source, the edge is the player's move
 abbrev pub may_stay : ParityGame → ℕ → (ℕ → Bool) → (ℕ → Option ℕ) → ℕ → ℕ → Bool
 may_stay game player set table v w = set v && set w && (not (owner_of game v == player) || is_move (table v) w)
 
@@ -49,17 +49,17 @@ module _ {game : ParityGame} {player : ℕ} {set : ℕ → Bool} {table : ℕ �
   pub so_stays : RemainsWithin game player set table v w → may_stay game player set table v w ≡ true
   so_stays remains = search (rules, and_from, cases_eq, or_right, some-is_move, or_left, not_from_false, ne_eqb)
 
--- a link is an edge that remains
+-- each link is a remaining edge
 pub link_remains : (r : RemainingData) {v w : ℕ} → Link (remaining_graph r) v w → Remains r v w
 link_remains r {v} {w} link = search (rules, cond_some, below_places, stays_so, get_or_default)
 
--- an edge that remains is a link
+-- each remaining edge is a link
 pub remains_link : (r : RemainingData) {v w : ℕ} → Remains r v w → Link (remaining_graph r) v w
 remains_link r {v} {w} remains = search (rules, get_or_default, so_stays)
 
--- ---- links of low vertices
+-- ## Links of low vertices
 
--- a link between vertices that do not pass the priority
+-- a link of the low graph is a link between vertices whose priorities are at most the given priority
 pub low_link : (low : LowData) {w v : ℕ} → Link (low_graph low) w v → Link (star_graph low.star) w v ×
     (slice_index low.levels w ≤ low.priority) × (slice_index low.levels v ≤ low.priority)
 low_link low {w} {v} link = search (rules, below_places, cond_some, leb-true)
@@ -68,9 +68,9 @@ pub link_low : (low : LowData) {w v : ℕ} → Link (star_graph low.star) w v �
     slice_index low.levels v ≤ low.priority → Link (low_graph low) w v
 link_low low {w} {v} link from to = search (rules, le-leb)
 
--- ---- roots
+-- ## Roots
 
--- no target at the places below k is low
+-- none of the first k targets of a vertex is low
 pub record NoneLow (g : Digraph) (low : LowData) (v k : ℕ) : Type 0 where
   pub none : (w : ℕ) (link : Link g v w) → link.place < k → low.priority < slice_index low.levels w
 
@@ -87,7 +87,7 @@ pub high_target : (low : LowData) {to w : ℕ} → Some to ≡ Some w →
     nat_le (slice_index low.levels to) low.priority ≡ false → low.priority < slice_index low.levels w
 high_target low {to} {w} same high = search (rules, leb-false)
 
--- a low target is a link of the low graph against the edge
+-- an edge between low vertices, reversed, is a link of the low graph
 pub leads_low : {g : Digraph} (low : LowData) {v : ℕ} (k : ℕ) {w : ℕ} → IsReverse g (star_graph low.star) →
     v < g.count → k < g.degree v → g.target v k ≡ Some w → slice_index low.levels v ≤ low.priority →
     nat_le (slice_index low.levels w) low.priority ≡ true → Link (low_graph low) w v

@@ -1,4 +1,4 @@
--- Least counts are there for all priorities, as rows, or a cycle that is lost.
+-- Either there are least counts for all priorities, stored as rows, or there is a lost cycle.
 use Rattle.std.proofs.Common.{◌≡◌, ℕ, zero, suc, ◌%◌, ◌<◌, ◌≤◌, ◌⊎◌, List, [], ◌∷◌, length, map, get_or, inl, inr}
 use Rattle.std.proofs.Common.{arith, Option, Some, Bool, rules}
 use Rattle.std.specs.Prelude.{slice_get}
@@ -23,7 +23,7 @@ module _ (game : ParityGame) (player : ℕ) (set : ℕ → Bool) (table : ℕ �
   then_more first rest zero = first
   then_more first rest (suc k) = rest k
 
-  -- least counts for each of these priorities
+  -- least counts for each of the given priorities
   record Columns (priorities : List ℕ) : Type 0 where
     count : ℕ → ℕ → ℕ
     are_least : (k : ℕ) → k < length priorities → AreLeastFor game player set table (get_or priorities k 0) (count k)

@@ -12,7 +12,7 @@ use Rattle.ps_measure.specs.Ranks.{IsLostCycle, IsRefusal, IsOutOfMemory}
 
 module _ {game : ParityGame} {player : ℕ} {set : ℕ → Bool} {table : ℕ → Option ℕ} {cycle : List ℕ}
     (lost : IsLostCycle game player set table cycle) where
-  -- the cycle, with its first vertex once more
+  -- the cycle, with its first vertex repeated at the end
   abbrev round : List ℕ
   round = cycle ++ slice_index cycle 0 ∷ []
 

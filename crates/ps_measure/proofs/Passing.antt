@@ -1,4 +1,5 @@
--- Passing links from the last vertex of the order to the first: each value is final before it is used.
+-- The links are processed from the last vertex of the order to the first, so that each value is final before it is
+-- used.
 use Rattle.std.proofs.Common.{rules, ◌≡◌, ℕ, ◌+◌, ◌<◌, ◌≤◌, ◌∙◌, List, length, inl, inr, ap, arith, refl}
 use Rattle.std.proofs.Common.{Option, None, Some}
 use Rattle.std.specs.Prelude.{slice_get, slice_index, slice_set}
@@ -13,7 +14,7 @@ use Rattle.ps_measure.specs.Inner.Columns.{GrowsBelow, ArePassedFrom, value_at, 
 use Rattle.ps_measure.proofs.Growing.{one_count, weights_from-more, weights_from-least, weights_from-bound}
 use Rattle.ps_measure.proofs.Writing.{written}
 
--- ---- values that grow
+-- ## Growing values
 
 pub grows_on : {first second third : List ℕ} {place : ℕ} → GrowsBelow first second place →
     GrowsBelow second third place → GrowsBelow first third place
@@ -23,7 +24,7 @@ pub raised_before : (c : ComponentsData) {old new : List ℕ} (roots : List ℕ)
     AreRaised c old roots → AreRaised c new roots
 raised_before c roots grown raised i v k at is = omega (arith, raised i v k at is, grown.grows k)
 
--- a link stays taken into account while values grow below its own component
+-- the values still respect a link after values below the component of its source have grown
 pub passed_on : {weight : ℕ → ℕ} {c : ComponentsData} {old new : List ℕ} {w v k : ℕ} → IsIn c w k → {place : ℕ} →
     place ≤ k → GrowsBelow old new place → IsPassed weight c old w v → IsPassed weight c new w v
 passed_on is later grown (inside n from to light) = inside n from to light
@@ -31,14 +32,15 @@ passed_on {k = k} is later grown (across n m from to falls enough) =
     let number : n ≡ k = cc in
     across n m from to falls (omega (arith, grown.same n (omega arith), grown.grows m))
 
--- ---- a column with one value raised
+-- ## A column with one value raised
 
 module _ {g : Digraph} {weight : ℕ → ℕ} {c : ComponentsData} {values : List ℕ} (components : AreComponents g c)
     (column : IsColumn g weight c values) (v : ℕ) {m : ℕ} (to : IsIn c v m) where
   pub number_within : m < length values
   number_within = omega (arith, components.below v m to, column.each)
 
-  -- a value that is at most any counts, and at most the weights from there on
+  -- a component may get a larger value, if that value is a lower bound for all counts and at most the sum of the
+  -- weights from that component on
   set_column : (x : ℕ) → ((d : ℕ → ℕ) → AreCounts g weight d → x ≤ d v) → x ≤ weights_from c weight m g.count →
       IsColumn g weight c (slice_set values m x)
   set_column x least bounded = record {
@@ -51,12 +53,12 @@ module _ {g : Digraph} {weight : ℕ → ℕ} {c : ComponentsData} {values : Lis
     bounded = search (rules, written, number_within);
   }
 
-  -- a root's component has the value 1
+  -- raising the value of a root's component to 1 keeps the column correct
   pub root_column : {w : ℕ} → Link g w v → weight v ≡ 1 → IsColumn g weight c (slice_set values m 1)
   root_column {w} link heavy = set_column 1 (λ d counts. omega (arith, counts w v link))
       (omega (arith, weights_from-least weight components v to))
 
-  -- the value of a later component, with the weight of the vertex
+  -- the value of a later component, plus the weight of the vertex
   module _ {k : ℕ} (falls : m < k) where
     sum_bounded : slice_index values k + weight v ≤ weights_from c weight m g.count
     sum_bounded = omega (arith, column.bounded k, weights_from-more weight components v to falls)
@@ -76,9 +78,9 @@ module _ {g : Digraph} {weight : ℕ → ℕ} {c : ComponentsData} {values : Lis
         let other = written values m (slice_index values k + weight v) k number_within in
         across k m from to falls (omega (arith, at, other))
 
--- ---- the order
+-- ## The order
 
--- the vertex at one place more, whose links are taken into account
+-- the values respect the links from one more vertex of the order
 pub passed_from_here : {g : Digraph} (weight : ℕ → ℕ) {c : ComponentsData} {old new : List ℕ} (place : ℕ) {w k : ℕ} →
     AreComponents g c → slice_get c.order place ≡ Some w → IsIn c w k → GrowsBelow old new k →
     ArePassedFrom g weight c old (place + 1) → ((v : ℕ) → Link g w v → IsPassed weight c new w v) →
@@ -92,7 +94,7 @@ passed_from_here weight place {w} {k} components at is grown before here j w' v 
           passed_on number.1 rises grown (before j w' v (omega arith) at' link)
     ]
 
--- ---- the end
+-- ## The end
 
 -- the values of all vertices are the least counts
 module _ {g : Digraph} {weight : ℕ → ℕ} {c : ComponentsData} {values roots : List ℕ}
@@ -102,7 +104,7 @@ module _ {g : Digraph} {weight : ℕ → ℕ} {c : ComponentsData} {values roots
   value_in : (v k : ℕ) → IsIn c v k → value_of c values v ≡ slice_index values k
   value_in v k is = ap (value_at values) is
 
-  -- the end of a link from a vertex that was not met is light, or a root
+  -- if the source of a link was not reached, its target has weight 0 or is a root
   from_unmet : (w v : ℕ) → Link g w v → weight v ≤ value_of c values v
   from_unmet w v link = elim (cases_eq (weight v) 1) [
     | inl heavy ↦

@@ -1,4 +1,4 @@
--- The counts of one priority, put into a table one after the other.
+-- The counts for one priority, written into a table one after another.
 use Rattle.std.proofs.Common.{◌≡◌, ◌≢◌, ℕ, zero, suc, ◌+◌, ◌<◌, ◌≤◌, ◌∙◌, List, length, max, inl, inr, nat_lt}
 use Rattle.std.proofs.Common.{ap, arith, Some, rules}
 use Rattle.std.specs.Prelude.{slice_get}
@@ -13,7 +13,7 @@ use Rattle.ps_measure.specs.Sums.{sum_below, counted}
 use Rattle.ps_measure.specs.Tables.{HasPut, HasColumn}
 use Rattle.ps_measure.proofs.Summing.{sum_below-same, positive_none, positive_some, raised_below, raised_none}
 
--- one term more is 1, all others stay
+-- if one term grows from 0 to 1 and the others do not change, the sum grows by 1
 one_more : (f g : ℕ → ℕ) (n u : ℕ) → u < n → f u ≡ 0 → g u ≡ 1 → ((v : ℕ) → v ≢ u → g v ≡ f v) →
     sum_below g n ≡ sum_below f n + 1
 one_more f g zero u below none one others = absurd (omega arith)
@@ -22,7 +22,7 @@ one_more f g (suc n) u below none one others = elim (cases_eq u n) [
   | inr apart ↦ grind (arith, one_more f g n u (omega (arith, below, apart)) none one others)
 ]
 
--- the counts of the first so many vertices of an order were put
+-- the counts of the first `i` vertices of an order were written
 pub record ArePut (order : List ℕ) (counts : ℕ → ℕ) (old now : List (List ℕ)) (place i raised : ℕ) : Type 0 where
   pub each : length now ≡ length old
   pub wide : (v : ℕ) → width_of now v ≡ width_of old v
@@ -39,15 +39,15 @@ put_none {old = old} {place} none = search (rules, raised_none)
 module _ {order : List ℕ} {counts : ℕ → ℕ} {old now : List (List ℕ)} {place i raised u : ℕ}
     (so_far : ArePut order counts old now place i raised) (at : slice_get order i ≡ Some u)
     (once : (j v : ℕ) → slice_get order j ≡ Some v → slice_get order i ≡ Some v → j ≡ i) where
-  -- the vertex did not come before
+  -- the vertex occurs only once in the order, so its count was not written yet
   fresh : count_of now u place ≡ 0
   fresh = so_far.rest u (λ j less there. (let e : j ≡ i = once j u there at in omega (arith, e, less)))
 
-  -- its count is 0
+  -- the count is 0, so it need not be written
   pub put_skip : counts u ≡ 0 → ArePut order counts old now place (i + 1) raised
   put_skip none = search (rules, cases_eq, fresh)
 
-  -- its count is put
+  -- the count is written
   pub put_one : {new : List (List ℕ)} → u < length old → 0 < counts u → HasPut now new u place (counts u) →
       ArePut order counts old new place (i + 1) (raised + 1)
   put_one {new} below some put = record {
@@ -70,13 +70,13 @@ module _ {order : List ℕ} {counts : ℕ → ℕ} {old now : List (List ℕ)} {
       old_stays : (v : ℕ) → v ≢ u → count_of new v place ≡ count_of now v place
       old_stays v apart = put.others v place (λ e _. apart e)
 
--- ---- all that were met
+-- ## All vertices that were reached
 
 module _ {g : Digraph} {c : ComponentsData} (components : AreComponents g c) where
   pub item_within : (i v : ℕ) → slice_get c.order i ≡ Some v → v < length c.numbers
   item_within i v at = (let number = components.ordered i v at in slice_get_within c.numbers v (Some number.0) number.1)
 
-  -- what is not in the order has no value
+  -- a vertex that is not in the order has the value 0
   no_value : (values : List ℕ) (v : ℕ) → ((j : ℕ) → slice_get c.order j ≡ Some v → ⊥) → value_of c values v ≡ 0
   no_value values v nowhere = search rules
 

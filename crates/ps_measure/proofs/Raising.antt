@@ -1,5 +1,6 @@
--- There are least counts for one priority, or a cycle that is lost: counts are raised along the edges that remain until
--- none has to be. Each is the length of a chain of vertices of that priority. If one comes twice, a cycle is lost.
+-- For each priority there are least counts, or there is a lost cycle. Counts are raised along the remaining edges until
+-- no count need be raised. Each count is the length of a chain of vertices of the priority. If a vertex occurs twice in
+-- a chain, the player loses a cycle.
 use Rattle.std.proofs.Common.{◌≡◌, ℕ, zero, suc, ◌+◌, ◌-◌, ◌*◌, ◌%◌, ◌<◌, ◌≤◌, ◌⊎◌, ◌∙◌, List, [], ◌∷◌, ◌++◌, length}
 use Rattle.std.proofs.Common.{map, max, get_or, inl, inr, refl, sym, ap, arith, add-one, Option, Bool, true}
 use Rattle.std.proofs.Common.{cond, not, nat_le, nat_eq, ◌&&◌, rules}
@@ -21,7 +22,7 @@ use Rattle.ps_measure.proofs.Summing.{sum_below-bound, sum_below-more}
 
 -- ## Numbers below a bound
 
--- one function is above another somewhere, or nowhere
+-- one function is greater than another somewhere, or nowhere
 above_or_not : (f g : ℕ → ℕ) (n : ℕ) → ((v : ℕ) × (v < n) × (f v < g v)) ⊎ ((v : ℕ) → v < n → g v ≤ f v)
 above_or_not f g zero = inr (λ v below. absurd (omega (arith, below)))
 above_or_not f g (suc n) = grind (arith, cases_lt (f n) (g n), cases_eq, above_or_not f g n)
@@ -29,7 +30,7 @@ above_or_not f g (suc n) = grind (arith, cases_lt (f n) (g n), cases_eq, above_o
 later_one : (u v : ℕ) (us : List ℕ) → Contains us v → Contains (u ∷ us) v
 later_one u v us c = (suc c.0, omega (arith, c.1), c.2)
 
--- no number comes twice
+-- the numbers of a list are distinct
 abbrev Distinct : List ℕ → Type 0
 Distinct [] = Unit {0}
 Distinct (u ∷ us) = (Contains us u → ⊥) × Distinct us
@@ -37,7 +38,7 @@ Distinct (u ∷ us) = (Contains us u → ⊥) × Distinct us
 fewer : (b c : Bool) → counted (b && c) ≤ counted b
 fewer b c = search rules
 
--- different numbers below n that pass a test are at most as many as those that do
+-- distinct numbers below n that pass a test are no more than all numbers below n that pass it
 fits : (h : ℕ → Bool) (n : ℕ) (us : List ℕ) → Distinct us → ((u : ℕ) → Contains us u → (h u ≡ true) × (u < n)) →
     length us ≤ count_below h n
 fits h n [] d each = omega arith
@@ -57,7 +58,7 @@ fits h n (u ∷ us) d each =
 module _ (game : ParityGame) (player : ℕ) (set : ℕ → Bool) (table : ℕ → Option ℕ) (p : ℕ) where
   -- ## Edges, runs and chains
 
-  -- an edge that remains within the set, between vertices of no priority above p
+  -- an edge that remains within the set, between vertices whose priorities are at most p
   abbrev Goes : ℕ → ℕ → Type 0
   Goes v w = RemainsWithin game player set table v w × (priority_of game v ≤ p) × (priority_of game w ≤ p)
 
@@ -78,7 +79,7 @@ module _ (game : ParityGame) (player : ℕ) (set : ℕ → Bool) (table : ℕ �
   unfolding goes
   so_goes v w g = grind (arith, and_from, nat_le, so_stays, le-leb)
 
-  -- such edges lead from v through the vertices of the list to u
+  -- remaining edges between vertices of priority at most p lead from v through the vertices of the list to u
   abbrev IsRun : ℕ → List ℕ → ℕ → Type 0
   IsRun v [] u = Goes v u
   IsRun v (w ∷ ws) u = Goes v w × IsRun w ws u
@@ -98,7 +99,8 @@ module _ (game : ParityGame) (player : ℕ) (set : ℕ → Bool) (table : ℕ �
   reaches_join : (v x u : ℕ) → Reaches v x → Reaches x u → Reaches v u
   reaches_join v x u h k = search (rules, run_join)
 
-  -- vertices of the set of priority p, the first of them reached from v, each later one after an edge of the one before
+  -- a list of vertices of the set with priority p: the first can be reached from v, and each later one from a successor
+  -- of the vertex before it
   abbrev IsChain : ℕ → List ℕ → Type 0
   IsChain v [] = Unit {0}
   IsChain v (u ∷ us) = Reaches v u × (heavy u ≡ true) × ((w : ℕ) × Goes u w × IsChain w us)
@@ -120,7 +122,7 @@ module _ (game : ParityGame) (player : ℕ) (set : ℕ → Bool) (table : ℕ �
   chain_heavy v (x ∷ us) c zero u within is = (rw is at c.1, rw is at c.2.1.0.remains.edge.0)
   chain_heavy v (x ∷ us) c (suc k) u within is = chain_heavy c.2.0 us c.2.2 k u (omega (arith, within)) is
 
-  -- ## A cycle that is lost
+  -- ## A lost cycle
 
   abbrev Lost : Type 0
   Lost = (u : ℕ) × (ws : List ℕ) × (heavy u ≡ true) × IsRun u ws u
@@ -144,7 +146,7 @@ module _ (game : ParityGame) (player : ℕ) (set : ℕ → Bool) (table : ℕ �
     | inl d ↦ inl (fits heavy (vertex_count game) us d (λ u at. chain_heavy v us c at.0 u at.1 at.2))
   ]
 
-  -- each place of a run leads on, and the last one to its end
+  -- an edge leads from each vertex of a run to the next vertex
   run_edges : (v : ℕ) (ws : List ℕ) (u k : ℕ) → IsRun v ws u → suc k < length (v ∷ ws) →
       Goes (get_or (v ∷ ws) k 0) (get_or (v ∷ ws) (suc k) 0)
   run_edges v [] u k r within = absurd (omega (arith, within))
@@ -189,16 +191,16 @@ module _ (game : ParityGame) (player : ℕ) (set : ℕ → Bool) (table : ℕ �
 
   -- ## Counts
 
-  -- what a successor asks for
+  -- the smallest count that one edge allows, given the count of its target
   abbrev wish : (ℕ → ℕ) → ℕ → ℕ → ℕ
   wish d v w = cond (goes v w) (d w + weight v) 0
 
-  -- the greatest count that one of these successors asks for
+  -- the smallest count that the edges to the given successors allow
   best : (ℕ → ℕ) → ℕ → List ℕ → ℕ
   best d v [] = 0
   best d v (w ∷ ws) = max (wish d v w) (best d v ws)
 
-  -- what is asked for along so many edges
+  -- the smallest counts that runs of up to k edges allow
   counts : ℕ → ℕ → ℕ
   counts zero v = 0
   counts (suc k) v = best (counts k) v (successors_of game v)
@@ -227,7 +229,7 @@ module _ (game : ParityGame) (player : ℕ) (set : ℕ → Bool) (table : ℕ �
   unfolding counts best successors_of vertex_count
   past k v h = search (rules, best, counts, get_or_past)
 
-  -- a count is 0, or what one edge asks for
+  -- a count is 0, or is the smallest that some edge allows
   asked_by : (k v : ℕ) → (counts (suc k) v ≡ 0) ⊎ ((w : ℕ) × Goes v w × (counts (suc k) v ≡ counts k w + weight v))
   unfolding counts
   asked_by k v = elim (cases_lt 0 (counts (suc k) v)) [
@@ -266,7 +268,7 @@ module _ (game : ParityGame) (player : ℕ) (set : ℕ → Bool) (table : ℕ �
     | inr none ↦ search (rules, cases_lt, past)
   ]
 
-  -- no count has to be raised
+  -- no count need be raised
   record IsSettled (k : ℕ) : Type 0 where
     bounded : (v : ℕ) → counts k v ≤ count_with game set p
     settled : (v : ℕ) → v < vertex_count game → counts (suc k) v ≤ counts k v
@@ -298,7 +300,7 @@ module _ (game : ParityGame) (player : ℕ) (set : ℕ → Bool) (table : ℕ �
     | inr (inr more) ↦ settle fuel (suc k) (omega (arith, enough, more.1))
   ]
 
-  -- what keeps the rule has no smaller counts
+  -- every count that keeps the rule is at least the count defined here
   least : (other : ℕ → ℕ) → KeepRuleWithin game player set table p other → (k v : ℕ) → counts k v ≤ other v
   unfolding counts weight
   least other keep zero v = omega arith
@@ -310,7 +312,7 @@ module _ (game : ParityGame) (player : ℕ) (set : ℕ → Bool) (table : ℕ �
     ])
   ]
 
-  -- without edges there is no count
+  -- if no remaining edge between vertices of priority at most p leaves v, the count of v is 0
   none_without : (k v : ℕ) → ((w : ℕ) → Goes v w → ⊥) → counts k v ≡ 0
   unfolding counts
   none_without k v h = search (rules, asked_by)

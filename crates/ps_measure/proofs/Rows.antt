@@ -1,4 +1,4 @@
--- Rows of counts: those of one priority more, and how many are not 0.
+-- Rows of counts: how the counts for one more priority are added, and how many counts are not 0.
 use Rattle.std.proofs.Common.{◌≡◌, ℕ, ◌+◌, ◌*◌, ◌<◌, ◌≤◌, ◌∙◌, List, length, inl, inr, refl, sym, arith, Bool, true}
 use Rattle.std.proofs.Common.{false, nat_lt, Option, rules}
 use Rattle.std.specs.Prelude.{slice_index}
@@ -20,13 +20,13 @@ use Rattle.ps_measure.proofs.Summing.{raised_none, raised_same}
 abbrev pub Row : Type 0
 Row = List ℕ
 
--- ---- how many counts are not 0
+-- ## The number of nonzero counts
 
 pub raised-le-total : (rows : List Row) (count width : ℕ) → raised_of rows count width ≤ total_of rows count width
 raised-le-total rows count width = grind (arith, sum_below-le, positive_bound)
 
 module _ {game : ParityGame} {player : ℕ} {set : ℕ → Bool} {table : ℕ → Option ℕ} where
-  -- the counts for one priority that are not 0
+  -- a bound on the number of nonzero counts for one priority
   column_most : {p : ℕ} {counts : ℕ → ℕ} → AreLeastFor game player set table p counts →
       raised_below counts (vertex_count game) ≤ count_below set (vertex_count game) * count_with game set p
   column_most {p} {counts} least = elim (cases_lt 0 (count_with game set p)) [
@@ -48,9 +48,9 @@ module _ {game : ParityGame} {player : ℕ} {set : ℕ → Bool} {table : ℕ �
       raised_of rows (vertex_count game) (length priorities) ≤ most_raises game set priorities
   raised-le-most priorities rows columns = search (rules, sum_below-le, column_most)
 
-  -- ---- the columns so far
+  -- ## The columns so far
 
-  -- least counts, read at other places
+  -- counts that equal least counts are least counts
   pub least_same : {p : ℕ} {counts other : ℕ → ℕ} → ((v : ℕ) → other v ≡ counts v) →
       AreLeastFor game player set table p counts → AreLeastFor game player set table p other
   least_same same least = record {
@@ -61,7 +61,7 @@ module _ {game : ParityGame} {player : ℕ} {set : ℕ → Bool} {table : ℕ �
     bounded = λ v. omega (arith, least.bounded v, same v);
   }
 
-  -- with the counts of one more priority
+  -- the rows with the counts for one more priority
   pub ranked_more : {priorities : List ℕ} {old new : List Row} {place raises raised : ℕ} {counts : ℕ → ℕ} →
       AreLeastFor game player set table (slice_index priorities place) counts → HasColumn old new place counts →
       raised ≡ raised_below counts (vertex_count game) → AreRanked game player set table priorities old place raises →
@@ -76,19 +76,19 @@ module _ {game : ParityGame} {player : ℕ} {set : ℕ → Bool} {table : ℕ �
     raises_is = search (rules, sum_below-same, raised_below, raised_same, sum_below-next);
   }
 
-  -- in an empty set all counts are 0
+  -- in an empty set, all counts are 0
   pub ranked_empty : {priorities : List ℕ} {rows : List Row} → ((v : ℕ) → set v ≡ false) →
       AreZero rows (vertex_count game) (length priorities) →
       AreRanked game player set table priorities rows (length priorities) 0
   ranked_empty {priorities} {rows} nobody zeros = search (rules, sum_below-zero, raised_below, raised_none)
 
-  -- the raises fit
+  -- the number of raises is at most the number of priorities times 2^64 - 1
   pub ranked_fits : {priorities : List ℕ} {rows : List Row} {place raises : ℕ} →
       vertex_count game ≤ 18446744073709551615 → AreRanked game player set table priorities rows place raises →
       raises ≤ place * 18446744073709551615
   ranked_fits {rows = rows} {place} small ranked = search (rules, sum_below-bound, raised_below, count_below-bound)
 
--- ---- no root
+-- ## Without roots
 
 pub weight_light : (low : LowData) (v : ℕ) → low_weight low v ≤ 1
 weight_light low v = counted-bound _

@@ -19,13 +19,13 @@ use Rattle.ps_measure.proofs.Writing.{written}
 use Rattle.ps_measure.proofs.Passing.{number_within, raise_column, raise_fits, passed_by_raise, passed_on}
 use Rattle.ps_measure.proofs.Passing.{passed_from_here, root_column, raised_before, least_counts}
 
--- ---- one link, whose ends are in known components
+-- ## One link, whose ends are in known components
 
 module _ (low : LowData) {c : ComponentsData} {values : List ℕ} {from number to before weight : ℕ} {o : Option ℕ}
     (counting : IsCounting (low_graph low) (low_weight low) c values) (link : Link (low_graph low) from to)
     (from_in : IsIn c from number) (known : slice_get c.numbers to ≡ Some o) (before_is : before ≡ unwrap_or o number)
     (weight_is : weight ≡ low_weight low to) where
-  -- the number of the end's component
+  -- the target of the link is in the component numbered `before`
   before_in : IsIn c to before × (before ≤ number)
   before_in =
       let falls = counting.components.falls from number to from_in link in
@@ -41,7 +41,7 @@ module _ (low : LowData) {c : ComponentsData} {values : List ℕ} {from number t
   pub step_lost : number ≤ before → OnTrue (eqb weight 1) (IsLost (low_graph low) (low_weight low) c from to)
   step_lost more = search (rules, OnTrue_from, same_component, eqb-true)
 
-  -- the end is in an earlier component
+  -- the target is in an earlier component
   module _ {value : ℕ} (read : value ≡ get_or values number value) (less : before < number) where
     is_sum : value + weight ≡ slice_index values number + low_weight low to
     is_sum = search (rules, number_within, get_or_read)
@@ -66,7 +66,7 @@ module _ (low : LowData) {c : ComponentsData} {values : List ℕ} {from number t
         across number before from_in before_in.0 less
         (omega (arith, enough, is_sum, get_or_read values before y within at 0))
 
--- ---- the links of one vertex
+-- ## The links of one vertex
 
 pub pass_one : (low : LowData) {c c' : ComponentsData} {old new : List ℕ} {from number : ℕ} (place : ℕ) {to : ℕ} →
     c' ≡ c → IsIn c from number
@@ -93,7 +93,7 @@ pass_none low {from = from} place passed none t link before = elim (cases_eq lin
     clash : {x : ℕ} → None ≡ Some x → ⊥
     clash e = cc
 
--- ---- one vertex of the order
+-- ## One vertex of the order
 
 pub settle_one : (low : LowData) {c c' : ComponentsData} {old new : List ℕ} (place : ℕ) {w k : ℕ} → c' ≡ c →
     AreComponents (low_graph low) c → 0 < place → slice_get c.order (place - 1) ≡ Some w → IsIn c w k →
@@ -108,14 +108,14 @@ settle_one low place same components some at is grown before here =
 pub grows_within : {old new : List ℕ} {k n : ℕ} → k ≤ n → GrowsBelow old new k → GrowsBelow old new n
 grows_within at_most grown = record { grows = grown.grows; same = λ j later. grown.same j (omega arith) }
 
--- ---- the start
+-- ## The start
 
 pub roots_within : (low : LowData) (roots : List ℕ) (i v : ℕ) →
     ((w v : ℕ) → Link (low_graph low) w v → v < low.star.count) → AreRoots (low_graph low) (low_weight low) roots →
     slice_get roots i ≡ Some v → v < low.star.count
 roots_within low roots i v within are at = (let link = are.sound i v at in within link.0 v link.1)
 
--- one root more
+-- the components of the first n roots have values of at least 1
 pub record RaisedBelow (c : ComponentsData) (values roots : List ℕ) (n : ℕ) : Type 0 where
   pub raised : (i v k : ℕ) → i < n → slice_get roots i ≡ Some v → IsIn c v k → 1 ≤ slice_index values k
 
@@ -132,14 +132,14 @@ root_step low {roots} {c} {values} {i} {number} components are within is column 
         1 ≤ slice_index (slice_set values number 1) k
     more j v k below at in_k = search (rules, written, number_within, cases_eq, get_or_from_slice_get)
 
--- a root has a number
+-- each root has a component
 pub root_met : {g : Digraph} (roots : List ℕ) (c : ComponentsData) {i : ℕ} {o : Option ℕ} → AreMet g roots c →
     i < length roots → slice_get c.numbers (get_or roots i 0) ≡ Some o → ((n : ℕ) → o ≡ Some n → ⊥) → ⊥
 root_met roots c {i} met within is none =
     let found = (met (get_or roots i 0)).1 (i, get_or roots i 0, slice_get-get_or roots i 0 within, inl refl) in
     none found.0 (cc (found.1))
 
--- ---- the end
+-- ## The end
 
 pub settled : (low : LowData) {roots : List ℕ} {c c' : ComponentsData} {old new : List ℕ} {n : ℕ} →
     AreRoots (low_graph low) (low_weight low) roots → AreMet (low_graph low) roots c → AreRaised c old roots → c' ≡ c →

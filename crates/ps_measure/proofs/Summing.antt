@@ -8,7 +8,7 @@ pub sum_below-le : (f g : ℕ → ℕ) (n : ℕ) → ((v : ℕ) → v < n → f 
 sum_below-le f g zero each = omega arith
 sum_below-le f g (suc n) each = omega (arith, sum_below-le f g n (λ v below. grind arith), each n (omega arith))
 
--- and by x less where one term is
+-- if one term is less by at least x, the sum is less by at least x
 pub sum_below-more : (f g : ℕ → ℕ) (n u x : ℕ) → u < n → ((v : ℕ) → v < n → f v ≤ g v) → f u + x ≤ g u →
     sum_below f n + x ≤ sum_below g n
 sum_below-more f g zero u x below each more = absurd (omega arith)
@@ -21,7 +21,7 @@ sum_below-more f g (suc n) u x below each more = elim (cases_eq u n) [
   )
 ]
 
--- at most a bound for each term
+-- a sum is at most the number of terms times a bound on each term
 pub sum_below-bound : (f : ℕ → ℕ) (n b : ℕ) → ((v : ℕ) → v < n → f v ≤ b) → sum_below f n ≤ n * b
 sum_below-bound f zero b each = omega arith
 sum_below-bound f (suc n) b each = omega (arith, sum_below-bound f n b (λ v below. grind arith), each n (omega arith))
@@ -34,11 +34,11 @@ pub sum_below-zero : (f : ℕ → ℕ) (n : ℕ) → ((v : ℕ) → f v ≡ 0) �
 sum_below-zero f zero each = refl
 sum_below-zero f (suc n) each = omega (arith, sum_below-zero f n each, each n)
 
--- one number more
+-- a sum with one more term
 pub sum_below-next : (f : ℕ → ℕ) (n : ℕ) → sum_below f (n + 1) ≡ sum_below f n + f n
 sum_below-next f n = ap (sum_below f) (add-one n)
 
--- ---- counts of numbers
+-- ## The number of numbers that pass a test
 
 pub counted-bound : (b : Bool) → counted b ≤ 1
 counted-bound b = search rules
@@ -46,7 +46,7 @@ counted-bound b = search rules
 pub count_below-bound : (test : ℕ → Bool) (n : ℕ) → count_below test n ≤ n
 count_below-bound test n = omega (arith, sum_below-bound (λ v. counted (test v)) n 1 (λ v _. counted-bound (test v)))
 
--- 1 for a number that is not 0
+-- a positive number counts as 1, and 0 counts as 0
 pub positive_none : (x : ℕ) → x ≡ 0 → counted (nat_lt 0 x) ≡ 0
 positive_none x none = ap counted (le-ltb 0 x (omega arith))
 
@@ -56,7 +56,7 @@ positive_some x some = ap counted (lt-ltb 0 x some)
 pub positive_bound : (x : ℕ) → counted (nat_lt 0 x) ≤ x
 positive_bound x = search (rules, cases_lt, positive_some, positive_none)
 
--- how many numbers below n have a count that is not 0
+-- the number of indices below n at which f is not 0
 abbrev pub raised_below : (ℕ → ℕ) → ℕ → ℕ
 raised_below f n = count_below (λ v. nat_lt 0 (f v)) n
 

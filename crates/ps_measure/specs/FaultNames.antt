@@ -1,4 +1,4 @@
--- The numbers and the names of the faults for which a region has no counts.
+-- The numbers and names of the faults that `ranks` returns.
 use Rattle.std.specs.Prelude.{ℕ, List, codes}
 use Rattle.ps_game.specs.FaultNames as game
 use Rattle.ps_game.specs.declared.faults.GameFault.TheVariants as game_fault

@@ -1,5 +1,4 @@
--- The least counts of a player's region, by the priorities by which the player loses; and a cycle that the player
--- loses.
+-- The least counts of a player's region for the priorities by which the player loses, and cycles that the player loses.
 use Rattle.std.specs.Prelude.{◌≡◌, ℕ, ◌+◌, ◌-◌, ◌*◌, ◌%◌, ◌<◌, ◌≤◌, ◌&&◌, ◌==◌, List, length, map, Option, None, Some}
 use Rattle.std.specs.Prelude.{Bool, IsTrue, nat_lt, slice_get, slice_index}
 use Rattle.ps_game.specs.Games.{ParityGame, vertex_count, priority_of}
@@ -9,12 +8,13 @@ use Rattle.ps_measure.specs.declared.fault.MeasureFault.{MeasureFault}
 use Rattle.ps_measure.specs.declared.fault.MeasureFault.TheVariants.{BadCycle, OutOfMemory}
 use Rattle.ps_measure.specs.Sums.{sum_below, count_below}
 
--- how many vertices of a set have a priority
+-- the number of vertices of a set with a given priority
 abbrev pub count_with : ParityGame → (ℕ → Bool) → ℕ → ℕ
 count_with game set p = count_below (λ v. (priority_of game v == p) && set v) (vertex_count game)
 
--- counts for one priority that keep the rule on each edge that remains within the set, and the least that do; 0 outside
--- the set and at greater priorities; each at most the number of the set's vertices of that priority
+-- Counts for one priority that keep the rule on each edge that remains within the set, and are the least counts that
+-- do. The counts are 0 outside the set and at greater priorities. Each count is at most the number of vertices of the
+-- priority in the set.
 pub record AreLeastFor (game : ParityGame) (player : ℕ) (set : ℕ → Bool) (table : ℕ → Option ℕ) (p : ℕ)
     (count : ℕ → ℕ) : Type 0 where
   pub keep : KeepRuleWithin game player set table p count
@@ -23,7 +23,7 @@ pub record AreLeastFor (game : ParityGame) (player : ℕ) (set : ℕ → Bool) (
   pub above : (v : ℕ) → p < priority_of game v → count v ≡ 0
   pub bounded : (v : ℕ) → count v ≤ count_with game set p
 
--- the count of a vertex at a place of its row
+-- the count at an index of a vertex's row
 abbrev pub count_in : Option (List ℕ) → ℕ → ℕ
 count_in None k = 0
 count_in (Some row) k = slice_index row k
@@ -31,7 +31,7 @@ count_in (Some row) k = slice_index row k
 abbrev pub count_of : List (List ℕ) → ℕ → ℕ → ℕ
 count_of rows v k = count_in (slice_get rows v) k
 
--- how many counts the row of a vertex has
+-- the number of counts in the row of a vertex
 abbrev pub width_in : Option (List ℕ) → ℕ
 width_in None = 0
 width_in (Some row) = length row
@@ -44,7 +44,7 @@ pub record AreRows (rows : List (List ℕ)) (count width : ℕ) : Type 0 where
   pub each : length rows ≡ count
   pub wide : (v : ℕ) → v < count → width_of rows v ≡ width
 
--- the opposing priorities of the game, ascending, and for each vertex a row with one count for each of them
+-- the opposing priorities of the game in ascending order, and for each vertex a row with one count for each of them
 pub record AreRanks (game : ParityGame) (player : ℕ) (set : ℕ → Bool) (table : ℕ → Option ℕ) (priorities : List ℕ)
     (rows : List (List ℕ)) : Type 0 where
   pub listed : ListsPriorities game (other_player player) priorities
@@ -56,18 +56,19 @@ pub record AreRanks (game : ParityGame) (player : ℕ) (set : ℕ → Bool) (tab
 abbrev pub total_of : List (List ℕ) → ℕ → ℕ → ℕ
 total_of rows count width = sum_below (λ k. sum_below (λ v. count_of rows v k) count) width
 
--- how many counts are not 0
+-- the number of nonzero counts
 abbrev pub raised_of : List (List ℕ) → ℕ → ℕ → ℕ
 raised_of rows count width = sum_below (λ k. count_below (λ v. nat_lt 0 (count_of rows v k)) count) width
 
--- summed over the priorities: the vertices of the set times those of them that have the priority
+-- for each priority, the number of vertices of the set times the number of those that have the priority; summed over
+-- the priorities
 abbrev pub most_raises : ParityGame → (ℕ → Bool) → List ℕ → ℕ
 most_raises game set priorities =
     sum_below (λ k. count_below set (vertex_count game) * count_with game set (slice_index priorities k))
     (length priorities)
 
--- a cycle of edges that remain within the set, each vertex leading to the next and the last to the first, whose
--- greatest priority is of the other player's parity
+-- A cycle of edges that remain within the set: an edge leads from each vertex to the next, and from the last to the
+-- first. The greatest priority on the cycle has the parity of the other player.
 pub record IsLostCycle (game : ParityGame) (player : ℕ) (set : ℕ → Bool) (table : ℕ → Option ℕ)
     (cycle : List ℕ) : Type 0 where
   pub some : 0 < length cycle
@@ -77,12 +78,12 @@ pub record IsLostCycle (game : ParityGame) (player : ℕ) (set : ℕ → Bool) (
   pub closes : RemainsWithin game player set table (slice_index cycle (length cycle - 1)) (slice_index cycle 0)
   pub lost : greatest (map (priority_of game) cycle) % 2 ≡ other_player player
 
--- what an error says: a cycle is one that the player loses; out of memory says nothing
+-- what a fault guarantees: a cycle in the fault is a cycle that the player loses; out of memory guarantees nothing
 abbrev pub IsRefusal : ParityGame → ℕ → (ℕ → Bool) → (ℕ → Option ℕ) → MeasureFault → Type 0
 IsRefusal game player set table (BadCycle cycle) = IsLostCycle game player set table cycle.items
 IsRefusal game player set table OutOfMemory = Unit {0}
 
--- memory ran out
+-- the error is out of memory
 abbrev pub IsOutOfMemory : MeasureFault → Type 0
 IsOutOfMemory (BadCycle cycle) = ⊥
 IsOutOfMemory OutOfMemory = Unit {0}

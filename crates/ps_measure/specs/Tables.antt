@@ -1,5 +1,5 @@
--- Rows of counts that are stored as chains of cells: the counts of a vertex follow from the number of its first cell.
--- Cell i has the number i + 1, and 0 is the end.
+-- Rows of counts that are stored as chains of cells. The number of a vertex's first cell determines the counts of the
+-- vertex. Cell i has the number i + 1, and the number 0 ends a chain.
 use Rattle.std.specs.Prelude.{◌≡◌, ℕ, zero, suc, ◌<◌, ◌≤◌, ◌==◌, List, length, map, max, Option, None, Some}
 use Rattle.std.specs.Prelude.{if◌then◌else◌, slice_get, slice_index}
 use Rattle.std.specs.List.{range_with_len}
@@ -14,27 +14,28 @@ abbrev pub count_here : Option CountCell → ℕ → ℕ
 count_here None k = 0
 count_here (Some cell) k = if cell.place == k then cell.count else 0
 
--- the greatest count at a place, of the chain that begins with a number, looking at a limited number of cells
+-- the greatest count at index k in the first cells of a chain, given by the number of its first cell; `fuel` limits the
+-- number of cells
 unfoldable pub count_from : List CountCell → ℕ → ℕ → ℕ → ℕ
 count_from cells zero number k = 0
 count_from cells (suc fuel) zero k = 0
 count_from cells (suc fuel) (suc i) k =
     max (count_here (slice_get cells i) k) (count_from cells fuel (next_of (slice_get cells i)) k)
 
--- the counts of a chain
+-- the row of counts that a chain stores
 abbrev pub row_from : ℕ → List CountCell → ℕ → List ℕ
 row_from width cells head = map (count_from cells head head) (range_with_len 0 width)
 
--- a row for each chain
+-- one row for each chain
 unfoldable pub rows_in : ℕ → List ℕ → List CountCell → List (List ℕ)
 rows_in width heads cells = map (row_from width cells) heads
 
--- chains lead to earlier cells, and the places are in the rows
+-- each cell names an earlier cell as the next one, or none, and its index is within the rows
 pub record AreChained (width : ℕ) (cells : List CountCell) : Type 0 where
   pub falls : (i : ℕ) (cell : CountCell) → slice_get cells i ≡ Some cell → cell.next ≤ i
   pub places : (i : ℕ) (cell : CountCell) → slice_get cells i ≡ Some cell → cell.place < width
 
--- the chains begin with cells that are there
+-- each chain is empty or begins with a cell of the list
 pub record AreHeaded (width : ℕ) (heads : List ℕ) (cells : List CountCell) : Type 0 where
   pub chained : AreChained width cells
   pub first : (v : ℕ) → slice_index heads v ≤ length cells
@@ -44,14 +45,14 @@ pub record AreZero (rows : List (List ℕ)) (count width : ℕ) : Type 0 where
   pub shape : AreRows rows count width
   pub none : (v k : ℕ) → count_of rows v k ≡ 0
 
--- a count of a vertex was raised
+-- a count of a vertex was raised to a given value, if it was less
 pub record HasPut (old new : List (List ℕ)) (vertex place count : ℕ) : Type 0 where
   pub each : length new ≡ length old
   pub wide : (v : ℕ) → width_of new v ≡ width_of old v
   pub here : count_of new vertex place ≡ max count (count_of old vertex place)
   pub others : (v k : ℕ) → (v ≡ vertex → k ≡ place → ⊥) → count_of new v k ≡ count_of old v k
 
--- the counts of all vertices at a place were put
+-- the counts of all vertices at one index were replaced
 pub record HasColumn (old new : List (List ℕ)) (place : ℕ) (counts : ℕ → ℕ) : Type 0 where
   pub each : length new ≡ length old
   pub wide : (v : ℕ) → width_of new v ≡ width_of old v

@@ -1,4 +1,4 @@
-//! The least counts for one priority, by the components of the reversed edges that remain.
+//! The least counts for one priority, computed by the strong components of the reversed remaining edges.
 
 ghost use Rattle.std.specs.Prelude.{◌≡◌, ℕ, ◌<◌, length, nat_lt, IfOk, OnOk, IfNone, IfSome};
 ghost use Rattle.std.specs.Bool.{OnFalse, OnTrue};
@@ -17,7 +17,8 @@ use crate::table::CountTable;
 use ps_components::{Components, Graph};
 use std::alloc::{AllocError, Global};
 
-/// A count for each component of the vertices that were met. One value serves one priority after another.
+/// A count for each component of the vertices that a search reached. The same column is used for one priority after
+/// another.
 #[derive(Drop)]
 pub(crate) struct Column {
     components: Components,
@@ -25,7 +26,7 @@ pub(crate) struct Column {
 }
 
 impl Column {
-    /// A value for no graph.
+    /// An empty column, for no graph.
     pub(crate) fn new(alloc: Global) -> Self {
         Column {
             components: Components::new(alloc),
@@ -33,8 +34,8 @@ impl Column {
         }
     }
 
-    /// Works out the least counts for the priority of a graph. If there are none, returns a link to a vertex with the
-    /// priority, from which a way leads back to where the link begins.
+    /// Computes the least counts for the priority of `low`. If no counts keep the rule, returns a link to a vertex of
+    /// that priority, from which a way leads back to the start of the link.
     pub(crate) fn work_out(
         &mut self,
         low: &Low,
@@ -51,7 +52,8 @@ impl Column {
         Ok(self.settle(low))
     }
 
-    /// Finds the components of what the roots lead to, with the value 1 at the roots and 0 elsewhere.
+    /// Computes the components of the vertices that the roots reach. The value is 1 for the components of roots, and 0
+    /// for the others.
     fn begin(&mut self, low: &Low, roots: &[usize]) -> Result<(), AllocError>
         requires { AreRoots (low_graph low.now) (low_weight low.now) roots.now }
         ensures counting { OnOk result (IsCounting (low_graph low.now) (low_weight low.now) self.new.components
@@ -82,8 +84,8 @@ impl Column {
         }
     }
 
-    /// Puts the count of each vertex that was met into a table, at the place of the priority, unless it is 0. Returns
-    /// how many counts are not 0.
+    /// Writes the nonzero counts of the vertices into a table, at the index of the priority. Returns the number of
+    /// nonzero counts.
     pub(crate) fn put_into(&self, place: usize, table: &mut CountTable) -> Result<u64, AllocError>
         requires components { (g : Digraph) × AreComponents g self.now.components }
         requires each { length table.old ≡ length self.now.components.numbers }
@@ -106,7 +108,8 @@ impl Column {
         Ok(raised)
     }
 
-    /// Takes a link into account. Returns true if it stays in a component and leads to a vertex with the priority.
+    /// Raises the value of the target's component as a link requires. Returns true if the link stays within a component
+    /// and leads to a vertex of the priority.
     fn pass(&mut self, low: &Low, from: usize, number: usize, to: usize) -> bool
         requires counting { IsCounting (low_graph low.now) (low_weight low.now) self.old.components
             self.old.values.items }
@@ -134,7 +137,8 @@ impl Column {
         }
     }
 
-    /// Takes each link of a vertex into account, up to a lost one, whose end is returned.
+    /// Raises values as the links of a vertex require. Stops at a link that belongs to a lost cycle, and returns the
+    /// link's target.
     fn pass_all(&mut self, low: &Low, from: usize, number: usize) -> Option<usize>
         requires counting { IsCounting (low_graph low.now) (low_weight low.now) self.old.components
             self.old.values.items }
@@ -157,7 +161,8 @@ impl Column {
         None
     }
 
-    /// Takes all links into account, from the last vertex in the order to the first, up to a lost one.
+    /// Raises values as all links require, from the last vertex in the order to the first. Stops at a link that belongs
+    /// to a lost cycle, and returns that link.
     fn settle(&mut self, low: &Low) -> Option<(usize, usize)>
         requires { IsCounting (low_graph low.now) (low_weight low.now) self.old.components self.old.values.items }
         ensures counting { IsCounting (low_graph low.now) (low_weight low.now) self.new.components

@@ -1,4 +1,4 @@
-//! Cells of chains of counts, in 12 bytes each as long as their numbers are small.
+//! The cells of chains of counts. Each cell takes 12 bytes as long as all numbers are small.
 
 ghost use Rattle.std.specs.Prelude.{◌≡◌, ◌<◌, ◌∷◌, [], ◌++◌, IfOk, OnOk, OnErr, length, slice_index_or};
 ghost use Rattle.ps_measure.specs.Inner.Cells.{no_count};
@@ -16,7 +16,7 @@ pub struct NarrowCount {
     next: u32,
 }
 
-/// A list of cells, stored in 12 bytes each as long as all numbers fit in 4, and in 24 from then on.
+/// A list of cells. Each cell takes 12 bytes as long as all numbers fit in 4 bytes, and 24 bytes from then on.
 #[derive(Debug, Drop)]
 pub struct CountCells {
     alloc: Global,
@@ -36,7 +36,7 @@ impl Model for CountCells {
 }
 
 impl CountCells {
-    /// The empty list.
+    /// An empty list.
     pub fn new(alloc: Global) -> Self
         ensures { result ≡ [] }
     {
@@ -48,7 +48,7 @@ impl CountCells {
         }
     }
 
-    /// How many cells there are.
+    /// The number of cells.
     pub fn len(&self) -> usize
         ensures { result ≡ length self.now }
     {
@@ -59,7 +59,7 @@ impl CountCells {
         }
     }
 
-    /// The cell at a place.
+    /// The cell at an index.
     #[inline(always)]
     pub fn at(&self, place: usize) -> CountCell
         requires { place < length self.now }
@@ -76,7 +76,7 @@ impl CountCells {
         }
     }
 
-    /// Appends a cell. If memory runs out, nothing changes.
+    /// Appends a cell. If out of memory, nothing changes.
     #[inline(always)]
     pub fn push(&mut self, cell: CountCell) -> Result<(), AllocError>
         ensures ok { OnOk result (self.new ≡ self.old ++ cell ∷ []) }
@@ -97,7 +97,7 @@ impl CountCells {
         self.push_wide(cell)
     }
 
-    /// The same, for a list that is stored in 24 bytes each from now on.
+    /// Appends a cell to a list whose cells take 24 bytes each from now on. If out of memory, nothing changes.
     #[inline(never)]
     fn push_wide(&mut self, cell: CountCell) -> Result<(), AllocError>
         ensures ok { OnOk result (self.new ≡ self.old ++ cell ∷ []) }
@@ -110,7 +110,7 @@ impl CountCells {
         Ok(())
     }
 
-    /// The same cells in 24 bytes each.
+    /// The cells of the list, in 24 bytes each.
     fn widened(&self) -> Result<Vec<CountCell>, AllocError>
         ensures { IfOk result (λ wide. wide.items ≡ self.now) }
     {

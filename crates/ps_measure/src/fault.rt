@@ -1,4 +1,4 @@
-//! Why no counts were found.
+//! Why a region has no counts.
 
 ghost use Rattle.std.specs.Prelude.{◌≡◌};
 ghost use Rattle.ps_measure.specs.declared.fault.MeasureFault.TheVariants.{OutOfMemory};
@@ -10,13 +10,14 @@ use thiserror::Error;
 /// Why there are no counts for a region.
 #[derive(Debug, Drop, Error)]
 pub enum MeasureFault {
-    /// The player loses a cycle of edges that remain within the region.
+    /// The player loses a cycle of remaining edges within the region.
     #[error("the player loses a cycle of {} vertices", .cycle.len())]
     BadCycle {
-        /// Its vertices, each leading to the next, and the last to the first.
+        /// The vertices of the cycle. An edge leads from each vertex of the cycle to the next, and from the last to the
+        /// first.
         cycle: Vec<usize>,
     },
-    /// Memory ran out.
+    /// Out of memory.
     #[error("out of memory")]
     OutOfMemory,
 }

@@ -1,11 +1,12 @@
-//! A law on the definitions.
+//! A law about the definitions.
 
 ghost use Rattle.std.specs.Prelude.{ℕ, ◌<◌, ◌⊎◌, Bool, List, Option};
 ghost use Rattle.ps_game.specs.Games.{ParityGame};
 ghost use Rattle.ps_game.specs.Plays.{Holds};
 ghost use Rattle.ps_measure.specs.Ranks.{AreRanks, IsLostCycle};
 
-/// A player's region and moves have least counts, or a cycle that the player loses. A region that is held has counts.
+/// A player's region and moves have least counts, or a cycle that the player loses. If the player holds the region by
+/// these moves, least counts exist.
 pub fn counts_are_there()
     ensures either { (game : ParityGame) (player : ℕ) (set : ℕ → Bool) (table : ℕ → Option ℕ) →
         ((priorities : List ℕ) × (rows : List (List ℕ)) × AreRanks game player set table priorities rows) ⊎

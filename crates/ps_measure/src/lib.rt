@@ -1,24 +1,26 @@
 //! The least counts of a player's region, or a cycle that the player loses.
 //!
-//! [`ranks`] looks at the edges that remain inside a region when its player moves by a table. For each priority by
-//! which the player loses, it returns the least counts that keep the rule of counts, and tells how often a count was
-//! raised. If the player loses a cycle of such edges, there are no counts, and it returns such a cycle.
+//! [`ranks`] considers the edges that remain inside a region when its player moves by a table. For each priority by
+//! which the player loses, [`ranks`] returns the least counts that keep the rule of counts. The result also states how
+//! often a count was raised. If the player loses a cycle of such edges, no counts keep the rule, and [`ranks`] returns
+//! such a cycle.
 //!
-//! Counts are what a progress measure (Jurdzinski) has for one priority; the least ones are not lifted step by step. If
-//! there are many priorities, vertices are grouped by them once. For each priority, one search goes against the edges,
-//! from the vertices of that priority. Then one pass over the strong components in that order gives each vertex its
-//! count. That takes time proportional to the vertices and edges for each priority, and memory for each count that is
-//! not 0 and for the reversed edges.
+//! The counts for one priority are a progress measure (Jurdzinski) for that priority, but the least counts are not
+//! computed by lifting them step by step. If there are many priorities, vertices are first grouped by priority. For
+//! each priority, one search follows the edges backwards from the vertices of that priority. One pass over the strong
+//! components, in the order of that search, then gives each vertex its count. For each priority this takes time
+//! proportional to the number of vertices and edges. Memory is taken by the nonzero counts and by the reversed edges.
 //!
 //! | Call | What it gives |
 //! |---|---|
-//! | `ranks` | `Ranks`: the least counts; else a lost cycle, and never one if the region is held |
-//! | `CountTable::row_into`, `len` | the counts of a vertex, put into a list; how many rows there are |
-//! | `MeasureFault::number`, `name` | a fault in psyn's list of faults |
-//! | `counts_are_there` | a law: a region has least counts or a lost cycle; if it is held, it has counts |
+//! | `ranks` | `Ranks`: the least counts; else a lost cycle, which never occurs if the player holds the region |
+//! | `CountTable::row_into`, `len` | the counts of a vertex, written into a list; the number of rows |
+//! | `MeasureFault::number`, `name` | the number and name of a fault in psyn's list of faults |
+//! | `counts_are_there` | a law: a region has least counts or a lost cycle; a region that is held has least counts |
 //!
-//! Counts are 0 outside the region, and at most the number of the region's vertices of that priority. Any region and
-//! table will do, closed or not. `raises` is at least the number of counts that are not 0, and at most their sum.
+//! The counts for a priority are 0 outside the region, and at most the number of vertices of that priority in the
+//! region. The region and the table are arbitrary; the region need not be closed. `raises` is at least the number of
+//! nonzero counts, and at most the sum of the counts.
 #![tactic(auto)]
 
 mod back;

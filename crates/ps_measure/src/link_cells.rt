@@ -1,4 +1,4 @@
-//! Cells of chains of links, in 8 bytes each as long as their numbers are small.
+//! The cells of chains of links. Each cell takes 8 bytes as long as all numbers are small.
 
 ghost use Rattle.std.specs.Prelude.{◌≡◌, ◌<◌, ◌∷◌, [], ◌++◌, IfOk, OnOk, length, slice_index_or};
 ghost use Rattle.ps_measure.specs.Inner.Cells.{no_link};
@@ -15,7 +15,7 @@ pub struct NarrowLink {
     next: u32,
 }
 
-/// A list of cells, stored in 8 bytes each as long as both numbers fit in 4, and in 16 from then on.
+/// A list of cells. Each cell takes 8 bytes as long as all numbers fit in 4 bytes, and 16 bytes from then on.
 #[derive(Drop)]
 pub(crate) struct LinkCells {
     alloc: Global,
@@ -35,7 +35,7 @@ impl Model for LinkCells {
 }
 
 impl LinkCells {
-    /// The empty list.
+    /// An empty list.
     pub(crate) fn new(alloc: Global) -> Self
         ensures { result ≡ [] }
     {
@@ -47,7 +47,7 @@ impl LinkCells {
         }
     }
 
-    /// How many cells there are.
+    /// The number of cells.
     pub(crate) fn len(&self) -> usize
         ensures { result ≡ length self.now }
     {
@@ -58,7 +58,7 @@ impl LinkCells {
         }
     }
 
-    /// The cell at a place.
+    /// The cell at an index.
     #[inline(always)]
     pub(crate) fn at(&self, place: usize) -> Cell
         requires { place < length self.now }
@@ -93,7 +93,7 @@ impl LinkCells {
         self.push_wide(cell)
     }
 
-    /// The same, for a list that is stored in 16 bytes each from now on.
+    /// Appends a cell to a list whose cells take 16 bytes each from now on.
     #[inline(never)]
     fn push_wide(&mut self, cell: Cell) -> Result<(), AllocError>
         ensures { OnOk result (self.new ≡ self.old ++ cell ∷ []) }
@@ -105,7 +105,7 @@ impl LinkCells {
         Ok(())
     }
 
-    /// The same cells in 16 bytes each.
+    /// The cells of the list, in 16 bytes each.
     fn widened(&self) -> Result<Vec<Cell>, AllocError>
         ensures { IfOk result (λ wide. wide.items ≡ self.now) }
     {

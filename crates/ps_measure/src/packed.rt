@@ -1,4 +1,4 @@
-//! Lists of numbers that take 4 bytes each as long as all of them fit.
+//! Lists of numbers that take 4 bytes each as long as all of them fit in 4 bytes.
 
 ghost use Rattle.std.specs.Prelude.{◌≡◌, ◌<◌, ◌∷◌, [], ◌++◌, true, false, IfOk, OnOk, OnErr, length, replicate};
 ghost use Rattle.std.specs.Prelude.{slice_index};
@@ -7,11 +7,11 @@ ghost use Rattle.std.specs.Prelude.{slice_set};
 use std::alloc::{AllocError, Global};
 use std::marker::Model;
 
-/// The greatest number that 4 bytes hold.
+/// The greatest number that fits in 4 bytes.
 pub(crate) const NARROW: usize = 4_294_967_295;
 
-/// A list of numbers, stored in 4 bytes each as long as all of them fit, and in 8 from then on. Calls that add or write
-/// a number fail if out of memory.
+/// A list of numbers. Each number takes 4 bytes as long as all of them fit in 4 bytes, and 8 bytes from then on. Calls
+/// that append or write a number fail if out of memory.
 #[derive(Debug, Drop)]
 pub(crate) struct Packed {
     alloc: Global,
@@ -29,7 +29,7 @@ impl Model for Packed {
 }
 
 impl Packed {
-    /// The empty list.
+    /// An empty list.
     pub(crate) fn new(alloc: Global) -> Self
         ensures { result ≡ [] }
     {
@@ -41,7 +41,7 @@ impl Packed {
         }
     }
 
-    /// The empty list, with room for `count` numbers that fit in 4 bytes.
+    /// An empty list, with room for `count` numbers that fit in 4 bytes.
     pub(crate) fn with_capacity(alloc: Global, count: usize) -> Result<Self, AllocError>
         ensures { IfOk result (λ list. list ≡ []) }
     {
@@ -54,7 +54,7 @@ impl Packed {
         })
     }
 
-    /// A list of zeros.
+    /// A list of `count` zeros.
     pub(crate) fn zeros(alloc: Global, count: usize) -> Result<Self, AllocError>
         ensures { IfOk result (λ list. list ≡ replicate count 0) }
     {
@@ -67,7 +67,7 @@ impl Packed {
         })
     }
 
-    /// How many numbers there are.
+    /// The number of items.
     pub(crate) fn len(&self) -> usize
         ensures { result ≡ length self.now }
     {
@@ -78,7 +78,7 @@ impl Packed {
         }
     }
 
-    /// The number at a place.
+    /// The number at an index.
     #[inline(always)]
     pub(crate) fn at(&self, place: usize) -> usize
         requires { place < length self.now }
@@ -107,7 +107,7 @@ impl Packed {
         self.push_wide(number)
     }
 
-    /// The same, for a list that is stored in 8 bytes each from now on.
+    /// Appends a number to a list whose numbers take 8 bytes each from now on.
     #[inline(never)]
     fn push_wide(&mut self, number: usize) -> Result<(), AllocError>
         ensures { OnOk result (self.new ≡ self.old ++ number ∷ []) }
@@ -119,7 +119,7 @@ impl Packed {
         Ok(())
     }
 
-    /// Writes a number at a place.
+    /// Replaces the number at an index.
     #[inline(always)]
     pub(crate) fn set(&mut self, place: usize, number: usize) -> Result<(), AllocError>
         requires { place < length self.old }
@@ -137,7 +137,7 @@ impl Packed {
         self.set_wide(place, number)
     }
 
-    /// The same, for a list that is stored in 8 bytes each from now on.
+    /// Replaces the number at an index of a list whose numbers take 8 bytes each from now on.
     #[inline(never)]
     fn set_wide(&mut self, place: usize, number: usize) -> Result<(), AllocError>
         requires { place < length self.old }
@@ -151,7 +151,7 @@ impl Packed {
         Ok(())
     }
 
-    /// The same numbers in 8 bytes each.
+    /// The numbers of the list, in 8 bytes each.
     fn widened(&self) -> Result<Vec<usize>, AllocError>
         ensures { IfOk result (λ wide. wide.items ≡ self.now) }
     {

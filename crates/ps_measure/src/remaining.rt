@@ -1,4 +1,4 @@
-//! The edges that remain within a region, as a graph.
+//! A graph of the edges that remain within a region.
 
 ghost use Rattle.std.specs.Prelude.{◌≡◌, ◌<◌};
 ghost use Rattle.ps_game.specs.Games.{vertex_count};
@@ -38,7 +38,7 @@ impl<'a, A: Arena> Model for Remaining<'a, A> {
 }
 
 impl<'a, A: Arena> Remaining<'a, A> {
-    /// Whether an edge from one vertex to another remains, with both in the region.
+    /// Whether an edge from one vertex to another would remain within the region.
     fn keeps(&self, from: usize, to: usize) -> bool
         requires from { from < vertex_count self.now.game }
         requires to { to < vertex_count self.now.game }

@@ -1,4 +1,4 @@
-//! The counts that were found.
+//! The table of the counts that were computed.
 
 ghost use Rattle.std.specs.Prelude.{◌≡◌, ℕ, ◌<◌, ◌≤◌, Some, IfOk, OnOk, length, max, slice_get, slice_index};
 ghost use Rattle.ps_measure.specs.Ranks.{width_of};
@@ -9,7 +9,7 @@ use crate::packed::Packed;
 use std::alloc::{AllocError, Global};
 use std::marker::Model;
 
-/// A count of a vertex, the place of its priority, and the number of the next cell of the same vertex. Cells are
+/// A count of a vertex, the index of its priority, and the number of the next cell of the same vertex. Cells are
 /// numbered from 1; 0 means none.
 #[derive(Clone, Copy, Debug)]
 pub struct CountCell {
@@ -18,8 +18,8 @@ pub struct CountCell {
     pub(crate) next: usize,
 }
 
-/// A row of counts for each vertex. Only counts that are not 0 take memory: those of a vertex are a chain of cells,
-/// which begins at the number of its first cell.
+/// A row of counts for each vertex. Only nonzero counts take memory: the counts of a vertex are a chain of cells, given
+/// by the number of its first cell.
 #[derive(Debug, Drop)]
 pub struct CountTable {
     width: usize,
@@ -50,14 +50,14 @@ impl CountTable {
         })
     }
 
-    /// How many rows there are, one for each vertex.
+    /// The number of rows, which is the number of vertices.
     pub fn len(&self) -> usize
         ensures { result ≡ length self.now }
     {
         self.heads.len()
     }
 
-    /// Raises a count of a vertex to a value, if it is less.
+    /// Raises a count of a vertex to a given value, if the count is less.
     pub(crate) fn put(&mut self, vertex: usize, place: usize, count: u64) -> Result<(), AllocError>
         requires vertex { vertex < length self.old }
         requires place { place < width_of self.old vertex }
@@ -80,7 +80,7 @@ impl CountTable {
     }
 }
 
-/// Raises the counts of a row to those of a chain.
+/// Raises the counts of a row to the counts of a chain, if they are less.
 fn raise_by(cells: &CountCells, head: usize, row: &mut Vec<u64>)
     requires chained { AreChained (length row.old.items) cells.now }
     requires head { head ≤ length cells.now }
@@ -98,11 +98,11 @@ fn raise_by(cells: &CountCells, head: usize, row: &mut Vec<u64>)
     }
 }
 
-/// The counts of each vertex for the priorities by which a player loses.
+/// The priorities by which a player loses, and the counts of each vertex for them.
 #[derive(Debug, Drop)]
 pub struct Ranks {
-    /// These priorities of the game, ascending.
+    /// The priorities of the game by which the player loses, in ascending order.
     pub priorities: Vec<u64>,
-    /// For each vertex a row with one count for each priority, in their order.
+    /// For each vertex, a row with one count for each of these priorities, in the same order.
     pub counts: CountTable,
 }

@@ -1,4 +1,4 @@
--- The answer to a text, from its two readings.
+-- The answer to a text follows from reading it once or twice.
 use Rattle.std.proofs.Common.{◌≡◌, ℕ, ◌≤◌, List, length, Option, None, Some, Result, Ok, Err, IsErrAnd, IfOk, refl, sym}
 use Rattle.std.proofs.Common.{rules, ap, subst, zero, suc, ◌+◌, ◌-◌, Bool, cond, [], ◌∷◌, ◌++◌, arith, length-append}
 use Rattle.std.specs.Result.{IfErr}
@@ -44,7 +44,7 @@ module _ (text : List ℕ) (short : length text ≤ text_limit) where
     answer second (Ok named) v m = meaning (stream_of text) nodes (tokens text short) first second (ap Ok v)
     answer second (Err fault) v m = subst (λ f. IsGameAnswer text (Err f)) (sym m) tt
 
--- a second reading, with the ids known, stops where a successor is not an id
+-- if the text is read again with its ids as the known ones and has no error, each successor is an id
 pub none_unknown : (text : List ℕ) (nodes other : List NodeData) →
     PartAnswers pg_causes (game None) (stream_of text) (Ok nodes) →
     PartAnswers pg_causes (game (Some (ids_of nodes))) (stream_of text) (Ok other) → KnowsAll (ids_of nodes) nodes
@@ -52,7 +52,7 @@ none_unknown text nodes other first second =
     let same = same_nodes (Some (ids_of nodes)) (signs (stream_of text).pieces) first.0 second.0 in
     subst (KnowsAll (ids_of nodes)) (sym same) (search (rules, knows_all, second.0, second.1))
 
--- ## The place of each refusal is within the text
+-- ## The offset of each error is within the text
 
 abbrev AllWithin : ℕ → List (Piece Sign) → Type 0
 AllWithin n [] = Unit {0}

@@ -1,4 +1,4 @@
--- The parts that may be missing: a setting and a name. And where a loop continues.
+-- The parts that may be missing, namely settings and names; and the tests by which loops continue.
 use Rattle.std.proofs.Common.{◌≡◌, ℕ, ◌<◌, true, false, List, length, Option, None, Some, Ok, Err, refl}
 use Rattle.std.proofs.Common.{sym, ap, subst, inl, ◌∙◌, rules}
 use Rattle.ps_text.specs.Answers.{Stream, next_of}
@@ -113,7 +113,7 @@ number_entered known nodes old e = let is = number_is (next_of old) e in
     subst (λ there. Enters (entry known nodes) there) (sym is.1)
     (search (rules, enters_mapped, enters_then, joint_id, id_entered))
 
--- what was read leaves fewer pieces
+-- after one more successor, fewer pieces are left
 pub more_shrinks : (known : Option (List ℕ)) (list v : List ℕ) (old new : Stream Sign) →
     Done (more_successor known list) old v new → length new.pieces < length old.pieces
 more_shrinks known list v old new d = meets_shrinks found_of pg_causes

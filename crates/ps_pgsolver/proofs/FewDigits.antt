@@ -1,10 +1,10 @@
--- Numbers of so few digits that a word holds each.
+-- Numbers with few digits fit in 64 bits.
 use Rattle.std.proofs.Common.{◌≡◌, ℕ, ◌+◌, ◌-◌, ◌*◌, ◌^◌, ◌<◌, ◌≤◌, true, add-one, arith, rules}
 use Rattle.std.proofs.Math.Nat.{pow-suc, pow-le-pow_right}
 use Rattle.std.specs.Char.{is_ascii_digit}
 use Rattle.ps_text.proofs.Decimals.{digit_is}
 
--- a digit writes at most 9
+-- the value of a digit is at most 9
 pub digit_small : (b : ℕ) → is_ascii_digit b ≡ true → b - 48 ≤ 9
 digit_small b e = let d = digit_is b e in omega (arith, d.1)
 

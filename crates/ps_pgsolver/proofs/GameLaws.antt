@@ -1,4 +1,4 @@
--- The laws of the whole text of a game: how its nodes follow one another, and what follows the last.
+-- The laws of the whole text of a game: how its nodes follow one another, and what follows the last node.
 use Rattle.std.proofs.Common.{◌≡◌, ℕ, cond, List, [], Option, None, Some, refl, ap, arith, rules}
 use Rattle.std.proofs.lemmas.Slice.Eq.{bytes_eq-Decides}
 use Rattle.std.proofs.lemmas.Bool.{cases_Bool}

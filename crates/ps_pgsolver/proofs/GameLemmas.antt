@@ -1,4 +1,4 @@
--- A draft of a game, as the nodes of a text make it, and why it is a game.
+-- The nodes of a text make a draft of a game, and this draft is a game.
 use Rattle.std.proofs.Common.{◌≡◌, ℕ, zero, suc, ◌<◌, List, [], ◌∷◌, length, map, refl, arith, rules}
 use Rattle.std.proofs.lemmas.List.{length-map}
 use Rattle.std.proofs.lemmas.List.Elements.{All-map}
@@ -17,7 +17,7 @@ all_head P x xs h = h 0 x (omega arith)
 all_tail : {X : Type 0} (P : X → Type 0) (x : X) (xs : List X) → All P (x ∷ xs) → All P xs
 all_tail P x xs h = λ k d l. h (suc k) d (omega (arith, l))
 
--- the place of one of the ids is within their list
+-- the index of an id is within the list of ids
 place-within : (ids : List ℕ) (id : ℕ) → Contains ids id → place_of ids id < length ids
 place-within ids id h = search (rules, position-Some)
 

@@ -1,4 +1,4 @@
--- The tokens of a game text are those that the lexer finds, and no others.
+-- The tokens of a game text are exactly those that the lexer produces.
 use Rattle.std.proofs.Common.{◌≡◌, ℕ, zero, suc, ◌+◌, ◌<◌, ◌≤◌, Bool, true, false, cond, eqb, List, [], ◌∷◌, ◌++◌}
 use Rattle.std.proofs.Common.{length, get_or, take, drop, refl, sym, ap, subst, ◌∙◌, arith, append_assoc, append-nil}
 use Rattle.std.proofs.Common.{length-append, ne_eqb, lt-ltb, take-append-drop, rules}
@@ -44,7 +44,7 @@ letter_no_digit b h = grind arith
 inner_no_quote : {b : ℕ} → is_unquoted b ≡ false → b ≡ 34
 inner_no_quote h = grind arith
 
--- ## What the lexer finds is a token
+-- ## What the lexer produces is a token
 
 abbrev Found : List ℕ → List ℕ → Sign → ℕ → Type 0
 Found before w t n = IsToken before t (take n w) (drop n w)
@@ -138,7 +138,7 @@ found before b bs k = go (is_digit b) (is_letter b) (eqb b 34) refl refl refl
     go false false false x y z =
         let p = at_mark before b bs refl x y z in moved before w _ _ p.0 p.1 (mark_found before b bs x y k z)
 
--- ## What is a token is what the lexer finds
+-- ## Each token is produced by the lexer
 
 abbrev IsFound : List ℕ → List ℕ → Sign → ℕ → Type 0
 IsFound before w t n = (first_sign before w ≡ t) × (first_size w ≡ n)
@@ -214,7 +214,7 @@ all_blank w e = subst (AllOf is_blank) (grind (arith, take-append-drop))
 abbrev IsLexed : List ℕ → List ℕ → Type 0
 IsLexed before w = TokensFrom (λ b. is_blank b ≡ true) IsToken before w (lex 0 before w)
 
--- one token, and what is found after it
+-- the first token, and the tokens that the lexer produces after it
 step : (before w : List ℕ) → ((before' w' : List ℕ) → length w' < length w → IsLexed before' w') → IsLexed before w
 step before w ih = go (drop n w) refl
   where
@@ -257,7 +257,7 @@ lexed : (k : ℕ) (before w : List ℕ) → length w < k → IsLexed before w
 lexed zero before w l = absurd (omega (arith, l))
 lexed (suc k) before w l = step before w (λ before' w' m. lexed k before' w' (omega (arith, l, m)))
 
--- the lexer finds the tokens of a text, and a text has no others
+-- the lexer produces the tokens of a text, and a text has no other tokens
 pub tokens_found : (text : List ℕ) → AreGameTokens text (stream_of text)
 tokens_found text = (lexed (suc (length text)) [] text (omega arith), refl)
 

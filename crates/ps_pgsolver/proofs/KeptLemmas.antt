@@ -1,4 +1,4 @@
--- Nodes that are kept in lists.
+-- Nodes that are stored in lists.
 use Rattle.std.proofs.Common.{◌≡◌, ℕ, zero, suc, ◌+◌, ◌-◌, ◌<◌, ◌≤◌, true, List, [], ◌∷◌, ◌++◌, Option, None}
 use Rattle.std.proofs.Common.{length, map, refl, sym, ap, ap₂, subst, ◌∙◌, arith, length-append, append_assoc, rules}
 use Rattle.std.specs.Prelude.{Vec, replicate}
@@ -47,7 +47,7 @@ kept_vertices (id ∷ ids) (v ∷ vertices) [] i n = absurd (omega (arith, n))
 kept_vertices (id ∷ ids) (v ∷ vertices) (name ∷ names) i n =
     ap (λ xs. v ∷ xs) (kept_vertices ids vertices names (omega (arith, i)) (omega (arith, n)))
 
--- one more node
+-- storing one more node
 kept_push : (ids : List ℕ) (vertices : ParityGame) (names : List (Option (List ℕ))) (id : ℕ) (v : VertexData)
     (name : Option (List ℕ)) → length ids ≡ length vertices → length names ≡ length ids → nodes_kept (ids ++ id ∷ [])
     (vertices ++ v ∷ []) (names ++ name ∷ []) ≡ nodes_kept ids vertices names ++ node_kept id v name ∷ []
@@ -64,7 +64,7 @@ placed : (ids : List ℕ) (nodes : List NodeData) → map (with_places ids) (map
 placed ids [] = refl
 placed ids (n ∷ nodes) = ap (λ vs. vertex_of ids n ∷ vs) (placed ids nodes)
 
--- ## What is kept, as the nodes that it stands for
+-- ## The lists, as the nodes that they store
 
 module _ (ids : List ℕ) (vertices : ParityGame) (names : List (Option (List ℕ))) (kept : AreKept ids vertices names)
     (nodes : List NodeData) (e : nodes_kept ids vertices names ≡ nodes) where
@@ -120,7 +120,7 @@ pub few_names : {count : ℕ} (names : List (Option (List ℕ))) → length (wit
     length names ≤ count
 few_names {count} names e = search (rules, length-replicate)
 
--- a place for a name that is not there
+-- appending an empty item to the names changes no name
 pub none_kept : (count : ℕ) (names : List (Option (List ℕ))) → length names < count →
     with_none count (names ++ None ∷ []) ≡ with_none count names
 none_kept count names room = grind (

@@ -28,7 +28,7 @@ pub names_plain : {nodes : List NodeData} {names : List (Option (List ℕ))} →
 names_plain {nodes} e are =
     subst (λ ns. All HasNoQuote ns) (sym e) (All-map HasNoQuote (λ n. n.name) nodes (λ k d l. (are.each k d l).name))
 
--- ## All of a list with one more at its end
+-- ## A property of a list with one more item at its end
 
 pub all_before : {X : Type 0} (P : X → Type 0) (xs : List X) (x : X) → All P (xs ++ x ∷ []) → All P xs
 all_before P xs x h k d l = grind (arith, get_or_append_left, length-append)
@@ -36,7 +36,7 @@ all_before P xs x h k d l = grind (arith, get_or_append_left, length-append)
 pub all_last : {X : Type 0} (P : X → Type 0) (xs : List X) (x : X) → All P (xs ++ x ∷ []) → P x
 all_last P xs x h = subst P (get_or-append_seam xs x [] x) (h (length xs) x (omega (arith, length-append xs (x ∷ []))))
 
--- ## The tests of what is known
+-- ## The tests for known ids
 
 pub each_known : (ids list : List ℕ) → knows_each ids list ≡ true → KnowsEach ids list
 each_known ids list e k d l = Contains-any _ ids (AllPass-from_list_all (λ id. is_member ids id) list e k d l)

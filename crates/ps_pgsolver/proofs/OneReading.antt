@@ -1,4 +1,4 @@
--- A game text has one answer.
+-- A game text has at most one answer.
 use Rattle.std.proofs.Common.{◌≡◌, ℕ, ◌<◌, ◌≤◌, eqb, List, length, Option, None, Some, Result, Ok, Err, sym, ap, subst}
 use Rattle.std.proofs.Common.{◌∙◌, arith, rules, if◌then◌else◌}
 use Rattle.ps_text.specs.Answers.{Stream, Found, AreNumbered}
@@ -51,7 +51,7 @@ IsOkNodes (Err f) = ⊥
 abbrev GameAnswer : Type 0
 GameAnswer = Result NamedGameData (Found PgCause)
 
--- what the second reading makes of the nodes
+-- the answer that follows from reading the text a second time
 abbrev result_of : List NodeData → Nodes → GameAnswer
 result_of ns (Ok ms) = Ok (named_game_of ns)
 result_of ns (Err f) = Err f
@@ -68,7 +68,7 @@ nodes_ok ns = Ok ns
 abbrev nodes_err : Found PgCause → Nodes
 nodes_err f = Err f
 
--- the answer, over the tokens that the lexer finds
+-- the answer to a text, given the tokens that the lexer produces
 data Over (text : List ℕ) (answer : GameAnswer) : Type 0 where
   long : text_limit < length text → answer ≡ limit → Over text answer
   first : length text ≤ text_limit → (f : Found PgCause) → PartAnswers pg_causes (game None) (stream_of text)

@@ -1,4 +1,5 @@
--- A reading function of one sign: its answer to each sign says what the grammar says of that sign, whatever the causes.
+-- A parser's function for one sign. If the function's result agrees with the grammar for each sign, the function reads
+-- the part correctly, for every type of errors.
 use Rattle.std.proofs.Common.{◌≡◌, ℕ, ◌≤◌, Option, None, Some, Result, Ok, Err, refl, sym, ap, rules, subst, ◌∙◌, arith}
 use Rattle.ps_text.specs.Answers.{Stream, next_of, offset_of}
 use Rattle.ps_text.specs.Parts.{Causes, one, refusal_of}
@@ -10,7 +11,7 @@ use Rattle.ps_text.proofs.Simple.{same_some, none_is_some}
 use Rattle.ps_text.proofs.Meeting.{meets_next, meets_bad_next, meets_refusal}
 use Rattle.ps_pgsolver.specs.Signs.{Sign}
 
--- the answer to a sign at an offset
+-- a result agrees with the grammar for a sign at an offset
 pub data Fits {F V : Type 0} (number : F → ℕ) (syntax : F) (take : Sign → Option V) (Bad : Sign → F → Type 0) (t : Sign)
     (at : ℕ) (r : Result V (Fault F)) : Type 0 where
   taken : (v : V) → take t ≡ Some v → ((f : F) → Bad t f → ⊥) → r ≡ Ok v → Fits number syntax take Bad t at r
@@ -19,11 +20,11 @@ pub data Fits {F V : Type 0} (number : F → ℕ) (syntax : F) (take : Sign → 
   refused : take t ≡ None → ((f : F) → Bad t f → ⊥) → r ≡ Err (faults.Text syntax at) →
       Fits number syntax take Bad t at r
 
--- no sign is a cause by itself
+-- no sign is an error by itself
 abbrev pub sign_causes : {F : Type 0} → (F → ℕ) → F → Causes Sign F
 sign_causes number syntax = record { number = number; own = λ _. None; syntax = syntax }
 
--- what a reading function of one sign says, by its answer to each sign
+-- if the results of a function agree with the grammar at every sign, the function reads the part `one take Bad`
 pub one_reads : {F V : Type 0} (number : F → ℕ) (syntax : F) {take : Sign → Option V} {Bad : Sign → F → Type 0}
     (s : Sign) {w : V} → take s ≡ Some w → (answer : Option Sign → ℕ → Result V (Fault F)) →
     ((t : Sign) (at : ℕ) → Fits number syntax take Bad t at (answer (Some t) at)) →

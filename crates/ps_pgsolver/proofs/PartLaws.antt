@@ -1,6 +1,6 @@
--- The laws of the grammar's parts, and how they are joined.
+-- The laws of the parts of the grammar, and how parts are joined.
 --     laws_sign      a part of one sign
---     laws_number, .., laws_node, joint_more, .., joint_id      of each part, in the grammar's order
+--     laws_number, .., laws_node, joint_more, .., joint_id      the laws and joints, in the grammar's order
 use Rattle.std.proofs.Common.{◌≡◌, ℕ, List, [], ◌∷◌, ◌++◌, Option, None, Some, refl, sym, ◌∙◌, arith, rules}
 use Rattle.ps_text.specs.Parts.{Part, one, give, then_by, many, mapped, NoBad}
 use Rattle.ps_text.proofs.Laws.{Laws, Joint, Nothing, Or, Within, Apart, weaker}
@@ -17,7 +17,7 @@ use Rattle.ps_pgsolver.specs.Nodes.{NodeData}
 use Rattle.ps_pgsolver.specs.Signs.{Sign, Number, Word, Name, Comma, Semicolon, OpenName, Wrong}
 use Rattle.ps_pgsolver.specs.declared.fault.PgCause.{PgCause}
 
--- which sign it is, without its value
+-- the kind of a sign, without its value
 unfoldable pub kind_of : Sign → ℕ
 kind_of (Number x) = 0
 kind_of (Word x) = 1
@@ -48,7 +48,7 @@ kinds_apart i j d t h k = d (sym h ∙ k)
 pub same : (A : Sign → Type 0) → Within A A
 same A t h = h
 
--- one sign, if each that is allowed there, or is bad, is one of these
+-- a part of one sign is lawful if `First` contains each sign that the part accepts or rejects as an error
 pub laws_sign : {V : Type 0} (take : Sign → Option V) (Bad : Sign → PgCause → Type 0) (t : Sign) (v : V) (First : Sign →
     Type 0) → take t ≡ Some v → Within (Or (Taken take) (BadSign Bad)) First → Laws Odd (one take Bad) First Nothing ⊥
 laws_sign take Bad t v First e first = weaker (search (rules, laws_one, no_odd)) first (same Nothing) (λ h. h)
@@ -123,7 +123,7 @@ unfolding name
 laws_name =
     weaker (laws_either laws_one_name laws_no_name (λ t h k. k) (λ h k. h)) (search rules) (search rules) (λ h. tt)
 
--- ## The parts of a node, from the back
+-- ## The parts of a node, from the last to the first
 
 abbrev pub NodeEnd : Sign → Type 0
 NodeEnd = Or (IsKind 2) (IsKind 4)

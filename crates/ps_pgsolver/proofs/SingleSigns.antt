@@ -1,4 +1,4 @@
--- What the code answers to a token is what the grammar's single signs say of it.
+-- The results of the parser's functions for a token agree with the grammar's parts of one sign.
 use Rattle.std.proofs.Common.{◌≡◌, ℕ, ◌≤◌, true, false, ltb, List, Option, None, Some, Result, Ok, Err, refl, sym, ap}
 use Rattle.std.proofs.Common.{rules, subst, inl, inr, ⊎_elim, ◌∙◌, arith}
 use Rattle.std.proofs.lemmas.Bool.{cases_Bool, ltb-true, ltb-false, lt-ltb}
@@ -97,7 +97,7 @@ comma_fits : (t : Sign) (at : ℕ) → Fits cause_number causes.Syntax comma_in 
 comma_fits Comma at = taken tt refl (λ f b. b) refl
 comma_fits _ at = refused refl (λ f b. b) refl
 
--- ## What each reading function of a single sign says
+-- ## What each parser's function for one sign establishes
 
 pub reads_number : (old : Stream Sign) {new : Stream Sign} {r : Result ℕ PgFault} → new ≡ tail old →
     r ≡ number_answer (next_of old) (offset_of old.pieces old.end) → ReadsAs (λ n. n) number old r new
@@ -140,7 +140,7 @@ pub reads_comma : (old : Stream Sign) {new : Stream Sign} {r : Result (Unit {0})
 unfolding comma
 reads_comma old = one_reads cause_number causes.Syntax Comma refl comma_answer comma_fits (λ at. refl) old
 
--- ## The same with other ids known
+-- ## The same results with other known ids
 
 abbrev found_number : ℕ → Result ℕ PgFault
 found_number n = Ok n

@@ -33,7 +33,7 @@ use Rattle.ps_pgsolver.proofs.Sound.{same_nodes}
 abbrev Judges : (Sign → PgCause → Type 0) → Type 0
 Judges Bad = (t : Sign) → Judged cause_number (Bad t)
 
--- ## Which cause a sign is
+-- ## Whether a sign is an error, and which
 
 no_bad : Judges NoBad
 no_bad t = good (λ f b. b)
@@ -46,7 +46,7 @@ judge_owner : Judges BadOwner
 judge_owner (Number n) = judge_cause cause_number causes.Number (decide_below 2 n)
 judge_owner _ = good (λ f b. b)
 
--- a number that is too large, or of which A tells the cause
+-- the errors of a number: it is too large, or has the error `cause` if `A` holds
 module _ (A : Type 0) (cause : PgCause) (n : ℕ) where
   abbrev pub OneOf : PgCause → Type 0
   OneOf f = ((too_large ≤ n) × (f ≡ causes.Number)) ⊎ ((n < too_large) × A × (f ≡ cause))
@@ -174,7 +174,7 @@ module _ (text : List ℕ) (short : length text ≤ text_limit) where
   has_tokens : HasTokens text stream
   has_tokens = record { short = short; tokens = tokens_found text }
 
-  -- with the ids of its nodes known
+  -- the text is read again, with the ids of its nodes as the known ones
   again : (nodes : List NodeData) → PartAnswers pg_causes (game None) stream (Ok nodes) →
       (second : Result (List NodeData) (Found PgCause)) →
       PartAnswers pg_causes (game (Some (ids_of nodes))) stream second →

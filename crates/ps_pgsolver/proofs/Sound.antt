@@ -1,4 +1,5 @@
--- What is true of the value of a text in which the part has no cause; and that the ids that are known change no text.
+-- Two facts about parts of the grammar: the value of a text without errors has certain properties, and a part has the
+-- same texts when the ids are known.
 use Rattle.std.proofs.Common.{◌≡◌, ℕ, zero, suc, true, false, ltb, List, [], ◌∷◌, ◌++◌, Option, None, Some, refl, sym}
 use Rattle.std.proofs.Common.{rules, ap, subst, inl, inr, ⊎_elim, ◌∙◌, append_assoc, arith}
 use Rattle.std.proofs.lemmas.Bool.{cases_Bool, ltb-true, ltb-false}
@@ -20,7 +21,7 @@ abbrev pub Quiet : {V : Type 0} → Part Sign V PgCause → List Sign → Type 0
 Quiet part text =
     (front rest : List Sign) (t : Sign) (f : PgCause) → text ≡ front ++ t ∷ rest → part.IsCause front t f → ⊥
 
--- the value of each text without a cause is good
+-- the value of each text without an error has the property `Good`
 pub record Sound {V : Type 0} (part : Part Sign V PgCause) (Good : V → Type 0) : Type 0 where
   pub good : (text : List Sign) (v : V) → part.IsText text v → Quiet part text → Good v
 
@@ -131,7 +132,7 @@ module _ (ids : List ℕ) where
   knows_all text nodes h clean =
       sound_game.good text nodes h (λ front rest t f e c. clean front (t ∷ rest) f e (by_part t refl c))
 
--- ## Knowing the ids changes no text
+-- ## The known ids don't change which texts a part has
 
 abbrev Same : {V : Type 0} → Part Sign V PgCause → Part Sign V PgCause → Type 0
 Same {V} P Q = (text : List Sign) (v : V) → P.IsText text v → Q.IsText text v

@@ -1,4 +1,4 @@
--- Tokens that are read without being made: a number of few digits, a comma, a semicolon.
+-- Tokens that are read without building a token: a number with few digits, a comma, a semicolon.
 use Rattle.std.proofs.Common.{◌≡◌, ℕ, ◌+◌, ◌<◌, ◌≤◌, true, false, eqb, List, [], ◌∷◌, length, take, drop, Some, refl}
 use Rattle.std.proofs.Common.{sym, ap, ◌∙◌, ⊎_elim, arith}
 use Rattle.std.proofs.lemmas.Bool.{cases_Bool, eqb-true}
@@ -14,7 +14,7 @@ use Rattle.ps_pgsolver.specs.Signs.{Sign, Number, Comma, Semicolon}
 use Rattle.ps_pgsolver.specs.declared.token.Kind.{Kind}
 use Rattle.ps_pgsolver.proofs.TokenLemmas.{at_digit, at_mark, reads_split}
 
--- the sign and the size that a text begins with
+-- the sign with which a text begins, and its size
 pub record Begins (before rest : List ℕ) (sign : Sign) (size : ℕ) : Type 0 where
   pub some : 0 < length rest
   pub is : sign ≡ first_sign before rest
@@ -39,7 +39,7 @@ pub begins_semicolon : {before : List ℕ} (rest : List ℕ) → begins_in (λ b
 begins_semicolon [] e = let x : false ≡ true = e in cc
 begins_semicolon {before} (b ∷ bs) e = grind (arith, at_mark before 59 bs refl refl refl refl, eqb-true b 59 e)
 
--- what such a token leaves
+-- the sign was read, and the tokens after it begin at the offset `behind`
 pub record Leaves (text : List ℕ) (behind : ℕ) (sign : Sign) (stream : Stream Sign) : Type 0 where
   pub sign_is : next_of stream ≡ Some sign
   pub rest : stream_from text behind ≡ tail stream

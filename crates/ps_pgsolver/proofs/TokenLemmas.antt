@@ -50,7 +50,7 @@ pub at_mark : (before : List ℕ) (b : ℕ) (bs : List ℕ) {rest : List ℕ} �
 unfolding first_sign first_size
 at_mark before b bs e d l q = rw e (rw (d, l, q) refl, rw (d, l, q) refl)
 
--- the bytes of a token that was read are passed over
+-- the lexer skips the bytes of a token that was read
 pub lex-skip : (skip : ℕ) (before bs : List ℕ) → lex skip before bs ≡ lex 0 (before ++ take skip bs) (drop skip bs)
 unfolding lex
 lex-skip zero before bs = ap (λ front. lex 0 front bs) (sym (append-nil before))
@@ -67,7 +67,7 @@ lex-token : (before : List ℕ) (b : ℕ) (bs : List ℕ) → is_blank b ≡ fal
 unfolding lex
 lex-token before b bs h = rw h refl
 
--- blanks are passed over
+-- the lexer skips blanks
 pub lex-blanks : (before bs : List ℕ) → lex 0 before bs ≡ lex 0 (before ++ take (prefix_len is_blank bs) bs)
     (drop (prefix_len is_blank bs) bs)
 lex-blanks before [] = ap (λ front. lex 0 front []) (sym (append-nil before))
@@ -76,7 +76,7 @@ lex-blanks before (b ∷ bs) = ⊎_elim (λ yes.
     search (rules, lex-blank, append_assoc, lex-blanks (before ++ b ∷ []) bs)) (λ no.
     grind (arith, append-nil)) (cases_Bool (is_blank b))
 
--- after the longest front that passes, none passes
+-- after the longest prefix of items that pass, the next item does not pass
 pub prefix_len-behind : (p : ℕ → Bool) (xs : List ℕ) → prefix_len p (drop (prefix_len p xs) xs) ≡ 0
 prefix_len-behind p xs = run_len p [] (drop (prefix_len p xs) xs) tt (run_ends p xs)
 
@@ -95,7 +95,7 @@ pub first_size-none : (rest : List ℕ) → length rest ≡ 0 → first_size res
 unfolding first_size
 first_size-none rest h = search rules
 
--- the first token of a text that begins with no blank
+-- the first token of a text that does not begin with a blank
 pub lex-first : (before rest : List ℕ) → prefix_len is_blank rest ≡ 0 → 0 < length rest →
     lex 0 before rest ≡ (record { sign = first_sign before rest; start = length before }) ∷ lex 0
     (before ++ take (first_size rest) rest) (drop (first_size rest) rest)
@@ -104,12 +104,12 @@ lex-first before (b ∷ bs) none some = ⊎_elim (λ yes. grind arith) (λ no.
     let one : first_size (b ∷ bs) ≡ suc (first_size (b ∷ bs) - 1) = omega (arith, first_size-positive b bs) in
     grind (arith, lex-skip, append_assoc, lex-token)) (cases_Bool (is_blank b))
 
--- at the end of a text no token is left
+-- at the end of a text there are no more tokens
 pub lex-end : (before : List ℕ) → lex 0 before [] ≡ []
 unfolding lex
 lex-end before = refl
 
--- a token of the code is the next one, and reading continues after it
+-- the parser's token is the next one of the stream, and the rest of the stream follows it
 pub record Reads (text : List ℕ) (start size : ℕ) (kind : Kind) (stream : Stream Sign) : Type 0 where
   pub head : IsHead (record { kind = kind; start = start }) stream
   pub rest : stream_from text (start + size) ≡ tail stream
@@ -137,7 +137,7 @@ reads text at start size kind begins within ended some sized =
     (some some_left) sized) (λ (none_left : length (drop start text) ≤ 0). let empty : drop start text ≡ [] =
     search (rules, nil_of) in reads_end within empty (ended empty) sized) (cases_lt 0 (length (drop start text))))
 
--- the same, of a text that was cut where the token begins
+-- a token is the next one of the stream, for a text that was split where the token begins
 pub reads_split : {text before rest : List ℕ} (at : ℕ) {start size : ℕ} {kind : Kind} {stream : Stream Sign} →
     start ≡ at + prefix_len is_blank (drop at text) → start ≤ length text → before ≡ take start text → rest ≡ drop
     start text → (rest ≡ [] → sign_of kind ≡ None) → (0 < length rest → sign_of kind ≡ Some (first_sign before rest)) →
@@ -147,7 +147,7 @@ reads_split {text} {rest} at {start} {size} {kind} begins within front back ende
     subst P is (reads text at start size kind begins within (λ empty. ended (back ∙ empty))
     (λ left. grind arith) (sized ∙ ap first_size back))
 
--- the offset of what is left is where the next token begins
+-- the offset of the next sign is where the next token begins
 pub offset_ahead : (text : List ℕ) (at : ℕ) {start : ℕ} → start ≡ at + prefix_len is_blank (drop at text) →
     start ≤ length text → start ≡ offset_of (stream_from text at).pieces (length text)
 offset_ahead text at {start} begins within = let e : stream_from text at ≡ stream_from text start =

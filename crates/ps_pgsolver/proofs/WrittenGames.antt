@@ -1,6 +1,6 @@
--- A game that is written is read again.
+-- Parsing the text that was written for a game gives that game.
 --     game_kept      the nodes that the lines write make the same game
---     readable      nodes of different ids can be read, one after the other
+--     readable      nodes with different ids can be read, one after the other
 --     reads_again      the whole text
 use Rattle.std.proofs.Common.{◌≡◌, ℕ, suc, ◌+◌, ◌<◌, ◌≤◌, Bool, true, cond, eqb, List, [], ◌∷◌, ◌++◌, length, rules}
 use Rattle.std.proofs.Common.{get_or, map, drop, Option, Some, None, Ok, refl, sym, ap, ap₂, subst, ◌∙◌, arith}
@@ -64,7 +64,7 @@ module _ (ids : List ℕ) (names : List (Option (List ℕ))) where
   made_count v [] = refl
   made_count v (x ∷ vertices) = ap suc (made_count (v + 1) vertices)
 
--- the successors are vertices, and differ
+-- the successors are distinct vertices
 record IsKept (count : ℕ) (vertex : VertexData) : Type 0 where
   within : All (λ w. w < count) vertex.successors
   different : IsDistinct vertex.successors

@@ -1,6 +1,6 @@
--- The grammar reads the signs of a game that is written, and finds no cause in them.
---     IsReadable known ids node      the node can be read after nodes of these ids
---     AreReadable known before nodes      so can each of these nodes, one after the other
+-- The text that is written for a game, as a list of signs, belongs to the grammar and has no error.
+--     IsReadable known ids node      the node can be read after nodes with these ids
+--     AreReadable known before nodes      each of these nodes can be read, one after the other
 --     written_answers      the answer to the signs of a whole text
 use Rattle.std.proofs.Common.{◌≡◌, ℕ, ◌<◌, List, [], ◌∷◌, ◌++◌, length, Option, Some, None, Ok, refl, sym, ap, subst}
 use Rattle.std.proofs.Common.{rules, ◌∙◌, arith, append_assoc, append-nil}

@@ -1,7 +1,7 @@
--- The tokens of a game that is written.
---     Lexed before bytes ss      the tokens of bytes, after the bytes before, are these signs
---     comma_signs, list_signs, name_signs, node_signs, nodes_signs      the signs of each part of the text, with more
---               after it
+-- The tokens of the text that is written for a game.
+--     Lexed before bytes ss      the tokens of `bytes`, after the bytes `before`, are these signs
+--     comma_signs, list_signs, name_signs, node_signs, nodes_signs      the signs of each part of the text, and then
+--               more signs
 --     node_made, nodes_made      the nodes that the lines write
 --     written_tokens      the tokens of the whole text
 use Rattle.std.proofs.Common.{◌≡◌, ℕ, suc, ◌+◌, ◌^◌, ◌<◌, Bool, true, false, List, [], ◌∷◌, ◌++◌, length, get_or, map}
@@ -32,7 +32,7 @@ record Lexed (before bytes : List ℕ) (ss : List Sign) : Type 0 where
   are : signs pieces ≡ ss
   tokens : TokensFrom Blank IsToken before bytes pieces
 
--- the same, whatever comes before
+-- after any bytes, the tokens of `bytes` are these signs
 abbrev Lexes : List ℕ → List Sign → Type 0
 Lexes bytes ss = (before : List ℕ) → Lexed before bytes ss
 
@@ -153,7 +153,7 @@ abbrev pub nodes_made : List ℕ → List (Option (List ℕ)) → ℕ → Parity
 nodes_made ids names v [] = []
 nodes_made ids names v (vertex ∷ vertices) = node_made ids names v vertex ∷ nodes_made ids names (v + 1) vertices
 
--- the line of the vertex can be read
+-- the parser can read the line of the vertex
 pub record IsPlainVertex (vertex : VertexData) : Type 0 where
   pub priority : IsWord vertex.priority
   pub owner : vertex.owner < 2

@@ -1,11 +1,11 @@
--- The causes by which a game text is refused, and their numbers in psyn's list of faults.
+-- The errors of a game text, and their numbers in psyn's list of faults.
 use Rattle.std.specs.Prelude.{ℕ, ◌≤◌, List, codes}
 use Rattle.ps_text.specs.declared.faults.Fault.{Fault}
 use Rattle.ps_pgsolver.specs.declared.fault.PgCause.{PgCause}
 use Rattle.ps_pgsolver.specs.declared.fault.PgCause.TheVariants as causes
 use Rattle.ps_text.specs.declared.faults.Fault.TheVariants as faults
 
--- a cause and its place, or out of memory
+-- an error with its offset, or out of memory
 abbrev pub PgFault : Type 0
 PgFault = Fault PgCause
 
@@ -25,7 +25,7 @@ cause_name causes.NodeTwice = codes "NodeTwice"
 cause_name causes.Number = codes "Number"
 cause_name causes.Limit = codes "Limit"
 
--- the place of a refusal is within a text of this length, or at its end
+-- the offset of an error is within a text of the given length, or at its end
 abbrev pub StandsWithin : ℕ → PgFault → Type 0
 StandsWithin length (faults.Text cause offset) = offset ≤ length
 StandsWithin length faults.OutOfMemory = Unit {0}

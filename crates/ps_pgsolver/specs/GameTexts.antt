@@ -1,8 +1,9 @@
--- PGSolver's game texts: their grammar, and what may be wrong inside it.
+-- PGSolver's game texts: their grammar, and its possible errors.
 --     game ::= ("parity" N ";")? ("start" N ";")? node+
 --     node ::= N N N N ("," N)* name? ";"
 -- The fields of a node are its id, priority, owner and successors. The value of a text is the list of its nodes.
--- `known` are the ids of the text's nodes, if they are known: then each successor must be one of them.
+-- `known` is the list of the ids of the text's nodes, or none if these ids are not known yet. If the ids are known,
+-- each successor must be one of them.
 use Rattle.std.specs.Prelude.{◌≡◌, ℕ, ◌<◌, ◌≤◌, ◌⊎◌, List, [], ◌∷◌, ◌++◌, Option, None, Some, codes, if◌then◌else◌}
 use Rattle.std.specs.Str.{bytes_eq}
 use Rattle.std.specs.List.{Contains}
@@ -13,7 +14,7 @@ use Rattle.ps_pgsolver.specs.Signs.{Sign, Number, Word, Name, Comma, Semicolon, 
 use Rattle.ps_pgsolver.specs.declared.fault.PgCause.{PgCause}
 use Rattle.ps_pgsolver.specs.declared.fault.PgCause.TheVariants as causes
 
--- no sign is a cause by itself; what the grammar does not allow is a fault of syntax
+-- no sign is an error by itself; what the grammar does not allow is a syntax error
 abbrev pub pg_causes : Causes Sign PgCause
 pg_causes = record { number = cause_number; own = λ _. None; syntax = causes.Syntax }
 
@@ -23,7 +24,7 @@ abbrev pub number_in : Sign → Option ℕ
 number_in (Number n) = Some n
 number_in _ = None
 
--- a number is too large from here on
+-- the smallest number that is too large
 abbrev pub too_large : ℕ
 too_large = 18446744073709551616
 
@@ -31,18 +32,18 @@ abbrev pub BadNumber : Sign → PgCause → Type 0
 BadNumber (Number n) cause = (too_large ≤ n) × (cause ≡ causes.Number)
 BadNumber _ cause = ⊥
 
--- an id that an earlier node has
+-- an id is an error if an earlier node has it
 abbrev pub BadId : List ℕ → Sign → PgCause → Type 0
 BadId ids (Number n) cause =
     ((too_large ≤ n) × (cause ≡ causes.Number)) ⊎ ((n < too_large) × Contains ids n × (cause ≡ causes.NodeTwice))
 BadId ids _ cause = ⊥
 
--- an owner is 0 or 1
+-- an owner that is neither 0 nor 1 is an error
 abbrev pub BadOwner : Sign → PgCause → Type 0
 BadOwner (Number n) cause = (2 ≤ n) × (cause ≡ causes.Number)
 BadOwner _ cause = ⊥
 
--- a successor that is not an id
+-- a successor that is not one of the known ids
 abbrev pub IsUnknown : Option (List ℕ) → ℕ → Type 0
 IsUnknown None n = ⊥
 IsUnknown (Some ids) n = ¬ Contains ids n
@@ -53,7 +54,7 @@ BadSuccessor known (Number n) cause =
     (cause ≡ causes.UnknownSuccessor))
 BadSuccessor known _ cause = ⊥
 
--- where the first successor is expected: the end of the node, or its name, closed or not
+-- an error where the first successor is expected: the end of the node, its name, closed or not, or a wrong successor
 abbrev pub BadFirst : Option (List ℕ) → Sign → PgCause → Type 0
 BadFirst known Semicolon cause = cause ≡ causes.NoSuccessor
 BadFirst known (Name inner) cause = cause ≡ causes.NoSuccessor
@@ -119,14 +120,14 @@ node known ids =
     mapped (λ _. record { id = id; priority = priority; owner = owner'; successors = list; name = name' })
     semicolon)))))
 
--- one more node after the nodes that were read
+-- one more node after those that were read
 unfoldable pub entry : Option (List ℕ) → List NodeData → Part Sign (List NodeData) PgCause
 entry known nodes = mapped (λ n. nodes ++ n ∷ []) (node known (ids_of nodes))
 
 unfoldable pub entries : Option (List ℕ) → Part Sign (List NodeData) PgCause
 entries known = then_by (entry known []) (λ nodes. many (entry known) nodes)
 
--- the word itself, and no other
+-- a given word
 abbrev pub keyword_in : List ℕ → Sign → Option (Unit {0})
 keyword_in word (Word letters) = if bytes_eq letters word then Some tt else None
 keyword_in word _ = None

@@ -1,9 +1,10 @@
 -- The tokens of a game text, as a relation between its bytes and its pieces.
---     IsRun p text rest      text is a run of bytes that pass p, the longest if rest follows it
---     IsToken before sign text rest      after the bytes `before`, text is that token and rest follows it
+--     IsRun p text rest      text is a run of bytes that pass p, and rest does not begin with such a byte
+--     IsToken before sign text rest      text is the token `sign`, between the bytes `before` and `rest`
 --     AreGameTokens text stream      the tokens of a whole text, with blanks between them
--- A number is a longest run of digits, a word a longest run of letters, a name is between quotes. Never allowed are a
--- word directly after a number, a number directly after a word, a name without its closing quote, and any other byte.
+-- A number is a longest run of digits, a word is a longest run of letters, and a name is between quotes. Some tokens
+-- are never allowed: a word directly after a number, a number directly after a word, a name without its closing quote,
+-- and any other byte.
 use Rattle.std.specs.Prelude.{◌≡◌, ◌≢◌, ℕ, ◌<◌, Bool, true, false, List, [], ◌∷◌, ◌++◌, length}
 use Rattle.ps_text.specs.Answers.{Stream}
 use Rattle.ps_text.specs.Digits.{decimal_value}

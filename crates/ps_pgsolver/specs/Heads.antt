@@ -1,4 +1,4 @@
--- What a token of the code stands for.
+-- The signs of the grammar that the parser's tokens stand for.
 use Rattle.std.specs.Prelude.{◌≡◌, ◌<◌, ◌≤◌, ℕ, Bool, true, false, List, Option, None, Some, length}
 use Rattle.std.specs.List.{AllPass}
 use Rattle.ps_text.specs.Answers.{Stream, next_of, offset_of}
@@ -12,7 +12,7 @@ use Rattle.ps_pgsolver.specs.declared.token.Kind.{Kind}
 use Rattle.ps_pgsolver.specs.declared.token.Kind.TheVariants as kinds
 use Rattle.ps_pgsolver.specs.declared.token.Token.{Token}
 
--- the sign of a token, or none at the end
+-- the sign of a token; none at the end of the text
 abbrev pub sign_of : Kind → Option Sign
 sign_of (kinds.Number value) = Some (Number value)
 sign_of (kinds.LargeNumber digits) = Some (Number (decimal_value digits.now))
@@ -24,7 +24,7 @@ sign_of kinds.OpenName = Some OpenName
 sign_of kinds.Wrong = Some Wrong
 sign_of kinds.End = None
 
--- the token is the next one
+-- the token is the first of the stream
 pub record IsHead (token : Token) (stream : Stream Sign) : Type 0 where
   pub sign : sign_of token.kind ≡ next_of stream
   pub start : token.start ≡ offset_of stream.pieces stream.end
@@ -48,18 +48,18 @@ IsPlain (kinds.LargeNumber digits) = too_large ≤ decimal_value digits.now
 IsPlain (kinds.Name inner) = AllPass is_unquoted inner.now
 IsPlain _ = Unit {0}
 
--- a number that fits in 64 bits was the next sign, and was read
+-- the next sign was a number that fits in 64 bits, and was read
 pub record IsNumberTaken (number : ℕ) (old new : Stream Sign) : Type 0 where
   pub sign : next_of old ≡ Some (Number number)
   pub small : number < too_large
   pub rest : new ≡ tail old
 
--- the sign was the next one and was read, or it was not and nothing was read
+-- either the next sign was the given one and was read, or nothing was read
 abbrev pub IsTaken : Sign → Stream Sign → Bool → Stream Sign → Type 0
 IsTaken sign old true new = (next_of old ≡ Some sign) × (new ≡ tail old)
 IsTaken sign old false new = new ≡ old
 
--- the token was read from a text, and the tokens after it begin at that offset
+-- the token was read from a text, and the tokens after it begin at the offset `behind`
 pub record IsAhead (text : List ℕ) (token : Token) (behind : ℕ) : Type 0 where
   pub head : IsHead token (stream_from text token.start)
   pub plain : IsPlain token.kind

@@ -1,4 +1,4 @@
--- How tokens are read: one after another, from the left.
+-- The lexer, which reads tokens one after another from the left.
 use Rattle.std.specs.Prelude.{ℕ, zero, suc, Bool, List, [], ◌∷◌, ◌++◌, ◌+◌, ◌-◌, ◌==◌, nat_lt, length, take, drop}
 use Rattle.std.specs.Prelude.{if◌then◌else◌}
 use Rattle.std.specs.List.{prefix_len, take_while}
@@ -8,14 +8,14 @@ use Rattle.ps_text.specs.Bytes.{is_blank, is_digit, is_letter, is_unquoted}
 use Rattle.ps_pgsolver.specs.Ends.{ends_in}
 use Rattle.ps_pgsolver.specs.Signs.{Sign, Number, Word, Name, Comma, Semicolon, OpenName, Wrong}
 
--- a run of digits after the bytes `before`
+-- the sign of a run of digits after the bytes `before`
 abbrev pub number_sign : List ℕ → List ℕ → Sign
 number_sign before text = if ends_in is_letter before then Wrong else Number (decimal_value (take_while is_digit text))
 
 abbrev pub word_sign : List ℕ → List ℕ → Sign
 word_sign before text = if ends_in is_digit before then Wrong else Word (take_while is_letter text)
 
--- a quote, and what follows it
+-- whether a name, given the bytes after its first quote, has a closing quote
 abbrev pub is_closed : List ℕ → Bool
 is_closed behind = nat_lt (prefix_len is_unquoted behind) (length behind)
 
@@ -28,7 +28,7 @@ name_size behind = if is_closed behind then prefix_len is_unquoted behind + 2 el
 abbrev pub mark_sign : ℕ → Sign
 mark_sign b = if b == 44 then Comma else (if b == 59 then Semicolon else Wrong)
 
--- the sign that begins a text, after the bytes `before`
+-- the sign with which a text begins, after the bytes `before`
 unfoldable pub first_sign : List ℕ → List ℕ → Sign
 first_sign before [] = Wrong
 first_sign before (b ∷ bs) =
@@ -37,7 +37,7 @@ first_sign before (b ∷ bs) =
     else (if b == 34 then name_sign bs
     else mark_sign b))
 
--- how many bytes it has
+-- the number of bytes of the first sign
 unfoldable pub first_size : List ℕ → ℕ
 first_size [] = 0
 first_size (b ∷ bs) =
@@ -46,7 +46,7 @@ first_size (b ∷ bs) =
     else (if b == 34 then name_size bs
     else 1))
 
--- the pieces of a text after the bytes `before`, of which the first `skip` bytes belong to a token that was read
+-- the pieces of a text after the bytes `before`; its first `skip` bytes belong to a token that was read already
 unfoldable pub lex : ℕ → List ℕ → List ℕ → List (Piece Sign)
 lex skip before [] = []
 lex (suc skip) before (b ∷ bs) = lex skip (before ++ b ∷ []) bs

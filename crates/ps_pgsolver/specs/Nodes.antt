@@ -1,4 +1,4 @@
--- A node of a game text.
+-- The nodes of a game text.
 use Rattle.std.specs.Prelude.{ℕ, Bool, ◌==◌, ◌<◌, ◌≢◌, List, map, length, Option}
 use Rattle.std.specs.List.{All, AllPairs, Contains, list_any, list_all}
 use Rattle.ps_game.specs.Games.{HasNoQuote}
@@ -20,7 +20,7 @@ names_of nodes = map (λ n. n.name) nodes
 abbrev pub is_member : List ℕ → ℕ → Bool
 is_member ids n = list_any (λ id. n == id) ids
 
--- what is true of each node that was read
+-- the properties of each node that was read
 pub record IsNode (node : NodeData) : Type 0 where
   pub owner : node.owner < 2
   pub successor : 0 < length node.successors
@@ -34,12 +34,12 @@ pub record AreNodes (nodes : List NodeData) : Type 0 where
   pub distinct : IsDistinct (ids_of nodes)
   pub each : All IsNode nodes
 
--- a node whose id is not one of these
+-- a node with a new id
 pub record IsNewNode (ids : List ℕ) (node : NodeData) : Type 0 where
   pub new : ¬ Contains ids node.id
   pub is_node : IsNode node
 
--- each of a list, each successor of a node, and each successor of each node is one of these ids
+-- each item of a list, each successor of a node, and each successor of every node is one of the given ids
 abbrev pub KnowsEach : List ℕ → List ℕ → Type 0
 KnowsEach ids list = All (λ id. Contains ids id) list
 
@@ -49,7 +49,7 @@ KnowsNode ids node = KnowsEach ids node.successors
 abbrev pub KnowsAll : List ℕ → List NodeData → Type 0
 KnowsAll ids nodes = All (λ node. KnowsNode ids node) nodes
 
--- the same as tests
+-- the same conditions as tests
 abbrev pub knows_each : List ℕ → List ℕ → Bool
 knows_each ids list = list_all (λ id. is_member ids id) list
 

@@ -1,4 +1,4 @@
--- The result of reading a game text: the game, or the first cause of refusal and its offset.
+-- The answer to a game text: the game, or the first error and its offset.
 use Rattle.std.specs.Prelude.{◌≡◌, ℕ, ◌<◌, ◌≤◌, List, length, None, Some, Result, Ok, Err}
 use Rattle.ps_text.specs.Answers.{Stream, Found}
 use Rattle.ps_text.specs.Parts.{PartAnswers}
@@ -13,33 +13,33 @@ use Rattle.ps_pgsolver.specs.declared.fault.PgCause.TheVariants as causes
 use Rattle.ps_pgsolver.specs.Causes.{PgFault}
 use Rattle.ps_text.specs.Faults.{UnlessMemory}
 
--- the greatest length of a text, in bytes
+-- the maximal length of a text, in bytes
 abbrev pub text_limit : ℕ
 text_limit = 16777216
 
--- the text is short enough, and these are its tokens
+-- the text is short enough, and has these tokens
 pub record HasTokens (text : List ℕ) (stream : Stream Sign) : Type 0 where
   pub short : length text ≤ text_limit
   pub tokens : AreGameTokens text stream
 
 -- the answer to a text
 pub data Answer (text : List ℕ) (answer : Result NamedGameData (Found PgCause)) : Type 0 where
-  -- before everything else: the text is too long
+  -- the text is too long; this precedes every other error
   too_long : text_limit < length text → answer ≡ Err (record { cause = causes.Limit; offset = text_limit }) →
       Answer text answer
-  -- the first cause in text order
+  -- the first error in the order of the text
   refused : (stream : Stream Sign) (found : Found PgCause) → HasTokens text stream →
       PartAnswers pg_causes (game None) stream (Err found) → answer ≡ Err found → Answer text answer
-  -- after the end, if there is none: the first successor that is not an id
+  -- if the text has no other error: the first successor that is not an id
   unknown : (stream : Stream Sign) (nodes : List NodeData) (found : Found PgCause) → HasTokens text stream →
       PartAnswers pg_causes (game None) stream (Ok nodes) →
       PartAnswers pg_causes (game (Some (ids_of nodes))) stream (Err found) → answer ≡ Err found → Answer text answer
-  -- the text has no cause
+  -- the text has no error
   meaning : (stream : Stream Sign) (nodes : List NodeData) → HasTokens text stream →
       PartAnswers pg_causes (game None) stream (Ok nodes) →
       PartAnswers pg_causes (game (Some (ids_of nodes))) stream (Ok nodes) → answer ≡ Ok (named_game_of nodes) →
       Answer text answer
 
--- what a call returns is that, unless memory ran out
+-- what a call returns: the answer to the text, or out of memory
 abbrev pub IsGameAnswer : List ℕ → Result NamedGameData PgFault → Type 0
 IsGameAnswer text result = UnlessMemory (Answer text) result

@@ -7,7 +7,7 @@ pub data Sign : Type 0 where
   Name : List ℕ → Sign
   Comma : Sign
   Semicolon : Sign
-  -- a name that is not closed
+  -- a name without its closing quote
   OpenName : Sign
   -- any other token that is never allowed
   Wrong : Sign

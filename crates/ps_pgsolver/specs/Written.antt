@@ -1,11 +1,11 @@
--- The bytes of a game that is written, in PGSolver's format.
+-- The bytes of the text that is written for a game, in PGSolver's format.
 --     commas ids ws      the id of each of these vertices after a comma
---     list_text ids ws      the same, the first one without its comma
+--     list_text ids ws      the ids of these vertices, with commas between them
 --     name_text name      a name after a space, if there is one
 --     vertex_line ids id vertex name      the line of a vertex: its id, priority, owner, successors, and its name
 --     vertex_lines ids names v vertices      the lines of the vertices from v on
 --     game_text game      the greatest id, and a line for each vertex
---     IsWord n      a number that the code can hold in a word
+--     IsWord n      a number that fits in 64 bits
 use Rattle.std.specs.Prelude.{ℕ, ◌+◌, ◌^◌, ◌<◌, List, [], ◌∷◌, ◌++◌, decimal, codes, Option, Some, None, slice_index}
 use Rattle.std.specs.Prelude.{slice_index_or}
 use Rattle.ps_game.specs.Games.{VertexData, ParityGame, NamedGameData, quote}

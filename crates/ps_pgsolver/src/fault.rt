@@ -1,19 +1,19 @@
-//! What is wrong with a game text.
+//! The errors of a game text.
 
 ghost use Rattle.ps_pgsolver.specs.Causes.{cause_name, cause_number};
 
 use ps_text::faults::{Cause, Fault};
 
-/// Why a game text is refused (PGSolver's format; the limit of bytes is psyn's own).
+/// Why a game text is rejected (PGSolver's format; the limit on its length is psyn's own).
 #[derive(Clone, Copy, Debug, PartialEq, Eq)]
 pub enum PgCause {
-    /// A token that is not allowed here, or an early end.
+    /// A token that is not allowed at its position, or an early end of the text.
     Syntax,
     /// A node without a successor.
     NoSuccessor,
     /// A successor that is not the id of a node.
     UnknownSuccessor,
-    /// An id that an earlier node has.
+    /// The id of an earlier node, used again.
     NodeTwice,
     /// A number of 2^64 or more, or an owner other than 0 and 1.
     Number,
@@ -21,7 +21,7 @@ pub enum PgCause {
     Limit,
 }
 
-/// Why a game was not read.
+/// Why the parser returned no game.
 pub type PgFault = Fault<PgCause>;
 
 impl Cause for PgCause {

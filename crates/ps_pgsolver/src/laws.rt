@@ -14,12 +14,12 @@ pub fn one_list_of_tokens()
         ((others : Stream Sign) → AreGameTokens text others → others ≡ tokens) }
 {}
 
-/// A text has at most one answer: its game, or its first cause and its place.
+/// A text has at most one answer: its game, or its first error with the offset.
 pub fn one_answer()
     ensures { (text : List ℕ) (a b : Result NamedGameData (Found PgCause)) → Answer text a → Answer text b → a ≡ b }
 {}
 
-/// A text has an answer. The law is about texts, not about calls: out of memory is not one of the answers.
+/// A text has an answer. This law concerns texts and not calls, so out of memory is not one of the answers.
 pub fn some_answer()
     ensures { (text : List ℕ) → (answer : Result NamedGameData (Found PgCause)) × Answer text answer }
 {}

@@ -1,20 +1,20 @@
-//! Game texts in PGSolver's format: optionally `parity N;` and `start N;`, and for each vertex its id, its priority,
-//! its owner, its successors, optionally a name, and a semicolon.
+//! Game texts in PGSolver's format. A text may begin with `parity N;` and `start N;`. For each vertex the text has the
+//! id, the priority, the owner, the successors, an optional name, and a semicolon.
 //!
 //! | Call | What it gives |
 //! |---|---|
 //! | `read(text)` | the game with its ids and names, or the first `PgFault` in the text; at most 16,777,216 bytes |
-//! | `write(game)` | a text, which `read` reads as that game again if it is not longer than that |
-//! | `Tokens::new(text)`, `peek`, `next`, `start` | the tokens of a text, also of a solution (`ps_solution`) |
+//! | `write(game)` | a text, which `read` parses as the same game if the text is at most that long |
+//! | `Tokens::new(text)`, `peek`, `next`, `start` | the tokens of a text; solutions (`ps_solution`) use them too |
 //! | `Tokens::take_number`, `take_comma`, `take_semicolon` | the next token, if it is of that kind |
-//! | `Tokens::is_at_number`, `is_at_comma`, `is_at_word`, `next_name` | whether that comes next |
-//! | `PgCause::number`, `name` | a cause in psyn's list of faults |
+//! | `Tokens::is_at_number`, `is_at_comma`, `is_at_word`, `next_name` | whether the next token is of that kind |
+//! | `PgCause::number`, `name` | the number and name of an error in psyn's list of faults |
 //! | `one_list_of_tokens` | a law: a text has exactly one list of tokens |
-//! | `one_answer`, `some_answer` | laws: a text has exactly one answer, its game or its first cause |
+//! | `one_answer`, `some_answer` | laws: a text has exactly one answer, its game or its first error |
 //!
-//! Vertices have the order of the text, and ids and names are kept. Reading takes time proportional to the text, except
-//! for looking up each id that is not the next one in order, in a tree. If a successor is not the id of a node, the
-//! text is read a second time, to find the first such successor.
+//! Vertices are in the order of the text, and keep their ids and names. Parsing takes time proportional to the length
+//! of the text, except that each id that is not the next one in order is looked up in a tree. If a successor is not the
+//! id of a node, the text is read a second time to locate the first such successor.
 #![tactic(auto)]
 
 mod fault;

@@ -25,8 +25,8 @@ pub struct Node {
     pub name: Option<Vec<u8>>,
 }
 
-/// The nodes of a text: a table of their ids; vertices, whose successors are ids; and names up to the last node that
-/// has one.
+/// The nodes of a text: a table of their ids; their vertices, whose successors are ids; and the names of the nodes up
+/// to the last node that has a name.
 #[derive(Drop)]
 pub struct Nodes {
     ids: Ids,
@@ -43,7 +43,7 @@ impl Model for Nodes {
 }
 
 impl Nodes {
-    /// No nodes. Fails if out of memory.
+    /// An empty list of nodes. Fails if out of memory.
     pub fn new(alloc: Global) -> Result<Self, AllocError>
         ensures { IfOk result (λ nodes. nodes ≡ []) }
     {
@@ -63,7 +63,7 @@ impl Nodes {
         &self.ids
     }
 
-    /// Whether a node has the id.
+    /// Whether a node has the given id.
     pub fn has(&self, id: u64) -> bool
         ensures { result ≡ is_member (ids_of self.now) id }
     {
@@ -77,7 +77,7 @@ impl Nodes {
         self.vertices.know_successors(&self.ids)
     }
 
-    /// Adds a node with a new id and these successors.
+    /// Appends a node with a new id and the given successors.
     pub fn push(&mut self, node: Node, successors: &[usize]) -> Result<(), AllocError>
         requires new { ¬ Contains (ids_of self.old) node.id }
         requires node { IsNode (node_with node successors.now) }
@@ -110,7 +110,7 @@ impl Nodes {
     }
 }
 
-/// Makes room for the name of the next node, if it has one; earlier nodes without a name get a place.
+/// Makes room for the name of the next node, if it has one; each earlier node without a name gets an empty item.
 fn make_room(
     names: &mut Vec<Option<Vec<u8>>>,
     count: usize,
@@ -131,7 +131,7 @@ fn make_room(
     names.reserve(1)
 }
 
-/// Appends a name, if there is one; there must be room.
+/// Appends a name, if there is one; there must be room for it.
 fn keep_name(names: &mut Vec<Option<Vec<u8>>>, name: Option<Vec<u8>>)
     requires { is_some name ≡ true → vec_len names.old < vec_capacity names.old }
     ensures { names.new.items ≡ names_with names.old.items name }

@@ -1,4 +1,4 @@
-//! Reading a game text.
+//! Parsing a game text.
 
 ghost use Rattle.std.specs.Prelude.{◌≡◌, ◌≤◌, ◌<◌, Some, None, Ok, IfOk, OnOk, option_copied, IfErr, length, vec_len};
 ghost use Rattle.ps_text.specs.declared.faults.Fault.TheVariants as faults;
@@ -28,15 +28,15 @@ use ps_game::NamedGame;
 use ps_ids::Ids;
 use std::alloc::Global;
 
-/// The greatest length of a text, in bytes.
+/// The maximal length of a text, in bytes.
 const TEXT_LIMIT: usize = 16_777_216;
 
-/// Reads a game text. Vertices are numbered in the order of the nodes. A successor may come before its node, so all ids
-/// are known only at the end of the text.
+/// Parses a game text. Vertices are numbered in the order of the nodes. A successor may come before its node, so all
+/// ids are known only at the end of the text.
 ///
 /// # Errors
 ///
-/// [`PgFault::Text`] with the first cause in the text's order, at the byte of its token; out of memory.
+/// [`PgFault::Text`] with the first error of the text and the offset of its token; out of memory.
 pub fn read(alloc: Global, text: &[u8]) -> Result<NamedGame, PgFault>
     ensures answer { IsGameAnswer text.now result }
     ensures within { IfErr result (StandsWithin (length text.now)) }
@@ -54,7 +54,7 @@ pub fn read(alloc: Global, text: &[u8]) -> Result<NamedGame, PgFault>
     named_game(alloc, nodes)
 }
 
-/// The fault at the first successor that is not the id of a node, which a second reading finds.
+/// The fault at the first successor that is not the id of a node, located by reading the text again.
 fn unknown_successor(alloc: Global, text: &[u8], nodes: &Nodes) -> PgFault
     requires read { TextAnswers None (stream_of text.now) (Ok nodes.now) }
     requires some { KnowsAll (ids_of nodes.now) nodes.now → ⊥ }
@@ -66,7 +66,7 @@ fn unknown_successor(alloc: Global, text: &[u8], nodes: &Nodes) -> PgFault
     }
 }
 
-/// The fault at a token.
+/// The fault that reports an error at a token.
 fn fault(cause: PgCause, token: Token) -> PgFault
     ensures { result ≡ faults.Text cause token.entry.start }
 {
@@ -76,7 +76,7 @@ fn fault(cause: PgCause, token: Token) -> PgFault
     }
 }
 
-/// Reads a whole text. If the ids of its nodes are known, each successor must be one of them.
+/// Parses a whole text. If the ids of the text's nodes are known, each successor must be one of them.
 fn game_text(alloc: Global, text: &[u8], known: Option<&Ids>) -> Result<Nodes, PgFault>
     ensures answer { TextAnswers (option_copied known.entry) (stream_of text.now) result }
     ensures later { KnownAnswers (stream_of text.now) result }
@@ -89,7 +89,7 @@ fn game_text(alloc: Global, text: &[u8], known: Option<&Ids>) -> Result<Nodes, P
     Ok(nodes)
 }
 
-/// Reads a line such as `parity 7;`, if it comes next.
+/// Parses a line such as `parity 7;`, if the text continues with one.
 fn setting(tokens: &mut Tokens, word: &[u8]) -> Result<(), PgFault>
     ensures { ReadsAs (λ u. u) (parts.setting word.now) tokens.old result tokens.new }
 {
@@ -100,7 +100,7 @@ fn setting(tokens: &mut Tokens, word: &[u8]) -> Result<(), PgFault>
     Ok(())
 }
 
-/// Reads a number, which has no meaning, and a semicolon.
+/// Parses a number that has no meaning, and a semicolon.
 fn value_line(tokens: &mut Tokens) -> Result<(), PgFault>
     ensures { ReadsAs (λ u. u) parts.value_line tokens.old result tokens.new }
 {
@@ -108,7 +108,7 @@ fn value_line(tokens: &mut Tokens) -> Result<(), PgFault>
     semicolon(tokens)
 }
 
-/// Reads the nodes. The successors of each are read into one list, which is reused.
+/// Parses the nodes. One list is reused for the successors of each node.
 fn entries(alloc: Global, tokens: &mut Tokens, known: Option<&Ids>) -> Result<Nodes, PgFault>
     ensures part { ReadsAs (λ nodes. nodes) (parts.entries (option_copied known.entry)) tokens.old result tokens.new }
     ensures later { ReadsKnown KnowsAll (λ nodes. nodes) parts.entries tokens.old result tokens.new }
@@ -122,7 +122,7 @@ fn entries(alloc: Global, tokens: &mut Tokens, known: Option<&Ids>) -> Result<No
     Ok(nodes)
 }
 
-/// Reads a node after the nodes that were read.
+/// Parses a node, and appends it to the nodes that were read before.
 fn entry(
     alloc: Global,
     tokens: &mut Tokens,
@@ -140,7 +140,7 @@ fn entry(
     Ok(())
 }
 
-/// Reads a node with a new id, and its successors into the list.
+/// Parses a node with a new id. The successors of the node replace the contents of the list.
 fn node(
     alloc: Global,
     tokens: &mut Tokens,
@@ -168,7 +168,7 @@ fn node(
     })
 }
 
-/// Reads a new id.
+/// Parses an id that no earlier node has.
 #[inline(always)]
 fn new_id(tokens: &mut Tokens, nodes: &Nodes) -> Result<u64, PgFault>
     ensures part { ReadsAs (λ id. id) (parts.new_id (ids_of nodes.now)) tokens.old result tokens.new }
@@ -179,7 +179,7 @@ fn new_id(tokens: &mut Tokens, nodes: &Nodes) -> Result<u64, PgFault>
     unless_twice(id, start, nodes)
 }
 
-/// Reads a number.
+/// Parses a number.
 #[inline(always)]
 fn number(tokens: &mut Tokens) -> Result<u64, PgFault>
     ensures { ReadsAs (λ n. n) parts.number tokens.old result tokens.new }
@@ -187,7 +187,7 @@ fn number(tokens: &mut Tokens) -> Result<u64, PgFault>
     any_number(tokens)
 }
 
-/// Reads a number, whatever its meaning.
+/// Parses a number without checking its meaning.
 #[inline(always)]
 fn any_number(tokens: &mut Tokens) -> Result<u64, PgFault>
     ensures answer { result ≡ number_answer (next_of tokens.old) (offset_of tokens.old.pieces tokens.old.end) }
@@ -199,7 +199,7 @@ fn any_number(tokens: &mut Tokens) -> Result<u64, PgFault>
     }
 }
 
-/// Reads an owner.
+/// Parses an owner.
 #[inline(always)]
 fn owner(tokens: &mut Tokens) -> Result<u8, PgFault>
     ensures part { ReadsAs (λ n. n) parts.owner tokens.old result tokens.new }
@@ -210,7 +210,7 @@ fn owner(tokens: &mut Tokens) -> Result<u8, PgFault>
     one_of_two(owner, start)
 }
 
-/// Reads the successors of a node, which replace the contents of the list.
+/// Parses the successors of a node, which replace the contents of the list.
 fn successors(
     tokens: &mut Tokens,
     known: Option<&Ids>,
@@ -229,7 +229,7 @@ fn successors(
     Ok(())
 }
 
-/// Reads a comma and one more successor.
+/// Parses a comma and one more successor.
 fn more_successor(
     tokens: &mut Tokens,
     known: Option<&Ids>,
@@ -247,7 +247,7 @@ fn more_successor(
     Ok(())
 }
 
-/// Reads the first successor of a node, which must not be missing.
+/// Parses the first successor of a node, which must not be missing.
 fn first_successor(tokens: &mut Tokens, known: Option<&Ids>) -> Result<u64, PgFault>
     ensures part { ReadsAs (λ n. n) (parts.first_successor (option_copied known.entry)) tokens.old result tokens.new }
     ensures later { ReadsKnown Contains (λ n. n) parts.first_successor tokens.old result tokens.new }
@@ -259,7 +259,7 @@ fn first_successor(tokens: &mut Tokens, known: Option<&Ids>) -> Result<u64, PgFa
     }
 }
 
-/// Reads a successor.
+/// Parses a successor.
 #[inline(always)]
 fn successor(tokens: &mut Tokens, known: Option<&Ids>) -> Result<u64, PgFault>
     ensures part { ReadsAs (λ n. n) (parts.successor (option_copied known.entry)) tokens.old result tokens.new }
@@ -270,7 +270,7 @@ fn successor(tokens: &mut Tokens, known: Option<&Ids>) -> Result<u64, PgFault>
     if_known(id, start, known)
 }
 
-/// Reads a name, if one comes next.
+/// Parses a name, if the text continues with one.
 #[inline(always)]
 fn name(alloc: Global, tokens: &mut Tokens) -> Result<Option<Vec<u8>>, PgFault>
     ensures part { ReadsAs name_bytes parts.name tokens.old result tokens.new }
@@ -283,7 +283,7 @@ fn name(alloc: Global, tokens: &mut Tokens) -> Result<Option<Vec<u8>>, PgFault>
     Ok(Some(bytes.to_vec(alloc)?))
 }
 
-/// Reads a comma.
+/// Parses a comma.
 #[inline(always)]
 fn comma(tokens: &mut Tokens) -> Result<(), PgFault>
     ensures { ReadsAs (λ u. u) parts.comma tokens.old result tokens.new }
@@ -294,7 +294,7 @@ fn comma(tokens: &mut Tokens) -> Result<(), PgFault>
     comma_of(tokens.next())
 }
 
-/// Reads a semicolon.
+/// Parses a semicolon.
 #[inline(always)]
 fn semicolon(tokens: &mut Tokens) -> Result<(), PgFault>
     ensures { ReadsAs (λ u. u) parts.semicolon tokens.old result tokens.new }
@@ -316,7 +316,7 @@ fn finish(tokens: &Tokens) -> Result<(), PgFault>
     }
 }
 
-/// A number that was read at a place, as a new id.
+/// Returns the number at offset `start` as a new id, if no earlier node has that id.
 #[inline(always)]
 fn unless_twice(id: u64, start: usize, nodes: &Nodes) -> Result<u64, PgFault>
     ensures answer { result ≡ id_of_number (ids_of nodes.now) start id }
@@ -331,7 +331,7 @@ fn unless_twice(id: u64, start: usize, nodes: &Nodes) -> Result<u64, PgFault>
     Ok(id)
 }
 
-/// A number that was read at a place, as an owner.
+/// Returns the number at offset `start` as an owner, if it is 0 or 1.
 #[inline(always)]
 fn one_of_two(owner: u64, start: usize) -> Result<u8, PgFault>
     ensures answer { result ≡ owner_of_number start owner }
@@ -347,7 +347,7 @@ fn one_of_two(owner: u64, start: usize) -> Result<u8, PgFault>
     }
 }
 
-/// A number that was read at a place, as a successor.
+/// Returns the number at offset `start` as a successor. If the ids are known, the number must be one of them.
 #[inline(always)]
 fn if_known(id: u64, start: usize, known: Option<&Ids>) -> Result<u64, PgFault>
     ensures { result ≡ successor_of_number (option_copied known.entry) start id }
@@ -363,7 +363,7 @@ fn if_known(id: u64, start: usize, known: Option<&Ids>) -> Result<u64, PgFault>
     Ok(id)
 }
 
-/// The successor that a token is.
+/// Interprets a token as a successor.
 fn successor_of(token: Token, known: Option<&Ids>) -> Result<u64, PgFault>
     requires { IsPlain token.kind }
     ensures { result ≡ successor_answer (option_copied known.entry) (sign_of token.entry.kind) token.entry.start }
@@ -372,7 +372,7 @@ fn successor_of(token: Token, known: Option<&Ids>) -> Result<u64, PgFault>
     if_known(id, token.start, known)
 }
 
-/// Takes a token as the first successor of a node.
+/// Interprets a token as the first successor of a node.
 fn first_of(token: Token, known: Option<&Ids>) -> Result<u64, PgFault>
     requires { IsPlain token.kind }
     ensures { result ≡ first_answer (option_copied known.entry) (sign_of token.entry.kind) token.entry.start }
@@ -385,7 +385,7 @@ fn first_of(token: Token, known: Option<&Ids>) -> Result<u64, PgFault>
     }
 }
 
-/// The token is a comma.
+/// Checks that a token is a comma.
 fn comma_of(token: Token) -> Result<(), PgFault>
     ensures { result ≡ comma_answer (sign_of token.entry.kind) token.entry.start }
 {
@@ -395,7 +395,7 @@ fn comma_of(token: Token) -> Result<(), PgFault>
     }
 }
 
-/// The token is a semicolon.
+/// Checks that a token is a semicolon.
 fn semicolon_of(token: Token) -> Result<(), PgFault>
     ensures { result ≡ semicolon_answer (sign_of token.entry.kind) token.entry.start }
 {
@@ -405,7 +405,7 @@ fn semicolon_of(token: Token) -> Result<(), PgFault>
     }
 }
 
-/// The number that a token is.
+/// Interprets a token as a number.
 #[tactic(auto, using(crate::proofs::ValueLemmas::number_small, crate::proofs::ValueLemmas::number_large))]
 fn number_of(token: Token) -> Result<u64, PgFault>
     requires { IsPlain token.kind }

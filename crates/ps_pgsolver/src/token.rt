@@ -17,13 +17,13 @@ use ps_text::cursor::{Class, run_length};
 use ps_text::numbers::{LeadingNumber, leading_number};
 use std::marker::Model;
 
-/// From this number of digits on, a number may be too large.
+/// Numbers with at least this many digits are parsed by slower code, which checks for overflow.
 const FEW: usize = 18;
 
-/// What a token is, with its bytes.
+/// The kind of a token, with its bytes.
 #[derive(Clone, Copy)]
 pub enum Kind<'a> {
-    /// A number, by its value.
+    /// A number that fits in 64 bits.
     Number(u64),
     /// The digits of a number that does not fit in a `u64`.
     LargeNumber(&'a [u8]),
@@ -35,7 +35,7 @@ pub enum Kind<'a> {
     Comma,
     /// A semicolon.
     Semicolon,
-    /// A name that is not closed.
+    /// A name without its closing quote.
     OpenName,
     /// Any other token that is never allowed.
     Wrong,
@@ -43,16 +43,16 @@ pub enum Kind<'a> {
     End,
 }
 
-/// A token, and where it begins.
+/// A token and its offset.
 #[derive(Clone, Copy)]
 pub struct Token<'a> {
-    /// What it is.
+    /// The kind of the token.
     pub kind: Kind<'a>,
-    /// The offset of its first byte, from 0.
+    /// The offset of the token's first byte, from 0.
     pub start: usize,
 }
 
-/// The tokens of a text that are still to come, from an offset on.
+/// The tokens of a text from an offset on.
 #[derive(Drop)]
 pub struct Tokens<'a> {
     text: &'a [u8],
@@ -93,7 +93,7 @@ impl<'a> Tokens<'a> {
         token
     }
 
-    /// Reads the next token.
+    /// Reads the next token and moves past it.
     #[inline(always)]
     pub fn next(&mut self) -> Token<'a>
         ensures token { IsHead result self.old }
@@ -106,7 +106,7 @@ impl<'a> Tokens<'a> {
         token
     }
 
-    /// Where the next token begins, or the text ends.
+    /// The offset of the next token, or of the end of the text.
     #[inline(always)]
     pub fn start(&self) -> usize
         ensures { result ≡ offset_of self.now.pieces self.now.end }
@@ -114,7 +114,8 @@ impl<'a> Tokens<'a> {
         next_start(self.text, self.at)
     }
 
-    /// Reads the next token if it is a number of few digits. Most numbers are; no token is made for them.
+    /// Reads the next token if it is a number with few digits. Most numbers have few digits, and no token is built for
+    /// them.
     #[inline(always)]
     pub fn take_number(&mut self) -> Option<u64>
         ensures some { IfSome result (λ number. IsNumberTaken number self.old self.new) }
@@ -158,7 +159,7 @@ impl<'a> Tokens<'a> {
         true
     }
 
-    /// Whether a number comes next.
+    /// Whether the next token is a number.
     pub fn is_at_number(&self) -> bool
         ensures { result ≡ is_number (next_of self.now) }
     {
@@ -166,7 +167,7 @@ impl<'a> Tokens<'a> {
         begins_with(rest, Class::Digit) && !ends_in_class(before, Class::Letter)
     }
 
-    /// Whether a comma comes next.
+    /// Whether the next token is a comma.
     pub fn is_at_comma(&self) -> bool
         ensures { result ≡ is_comma (next_of self.now) }
     {
@@ -174,7 +175,7 @@ impl<'a> Tokens<'a> {
         begins_with(rest, Class::Comma)
     }
 
-    /// The name that comes next, if one does.
+    /// The next token, if it is a name.
     pub fn next_name(&self) -> Option<&'a [u8]>
         ensures name { option_copied result ≡ name_of (next_of self.now) }
         ensures plain { IfSome result (λ inner. AllPass is_unquoted inner.now) }
@@ -189,7 +190,7 @@ impl<'a> Tokens<'a> {
         }
     }
 
-    /// Whether this word comes next.
+    /// Whether the next token is the given word.
     pub fn is_at_word(&self, word: &[u8]) -> bool
         ensures { IsTrue result ↔ (next_of self.now ≡ Some (Word word.now)) }
     {
@@ -200,7 +201,7 @@ impl<'a> Tokens<'a> {
     }
 }
 
-/// The first token from an offset on, and where it ends.
+/// The first token from an offset on, and the offset of its end.
 #[inline(always)]
 fn token_from<'a>(text: &'a [u8], at: usize) -> (Token<'a>, usize)
     requires { at ≤ length text.now }
@@ -213,7 +214,7 @@ fn token_from<'a>(text: &'a [u8], at: usize) -> (Token<'a>, usize)
     (Token { kind, start }, start + size)
 }
 
-/// Where the next token begins, or the text ends.
+/// The offset at which the next token begins, or the text ends.
 #[inline(always)]
 fn next_start(text: &[u8], at: usize) -> usize
     requires { at ≤ length text.now }
@@ -223,7 +224,7 @@ fn next_start(text: &[u8], at: usize) -> usize
     at + run_length(&text[at..], Class::Blank)
 }
 
-/// The token that a text begins with, and how many bytes it has.
+/// The token with which a text begins, and the token's length in bytes.
 #[inline(always)]
 fn token_at<'a>(before: &[u8], rest: &'a [u8]) -> (Kind<'a>, usize)
     ensures end { rest.now ≡ [] → sign_of result.0 ≡ None }
@@ -246,7 +247,7 @@ fn token_at<'a>(before: &[u8], rest: &'a [u8]) -> (Kind<'a>, usize)
     }
 }
 
-/// A run of digits, and how many bytes it has.
+/// The token of a run of digits, and the token's length in bytes.
 #[inline(always)]
 fn number_at<'a>(before: &[u8], rest: &'a [u8]) -> (Kind<'a>, usize)
     ensures sign { sign_of result.0 ≡ Some (number_sign before.now rest.now) }
@@ -262,7 +263,7 @@ fn number_at<'a>(before: &[u8], rest: &'a [u8]) -> (Kind<'a>, usize)
     }
 }
 
-/// The number that a run of digits writes, and how many bytes it has.
+/// The number that a run of digits denotes, and the length of the run in bytes.
 fn digits_at<'a>(rest: &'a [u8]) -> (Kind<'a>, usize)
     ensures sign { sign_of result.0 ≡ Some (Number (decimal_value (take_while is_digit rest.now))) }
     ensures size { result.1 ≡ prefix_len is_digit rest.now }
@@ -281,7 +282,8 @@ fn digits_at<'a>(rest: &'a [u8]) -> (Kind<'a>, usize)
     }
 }
 
-/// The number that the leading digits of a text write, if there are less than 18 of them: then no step overflows.
+/// The number that the leading digits of a text denote, if there are fewer than 18 leading digits, so that no step
+/// overflows.
 #[inline(always)]
 fn few_digits(text: &[u8]) -> Option<LeadingNumber>
     ensures value { IfSome result (λ number. number.value ≡ decimal_value (take_while is_ascii_digit text.now)) }
@@ -301,7 +303,7 @@ fn few_digits(text: &[u8]) -> Option<LeadingNumber>
     Some(LeadingNumber { value, digits })
 }
 
-/// A run of letters, and how many bytes it has.
+/// The token of a run of letters, and the token's length in bytes.
 #[inline(always)]
 fn word_at<'a>(before: &[u8], rest: &'a [u8]) -> (Kind<'a>, usize)
     ensures sign { sign_of result.0 ≡ Some (word_sign before.now rest.now) }
@@ -318,7 +320,7 @@ fn word_at<'a>(before: &[u8], rest: &'a [u8]) -> (Kind<'a>, usize)
     (kind, size)
 }
 
-/// A name, from what follows its first quote, and how many bytes it has with its quotes.
+/// The token of a name, given the text after its first quote, and the token's length in bytes, including the quotes.
 #[inline(always)]
 fn name_at<'a>(behind: &'a [u8]) -> (Kind<'a>, usize)
     requires { length behind.now + 1 < 2 ^ 64 }
@@ -335,7 +337,7 @@ fn name_at<'a>(behind: &'a [u8]) -> (Kind<'a>, usize)
     }
 }
 
-/// A byte that is a token by itself, or is never allowed.
+/// The token of a byte that is a token by itself or is never allowed.
 fn mark<'a>(byte: u8) -> Kind<'a>
     ensures sign { sign_of result ≡ Some (mark_sign byte) }
     ensures plain { IsPlain result }
@@ -347,7 +349,7 @@ fn mark<'a>(byte: u8) -> Kind<'a>
     }
 }
 
-/// Whether the first byte of the text is of the class.
+/// Whether the first byte of the text is in the class.
 fn begins_with(text: &[u8], class: Class) -> bool
     ensures { result ≡ begins_in (in_class class) text.now }
 {
@@ -357,7 +359,7 @@ fn begins_with(text: &[u8], class: Class) -> bool
     }
 }
 
-/// Whether the last byte of the text is of the class.
+/// Whether the last byte of the text is in the class.
 fn ends_in_class(text: &[u8], class: Class) -> bool
     ensures { result ≡ ends_in (in_class class) text.now }
 {

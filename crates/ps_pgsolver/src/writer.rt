@@ -13,7 +13,7 @@ use ps_game::{Arena, NamedGame};
 use ps_text::numbers::write_number;
 use std::alloc::{AllocError, Global};
 
-/// Writes a game: a line with the greatest id, and a line for each vertex. Fails if out of memory.
+/// Writes a game: a line with the greatest id, and then a line for each vertex. Fails if out of memory.
 pub fn write(alloc: Global, game: &NamedGame) -> Result<Vec<u8>, AllocError>
     requires { 0 < vertex_count game.now.game }
     ensures bytes { IfOk result (λ bytes. bytes.items ≡ game_text game.now) }
@@ -36,7 +36,7 @@ fn greatest_id(game: &NamedGame) -> u64
     most
 }
 
-/// Writes the line before those of the vertices.
+/// Writes the line that precedes those of the vertices.
 fn write_head(out: &mut Vec<u8>, id: u64) -> Result<(), AllocError>
     ensures bytes { OnOk result (out.new.items ≡ out.old.items ++ head_text id) }
     ensures word { IsWord id }

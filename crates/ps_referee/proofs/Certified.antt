@@ -1,5 +1,5 @@
--- Two regions that are held and part the game, with the least counts of both, make a valid certificate with the least
--- counts.
+-- Two regions that the players hold, and that partition the vertices of the game, make a valid certificate. If the
+-- counts of both regions are the least, the certificate has the least counts.
 use Rattle.std.proofs.Common.{◌≡◌, ◌≢◌, ◌⊎◌, inl, inr, ℕ, ◌<◌, ◌≤◌, List, [], ◌∷◌, length, get_or}
 use Rattle.std.proofs.Common.{Option, Some, None, IfSome, IsSomeAnd, Bool, true, false, IsTrue, refl, sym, subst}
 use Rattle.std.proofs.Common.{◌∙◌, rules, arith, ap, not}
@@ -18,8 +18,8 @@ use Rattle.ps_referee.specs.Inner.Building.{row_in, winner_row, claims}
 use Rattle.ps_referee.proofs.Claims.{winner_is, choice_is}
 use Rattle.ps_referee.proofs.Parts.{two_path, two_follows}
 
--- what a certificate says of a vertex that a player wins: it is in the player's set, and has the table's move and its
--- row
+-- what a certificate states about a vertex that a player wins: the vertex is in the player's set, and has the move of
+-- the player's table and the row of the player's counts
 record IsSide (game : ParityGame) (player : ℕ) (set : ℕ → Bool) (table : ℕ → Option ℕ) (priorities : List ℕ)
     (rows : List (List ℕ)) (c : CertificateData) (v : ℕ) : Type 0 where
   inside : IsTrue (set v)
@@ -45,7 +45,7 @@ some_within v is_game (Some w) is = is_game.within v w is
 module _ {game : ParityGame} (is_game : IsGame game) {player : ℕ} {set : ℕ → Bool} {table : ℕ → Option ℕ}
     {priorities : List ℕ} {rows : List (List ℕ)} {c : CertificateData} (holds : Holds game player set table)
     (ranks : AreRanks game player set table priorities rows) where
-  -- the edges of the certificate are those of the table
+  -- the remaining edges of the certificate are those of the table
   remains_for : {v w : ℕ} → IsSide game player set table priorities rows c v → Remains game c v w →
       RemainsFor game player table v w
   remains_for s r = search rules
@@ -68,7 +68,8 @@ module _ {game : ParityGame} (is_game : IsGame game) {player : ℕ} {set : ℕ �
       let keep = (ranks.columns k within).keep v w (grind (arith, remains_for)) in
       grind arith
 
-  -- the counts of a valid certificate that differs in counts alone keep the rule on the edges of the table
+  -- in a valid certificate with the same winners and moves, the counts keep the rule on the remaining edges of the
+  -- table
   others_keep : (d : CertificateData) → IsValid game d → DiffersInCounts game c d → opposing d player ≡ priorities →
       ((u : ℕ) → u < vertex_count game → IsTrue (set u) → IsSide game player set table priorities rows c u) → (k : ℕ) →
       k < length priorities →
@@ -90,11 +91,11 @@ module _ {game : ParityGame} (is_game : IsGame game) {player : ℕ} {set : ℕ �
       let at : opposing_at c v k ≡ get_or priorities k 0 = grind arith in
       s.count k ∙ (ranks.columns k (rw s.long at inside)).above v (subst (λ p. p < priority_of game v) at below)
 
--- the certificate that is made
+-- the certificate made from two lists of priorities and a list of entries
 abbrev pub made_of : List ℕ → List ℕ → List EntryData → CertificateData
 made_of odd even entries = record { odd = odd; even = even; entries = entries }
 
--- the two sides, and all that is known of them
+-- everything that is known about both players' parts of the game
 record AreBoth (game : ParityGame) (region lost : ℕ → Bool) (first second : ℕ → Option ℕ) (odd even : List ℕ)
     (odd_rows even_rows : List (List ℕ)) (entries : List EntryData) : Type 0 where
   is_game : IsGame game

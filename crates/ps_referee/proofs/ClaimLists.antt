@@ -1,4 +1,4 @@
--- Claims of one vertex behind another.
+-- The claims about the vertices, appended one after another.
 use Rattle.std.proofs.Common.{◌≡◌, ◌∙◌, ℕ, ◌+◌, List, [], ◌∷◌, ◌++◌, Option, Bool, refl, sym, ap, arith}
 use Rattle.std.proofs.lemmas.List.FromFn.{map-range_with_len_more}
 use Rattle.ps_game.specs.Games.{ParityGame, vertex_count}

@@ -1,4 +1,4 @@
--- A player who keeps to a set, where least counts are there, holds it.
+-- A player who keeps to a set holds it, if the set has least counts.
 use Rattle.std.proofs.Common.{◌≡◌, ℕ, ◌+◌, ◌%◌, ◌<◌, ◌≤◌, ◌∙◌, List, length, get_or, inl, inr, sym, ap, arith, rules}
 use Rattle.std.proofs.Common.{Option, Bool}
 use Rattle.std.specs.Prelude.{IsTrue}
@@ -14,7 +14,7 @@ use Rattle.ps_certificate.proofs.Holding.{falls_in_the_end}
 module _ {game : ParityGame} {player : ℕ} {set : ℕ → Bool} {table : ℕ → Option ℕ} {priorities : List ℕ}
     {rows : List (List ℕ)} (is_player : player < 2) (keeps : KeepsTo game player set table)
     (ranks : AreRanks game player set table priorities rows) where
-  -- a path by the table, with a loop
+  -- a path that follows the table, with a loop
   module _ {path : List ℕ} {i j : ℕ} (is_path : IsPath game path) (begins : IsTrue (set (get_or path 0 0)))
       (follows : Follows game player table path) (loop : IsLoop path i j) where
     step : (k : ℕ) → k < j → RemainsWithin game player set table (get_or path k 0) (get_or path (k + 1) 0)
@@ -27,14 +27,14 @@ module _ {game : ParityGame} {player : ℕ} {set : ℕ → Bool} {table : ℕ �
       };
     }
 
-    -- no vertex of the loop has a greater priority, its end included
+    -- no vertex of the loop, including its end, has a greater priority
     bounded : (k : ℕ) → i ≤ k → k ≤ j → priority_of game (get_or path k 0) ≤ loop_priority game path i j
     bounded k after before = elim (cases_eq k j) [
       | inl last ↦ search (rules, le-loop_priority)
       | inr earlier ↦ le-loop_priority game path i j k after (omega arith) (omega (arith, loop.within))
     ]
 
-    -- the loop's priority is none by which the player loses
+    -- the loop's priority is not one by which the player loses
     not_listed : (place : ℕ) → place < length priorities → get_or priorities place 0 ≡ loop_priority game path i j → ⊥
     not_listed place within is =
         let (m, after, below, has) =

@@ -1,4 +1,4 @@
--- A solution has one certificate, and its cycles are lost by one player.
+-- A solution has at most one certificate, and all its lost cycles are lost by the same player.
 use Rattle.std.proofs.Common.{◌≡◌, ◌∙◌, ℕ, zero, suc, ◌<◌, List, length, Option, Bool, refl}
 use Rattle.std.proofs.Common.{sym, ap, arith}
 use Rattle.std.specs.Prelude.{slice_index_or}

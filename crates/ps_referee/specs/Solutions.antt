@@ -1,10 +1,12 @@
--- Solutions of a game: the vertices that player 0 wins, player 1 all others, and a table of moves for each player.
+-- Solutions of a game: the vertices that player 0 wins, and a table of moves for each player. Player 1 wins all other
+-- vertices.
 --     won_by won player      the vertices that a player wins
 --     moves_by first second player      a player's table
---     claimed game won first second      what is claimed, as a certificate without priorities and counts
+--     claimed game won first second      the claim, as a certificate without priorities and counts
 --     IsSolution game won first second      each player holds the vertices that it wins by its table
---     IsCycleOf game won first second player cycle      nothing leaves its winner, but the player loses a cycle
---     IsRefusal game won first second fault      the fault says what is wrong
+--     IsCycleOf game won first second player cycle      all remaining edges stay with the winner, but the player loses
+--               a cycle
+--     IsRefusal game won first second fault      the fault is what is wrong with the solution
 --     IsCertificateOf game won first second c      the certificate of a solution that holds
 use Rattle.std.specs.Prelude.{◌≡◌, ℕ, ◌<◌, ◌==◌, if◌then◌else◌, List, [], map, Option, None, Bool, not}
 use Rattle.std.specs.List.{range_with_len}
@@ -27,12 +29,12 @@ moves_by first second player v = if player == 0 then move_at first v else move_a
 abbrev pub winner_by : List Bool → ℕ → ℕ
 winner_by won v = if has won v then 0 else 1
 
--- the winner's move at a vertex that the winner owns; a move of the other player's table counts as no move
+-- the winner's move at a vertex that the winner owns; the table of the other player is ignored
 abbrev pub choice_by : ParityGame → List Bool → List (Option ℕ) → List (Option ℕ) → ℕ → Option ℕ
 choice_by game won first second v =
     if owner_of game v == winner_by won v then moves_by first second (winner_by won v) v else None
 
--- what is claimed of a vertex, with these counts
+-- the claim about a vertex, with the given counts
 abbrev pub claim_with : ParityGame → List Bool → List (Option ℕ) → List (Option ℕ) → ℕ → List ℕ → EntryData
 claim_with game won first second v counts =
     record { winner = winner_by won v; choice = choice_by game won first second v; counts = counts }
@@ -48,8 +50,8 @@ pub record IsSolution (game : ParityGame) (won : List Bool) (first second : List
   pub first_holds : Holds game 0 (has won) (move_at first)
   pub second_holds : Holds game 1 (λ v. not (has won v)) (move_at second)
 
--- moves are right and no edge that remains leaves its winner, but the player loses a cycle of such edges; one of player
--- 1's is told only where player 0 holds what it wins
+-- Moves are right and every remaining edge stays with its winner, but the player loses a cycle of such edges. If that
+-- player is player 1, player 0 holds the vertices that it is claimed to win.
 pub record IsCycleOf (game : ParityGame) (won : List Bool) (first second : List (Option ℕ)) (player : ℕ)
     (cycle : List ℕ) : Type 0 where
   pub closed : IsClosed game (claimed game won first second)
@@ -57,7 +59,7 @@ pub record IsCycleOf (game : ParityGame) (won : List Bool) (first second : List 
   pub lost : IsLostCycle game player (won_by won player) (moves_by first second player) cycle
   pub first_holds : player ≡ 1 → Holds game 0 (has won) (move_at first)
 
--- the flaw is the first one of what is claimed; that memory ran out says nothing
+-- what a fault guarantees: the flaw is the first of the claim, or the cycle is lost; out of memory guarantees nothing
 abbrev pub IsRefusal : ParityGame → List Bool → List (Option ℕ) → List (Option ℕ) → JudgeFault → Type 0
 IsRefusal game won first second (Unclosed flaw) = IsFirstFlaw game (claimed game won first second) flaw
 IsRefusal game won first second (BadCycle player cycle) = IsCycleOf game won first second player cycle.items
@@ -71,7 +73,7 @@ pub record IsCertificateOf (game : ParityGame) (won : List Bool) (first second :
   pub valid : IsValid game certificate
   pub least : HasLeastCounts game certificate
 
--- memory ran out
+-- the fault is out of memory
 abbrev pub IsOutOfMemory : JudgeFault → Type 0
 IsOutOfMemory (Unclosed flaw) = ⊥
 IsOutOfMemory (BadCycle player cycle) = ⊥

@@ -1,4 +1,4 @@
-//! Certificates of what is claimed: without counts, and with the counts of both players.
+//! Certificates of a claimed solution: without counts, and with the counts of both players.
 
 ghost use Rattle.std.specs.Prelude.{◌≡◌, ◌<◌, length, [], Some, IfOk, OnOk, ◌++◌, ◌∷◌};
 ghost use Rattle.ps_game.specs.Games.{vertex_count};
@@ -34,7 +34,7 @@ pub(crate) fn claim_of<A: Arena>(
     })
 }
 
-/// The claim about each vertex, with the row of its winner.
+/// The claim about each vertex, with the counts that the winner has for that vertex.
 pub(crate) fn entries_of<A: Arena>(
     alloc: Global,
     arena: &A,
@@ -61,7 +61,8 @@ pub(crate) fn entries_of<A: Arena>(
     Ok(entries)
 }
 
-/// Replaces the contents of a list by the counts of a vertex: the first row if player 0 wins it, else the second.
+/// Replaces the contents of a list by the counts of a vertex: those of the first table if player 0 wins it, and
+/// otherwise those of the second table.
 fn winner_row(
     vertex: usize,
     won: &Region,
@@ -81,7 +82,7 @@ fn winner_row(
     }
 }
 
-/// The claim about a vertex, with these counts.
+/// The claim about a vertex, with the given counts.
 fn claim_at<'a, A: Arena>(
     arena: &A,
     vertex: usize,

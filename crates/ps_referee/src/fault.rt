@@ -1,4 +1,4 @@
-//! Why a solution is refused.
+//! Why a solution is rejected.
 
 ghost use Rattle.std.specs.Prelude.{◌≡◌};
 ghost use Rattle.ps_referee.specs.declared.fault.JudgeFault.TheVariants.{OutOfMemory};
@@ -8,21 +8,22 @@ use ps_game::GameFault;
 use std::alloc::AllocError;
 use thiserror::Error;
 
-/// Why a solution is refused. Vertices are given by place, from 0.
+/// Why a solution is rejected. Vertices are given by their indices, from 0.
 #[derive(Debug, Drop, Error)]
 pub enum JudgeFault {
-    /// A move is wrong, or an edge that remains leaves the vertices that its winner wins.
+    /// A move is wrong, or a remaining edge leads to a vertex that the other player wins.
     #[error("{}", .0.name())]
     Unclosed(Flaw),
-    /// A player loses a cycle of edges that remain among the vertices that it wins.
+    /// A player loses a cycle of remaining edges among the vertices that it is claimed to win.
     #[error("player {player} loses a cycle of {} vertices", .cycle.len())]
     BadCycle {
         /// The player, 0 or 1.
         player: u8,
-        /// Its vertices, each leading to the next, and the last to the first.
+        /// The vertices of the cycle. An edge leads from each vertex of the cycle to the next, and from the last to the
+        /// first.
         cycle: Vec<usize>,
     },
-    /// Memory ran out.
+    /// Out of memory.
     #[error("out of memory")]
     OutOfMemory,
 }

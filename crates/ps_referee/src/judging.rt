@@ -1,4 +1,4 @@
-//! The call that judges a solution, and the one for a solution that is known to hold.
+//! The call that judges a solution, and the call for a solution that is known to hold.
 
 ghost use Rattle.std.specs.Prelude.{◌≡◌, ℕ, ◌<◌, length, not, IfOk, IfErr, OnOk};
 ghost use Rattle.ps_game.specs.Games.{vertex_count};
@@ -16,14 +16,16 @@ use ps_game::{Arena, Counts, Region, Strategy};
 use ps_measure::{MeasureFault, Ranks, ranks};
 use std::alloc::{AllocError, Global};
 
-/// The certificate of a game by a solution: the vertices that player 0 wins, player 1 all others, and a table of moves
-/// for each player. Its winners and moves are the solution's, and its counts are the least ones. Only moves of the
-/// winner at vertices that the winner owns are checked.
+/// Judges a solution, and returns the certificate that the solution gives. The solution consists of the vertices that
+/// player 0 wins, and of a table of moves for each player; player 1 wins all other vertices. The certificate has the
+/// winners and moves of the solution, and the least counts. The only moves that are checked are those of a winner at
+/// vertices that the winner owns.
 ///
 /// # Errors
 ///
-/// A solution that does not hold is refused: [`JudgeFault::Unclosed`] with the first flaw of its moves and edges, as
-/// [`ps_certificate::closed`] finds it. If there is none, [`JudgeFault::BadCycle`]. Otherwise out of memory.
+/// A solution that does not hold is rejected. The error is [`JudgeFault::Unclosed`] with the first flaw of the
+/// solution's moves and edges, as [`ps_certificate::closed`] reports it; or [`JudgeFault::BadCycle`] if there is no
+/// such flaw. The only other error is out of memory.
 pub fn judge<A: Arena>(
     alloc: Global,
     arena: &A,
@@ -35,7 +37,7 @@ pub fn judge<A: Arena>(
     requires first { length first.now ≡ vertex_count (A.game arena.now) }
     requires second { length second.now ≡ vertex_count (A.game arena.now) }
 
-    // Ok exactly if each player holds what it wins, unless memory runs out.
+    // Ok exactly if each player holds the vertices that it wins, unless out of memory.
     ensures solution { OnOk result (IsSolution (A.game arena.now) won.now first.now second.now) }
     ensures judged { IsSolution (A.game arena.now) won.now first.now second.now → IfErr result IsOutOfMemory }
 
@@ -53,8 +55,8 @@ pub fn judge<A: Arena>(
     counting(alloc, arena, won, first, second)
 }
 
-/// The certificate of a game by a solution that is known to hold, and is not judged. Its winners and moves are the
-/// solution's, and its counts are the least ones. Fails only if out of memory.
+/// The certificate that a solution gives. The solution is known to hold, and is not judged. The certificate has the
+/// solution's winners and moves, and the least counts. Fails only if out of memory.
 pub fn certificate_of_solution<A: Arena>(
     alloc: Global,
     arena: &A,
@@ -88,7 +90,7 @@ pub fn certificate_of_solution<A: Arena>(
     }
 }
 
-/// Whether the moves of a solution are right, and each edge that remains stays with its winner.
+/// Checks that the moves of a solution are right, and that each remaining edge stays with its winner.
 fn closing<A: Arena>(
     alloc: Global,
     arena: &A,
@@ -110,7 +112,7 @@ fn closing<A: Arena>(
     }
 }
 
-/// The certificate of a solution each remaining edge of which stays with its winner, or a cycle that a player loses.
+/// The certificate of a solution whose remaining edges stay with their winners, or a cycle that a player loses.
 fn counting<A: Arena>(
     alloc: Global,
     arena: &A,
@@ -153,7 +155,7 @@ fn others(alloc: Global, region: &Region) -> Result<Region, AllocError>
     Ok(others)
 }
 
-/// The least counts of what a player wins, or a cycle that it loses there.
+/// The least counts for the vertices that a player wins, or a cycle among them that the player loses.
 fn counts_of<A: Arena>(
     alloc: Global,
     arena: &A,

@@ -1,4 +1,4 @@
-//! The answer to a solution is determined, except for which cycle is told.
+//! Laws: the verdict on a solution is unique, except for the cycle that it reports.
 
 ghost use Rattle.std.specs.Prelude.{◌≡◌, ℕ, List, Option, Bool};
 ghost use Rattle.ps_game.specs.Games.{ParityGame, IsGame};
@@ -12,8 +12,8 @@ pub fn one_certificate()
         IsCertificateOf game won first second one → IsCertificateOf game won first second other → one ≡ other }
 {}
 
-/// A solution has a flaw, a cycle that one player loses, or neither; in the last case it holds. It has at most one
-/// first flaw (`ps_certificate::first_flaw_is_one`).
+/// A solution never has both a flaw and a lost cycle, and all its lost cycles are lost by the same player. A solution
+/// that holds has neither a flaw nor a lost cycle. The first flaw is unique (`ps_certificate::first_flaw_is_one`).
 pub fn one_verdict()
     ensures apart { (game : ParityGame) (won : List Bool) (first second : List (Option ℕ)) (flaw : Flaw) (player : ℕ)
         (cycle : List ℕ) → IsFirstFlaw game (claimed game won first second) flaw →

@@ -1,21 +1,22 @@
-//! Whether a solution of a game holds, whoever found it.
+//! Whether a solution of a game holds, no matter where the solution comes from.
 //!
-//! A solution says which vertices player 0 wins, player 1 all others, and by which moves. [`judge`] returns the game's
-//! certificate by it, with the least counts, or why there is none: the first wrong move, or the first edge that leaves
-//! its winner, or else a cycle that a player loses among the vertices that it is claimed to win.
+//! A solution states which vertices player 0 wins, and by which moves the players win; player 1 wins all other
+//! vertices. [`judge`] returns the certificate that the solution gives, with the least counts. If the solution does not
+//! hold, [`judge`] returns the reason. The reason is the first flaw, which is a wrong move or a remaining edge to a
+//! vertex with the other winner. If there is no flaw, the reason is a cycle that its claimed winner loses.
 //!
 //! | Call | What it gives |
 //! |---|---|
-//! | `judge(arena, won, first, second)` | the certificate exactly if the solution holds, else a `JudgeFault` |
-//! | `certificate_of_solution(arena, won, first, second)` | the certificate by a solution that is known to hold |
-//! | `JudgeFault::number`, `name` | a fault in psyn's list of faults |
+//! | `judge(arena, won, first, second)` | the certificate exactly if the solution holds; else a `JudgeFault` |
+//! | `certificate_of_solution(arena, won, first, second)` | the certificate, if the solution is known to hold |
+//! | `JudgeFault::number`, `name` | the number and name of a fault in psyn's list of faults |
 //! | `one_certificate` | a law: a solution has at most one certificate |
-//! | `one_verdict` | a law: never both a flaw and a lost cycle; neither if it holds |
+//! | `one_verdict` | a law: a solution never has both a flaw and a lost cycle; if it holds, it has neither |
 //!
-//! Moves may be any numbers, and only those of the winner at vertices that the winner owns are checked. A lost cycle of
-//! player 1's is told only if player 0 holds its own vertices.
+//! Moves may be any numbers. The only moves that are checked are those of a winner at vertices that the winner owns. A
+//! cycle that player 1 loses is reported only if player 0 holds the vertices that it is claimed to win.
 //!
-//! Both calls take the time of `ps_measure::ranks` for both players, and ask no solver.
+//! Both calls take the time of `ps_measure::ranks` for both players, and call no solver.
 #![tactic(auto)]
 
 mod building;

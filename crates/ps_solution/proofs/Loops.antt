@@ -1,5 +1,5 @@
--- The parts of the grammar, as the code reads them: one after another, those that may be missing, and the loop over
--- entries.
+-- The parts of the grammar as the code reads them: parts that follow one another, parts that may be missing, and the
+-- loop over the entries.
 use Rattle.std.proofs.Common.{◌≡◌, ℕ, ◌<◌, true, false, List, length, Option, None, Some, Ok, Err, Result, IsErrAnd}
 use Rattle.std.proofs.Common.{refl, sym, ap, subst, inl, ◌∙◌, rules}
 use Rattle.ps_text.specs.Answers.{Stream, Found, next_of}

@@ -1,4 +1,4 @@
--- The laws of the grammar's parts, and how they are joined.
+-- The laws of the parts of the grammar, and how parts are joined.
 use Rattle.std.proofs.Common.{◌≡◌, ℕ, List, length, Option, None, Some, refl, ap, arith, rules}
 use Rattle.std.specs.Prelude.{codes}
 use Rattle.ps_text.specs.Parts.{Part, one, give, then_by, either, many, mapped, NoBad}
@@ -27,7 +27,7 @@ Odd = Own solution_causes
 no_odd : (A : Sign → Type 0) → Apart A Odd
 no_odd A t h o = none_is_some o.0 o.1
 
--- one sign, if each that is allowed there, or is bad, is one of these
+-- a part of one sign is lawful if `First` contains each sign that the part accepts or rejects as an error
 laws_sign : {V : Type 0} (take : Sign → Option V) (Bad : Sign → CertCause → Type 0) (t : Sign) (v : V) (First : Sign →
     Type 0) → take t ≡ Some v → Within (Or (Taken take) (BadSign Bad)) First → Laws Odd (one take Bad) First Nothing ⊥
 laws_sign take Bad t v First e first = weaker (search (rules, laws_one, no_odd)) first (same Nothing) (λ h. h)
@@ -69,7 +69,7 @@ unfolding keyword
 laws_keyword = laws_sign (keyword_in paritysol) NoBad (Word paritysol) tt IsWord (takes_word paritysol)
     (search (rules, same_word, none_is_some))
 
--- ## An entry, from the back
+-- ## The parts of an entry, from the last to the first
 
 abbrev pub move_of : ℕ → Option ℕ
 move_of v = Some v

@@ -36,7 +36,7 @@ Has part = HasOutcomes solution_causes part
 no_bad : (t : Sign) → Judged cause_number (NoBad {T = Sign} t)
 no_bad t = good (λ f b. b)
 
--- a number is too large, or has one cause, if a fact holds
+-- the errors of a number are decidable if those of its value are
 module _ (Wrong : ℕ → CertCause → Type 0) (judge : (n : ℕ) → Judged cause_number (Wrong n)) where
   judge_value : (t : Sign) → Judged cause_number (BadValue Wrong t)
   judge_value (Number n) = judge_one cause_number (judge_cause cause_number Syntax (decide_below too_large n))
@@ -108,7 +108,7 @@ module _ (ids : List ℕ) where
       (answer : Result SolvedData (Found CertCause)) × PartAnswers solution_causes (solution ids) stream answer
   some_solved = some_answer (laws_solution ids) has_solution
 
--- each vertex was named, or not
+-- whether each vertex has an entry is decidable
 decide_whole : (s : SolvedData) → Decided (IsWhole s)
 decide_whole s = up_to (length s.named)
   where

@@ -1,3 +1,3 @@
--- What private functions promise each other; no public clause cites these.
+-- Definitions that only private contracts use; no public clause refers to them.
 
 pub mod Answered

@@ -1,4 +1,4 @@
--- The answer of reading a solution: what the text says of each vertex, or its first cause and its place.
+-- The answer to the text of a solution: its entries for the vertices, or its first error and the error's offset.
 use Rattle.std.specs.Prelude.{◌≡◌, ℕ, List, length, Result, Ok, Err}
 use Rattle.ps_text.specs.Answers.{Stream, Found}
 use Rattle.ps_text.specs.Parts.{PartAnswers}
@@ -11,20 +11,20 @@ use Rattle.ps_pgsolver.specs.Signs.{Sign}
 use Rattle.ps_solution.specs.Solved.{SolvedData, SolutionData, IsWhole, solution_of}
 use Rattle.ps_solution.specs.Texts.{solution_causes, solution}
 
--- the answer to a text, for a game whose vertices have these ids
+-- the answer to a text, for a game whose vertices have the given ids
 pub data ReadsSolution (ids text : List ℕ) (answer : Result SolutionData (Found CertCause)) : Type 0 where
-  -- the first cause in text order
+  -- the first error in the order of the text
   refused : (stream : Stream Sign) (found : Found CertCause) → AreGameTokens text stream →
       PartAnswers solution_causes (solution ids) stream (Err found) → answer ≡ Err found → ReadsSolution ids text answer
-  -- after the end, if there is none: some vertex was not named
+  -- if the text has no other error: some vertex has no entry
   incomplete : (stream : Stream Sign) (solved : SolvedData) → AreGameTokens text stream →
       PartAnswers solution_causes (solution ids) stream (Ok solved) → ¬ IsWhole solved →
       answer ≡ Err (record { cause = OtherGame; offset = length text }) → ReadsSolution ids text answer
-  -- the text has no cause
+  -- the text has no error
   meaning : (stream : Stream Sign) (solved : SolvedData) → AreGameTokens text stream →
       PartAnswers solution_causes (solution ids) stream (Ok solved) → IsWhole solved →
       answer ≡ Ok (solution_of solved) → ReadsSolution ids text answer
 
--- what a call returns is that, unless memory ran out
+-- what a call returns: the answer to the text, or out of memory
 abbrev pub IsSolutionAnswer : List ℕ → List ℕ → Result SolutionData CertFault → Type 0
 IsSolutionAnswer ids text result = UnlessMemory (ReadsSolution ids text) result

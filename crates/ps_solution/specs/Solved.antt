@@ -1,10 +1,10 @@
--- What a text says of the vertices of a game, which are numbered from 0.
+-- The entries of a text for the vertices of a game, which are numbered from 0.
 use Rattle.std.specs.Prelude.{◌≡◌, ℕ, ◌<◌, ◌==◌, if◌then◌else◌, List, length, Option, None, Some, Bool, true, false}
 use Rattle.std.specs.Prelude.{IfSome, replicate, slice_set}
 use Rattle.std.specs.List.{All}
 use Rattle.ps_game.specs.Regions.{has}
 
--- which vertices were named so far, which of them player 0 wins, and the moves that were given
+-- the vertices that have an entry so far, those of them that player 0 wins, and the given moves
 pub record SolvedData : Type 0 where
   pub named : List Bool
   pub won : List Bool
@@ -14,13 +14,13 @@ pub record SolvedData : Type 0 where
 abbrev pub AreMoves : ℕ → List (Option ℕ) → Type 0
 AreMoves count moves = All (λ choice. IfSome choice (λ v. v < count)) moves
 
--- there is a place for each vertex, and moves are vertices
+-- the three lists have one item for each vertex, and moves are vertices
 pub record AreTables (s : SolvedData) : Type 0 where
   pub won_each : length s.won ≡ length s.named
   pub move_each : length s.moves ≡ length s.named
   pub moves : AreMoves (length s.named) s.moves
 
--- nothing is said of the given number of vertices
+-- no entries, for a given number of vertices
 abbrev pub none_solved : ℕ → SolvedData
 none_solved n = record { named = replicate n false; won = replicate n false; moves = replicate n None }
 
@@ -31,7 +31,7 @@ abbrev pub with_move : List (Option ℕ) → ℕ → Option ℕ → List (Option
 with_move moves v None = moves
 with_move moves v (Some w) = slice_set moves v (Some w)
 
--- with one more entry: who wins a vertex, by which move
+-- the entries with one more: who wins a vertex, and by which move
 abbrev pub with_entry : SolvedData → ℕ → ℕ → Option ℕ → SolvedData
 with_entry s v winner choice = record {
   named = slice_set s.named v true;
@@ -39,11 +39,11 @@ with_entry s v winner choice = record {
   moves = with_move s.moves v choice;
 }
 
--- each vertex was named
+-- each vertex has an entry
 abbrev pub IsWhole : SolvedData → Type 0
 IsWhole s = (v : ℕ) → v < length s.named → has s.named v ≡ true
 
--- the vertices that player 0 wins, player 1 all others, and a move or none for each vertex
+-- the vertices that player 0 wins, and a move or none for each vertex; player 1 wins all other vertices
 pub record SolutionData : Type 0 where
   pub won : List Bool
   pub moves : List (Option ℕ)

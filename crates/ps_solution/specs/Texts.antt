@@ -1,8 +1,9 @@
--- PGSolver's solutions of a game: their grammar, and what may be wrong inside it.
+-- PGSolver's solutions of a game: their grammar, and its possible errors.
 --     solution ::= ("paritysol" N ";")? entry+
 --     entry ::= N W N? ";"
--- The fields of an entry are the id of a vertex, its winner, a number of value 0 or 1, and a move, the id of a vertex.
--- ids are those of the game's vertices, in order; the value is what the text says of these.
+-- The fields of an entry are the id of a vertex, its winner W, which is the number 0 or 1, and a move, which is the id
+-- of a vertex. `ids` are the ids of the game's vertices, in order. The value of a text is its entries for these
+-- vertices.
 use Rattle.std.specs.Prelude.{◌≡◌, ℕ, ◌<◌, ◌≤◌, ◌⊎◌, List, length, Option, None, Some, codes, true}
 use Rattle.std.specs.List.{Contains}
 use Rattle.ps_text.specs.Parts.{Part, Causes, give, one, then_by, either, many, mapped, NoBad}
@@ -15,22 +16,22 @@ use Rattle.ps_pgsolver.specs.Signs.{Sign, Number}
 use Rattle.ps_pgsolver.specs.GameTexts.{too_large, semicolon_in, keyword_in}
 use Rattle.ps_solution.specs.Solved.{SolvedData, none_solved, with_entry}
 
--- no sign is a cause by itself; what the grammar does not allow is a fault of syntax
+-- no sign is an error by itself; what the grammar does not allow is a syntax error
 abbrev pub solution_causes : Causes Sign CertCause
 solution_causes = record { number = cause_number; own = λ _. None; syntax = Syntax }
 
--- a part of the grammar that is read from a text's tokens
+-- a part of the grammar, over the tokens of a text
 abbrev pub Field : Type 0 → Type 1
 Field V = Part Sign V CertCause
 
 -- ## Single signs
 
--- a number, by the value that is made of it
+-- a number, with a value computed from it
 abbrev pub value_in : {V : Type 0} → (ℕ → V) → Sign → Option V
 value_in value (Number n) = Some (value n)
 value_in value _ = None
 
--- a number is too large, or something is wrong with its value
+-- the errors of a number: it is too large, or `Wrong` rejects it
 abbrev pub BadValue : (ℕ → CertCause → Type 0) → Sign → CertCause → Type 0
 BadValue Wrong (Number n) cause = ((too_large ≤ n) × (cause ≡ Syntax)) ⊎ ((n < too_large) × Wrong n cause)
 BadValue Wrong _ cause = ⊥
@@ -41,21 +42,21 @@ AnyValue n cause = ⊥
 unfoldable pub number : Field ℕ
 number = one (value_in (λ n. n)) (BadValue AnyValue)
 
--- an id that is not in the game, or that an earlier entry has
+-- the errors of an entry's vertex: the id is not in the game, or an earlier entry has it
 abbrev pub IsOther : List ℕ → SolvedData → ℕ → CertCause → Type 0
 IsOther ids s n cause = ((¬ Contains ids n) ⊎ (has s.named (place_of ids n) ≡ true)) × (cause ≡ OtherGame)
 
 unfoldable pub vertex : List ℕ → SolvedData → Field ℕ
 vertex ids s = one (value_in (place_of ids)) (BadValue (IsOther ids s))
 
--- a winner is 0 or 1
+-- the error of a winner: it is neither 0 nor 1
 abbrev pub IsNoPlayer : ℕ → CertCause → Type 0
 IsNoPlayer n cause = (2 ≤ n) × (cause ≡ Syntax)
 
 unfoldable pub winner : Field ℕ
 winner = one (value_in (λ n. n)) (BadValue IsNoPlayer)
 
--- a move that is not an id
+-- the error of a move: it is not an id of the game
 abbrev pub IsUnknown : List ℕ → ℕ → CertCause → Type 0
 IsUnknown ids n cause = (¬ Contains ids n) × (cause ≡ OtherGame)
 
@@ -74,7 +75,7 @@ keyword word = one (keyword_in word) NoBad
 unfoldable pub choice : List ℕ → Field (Option ℕ)
 choice ids = either (mapped (λ v. Some v) (successor ids)) (give None)
 
--- an entry, after what was said before it
+-- an entry, after the entries that were read before
 unfoldable pub entry : List ℕ → SolvedData → Field SolvedData
 entry ids s =
     then_by (vertex ids s) (λ v.
@@ -85,7 +86,7 @@ entry ids s =
 unfoldable pub entries : List ℕ → Field SolvedData
 entries ids = then_by (entry ids (none_solved (length ids))) (λ s. many (entry ids) s)
 
--- a number, which has no meaning, and a semicolon
+-- a number that has no meaning, and a semicolon
 unfoldable pub value_line : Field (Unit {0})
 value_line = then_by number (λ _. semicolon)
 

@@ -1,4 +1,4 @@
-//! Reading a solution.
+//! Parsing a solution.
 
 ghost use Rattle.std.specs.Prelude.{◌≡◌, ◌<◌, length, IfOk, IfSome, codes};
 ghost use Rattle.ps_text.specs.Answers.{next_of, offset_of};
@@ -21,12 +21,13 @@ use ps_ids::Ids;
 use ps_pgsolver::{Kind, Token, Tokens};
 use std::alloc::Global;
 
-/// Reads a solution of a game. Winners are 0 or 1; vertices and moves are read as ids of the game and stored as places.
+/// Parses a solution of a game. Winners are 0 or 1. The text gives vertices and moves by their ids in the game, and the
+/// solution stores their indices.
 ///
 /// # Errors
 ///
-/// [`CertFault::Text`] with the first cause in the text's order, at the byte of its token. If there is none and a
-/// vertex was not named, `OtherGame` at the end. Otherwise out of memory.
+/// [`CertFault::Text`] with the first error of the text and the offset of its token. If the text has no error but a
+/// vertex has no entry, the error is `OtherGame` at the end of the text. The only other error is out of memory.
 pub fn read(alloc: Global, text: &[u8], game: &NamedGame) -> Result<Solution, CertFault>
     ensures answer { IsSolutionAnswer game.now.ids text.now result }
     ensures won { IfOk result (λ solution. length solution.won ≡ vertex_count game.now.game) }
@@ -45,14 +46,14 @@ pub fn read(alloc: Global, text: &[u8], game: &NamedGame) -> Result<Solution, Ce
     Ok(solved.into_solution())
 }
 
-/// The fault at an offset.
+/// The fault that reports an error at an offset.
 fn fault(cause: CertCause, offset: usize) -> CertFault
     ensures { result ≡ faults.Text cause offset }
 {
     CertFault::Text { cause, offset }
 }
 
-/// Reads a whole text.
+/// Parses a whole text.
 fn solution_text(alloc: Global, text: &[u8], ids: &Ids) -> Result<Solved, CertFault>
     ensures answer { TextAnswers ids.now (stream_of text.now) result }
     ensures places { IfOk result (λ solved. length solved.named ≡ length ids.now) }
@@ -64,7 +65,7 @@ fn solution_text(alloc: Global, text: &[u8], ids: &Ids) -> Result<Solved, CertFa
     Ok(solved)
 }
 
-/// Reads `paritysol 7;`, if it comes next.
+/// Parses a line such as `paritysol 7;`, if the text begins with one.
 fn heading(tokens: &mut Tokens) -> Result<(), CertFault>
     ensures { ReadsAs (λ u. u) parts.heading tokens.old result tokens.new }
 {
@@ -75,7 +76,7 @@ fn heading(tokens: &mut Tokens) -> Result<(), CertFault>
     Ok(())
 }
 
-/// Reads a number, which has no meaning, and a semicolon.
+/// Parses a number that has no meaning, and a semicolon.
 fn value_line(tokens: &mut Tokens) -> Result<(), CertFault>
     ensures { ReadsAs (λ u. u) parts.value_line tokens.old result tokens.new }
 {
@@ -83,7 +84,7 @@ fn value_line(tokens: &mut Tokens) -> Result<(), CertFault>
     semicolon(tokens)
 }
 
-/// Reads the entries.
+/// Parses the entries.
 fn entries(alloc: Global, tokens: &mut Tokens, ids: &Ids) -> Result<Solved, CertFault>
     ensures part { ReadsAs (λ solved. solved) (parts.entries ids.now) tokens.old result tokens.new }
     ensures places { IfOk result (λ solved. length solved.named ≡ length ids.now) }
@@ -96,7 +97,7 @@ fn entries(alloc: Global, tokens: &mut Tokens, ids: &Ids) -> Result<Solved, Cert
     Ok(solved)
 }
 
-/// Reads the next entry.
+/// Parses an entry, and adds it to those that were read before.
 fn entry(tokens: &mut Tokens, ids: &Ids, solved: &mut Solved) -> Result<(), CertFault>
     requires { length solved.old.named ≡ length ids.now }
     ensures part { ReadsAs (λ _. solved.new) (parts.entry ids.now solved.old) tokens.old result tokens.new }
@@ -110,7 +111,7 @@ fn entry(tokens: &mut Tokens, ids: &Ids, solved: &mut Solved) -> Result<(), Cert
     Ok(())
 }
 
-/// Reads the id of a vertex that was not named before.
+/// Parses the id of a vertex that has no entry yet. Returns the vertex's index.
 fn vertex(tokens: &mut Tokens, ids: &Ids, solved: &Solved) -> Result<usize, CertFault>
     requires { length solved.now.named ≡ length ids.now }
     ensures part { ReadsAs (λ v. v) (parts.vertex ids.now solved.now) tokens.old result tokens.new }
@@ -121,7 +122,7 @@ fn vertex(tokens: &mut Tokens, ids: &Ids, solved: &Solved) -> Result<usize, Cert
     unless_named(id, start, ids, solved)
 }
 
-/// Reads a winner.
+/// Parses a winner.
 fn winner(tokens: &mut Tokens) -> Result<u8, CertFault>
     ensures { ReadsAs (λ w. w) parts.winner tokens.old result tokens.new }
 {
@@ -130,7 +131,7 @@ fn winner(tokens: &mut Tokens) -> Result<u8, CertFault>
     one_of_two(winner, start)
 }
 
-/// Reads a move, if one comes next.
+/// Parses a move, if the text continues with one.
 fn choice(tokens: &mut Tokens, ids: &Ids) -> Result<Option<usize>, CertFault>
     ensures part { ReadsAs (λ c. c) (parts.choice ids.now) tokens.old result tokens.new }
     ensures within { IfOk result (λ c. IfSome c (λ v. v < length ids.now)) }
@@ -142,7 +143,7 @@ fn choice(tokens: &mut Tokens, ids: &Ids) -> Result<Option<usize>, CertFault>
     Ok(Some(successor))
 }
 
-/// Reads the id of a vertex to go to.
+/// Parses the id of a successor. Returns the vertex's index.
 fn successor(tokens: &mut Tokens, ids: &Ids) -> Result<usize, CertFault>
     ensures part { ReadsAs (λ v. v) (parts.successor ids.now) tokens.old result tokens.new }
     ensures within { IfOk result (λ v. v < length ids.now) }
@@ -152,14 +153,14 @@ fn successor(tokens: &mut Tokens, ids: &Ids) -> Result<usize, CertFault>
     if_known(id, start, ids)
 }
 
-/// Reads a number.
+/// Parses a number.
 fn number(tokens: &mut Tokens) -> Result<u64, CertFault>
     ensures { ReadsAs (λ n. n) parts.number tokens.old result tokens.new }
 {
     any_number(tokens)
 }
 
-/// Reads a semicolon.
+/// Parses a semicolon.
 fn semicolon(tokens: &mut Tokens) -> Result<(), CertFault>
     ensures { ReadsAs (λ u. u) parts.semicolon tokens.old result tokens.new }
 {
@@ -169,7 +170,7 @@ fn semicolon(tokens: &mut Tokens) -> Result<(), CertFault>
     semicolon_of(tokens.next())
 }
 
-/// Reads a number, whatever its meaning.
+/// Parses a number without checking its meaning.
 fn any_number(tokens: &mut Tokens) -> Result<u64, CertFault>
     ensures answer { result ≡ value_answer any_of_number (next_of tokens.old)
         (offset_of tokens.old.pieces tokens.old.end) }
@@ -192,7 +193,7 @@ fn finish(tokens: &Tokens) -> Result<(), CertFault>
     }
 }
 
-/// A number that was read at a place, as the id of a vertex that was not named before.
+/// The index of the vertex whose id is the number at offset `start`, if the vertex has no entry yet.
 fn unless_named(id: u64, start: usize, ids: &Ids, solved: &Solved) -> Result<usize, CertFault>
     requires { length solved.now.named ≡ length ids.now }
     ensures answer { result ≡ vertex_of_number ids.now solved.now start id }
@@ -204,7 +205,7 @@ fn unless_named(id: u64, start: usize, ids: &Ids, solved: &Solved) -> Result<usi
     }
 }
 
-/// A number that was read at a place, as a winner.
+/// Returns the number at offset `start` as a winner, if it is 0 or 1.
 fn one_of_two(winner: u64, start: usize) -> Result<u8, CertFault>
     ensures { result ≡ winner_of_number start winner }
 {
@@ -215,7 +216,7 @@ fn one_of_two(winner: u64, start: usize) -> Result<u8, CertFault>
     }
 }
 
-/// A number that was read at a place, as the id of a vertex to go to.
+/// The index of the vertex whose id is the number at offset `start`, if there is such a vertex.
 fn if_known(id: u64, start: usize, ids: &Ids) -> Result<usize, CertFault>
     ensures answer { result ≡ successor_of_number ids.now start id }
     ensures within { IfOk result (λ v. v < length ids.now) }
@@ -226,7 +227,7 @@ fn if_known(id: u64, start: usize, ids: &Ids) -> Result<usize, CertFault>
     }
 }
 
-/// The token is a semicolon.
+/// Checks that a token is a semicolon.
 fn semicolon_of(token: Token) -> Result<(), CertFault>
     ensures { result ≡ semicolon_answer (sign_of token.entry.kind) token.entry.start }
 {
@@ -236,7 +237,7 @@ fn semicolon_of(token: Token) -> Result<(), CertFault>
     }
 }
 
-/// The number that a token is.
+/// Interprets a token as a number.
 fn number_of(token: Token) -> Result<u64, CertFault>
     requires { IsPlain token.kind }
     ensures { result ≡ value_answer any_of_number (sign_of token.entry.kind) token.entry.start }

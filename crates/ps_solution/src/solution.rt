@@ -3,12 +3,12 @@
 use ps_game::{Region, Strategy};
 use std::marker::Model;
 
-/// Who is claimed to win each vertex of a game, and by which moves.
+/// The players who are claimed to win the vertices of a game, and their moves.
 #[derive(Drop)]
 pub struct Solution {
-    /// The vertices that player 0 is claimed to win; player 1 wins all others.
+    /// The vertices that player 0 is claimed to win; player 1 is claimed to win all others.
     pub won: Region,
-    /// A move, or none, for each vertex; it was not checked whether its winner owns the vertex.
+    /// The move of each vertex, or none. The parser did not check whether the winner of a vertex owns it.
     pub moves: Strategy,
 }
 

@@ -1,4 +1,4 @@
-//! What a text has said so far.
+//! The entries that the parser has read so far.
 
 ghost use Rattle.std.specs.Prelude.{◌≡◌, ◌<◌, ◌↔◌, length, IfOk, IfSome, IsTrue};
 ghost use Rattle.ps_game.specs.Regions.{has};
@@ -9,7 +9,7 @@ use ps_game::{Region, Strategy};
 use std::alloc::{AllocError, Global};
 use std::marker::Model;
 
-/// Which vertices of a game a text has named, which of them player 0 wins, and the moves that it has given.
+/// The vertices of a game that have an entry so far, those of them that player 0 wins, and the given moves.
 #[derive(Drop)]
 pub(crate) struct Solved {
     named: Region,
@@ -28,7 +28,7 @@ impl Model for Solved {
 }
 
 impl Solved {
-    /// Nothing yet, about `vertices` vertices.
+    /// No entries yet, for a game with `vertices` vertices.
     pub(crate) fn new(alloc: Global, vertices: usize) -> Result<Self, AllocError>
         ensures { IfOk result (λ solved. solved ≡ none_solved vertices) }
     {
@@ -39,7 +39,7 @@ impl Solved {
         })
     }
 
-    /// Whether a vertex was named.
+    /// Whether a vertex has an entry.
     pub(crate) fn has(&self, vertex: usize) -> bool
         requires { vertex < length self.now.named }
         ensures { result ≡ has self.now.named vertex }
@@ -47,7 +47,7 @@ impl Solved {
         self.named.contains(vertex)
     }
 
-    /// Names a vertex, with its winner and its move.
+    /// Adds the entry of a vertex, with its winner and its move.
     pub(crate) fn name(&mut self, vertex: usize, winner: u8, choice: Option<usize>)
         requires vertex { vertex < length self.old.named }
         requires choice { IfSome choice (λ successor. successor < length self.old.named) }
@@ -62,7 +62,7 @@ impl Solved {
         }
     }
 
-    /// Whether each vertex was named.
+    /// Whether each vertex has an entry.
     pub(crate) fn is_whole(&self) -> bool
         ensures { IsTrue result ↔ IsWhole self.now }
     {
@@ -74,7 +74,7 @@ impl Solved {
         true
     }
 
-    /// The solution.
+    /// The solution that the entries give.
     pub(crate) fn into_solution(self) -> Solution
         ensures value { result ≡ solution_of self }
         ensures won { length result.won ≡ length self.named }

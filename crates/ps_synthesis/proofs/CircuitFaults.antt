@@ -1,4 +1,4 @@
--- Why a machine has no circuit, as a fault of synthesis.
+-- The reason why a machine has no circuit, as a fault of synthesis.
 use Rattle.std.proofs.Common.{arith, ◌≡◌, Result}
 use Rattle.std.specs.Prelude.{IfErr}
 use Rattle.std.specs.Result.{IsErrAnd}

@@ -1,4 +1,4 @@
--- The winner's circuit by a certificate is there: its machine is, and so is that one's circuit.
+-- A certificate gives the winner a circuit: it gives a machine, and the machine has a circuit.
 use Rattle.std.proofs.Common.{rules, ◌≡◌, ◌<◌, ◌≤◌, ◌⊎◌, ℕ, List, length, refl}
 use Rattle.ps_aiger.specs.Encoded.{Encodes, IsTidy}
 use Rattle.ps_aiger.specs.Wires.{IsOutOfLiterals, IsWired}
@@ -18,7 +18,7 @@ use Rattle.ps_machine.specs.declared.key.Order.{Order}
 use Rattle.ps_machine.proofs.Movers.{small_mover}
 use Rattle.ps_synthesis.specs.Reports.{IsWinners, IsWinnersCircuit}
 
--- the laws that are taken
+-- laws that the lemma below takes as arguments
 abbrev pub MachineThere : Type 0
 MachineThere =
     (names : List (List ℕ)) (board : Board) (mover : ℕ) (keys : List Key) (game : ParityGame)

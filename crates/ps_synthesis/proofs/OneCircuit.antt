@@ -1,4 +1,4 @@
--- The winner's circuit by a certificate: the machine is one, and so is its circuit.
+-- A certificate gives the winner at most one circuit: its machine is unique, and so is the circuit of that machine.
 use Rattle.std.proofs.Common.{rules, ◌≡◌}
 use Rattle.ps_aiger.specs.Encoded.{Encodes, IsTidy}
 use Rattle.ps_aiger.specs.Wires.{IsOutOfLiterals, IsWired}
@@ -14,7 +14,7 @@ use Rattle.ps_machine.specs.Keys.{mover_of}
 use Rattle.ps_machine.specs.declared.key.Order.{Order}
 use Rattle.ps_synthesis.specs.Reports.{IsWinners, IsWinnersCircuit}
 
--- the laws that are taken
+-- laws that the lemmas below take as arguments
 abbrev pub OneMachine : Type 0
 OneMachine =
     (order : Order) (file : FileData) (game : NamedGameData) (first second : IsGameOfFile order file game)

@@ -1,5 +1,5 @@
--- What is said of a report, a fault or an outcome by what one solver may answer holds by what another one may, that may
--- answer as much; and what an outcome says of the report, or of the fault.
+-- Properties of reports, faults and outcomes hold for every solver with at least the same possible answers. An outcome
+-- determines the properties of its report or its fault.
 use Rattle.std.proofs.Common.{rules, arith, ℕ, Bool, List, Result, Ok, Err, refl, subst, sym}
 use Rattle.std.specs.Prelude.{IfErr, IfOk}
 use Rattle.ps_certificate.specs.Certificates.{CertificateData}
@@ -16,7 +16,7 @@ use Rattle.ps_synthesis.specs.declared.fault.SynthFault.TheVariants.{Text, Autom
 use Rattle.ps_synthesis.specs.declared.fault.SynthFault.TheVariants.{NotCertified, CircuitTooLarge, OutOfMemory}
 use Rattle.ps_synthesis.specs.declared.report.Report.{Report}
 
--- whatever the first solver may answer, the other may
+-- every possible answer of the first solver is a possible answer of the second
 abbrev pub AnswersMore : MayAnswer → MayAnswer → Type 0
 AnswersMore May Other =
     (game : NamedGameData) (answer : Result CertificateData SolveFault) → May game answer → Other game answer
@@ -71,7 +71,7 @@ module _ (May Other : MayAnswer) (more : AnswersMore May Other) (order : Order) 
 
 -- ## Outcomes
 
--- a sure solver leaves these
+-- the faults that are possible with a sure solver
 abbrev pub IsSureFault : SynthFault → Type 0
 IsSureFault CircuitTooLarge = Unit {0}
 IsSureFault OutOfMemory = Unit {0}

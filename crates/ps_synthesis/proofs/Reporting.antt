@@ -1,4 +1,4 @@
--- From what the stages give to a report, or to the cause of a fault.
+-- The results of the stages give a report, or the reason for a fault.
 use Rattle.std.proofs.Common.{rules, arith, ◌≡◌, ◌↔◌, ℕ, Bool, List, Result, Ok, Err, subst}
 use Rattle.std.specs.Prelude.{IfErr, IfOk, IsTrue}
 use Rattle.std.specs.Result.{IsErrAnd}
@@ -87,7 +87,7 @@ module _ (order : Order) (text : List ℕ) (a : AutomatonData) (keys : List Key)
       certificate circuit
   circuit_is certificate circuit made = grind (arith, winners)
 
-  -- the same of a report that is made with that circuit
+  -- a report that is made with the winner's circuit is right
   reports : (May : MayAnswer) (compact : Bool) (certificate : CertificateData) (result : Result Report SynthFault) →
       May game (Ok certificate) → IsCertified game certificate → BothHold game.game certificate
       → NoneWinsOutside game.game certificate → IfOk result (λ report.
@@ -133,7 +133,7 @@ module _ (order : Order) (text : List ℕ) (a : AutomatonData) (keys : List Key)
 
 -- ## A problem
 
--- what the report of a problem is known to be
+-- what is known about the report of a problem
 pub record IsMade (p : ProblemData) (certificate : CertificateData) (compact : Bool)
     (result : Result Report SynthFault) : Type 0 where
   pub realizable : IfOk result (λ report. IsTrue report.realizable ↔ (winner certificate ≡ 0))
@@ -165,8 +165,8 @@ module _ (p : ProblemData) (is : IsProblem p) (certificate : CertificateData) (c
 
 -- ## A certificate that was checked
 
--- ## A fault that is handed on
+-- ## A fault that is passed on
 
--- there is no report then
+-- if the result is a fault, there is no report
 pub no_report : (r : Result Report SynthFault) (P : Report → Type 0) (Q : SynthFault → Type 0) → IsErrAnd r Q → IfOk r P
 no_report r P Q is = grind arith

@@ -1,5 +1,5 @@
--- From the outcome of a problem by a certificate to that by the solver that gave it; from a solver's fault to that of
--- synthesis.
+-- The outcome for a problem and a certificate is the outcome for the solver that returned the certificate. A solver's
+-- fault gives a fault of synthesis.
 use Rattle.std.proofs.Common.{arith, ℕ, Bool, List, Result, Ok}
 use Rattle.ps_certificate.specs.Certificates.{CertificateData}
 use Rattle.ps_game.specs.Games.{NamedGameData}
@@ -22,7 +22,7 @@ module _ (May : MayAnswer) (game : NamedGameData) (certificate : CertificateData
         IsOutcome (Gives game certificate) order compact text result → IsOutcome May order compact text result
     outcome_by order text compact result is = outcome_more (Gives game certificate) May too order text compact result is
 
--- what is wrong with a solver's answer for the game of a text
+-- the errors of a solver's answer, for the game of a text
 module _ (May : MayAnswer) (order : Order) (text : List ℕ) (p : ProblemData) (of : IsProblemOf order text p) where
   of_game : (P : FileData → NamedGameData → Type 0) → P of.automaton_of.file p.game → OfGame order text P
   of_game P h = grind arith

@@ -1,7 +1,6 @@
--- What a report prints. Each text is that of its value, and reading it gives that value again.
+-- The texts of a report. Each text is what psyn writes for a value, and parsing the text gives the value again.
 --     PrintsGame text game      the text of a game
---     PrintsCertificate compact text game certificate      the text of a certificate, with all counts or as a compact
---               one
+--     PrintsCertificate compact text game certificate      the plain or the compact text of a certificate
 --     PrintsCircuit text circuit      the text of a circuit
 use Rattle.std.specs.Prelude.{◌≡◌, ℕ, ◌≤◌, Bool, List, length, Ok}
 use Rattle.ps_circuit.specs.Circuits.{CircuitData}
@@ -14,7 +13,7 @@ use Rattle.ps_game.specs.Games.{NamedGameData}
 use Rattle.ps_pgsolver.specs.Reading as games
 use Rattle.ps_pgsolver.specs.Written.{game_text}
 
--- a text of a game may be too long to be read
+-- the text of a game may be longer than the parser accepts
 pub record PrintsGame (text : List ℕ) (game : NamedGameData) : Type 0 where
   pub written : text ≡ game_text game
   pub read_again : length text ≤ games.text_limit → games.Answer text (Ok game)

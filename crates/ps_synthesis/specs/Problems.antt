@@ -1,9 +1,9 @@
--- A synthesis problem: an automaton, who moves first, and the game that they define.
---     ProblemData      these, with what each vertex of the game stands for
---     IsProblem p      the game is that of the automaton in that order of moves
+-- A synthesis problem: an automaton, the player who moves first, and the game that they define.
+--     ProblemData      a problem, with the key of each vertex of the game
+--     IsProblem p      the game is that of the automaton in the problem's order of moves
 --     IsProblemOf order text p      the automaton is that of the text
---     Gives game certificate      'may answer' of a solver that gives only this certificate, for this game
---     IsReportFault p certificate fault      why a problem gets no report of a certificate
+--     Gives game certificate      the possible answers of a solver that only returns this certificate, for this game
+--     IsReportFault p certificate fault      why a certificate of a problem gives no report
 use Rattle.std.specs.Prelude.{◌≡◌, ℕ, ◌<◌, List, Ok}
 use Rattle.ps_automaton.specs.Automata.{AutomatonData}
 use Rattle.ps_certificate.specs.Certificates.{CertificateData}

@@ -1,7 +1,7 @@
--- What a report promises about the text that it is made of.
+-- What a report guarantees about the text from which it is made.
 --     IsAcceptedText text file      the text is that of a file that has an automaton
 --     KeepsPromise May order compact text report      the printed game is the automaton's; the printed certificate
---               divides its vertices into two regions, each won by the moves that are printed; the printed circuit
+--               divides its vertices into two regions, each of which is won by the printed moves; the printed circuit
 --               is that of the player who wins vertex 0
 use Rattle.std.specs.Prelude.{◌≡◌, ◌↔◌, ℕ, Bool, IsTrue, List, Ok}
 use Rattle.ps_automaton.specs.Answers.{IsAdmitted}
@@ -27,19 +27,20 @@ pub record KeepsPromise (May : MayAnswer) (order : Order) (compact : Bool) (text
   where
     pub file : FileData
     pub accepted : IsAcceptedText text file
-    -- the game that is printed
+    -- the printed game
     pub game : NamedGameData
     pub is_game : IsGameOfFile order file game
     pub game_text : PrintsGame report.game_text.items game
-    -- the certificate that is printed, which the solver gave
+    -- the printed certificate, which the solver returned
     pub certificate : CertificateData
     pub answered : May game (Ok certificate)
     pub certified : IsCertified game certificate
     pub certificate_text : PrintsCertificate compact report.certificate_text.items game certificate
-    -- each player wins every loop of every play from its region by the moves that are printed, and nothing outside it
+    -- each player wins every loop of every play from that player's region by the printed moves, and wins nothing
+    -- outside it
     pub both_hold : BothHold game.game certificate
     pub none_wins_outside : NoneWinsOutside game.game certificate
-    -- the circuit that is printed: a controller's if player 0 wins vertex 0, and else an environment's
+    -- the printed circuit: a controller if player 0 wins vertex 0, and otherwise an environment
     pub realizable : IsTrue report.realizable ↔ (winner certificate ≡ 0)
     pub circuit : CircuitData
     pub circuit_text : PrintsCircuit report.circuit_text.items circuit

@@ -1,11 +1,11 @@
--- What the stages on the way to a report give: an automaton, a certificate, a circuit.
---     IsAutomatonOf text a      the automaton of the file of a text that is accepted
---     IsTextFault text fault      why there is none
---     IsSolverFault May game fault      why a solver's answer is no certificate
---     IsRefusedAs game given fault      the fault for a solver's fault; memory may run out while vertices are named
+-- The results of the stages of synthesis: an automaton, a certificate, a circuit.
+--     IsAutomatonOf text a      the automaton of the file of an accepted text
+--     IsTextFault text fault      why a text has no automaton
+--     IsSolverFault May game fault      why a solver's answer is not a valid certificate
+--     IsRefusedAs game given fault      the fault for a solver's fault, or out of memory while vertices are named
 --     IsCircuitOf order a game certificate circuit      the circuit of the machine of the certificate
---     HasNoCircuit order a game certificate      the machine of the certificate needs more variables for its circuit
---               than can be named
+--     HasNoCircuit order a game certificate      the circuit of the certificate's machine needs more variables than
+--               there are literals
 --     IsCircuitFault order a game certificate fault      why there is no circuit
 --     of_text, of_automaton, of_circuit      the faults of the layers below
 use Rattle.std.specs.Prelude.{◌≡◌, ℕ, List, Err, map, slice_index}
@@ -64,7 +64,7 @@ IsRefusedAs game (solver.BadCycle cycle) (BadCycle ids) = ids.items ≡ map (λ 
 IsRefusedAs game (solver.Text cause offset) fault = fault ≡ Certificate cause offset
 IsRefusedAs game given fault = fault ≡ OutOfMemory
 
--- the machine of the winner by a certificate of the automaton's game
+-- the machine that a certificate of the automaton's game gives the winner
 pub record IsExtracted (order : Order) (a : AutomatonData) (game : ParityGame) (certificate : CertificateData)
     (m : Behaviour) : Type 0 where
   pub is_machine : IsMachine m

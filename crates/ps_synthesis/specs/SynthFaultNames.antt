@@ -1,4 +1,4 @@
--- The numbers and the names of the faults for which a text gets no report.
+-- The numbers and names of the faults for which a text gets no report.
 use Rattle.std.specs.Prelude.{ℕ, List, codes}
 use Rattle.ps_circuit.specs.EncodeFaultNames as encode
 use Rattle.ps_circuit.specs.declared.encode_fault.EncodeFault.TheVariants as encoding

@@ -1,12 +1,12 @@
--- Why a text gets no report. Each fault has its cause.
+-- Why a text gets no report. Each fault has its reason.
 --     HasNoAutomaton text fault      the text is that of a file that has no automaton
---     OfGame order text P      a text that is accepted has a game for which P holds
---     IsLost May game ids      the solver gave a cycle of the game's vertices, which have these ids
---     IsNotCertified May game      the solver gave a certificate that does not fit, or is not valid
---     IsTooLarge May order file game      the machine of a valid certificate needs more variables for its circuit than
---               can be named
---     IsSynthFault May order text fault      the cause of that fault
---     IsOutcome May order compact text answer      what is answered to a text that is accepted, if the solver is sure
+--     OfGame order text P      an accepted text has a game for which P holds
+--     IsLost May game ids      the solver returned a cycle in the game whose vertices have these ids
+--     IsNotCertified May game      the solver returned a certificate that does not fit or is not valid
+--     IsTooLarge May order file game      the circuit of a valid certificate's machine needs more variables than there
+--               are literals
+--     IsSynthFault May order text fault      the reason for a fault
+--     IsOutcome May order compact text answer      the result for an accepted text, if the solver is sure
 use Rattle.std.specs.Prelude.{◌≡◌, ◌≢◌, ℕ, ◌<◌, Bool, List, length, map, slice_index, Option, None, Some, Result, Ok}
 use Rattle.std.specs.Prelude.{Err}
 use Rattle.std.specs.List.{All}
@@ -45,7 +45,7 @@ pub record OfGame (order : Order) (text : List ℕ) (P : FileData → NamedGameD
   pub is_game : IsGameOfFile order file game
   pub holds : P file game
 
--- the cycle that a solver's fault names
+-- the cycle in a solver's fault
 abbrev pub cycle_of : SolveFault → Option (List ℕ)
 cycle_of (solver.BadCycle cycle) = Some cycle.items
 cycle_of fault = None
@@ -83,7 +83,7 @@ IsSynthFault May order text NotCertified = OfGame order text (λ file game. IsNo
 IsSynthFault May order text CircuitTooLarge = OfGame order text (IsTooLarge May order)
 IsSynthFault May order text OutOfMemory = Unit {0}
 
--- a report; or the circuit is too large, or memory ran out
+-- a report; or the circuit is too large, or out of memory
 pub data IsOutcome (May : MayAnswer) (order : Order) (compact : Bool) (text : List ℕ)
     (answer : Result Report SynthFault) : Type 0 where
   Reported : (report : Report) → answer ≡ Ok report → IsReport May order compact text report →

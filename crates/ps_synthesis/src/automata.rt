@@ -15,7 +15,7 @@ use std::alloc::Global;
 ///
 /// # Errors
 ///
-/// The first cause for which the text is refused, or else why its file has no automaton; or out of memory.
+/// The first error of the text, or else the reason why its file has no automaton; or out of memory.
 pub fn read_automaton(alloc: Global, text: &[u8]) -> Result<Automaton, SynthFault>
     ensures automaton { IfOk result (IsAutomatonOf text.now) }
     ensures refused { IfErr result (IsTextFault text.now) }

@@ -1,4 +1,4 @@
-//! What a solver returns for a game, checked.
+//! Checking what a solver returns for a game.
 
 ghost use Rattle.std.specs.Prelude.{◌≡◌, ◌<◌, ◌↔◌, IsTrue, true, map, slice_index, All, Ok, Err, IfOk, IfErr};
 ghost use Rattle.ps_certificate.specs.Regions.{BothHold, NoneWinsOutside};
@@ -14,12 +14,12 @@ use ps_game::NamedGame;
 use ps_machine::{SolveFault, Solver};
 use std::alloc::{AllocError, Global};
 
-/// What a solver returns for a game, if it fits the game and is valid.
+/// The certificate that a solver returns for a game, if it fits the game and is valid.
 ///
 /// # Errors
 ///
-/// The solver's fault, or `NotCertified` if its certificate does not fit or is not valid. With a sure solver, only out
-/// of memory.
+/// The solver's fault, or `NotCertified` if its certificate does not fit or is not valid. With a sure solver, the only
+/// error is out of memory.
 pub fn certified<S: Solver>(
     alloc: Global,
     game: &NamedGame,
@@ -50,7 +50,7 @@ pub fn is_certified(game: &NamedGame, certificate: &Certificate) -> bool
     fits(game.game(), certificate) && check(game.game(), certificate).is_ok()
 }
 
-/// The fault of synthesis for a solver's fault. Vertices are named by their ids.
+/// The fault that synthesis returns for a solver's fault. Vertices are named by their ids.
 fn refused(alloc: Global, game: &NamedGame, fault: SolveFault) -> SynthFault
     requires { NamesVertices game.now (Err fault) }
     ensures { IsRefusedAs game.now fault result }
@@ -65,7 +65,7 @@ fn refused(alloc: Global, game: &NamedGame, fault: SolveFault) -> SynthFault
     }
 }
 
-/// The ids of vertices. Fails if memory runs out.
+/// The ids of vertices. Fails if out of memory.
 pub fn ids_of(alloc: Global, game: &NamedGame, vertices: &[usize]) -> Result<Vec<u64>, AllocError>
     requires { All (λ v. v < vertex_count game.now.game) vertices.now }
     ensures { IfOk result (λ ids. ids.items ≡ map (λ v. slice_index game.now.ids v) vertices.now) }

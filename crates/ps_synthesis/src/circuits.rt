@@ -1,4 +1,4 @@
-//! The circuit of a certificate's winner.
+//! The circuit of the player who wins by a certificate.
 
 ghost use Rattle.std.specs.Prelude.{IfOk, IfErr};
 ghost use Rattle.ps_automaton.specs.Automata.{IsBuiltFrom};
@@ -21,11 +21,11 @@ use ps_machine::{AutomatonGame, Order, machine_of_certificate, one_game};
 use ps_traces::certified_circuit_answers;
 use std::alloc::Global;
 
-/// The circuit of the player who wins the start, by a certificate of the automaton's game.
+/// Builds the circuit of the player who wins the start vertex, from a certificate of the automaton's game.
 ///
 /// # Errors
 ///
-/// Fails if the circuit would need more than 2147483647 variables, or if memory runs out.
+/// Fails if the circuit needs more than 2147483647 variables, or if out of memory.
 pub fn circuit_of_certificate(
     alloc: Global,
     automaton: &Automaton,
@@ -43,7 +43,8 @@ pub fn circuit_of_certificate(
 {
     one_game();
     let machine = machine_of_certificate(alloc, automaton, order, game, certificate)?;
-    // The call states, while the machine is still there, that it is a machine. After that only its circuit is needed.
+    // The contract of this call states that the value is a machine. The call comes before the machine is freed; after
+    // that, only the circuit is needed.
     let _ = machine.player();
     let circuit = encode(alloc, &machine);
     drop(machine);

@@ -14,35 +14,35 @@ use thiserror::Error;
 /// Why a text gets no report.
 #[derive(Debug, Drop, Error)]
 pub enum SynthFault {
-    /// The text is refused.
+    /// The text is rejected.
     #[error("{} at byte {offset}", .cause.name())]
     Text {
-        /// What is wrong.
+        /// The error of the text.
         cause: HoaCause,
-        /// The byte at which it occurs, from 0.
+        /// The offset of the error in bytes, from 0.
         offset: usize,
     },
     /// The text has no automaton.
     #[error("{0}")]
     Automaton(AutomatonFault),
-    /// The solver left a cycle that its player loses. The vertices are named by their ids.
+    /// The solver reported a cycle that a player loses. The vertices are named by their ids.
     #[error("a cycle that its player loses")]
     BadCycle(Vec<u64>),
-    /// The text that the solver was fed is not a certificate of the game.
+    /// The text that the solver was fed is not the text of a certificate of the game.
     #[error("{} of the certificate at byte {offset}", .cause.name())]
     Certificate {
-        /// What is wrong.
+        /// The error of the text.
         cause: CertCause,
-        /// The byte at which it occurs, from 0.
+        /// The offset of the error in bytes, from 0.
         offset: usize,
     },
     /// The solver's certificate does not fit the game, or is not valid.
     #[error("the certificate is not valid")]
     NotCertified,
-    /// The circuit needs more variables than can be named.
+    /// The circuit needs more variables than there are literals.
     #[error("the circuit is too large")]
     CircuitTooLarge,
-    /// Memory ran out.
+    /// Out of memory.
     #[error("out of memory")]
     OutOfMemory,
 }

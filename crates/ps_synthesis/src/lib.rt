@@ -1,33 +1,35 @@
-//! From the text of a deterministic parity automaton to the circuit of the player who wins its game.
+//! Computes, from the text of a deterministic parity automaton, the circuit of the player who wins the automaton's
+//! game.
 //!
-//! What is promised: if the solver is sure, every text that is accepted gets a report, unless memory runs out or the
-//! circuit would need more variables than can be named. Whatever the solver, a report is right. The game that it prints
-//! is the automaton's. The certificate that it prints assigns each vertex of that game to one of the players. That
-//! player wins every loop of every play from there by the moves that are printed; no strategy, whatever its memory,
-//! wins outside its player's region. If player 0 wins the start, the circuit that the report prints is a controller,
-//! and the automaton accepts each of its ultimately periodic traces. Otherwise it is an environment's, and the
-//! automaton accepts none of them, nor any trace of a finite-state controller against it.
+//! These are the guarantees. If the solver is sure, every accepted text gets a report, unless out of memory or the
+//! circuit would need more variables than there are literals. With every solver, each report is right. The printed game
+//! is the automaton's. The printed certificate assigns each vertex of that game to one of the players. By the printed
+//! moves, that player wins every loop of every play from the vertex. Outside a player's region that player wins neither
+//! by a strategy of finite memory nor by a history table. If player 0 wins the start vertex, the printed circuit is a
+//! controller, and the automaton accepts each of the controller's ultimately periodic traces. Otherwise the printed
+//! circuit is an environment. The automaton then accepts none of the environment's ultimately periodic traces, and
+//! rejects every trace of a finite-state controller against that environment.
 //!
-//! [`synthesise_by`] is the whole way, by a solver that is given. [`Problem`] is the same way for callers with another
-//! kind of solver: it is made of a text, asked for its game, and answered by a certificate of the game.
+//! [`synthesise_by`] does the whole synthesis with a given solver. [`Problem`] does the same in steps, for callers with
+//! another kind of solver: it is made from a text, gives its game, and takes a certificate of that game.
 //!
 //! | Call | What it gives |
 //! |---|---|
-//! | `synthesise_by(text, order, compact, solver)` | the report of an HOA text, or the `SynthFault` for which there is none |
-//! | `certified(game, solver)` | what a solver returns for a game, checked |
+//! | `synthesise_by(text, order, compact, solver)` | the report of an HOA text, or the `SynthFault` that prevents it |
+//! | `certified(game, solver)` | the certificate that a solver returns for a game, checked |
 //! | `is_certified(game, certificate)` | whether a certificate fits a game and is valid |
-//! | `Problem::read(text, order)` | the problem of an HOA text, or the `SynthFault` for which there is none |
-//! | `Problem::game` | its game, which a solver is to solve |
-//! | `Problem::report(certificate, compact)` | the report by a certificate, which is checked first |
-//! | `Problem::report_of_certified(certificate, compact)` | the same, if it was checked before |
-//! | `Problem::close` | frees it |
+//! | `Problem::read(text, order)` | the problem of an HOA text, or the `SynthFault` that prevents it |
+//! | `Problem::game` | the game of a problem, for a solver to solve |
+//! | `Problem::report(certificate, compact)` | the report that a certificate gives, after checking the certificate |
+//! | `Problem::report_of_certified(certificate, compact)` | the report, if the certificate was checked before |
+//! | `Problem::close` | frees a problem |
 //! | `read_automaton(text)` | the automaton of a text |
-//! | `circuit_of_certificate` | the circuit of the player who wins the start, by a valid certificate |
+//! | `circuit_of_certificate` | the circuit of the player who wins the start vertex, from a valid certificate |
 //! | `report_of`, `certificate_text` | the three texts of a report; the text of a certificate |
-//! | `ids_of(game, vertices)` | the ids by which a fault names vertices |
-//! | `SynthFault::number`, `name` | a fault as psyn's list has it |
+//! | `ids_of(game, vertices)` | the ids that name vertices in a fault |
+//! | `SynthFault::number`, `name` | the number and name of a fault in psyn's list of faults |
 //! | `winners_circuit_is_one` | a law: a certificate of a game has at most one circuit |
-//! | `winners_circuit_is_there` | a law: it has one, unless too many variables are needed |
+//! | `winners_circuit_is_there` | a law: a certificate has a circuit, unless it needs too many variables |
 #![tactic(auto)]
 
 mod automata;

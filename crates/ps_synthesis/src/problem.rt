@@ -1,4 +1,4 @@
-//! A synthesis problem: made of a text, asked for its game, and answered by a certificate of the game.
+//! A synthesis problem: it is made from a text, gives its game, and takes a certificate of that game.
 
 ghost use Rattle.std.specs.Prelude.{◌≡◌, ◌<◌, ◌↔◌, ℕ, IsTrue, List, IfOk, IfErr};
 ghost use Rattle.std.specs.Result.{IsErrAnd};
@@ -35,8 +35,8 @@ use ps_machine::{AutomatonGame, Order};
 use std::alloc::Global;
 use std::marker::Model;
 
-/// A synthesis problem: the automaton of a text, who moves first, and the game that they define. It is solved by a
-/// certificate of the game, which says who wins, and how.
+/// A synthesis problem: the automaton of a text, the player who moves first, and the game that they define. A
+/// certificate of the game solves the problem, since it states who wins, and how.
 #[derive(Drop)]
 pub struct Problem {
     order: Order,
@@ -63,11 +63,11 @@ impl Model for Problem {
 }
 
 impl Problem {
-    /// The problem of an HOA text, in that order of moves.
+    /// The problem of an HOA text, in a given order of moves.
     ///
     /// # Errors
     ///
-    /// The first cause for which the text is refused, or else why its file has no automaton; or out of memory.
+    /// The first error of the text, or else the reason why its file has no automaton; or out of memory.
     pub fn read(alloc: Global, text: &[u8], order: Order) -> Result<Problem, SynthFault>
         ensures problem { IfOk result (IsProblemOf order text.now) }
         ensures refused { IfErr result (IsTextFault text.now) }
@@ -83,7 +83,7 @@ impl Problem {
         })
     }
 
-    /// The game, which a solver is to solve.
+    /// The game of the problem, for a solver to solve.
     pub fn game(&self) -> &NamedGame
         ensures game { result.now ≡ self.now.game }
         ensures problem { IsProblem self.now }
@@ -91,18 +91,19 @@ impl Problem {
         &self.game.game
     }
 
-    /// Frees the problem. The proof about its parts is here, so that callers need not repeat it.
+    /// Frees the problem. This function carries the proof about freeing the problem's parts, so that callers need not
+    /// repeat that proof.
     pub fn close(self) {
         drop(self);
     }
 
-    /// The report by a certificate of the game, with all counts or as a compact text: who wins, and the winner's
-    /// circuit.
+    /// The report that a certificate of the game gives: who wins, the winner's circuit, the game, and the certificate
+    /// as a plain or a compact text.
     ///
     /// # Errors
     ///
-    /// `NotCertified` if the certificate does not fit the game or is not valid; else that the circuit is too large; or
-    /// out of memory.
+    /// `NotCertified` if the certificate does not fit the game or is not valid; otherwise `CircuitTooLarge`, or out of
+    /// memory.
     pub fn report(
         &self,
         alloc: Global,
@@ -124,11 +125,11 @@ impl Problem {
         self.report_of_certified(alloc, certificate, compact)
     }
 
-    /// The same report, by a certificate that was checked before.
+    /// The report that a previously checked certificate gives.
     ///
     /// # Errors
     ///
-    /// Fails if the circuit would need more variables than can be named, or if memory runs out.
+    /// Fails if the circuit would need more variables than there are literals, or if out of memory.
     pub fn report_of_certified(
         &self,
         alloc: Global,
@@ -155,7 +156,8 @@ impl Problem {
     }
 }
 
-/// The report of a certificate of an automaton's game, with the circuit of the player who wins the start.
+/// The report that a certificate of an automaton's game gives, with the circuit of the player who wins the start
+/// vertex.
 fn report_of_certificate(
     alloc: Global,
     automaton: &Automaton,

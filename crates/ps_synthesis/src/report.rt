@@ -1,4 +1,4 @@
-//! What synthesis answers.
+//! The report that synthesis returns.
 
 ghost use Rattle.std.specs.Prelude.{◌≡◌, ◌<◌, ◌↔◌, IsTrue, IfOk};
 ghost use Rattle.ps_certificate.specs.Certificates.{Fits};
@@ -11,12 +11,12 @@ use ps_certificate::Certificate;
 use ps_game::NamedGame;
 use std::alloc::{AllocError, Global};
 
-/// The result for a text: who wins, and the three texts that show it.
+/// The result for a text: who wins, and three texts that show it.
 #[derive(Debug, Drop)]
 pub struct Report {
     /// Whether the controller wins.
     pub realizable: bool,
-    /// The circuit of the winner: a controller's, or else an environment's.
+    /// The circuit of the winner, which is a controller or an environment.
     pub circuit_text: Vec<u8>,
     /// The game of the automaton.
     pub game_text: Vec<u8>,
@@ -24,7 +24,8 @@ pub struct Report {
     pub certificate_text: Vec<u8>,
 }
 
-/// The report of a circuit, a game and a certificate, with all counts or as a compact text. Fails if memory runs out.
+/// The report of a circuit, a game and a certificate, which is printed as a plain or a compact text. Fails if out of
+/// memory.
 pub fn report_of(
     alloc: Global,
     game: &NamedGame,
@@ -48,7 +49,7 @@ pub fn report_of(
     })
 }
 
-/// A certificate as one of its two texts: with all counts, or the compact one. Fails if memory runs out.
+/// The plain or the compact text of a certificate. Fails if out of memory.
 pub fn certificate_text(
     alloc: Global,
     certificate: &Certificate,

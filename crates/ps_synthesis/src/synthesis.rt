@@ -1,4 +1,4 @@
-//! The whole way from a text to a report, by a solver that is given.
+//! The whole synthesis with a given solver, from a text to a report.
 
 ghost use Rattle.std.specs.Prelude.{◌≡◌, ℕ, true, List, IfOk, IfErr};
 ghost use Rattle.ps_hoa.specs.Files.{FileData};
@@ -16,13 +16,14 @@ use crate::report::Report;
 use ps_machine::{Order, Solver};
 use std::alloc::Global;
 
-/// The report of an HOA text: the game of its automaton in that order of moves, a certificate of the game by the solver
-/// that is given, with all counts or as a compact text, and the circuit of the player who wins the start.
+/// The report of an HOA text. The report has three texts. The first is the game of the automaton in a given order of
+/// moves. The second is the certificate that the given solver returns for the game, plain or compact. The third is the
+/// circuit of the player who wins the start vertex.
 ///
 /// # Errors
 ///
-/// In this order: the first cause for which the text is refused; why it has no automaton; the solver's fault, or that
-/// its certificate does not fit or is not valid; that the circuit is too large. At any time: out of memory.
+/// In this order: the first error of the text; the reason why the text has no automaton; the solver's fault, or
+/// `NotCertified`; and `CircuitTooLarge`. Out of memory is possible at any time.
 pub fn synthesise_by<S: Solver>(
     alloc: Global,
     text: &[u8],
@@ -30,15 +31,16 @@ pub fn synthesise_by<S: Solver>(
     compact: bool,
     solver: &mut S,
 ) -> Result<Report, SynthFault>
-    // The report is right, whatever the solver; each fault has its cause. Both are about what the solver returned.
+    // With every solver, a report is right, and each fault has its reason. Both clauses refer to what the solver
+    // returned.
     ensures report { IfOk result (IsReport (Answered (S.known solver.old) (S.known solver.new)) order compact
         text.now) }
     ensures refused { IfErr result (IsSynthFault (Answered (S.known solver.old) (S.known solver.new)) order
         text.now) }
-    // With a sure solver, a text that is accepted gets a report, unless memory ran out or the circuit is too large.
+    // With a sure solver, an accepted text gets a report, unless out of memory or the circuit is too large.
     ensures sure { (S.known solver.old).is_sure ≡ true → (file : FileData) → IsAcceptedText text.now file →
         IsOutcome (Answered (S.known solver.old) (S.known solver.new)) order compact text.now result }
-    // The solver stays the same.
+    // After the call, the solver is as sure as before, has the same fed text, and has no additional possible answers.
     ensures kept { IsKept (S.known solver.old) (S.known solver.new) }
 {
     let problem = Problem::read(alloc, text, order)?;
@@ -47,7 +49,7 @@ pub fn synthesise_by<S: Solver>(
     report
 }
 
-/// The report of a problem by a solver that is given.
+/// The report of a problem, with a given solver.
 fn report_by<S: Solver>(
     alloc: Global,
     problem: &Problem,

@@ -1,4 +1,5 @@
--- Bits of letters: of sums of letters that share none, and of the letter that has given bits at given propositions.
+-- Lemmas about the bits of letters: the sum of letters without a common bit, and the letter with given bits at given
+-- propositions.
 use Rattle.std.proofs.Common.{◌≡◌, ℕ, zero, suc, ◌+◌, ◌/◌, ◌%◌, ◌^◌, ◌<◌, ◌≤◌, ◌⊎◌, inl, inr, Bool, true, false, cond}
 use Rattle.std.proofs.Common.{List, [], ◌∷◌, length, get_or, nat_eq, refl, ap, sym, ◌∙◌, subst, arith, rules}
 use Rattle.std.specs.Int.{bit_at}
@@ -18,7 +19,7 @@ use Rattle.ps_aiger.specs.Encoded.{letter_over}
 pub same_letter : (a b : ℕ) → ((p : ℕ) → is_in p a ≡ is_in p b) → a ≡ b
 same_letter a b same = search (rules, same_from_bits, same_bit, bit_at-lt)
 
--- no bit from n on
+-- a number without bits from n on is less than 2^n
 pub few_bits : (n x : ℕ) → ((p : ℕ) → n ≤ p → is_in p x ≡ false) → x < 2 ^ n
 few_bits n x off =
     let bit : ℕ → Bool = λ p. is_in p x in
@@ -28,7 +29,7 @@ few_bits n x off =
 
 -- ## Sums
 
--- no bit is in both
+-- no bit is set in both numbers
 pub record AreApart (x y : ℕ) : Type 0 where
   pub apart : (p : ℕ) → bit_at x p + bit_at y p < 2
 
@@ -45,7 +46,7 @@ bit_of_sum (suc p) x y h =
     let rest = bit_of_sum p (x / 2) (y / 2) (rest_apart x y h) in
     rw (bit_at-suc (x + y) p, bit_at-suc x p, bit_at-suc y p, half) rest
 
--- a proposition that is not in the one is in the sum where it is in the other
+-- if a bit is not set in one number, the sum has the bit of the other number
 pub in_sum_left : (p x y : ℕ) → AreApart x y → is_in p y ≡ false → is_in p (x + y) ≡ is_in p x
 in_sum_left p x y h off = grind (arith, bit_at-lt y p, bit_of_sum p x y h)
 
@@ -57,13 +58,13 @@ are_apart x y each = record { apart = λ p. grind (arith, bit_at-lt x p, bit_at-
 
 -- ## Given bits at given propositions
 
--- the bit that stands with the proposition
+-- the bit that is given for a proposition
 abbrev pub bit_with : ℕ → List ℕ → List Bool → Bool
 bit_with q [] bits = false
 bit_with q (p ∷ ps) [] = false
 bit_with q (p ∷ ps) (bit ∷ bits) = cond (nat_eq q p) bit (bit_with q ps bits)
 
--- all are above one, and rise
+-- all numbers are greater than `low`, and ascend
 pub record Rises (low : ℕ) (ps : List ℕ) : Type 0 where
   pub above : (k d : ℕ) → k < length ps → low < get_or ps k d
   pub rising : AllPairs (λ p q. p < q) ps
@@ -115,7 +116,7 @@ bit_with_none q [] bits h = refl
 bit_with_none q (p ∷ ps) [] h = refl
 bit_with_none q (p ∷ ps) (bit ∷ bits) h = grind (arith, bit_with_none q ps bits)
 
--- ## Where a proposition stands
+-- ## The index of a proposition
 
 pub record StandsIn (q : ℕ) (ps : List ℕ) : Type 0 where
   pub place : ℕ

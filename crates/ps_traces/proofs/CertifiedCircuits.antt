@@ -12,7 +12,7 @@ use Rattle.ps_traces.specs.Answers.{role_of}
 use Rattle.ps_traces.specs.Roles.{IsMachineFor, is_read_by}
 use Rattle.ps_traces.specs.Shapes.{moves_first}
 
--- who moves first, and what that player reads
+-- which player moves first, and what that player reads
 turn_is : (order : Order) (player : ℕ) → player < 2 → (mover_of order == player) ≡ moves_first order (role_of player)
 turn_is order player lt = grind arith
 

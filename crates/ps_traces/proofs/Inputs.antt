@@ -1,4 +1,4 @@
--- A stem and laps come back to their latches.
+-- Reading a stem and then laps returns to the same latches.
 use Rattle.std.proofs.Common.{◌≡◌, ℕ, zero, suc, ◌^◌, ◌<◌, Bool, List, [], ◌++◌, length, refl, arith, rules}
 use Rattle.std.proofs.Math.Nat.{mul-le-mul_right}
 use Rattle.std.proofs.lemmas.List.{length-map, map-append}
@@ -16,7 +16,7 @@ module _ (c : CircuitData) (one : HasOneValues c) (stem lap : List (List Bool)) 
   stem_run : Run c (resets c) stem
   stem_run = run c one (resets c) stem (length-map c.latches (λ l. l.reset)) stem_wide
 
-  -- latches, one for each of the circuit's
+  -- a list of bits with one bit for each latch of the circuit
   record Held : Type 0 where
     bits : List Bool
     held : length bits ≡ length c.latches
@@ -24,7 +24,7 @@ module _ (c : CircuitData) (one : HasOneValues c) (stem lap : List (List Bool)) 
   lap_run : (h : Held) → Run c h.bits lap
   lap_run h = run c one h.bits lap h.held lap_wide
 
-  -- the latches behind the stem and so many laps
+  -- the latches after the stem and a given number of laps
   abbrev behind : ℕ → Held
   behind zero = record { bits = stem_run.last; held = stem_run.wide }
   behind (suc laps) = record { bits = (lap_run (behind laps)).last; held = (lap_run (behind laps)).wide }

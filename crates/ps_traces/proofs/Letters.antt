@@ -1,4 +1,4 @@
--- Each moment has one letter.
+-- Each step has exactly one letter.
 use Rattle.std.proofs.Common.{◌≡◌, ℕ, inl, inr, Bool, false, List, [], ◌∷◌, length, get_or, Option, refl}
 use Rattle.std.proofs.Common.{ap, sym, ◌∙◌, arith, rules}
 use Rattle.std.proofs.lemmas.Bool.{cases_lt}
@@ -17,14 +17,14 @@ use Rattle.ps_traces.specs.Inputs.{HasLetters}
 
 module _ {role : Role} {names : List (List ℕ)} {controllable : List ℕ} {c : CircuitData} (are_names : AreNames names)
     (has : HasSymbols role names controllable c) where
-  -- a symbol's proposition is on its side
+  -- a symbol names a proposition of the side to which the symbol belongs
   of_side : (wanted : Bool) (symbols : List (Option (List ℕ))) (k p : ℕ) →
       AreNamesOnce names controllable wanted symbols → IsSymbol names symbols k p → is_among p controllable ≡ wanted
   of_side wanted symbols k p once s =
       let found = once.some k (within symbols k (get_or names p []) s.is) in
       grind (arith, some_same, names_differ)
 
-  -- a bit for each proposition, that of its input or output
+  -- a bit for each proposition, which is the bit of its input or output
   bit_of : (m : Moment) (p : ℕ) → (bit : Bool) ×
       ((k : ℕ) → IsSymbol names c.input_names k p → bit ≡ get_or m.inputs k false) ×
       ((k : ℕ) → IsSymbol names c.output_names k p → bit ≡ get_or m.outputs k false)

@@ -1,4 +1,4 @@
--- The meeting of a circuit with a finite-state controller: it goes on, in one way, and comes back.
+-- The meeting of a circuit with a finite-state controller never ends, is unique, and returns to an earlier point.
 use Rattle.std.proofs.Common.{◌≡◌, ℕ, zero, suc, ◌+◌, ◌*◌, ◌^◌, ◌<◌, Bool, false, List, [], ◌∷◌, length, refl, sym, ◌∙◌}
 use Rattle.std.proofs.Common.{arith, rules, ◌++◌, length-append}
 use Rattle.std.specs.Prelude.{replicate}
@@ -17,7 +17,7 @@ use Rattle.ps_simulate.proofs.LassoLemmas.{GoesOn-append}
 use Rattle.ps_traces.proofs.Returns.{come_back, legs, legs_go}
 use Rattle.ps_traces.proofs.Runs.{next_reached, resets_reached, step}
 
--- a step at which the controller's letter is its answer
+-- a step whose inputs are the controller's answer to the outputs
 pub record JointStep (c : CircuitData) (k : FiniteController) (latches : List Bool) (memory : ℕ) : Type 0 where
   pub inputs : List Bool
   pub outputs : List Bool
@@ -27,7 +27,7 @@ pub record JointStep (c : CircuitData) (k : FiniteController) (latches : List Bo
   pub outputs_wide : length outputs ≡ length c.outputs
   pub next_wide : length next ≡ length c.latches
 
--- inputs before outputs: the circuit's outputs are the same whatever is read
+-- if inputs come before outputs, the circuit's outputs don't depend on its inputs
 joint_mealy : (c : CircuitData) (k : FiniteController) → HasOneValues c → IsInTimeWhereReached Mealy Environment c →
     IsController Mealy c k → (latches : List Bool) (memory : ℕ)
     → IsReached c latches → length latches ≡ length c.latches → memory < k.size → JointStep c k latches memory
@@ -39,7 +39,7 @@ joint_mealy c k one in_time is latches memory reached held within =
     let same : before.outputs ≡ now.outputs = in_time refl latches _ _ _ _ _ _ reached before.steps now.steps in
     grind arith
 
--- outputs before inputs: the controller's letter is the same whatever is read
+-- if outputs come before inputs, the controller's letter does not depend on what it reads
 joint_moore : (c : CircuitData) (k : FiniteController) → HasOneValues c → IsController Moore c k →
     (latches : List Bool) (memory : ℕ)
     → length latches ≡ length c.latches → memory < k.size → JointStep c k latches memory
@@ -59,7 +59,7 @@ joint_step Moore c k one in_time is latches memory reached held within =
 
 module _ (order : Order) (c : CircuitData) (k : FiniteController) (one : HasOneValues c)
     (in_time : IsInTimeWhereReached order Environment c) (is : IsController order c k) where
-  -- where the meeting stands
+  -- a point of the meeting: the latches and the controller's memory state
   record Place : Type 0 where
     latches : List Bool
     memory : ℕ
@@ -87,7 +87,7 @@ module _ (order : Order) (c : CircuitData) (k : FiniteController) (one : HasOneV
         (step_at (place t)).outputs_wide;
   }
 
-  -- its moments
+  -- the steps of the meeting
 
   abbrev At : Type 0
   At = List Bool × ℕ
@@ -127,7 +127,7 @@ module _ (order : Order) (c : CircuitData) (k : FiniteController) (one : HasOneV
   many from zero = refl
   many from (suc count) = omega (arith, length-append (moments from count) (moment (from + count)), many from count)
 
-  -- ## It comes back
+  -- ## The meeting returns to an earlier point
 
   small : (t : ℕ) → code (place t).latches < 2 ^ length c.latches
   small t = rw (← (place t).held) (code_lt (place t).latches)

@@ -1,4 +1,4 @@
--- What holds at all latches holds at those to which traces lead.
+-- A property of all latches is a property of the latches that traces reach.
 use Rattle.ps_circuit.specs.Circuits.{CircuitData}
 use Rattle.ps_machine.specs.declared.key.Order.{Order}
 use Rattle.ps_simulate.specs.declared.role.Role.{Role}

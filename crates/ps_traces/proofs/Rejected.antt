@@ -1,4 +1,4 @@
--- The meeting is rejected where no lasso trace is accepted.
+-- If no lasso trace is accepted, the meeting is rejected.
 use Rattle.std.proofs.Common.{rules}
 use Rattle.ps_hoa.specs.Files.{FileData}
 use Rattle.ps_hoa.specs.Sound.{AreNames}

@@ -1,7 +1,7 @@
--- Values below a bound come again, and so do the places of moments that lead from place to place.
---     comes_again      of numbers below a bound
---     legs, legs_go      the moments of some steps from a place on, and where they lead
---     come_back      where numbers below a bound tell the places apart, moments lead to a place and back to it
+-- Among values below a bound some value recurs, and therefore some point of a run recurs.
+--     comes_again      among values below a bound, some value recurs
+--     legs, legs_go      the steps from one point to a later one
+--     come_back      if numbers below a bound identify the points, steps lead to some point and then back to it
 use Rattle.std.proofs.Common.{◌≡◌, ℕ, zero, suc, ◌+◌, ◌-◌, ◌<◌, List, [], ◌++◌, length, map, get_or, ap}
 use Rattle.std.proofs.Common.{subst, arith, add-zero, rules}
 use Rattle.std.specs.List.{range_with_len}
@@ -26,7 +26,7 @@ comes_again f bound below =
     repeats bound values (λ k d lt. rw (at k d (omega (arith, lt, many))) (below k)) (omega (arith, many)) in
     grind arith
 
--- moments lead from each place to the next
+-- steps lead from each point to the next
 module _ {S : Type 0} (Goes : S → List Moment → S → Type 0) (stay : (s : S) → Goes s [] s)
     (join : (r s t : S) (xs ys : List Moment) → Goes r xs s → Goes s ys t → Goes r (xs ++ ys) t) (place : ℕ → S)
     (leg : ℕ → List Moment) (goes : (t : ℕ) → Goes (place t) (leg t) (place (suc t))) where

@@ -1,4 +1,4 @@
--- Runs of a circuit through letters.
+-- Runs of a circuit that read given letters.
 use Rattle.std.proofs.Common.{◌≡◌, Bool, List, [], ◌∷◌, ◌++◌, All, map, length, refl, ap}
 use Rattle.std.proofs.lemmas.List.{length-map}
 use Rattle.std.proofs.lemmas.List.Elements.{All-head, All-tail}
@@ -8,7 +8,7 @@ use Rattle.ps_simulate.proofs.LassoLemmas.{GoesOn-append}
 use Rattle.ps_traces.specs.Inputs.{inputs_of}
 use Rattle.ps_traces.specs.Shapes.{IsReached}
 
--- a step of the circuit at these latches and this input
+-- a step of the circuit with the given latches and inputs
 pub record Step (c : CircuitData) (latches inputs : List Bool) : Type 0 where
   pub outputs : List Bool
   pub next : List Bool
@@ -31,7 +31,7 @@ step c one latches inputs held wide =
 abbrev pub IsWide : CircuitData → List Bool → Type 0
 IsWide c letter = length letter ≡ length c.inputs
 
--- the circuit reads the letters
+-- a run of the circuit that reads the given letters
 pub record Run (c : CircuitData) (from : List Bool) (word : List (List Bool)) : Type 0 where
   pub moments : List Moment
   pub last : List Bool
@@ -53,7 +53,7 @@ run c one from (x ∷ xs) held wide =
       wide = rest.wide;
     }
 
--- ## Latches to which traces lead
+-- ## Latches that traces reach
 
 pub resets_reached : (c : CircuitData) → IsReached c (resets c)
 resets_reached c = ([], refl)

@@ -1,4 +1,4 @@
--- The circuit of a machine has the shape of its player.
+-- The circuit of a machine has the shape of the machine's player.
 use Rattle.std.proofs.Common.{◌≡◌, ℕ, ◌<◌, ◌⊎◌, inl, Bool, true, List, [], map, length, get_or, Option}
 use Rattle.std.proofs.Common.{None, Some, IsTrue, ap, sym, ◌∙◌, subst, arith, rules}
 use Rattle.std.specs.List.{AllPairs}
@@ -20,7 +20,7 @@ use Rattle.ps_traces.proofs.Bits.{is_there, stands_in}
 use Rattle.ps_simulate.proofs.Uniqueness.OneLetter.{side}
 use Rattle.ps_traces.proofs.Words.{memory_below}
 
--- numbers that rise stand once
+-- an ascending list has each number only once
 stands_once : (ps : List ℕ) (j k : ℕ) → AllPairs (λ p q. p < q) ps → j < length ps → k < length ps →
     get_or ps j 0 ≡ get_or ps k 0 → j ≡ k
 stands_once ps j k rising lj lk e = search (rules, cases_order)
@@ -42,7 +42,7 @@ module _ (names : List (List ℕ)) (controllable : List ℕ) (wanted : Bool) (ps
   is_symbol : (k : ℕ) → k < length ps → IsSymbol names symbols k (get_or ps k 0)
   is_symbol k lt = record { within = within (get_or ps k 0) (is_there ps k lt); is = symbol_at k lt }
 
-  -- a symbol is that of the proposition at its place
+  -- the k-th symbol names the k-th proposition
   back : (k p : ℕ) → IsSymbol names symbols k p → (k < length ps) × (get_or ps k 0 ≡ p)
   back k p s =
       let lt : k < length ps = search (rules, cases_lt, size, get_or_past) in
@@ -81,7 +81,7 @@ module _ (order : Order) (role : Role) (file : FileData) (m : Behaviour) (c : Ci
       is_among p m.inputs ≡ true
   reads_all p lt reads = grind (arith, is_for.reads p lt)
 
-  -- what is not read is on the other side
+  -- the propositions that a machine outputs are those that its role sets
   sets_own : (p : ℕ) → is_among p m.outputs ≡ true → is_among p file.controllable ≡ sets_controllable role
   sets_own p among = search (rules, side, reads_all, inside)
 

@@ -1,5 +1,5 @@
--- An automaton and a circuit with the symbols of its role have a verdict on each stem and lap: laps are read until
--- latches come again, and the automaton's states come again under the letters of the laps between.
+-- An automaton, and a circuit with the symbols of its role, have a verdict on each stem and lap. Laps are read until
+-- the latches recur. When the letters of the laps between both occurrences are repeated, the automaton's states recur.
 use Rattle.std.proofs.Common.{◌≡◌, ◌∙◌, ℕ, zero, suc, ◌+◌, ◌-◌, ◌*◌, ◌^◌, ◌<◌, ◌≤◌, ◌⊎◌, ◌↔◌, inl, inr, Bool, List, []}
 use Rattle.std.proofs.Common.{◌∷◌, ◌++◌, length, get_or, take, drop, IsTrue, Some, refl, sym, ap, arith, length-drop}
 use Rattle.std.proofs.Common.{rules, ◌≢◌}
@@ -27,7 +27,7 @@ use Rattle.ps_traces.proofs.Runs.{run}
 use Rattle.std.proofs.lemmas.Bool.{cases_lt}
 use Rattle.ps_automaton.proofs.Deciding.{some_or_none}
 
--- ## What an automaton makes of a lasso
+-- ## The verdict of an automaton on a lasso
 
 module _ (file : FileData) (chain : Chain) (a : Auto) (is_chain : chain_of file.condition ≡ Some chain)
     (is_auto : IsAutoOf file chain a) where
@@ -101,7 +101,7 @@ module _ (role : Role) (file : FileData) (c : CircuitData) (stem lap : List (Lis
     letters : List ℕ
     repeats_by : RepeatsBy file.names c stem lap i letters
 
-  -- more than what is left of the lists of bits, as fuel
+  -- the fuel is greater than the number of lists of bits that are not in `seen`
   search_on : (fuel : ℕ) (seen : List (List Bool)) (letters : List ℕ) (last : List Bool) →
       HasRead file.names c stem lap seen letters last → length last ≡ length c.latches
       → 2 ^ length c.latches - length seen < fuel → HasRepetition

@@ -1,4 +1,4 @@
--- The words of a circuit's lasso traces are those of the machine that it encodes.
+-- The words of the lasso traces of a machine's circuit are words of the machine.
 use Rattle.std.proofs.Common.{rules, ◌≡◌, ◌≢◌, ℕ, zero, suc, ◌+◌, ◌<◌, ◌≤◌, ◌⊎◌, inl, inr, Bool, true, false, List, []}
 use Rattle.std.proofs.Common.{◌∷◌, ◌++◌, length, get_or, Option, refl, ap, sym, ◌∙◌, subst, arith, add-one}
 use Rattle.std.specs.Prelude.{All}
@@ -26,7 +26,7 @@ first_along : (c : CircuitData) (from to : List Bool) (ms : List Moment) → Goe
 first_along c from to [] on = sym on
 first_along c from to (m ∷ ms) (next, at, step, on) = at
 
--- what holds of each step of a trace and its letter holds of the latches along it
+-- a property of each step and its letter holds along the whole trace
 at_each : (names : List (List ℕ)) (c : CircuitData) (P : List Bool → ℕ → List Bool → Type 0)
     → ((m : Moment) (letter : ℕ) (next : List Bool) → Steps c m.latches m.inputs m.outputs next →
     IsLetterOf names c m letter → P m.latches letter next)
@@ -97,13 +97,13 @@ module _ (m : Behaviour) (is : IsMachine m) where
       is_output : IsOutput m output
       is_output = is.plays_own memory input (memory_below s.latches)
 
-      -- a proposition that is read
+      -- a proposition that the machine reads
       read_bit : (p : ℕ) → p < length m.names → is_among p m.inputs ≡ true → is_in p letter ≡ is_in p input
       read_bit p lt among =
           let at = stands_in p m.inputs among in
           grind (arith, symbol_at, bit_with_at, in_input)
 
-      -- a proposition that is played
+      -- a proposition that the machine outputs
       played_bit : (p : ℕ) → p < length m.names → is_among p m.outputs ≡ true → is_in p letter ≡ is_in p output
       played_bit p lt among =
           let at = stands_in p m.outputs among in
@@ -158,7 +158,7 @@ module _ (m : Behaviour) (is : IsMachine m) where
       whole_size : length (stem ++ lap) ≡ length moments
       whole_size = length_letters m.names c moments (stem ++ lap) are_letters
 
-      -- behind the stem and behind both stand the same latches
+      -- the latches are the same after the stem and after the lap
       returns : memory_at (length stem) ≡ memory_at (length (stem ++ lap))
       returns =
           let here : get_or (latches_along moments word.trace.back) (length word.stem_moments) [] ≡ word.trace.back =

@@ -1,8 +1,9 @@
--- What the circuit of the winner is worth: it is a controller's if the automaton can be realised, else an
--- environment's.
---     role_of player      0 is the controller
---     IsWitness order file player c      its shape; each word of it is accepted, or none is; each input extends to such
---               a word; and an environment's meeting with any finite-state controller extends to one, which is rejected
+-- The properties of the winner's circuit. The winner's circuit is a controller if the automaton can be realised, and
+-- otherwise an environment.
+--     role_of player      player 0 is the controller
+--     IsWitness order file player c      the circuit has the shape of its role; all of its words are accepted, or none;
+--               each input extends to such a word; and the meeting of an environment with every finite-state controller
+--               extends to such a word, which is rejected
 use Rattle.std.specs.Prelude.{◌≡◌, ◌≢◌, ℕ, List, if◌then◌else◌, nat_eq}
 use Rattle.ps_hoa.specs.Files.{FileData}
 use Rattle.ps_circuit.specs.Circuits.{CircuitData, IsCircuit}
@@ -18,7 +19,7 @@ use Rattle.ps_traces.specs.Meetings.{FiniteController, IsController, IsOneMeetin
 abbrev pub role_of : ℕ → Role
 role_of player = if nat_eq player 0 then Controller else Environment
 
--- the meeting is one, and it is rejected
+-- the circuit and a controller have exactly one meeting of each length, and the meeting is rejected
 pub record LosesMeeting (file : FileData) (c : CircuitData) (k : FiniteController) : Type 0 where
   pub one : (count : ℕ) → IsOneMeeting c k count
   pub rejected : IsRejected file c k
@@ -28,7 +29,7 @@ pub record IsWitness (order : Order) (file : FileData) (player : ℕ) (c : Circu
   pub shape : HasShape order (role_of player) file c
   pub accepted : player ≡ 0 → AllAccepted file c
   pub rejected : player ≢ 0 → NoneAccepted file c
-  -- none of this is empty
+  -- there are traces and letters to which these properties apply
   pub goes_on : EachInputGoesOn c
   pub letters : (moments : List Moment) → HasLetters file.names c moments
   pub meetings : player ≢ 0 → (k : FiniteController) → IsController order c k → LosesMeeting file c k

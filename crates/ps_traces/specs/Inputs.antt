@@ -1,8 +1,8 @@
 -- Every periodic input extends to a lasso trace.
---     inputs_of moments      what is read at each moment
---     GoesOnInLasso c stem lap      some lasso trace reads the stem and some laps, at least one, and then repeats some
---               laps, at least one
---     EachInputGoesOn c      for each stem and each non-empty lap of letters of the circuit's width
+--     inputs_of moments      the inputs of each step
+--     GoesOnInLasso c stem lap      some lasso trace reads the stem and one or more laps, and then repeats one or more
+--               laps
+--     EachInputGoesOn c      GoesOnInLasso for each stem and each non-empty lap of letters of the circuit's width
 use Rattle.std.specs.Prelude.{◌≡◌, ℕ, ◌<◌, Bool, List, ◌++◌, length, map, All}
 use Rattle.ps_circuit.specs.Circuits.{CircuitData}
 use Rattle.ps_circuit.specs.Values.{Moment}
@@ -31,7 +31,7 @@ abbrev pub EachInputGoesOn : CircuitData → Type 0
 EachInputGoesOn c =
     (stem lap : List (List Bool)) → AreInputs c stem → AreInputs c lap → 0 < length lap → GoesOnInLasso c stem lap
 
--- whatever is read and answered has one letter for each moment
+-- the steps have exactly one list of letters
 pub record HasLetters (names : List (List ℕ)) (c : CircuitData) (moments : List Moment) : Type 0 where
   pub letters : List ℕ
   pub are_letters : AreLetters names c moments letters

@@ -1,11 +1,13 @@
--- Finite-state controllers, and their meeting with the circuit of an environment. Letters are lists of bits in the
--- circuit's order: a controller reads a bit for each of its outputs, and plays one for each of its inputs.
---     FiniteController      a size, a first memory; tables from a memory and the letter read to a memory and a letter
---     IsController order c k      the tables keep to their ranges; if outputs come before inputs, the letter that is
---               played depends only on the memory
---     Meets c k latches memory moments      the one joint trace, from these latches and that memory
---     MeetsInLasso c k      it extends to a lasso trace, at whose end the controller's memory has come back too
---     IsRejected file c k      its letters are a word that the automaton does not accept
+-- Finite-state controllers, and their meetings with the circuit of an environment. Letters are lists of bits in the
+-- circuit's order: a controller reads one bit for each output of the circuit, and outputs one bit for each input of the
+-- circuit.
+--     FiniteController      a size, a first memory state, and tables from a memory state and the letter read to a
+--               memory state and a letter
+--     IsController order c k      the tables stay within their ranges; if outputs come before inputs, the letter that
+--               the controller outputs depends only on the memory state
+--     GoesJointly c k latches memory moments to last      the joint trace from these latches and this memory state
+--     MeetsInLasso c k      the joint trace extends to a lasso trace, which also returns to the same memory state
+--     IsRejected file c k      the automaton does not accept the word of this lasso trace
 use Rattle.std.specs.Prelude.{◌≡◌, ℕ, ◌<◌, Bool, List, [], ◌∷◌, length}
 use Rattle.ps_hoa.specs.Files.{FileData}
 use Rattle.ps_automaton.specs.Acceptance.{IsAccepted}
@@ -22,11 +24,11 @@ pub record FiniteController : Type 0 where
   pub next : ℕ → List Bool → ℕ
   pub plays : ℕ → List Bool → List Bool
 
--- the letters that are read are of this width
+-- the width of the letters that the controller reads
 abbrev pub IsRead : CircuitData → List Bool → Type 0
 IsRead c letter = length letter ≡ length c.outputs
 
--- outputs before inputs: a table from memory to letter
+-- if outputs come before inputs, the controller's letter depends only on its memory state
 abbrev pub IsTimely : Order → CircuitData → FiniteController → Type 0
 IsTimely Mealy c k = Unit {0}
 IsTimely Moore c k =
@@ -43,7 +45,8 @@ pub record IsController (order : Order) (c : CircuitData) (k : FiniteController)
 
 -- ## The meeting
 
--- the controller answers each moment's outputs by its inputs, and its memory goes from the one to the other
+-- at each step the controller answers the outputs of the circuit with the inputs of the circuit; the controller's
+-- memory state goes from `memory` to `last`
 abbrev pub AnswersMoments : FiniteController → ℕ → List Moment → ℕ → Type 0
 AnswersMoments k memory [] last = memory ≡ last
 AnswersMoments k memory (m ∷ ms) last =
@@ -54,13 +57,13 @@ pub record GoesJointly (c : CircuitData) (k : FiniteController) (latches : List 
   pub goes_on : GoesOn c latches moments to
   pub answers : AnswersMoments k memory moments last
 
--- the first moments of the meeting
+-- a list of steps is a beginning of the meeting
 pub record IsMeeting (c : CircuitData) (k : FiniteController) (moments : List Moment) : Type 0 where
   pub latches : List Bool
   pub memory : ℕ
   pub goes : GoesJointly c k (resets c) k.first moments latches memory
 
--- for each number of moments exactly one meeting of that length
+-- the meeting has exactly one beginning of a given length
 pub record IsOneMeeting (c : CircuitData) (k : FiniteController) (count : ℕ) : Type 0 where
   pub moments : List Moment
   pub many : length moments ≡ count
@@ -76,7 +79,7 @@ pub record MeetsInLasso (c : CircuitData) (k : FiniteController) : Type 0 where
   pub goes_there : GoesJointly c k (resets c) k.first stem latches memory
   pub comes_back : GoesJointly c k latches memory lap latches memory
 
--- that this is a lasso trace
+-- the meeting is a lasso trace of the circuit
 abbrev pub lasso_of : (c : CircuitData) (k : FiniteController) (m : MeetsInLasso c k) → IsLassoTrace c m.stem m.lap
 lasso_of c k m =
     record { some = m.some; back = m.latches; goes_there = m.goes_there.goes_on; comes_back = m.comes_back.goes_on }

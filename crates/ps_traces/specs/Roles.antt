@@ -1,6 +1,6 @@
--- Which machine is a player's.
---     IsMachineFor order role file m      it has the file's names, reads the propositions that the role reads, and
---               moves in its turn
+-- The machines of a player.
+--     IsMachineFor order role file m      the machine has the file's names, reads the propositions that the role
+--               reads, and moves in the role's turn
 use Rattle.std.specs.Prelude.{◌≡◌, ℕ, ◌<◌, Bool, not, List, length}
 use Rattle.ps_hoa.specs.Files.{FileData, is_among}
 use Rattle.ps_machine.specs.Behaviours.{Behaviour}
@@ -9,7 +9,7 @@ use Rattle.ps_simulate.specs.declared.role.Role.{Role}
 use Rattle.ps_simulate.specs.declared.role.Role.TheVariants.{Controller, Environment}
 use Rattle.ps_traces.specs.Shapes.{moves_first}
 
--- a controller reads what is not controllable, an environment what is
+-- a controller reads the propositions that are not controllable; an environment reads the controllable ones
 abbrev pub is_read_by : Role → List ℕ → ℕ → Bool
 is_read_by Controller controllable p = not (is_among p controllable)
 is_read_by Environment controllable p = is_among p controllable

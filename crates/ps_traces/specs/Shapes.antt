@@ -1,7 +1,7 @@
--- What the circuit of a player looks like.
---     HasShape order role file c      its inputs and outputs are those of the role, by name; and if that player moves
---               first, the outputs are equal for all inputs at equal latches
---     SeesNoInputWhereReached c      they are equal at latches to which some trace leads
+-- The shape of the circuit of a player.
+--     HasShape order role file c      the inputs and outputs are those of the role, by name; and if that player moves
+--               first, the outputs are equal for all inputs whenever the latches are equal
+--     SeesNoInputWhereReached c      these outputs are equal at all latches that some trace reaches
 use Rattle.std.specs.Prelude.{◌≡◌, Bool, true, false, IsTrue, List}
 use Rattle.ps_hoa.specs.Files.{FileData}
 use Rattle.ps_circuit.specs.Circuits.{CircuitData}
@@ -13,14 +13,14 @@ use Rattle.ps_simulate.specs.Symbols.{HasSymbols}
 use Rattle.ps_simulate.specs.declared.role.Role.{Role}
 use Rattle.ps_simulate.specs.declared.role.Role.TheVariants.{Controller, Environment}
 
--- inputs before outputs: the environment; outputs before inputs: the controller
+-- if inputs come before outputs, the environment moves first; if outputs come before inputs, the controller does
 abbrev pub moves_first : Order → Role → Bool
 moves_first Mealy Controller = false
 moves_first Mealy Environment = true
 moves_first Moore Controller = true
 moves_first Moore Environment = false
 
--- a player who moves first does not see the other player's letter of the same moment
+-- a player who moves first does not see the letter of the other player in the same step
 abbrev pub IsInTime : Order → Role → CircuitData → Type 0
 IsInTime order role c = IsTrue (moves_first order role) → SeesNoInput c
 
@@ -28,9 +28,9 @@ pub record HasShape (order : Order) (role : Role) (file : FileData) (c : Circuit
   pub symbols : HasSymbols role file.names file.controllable c
   pub in_time : IsInTime order role c
 
--- ## Where traces lead alone
+-- ## Latches that traces reach
 
--- some trace leads to the latches
+-- some trace reaches the latches
 abbrev pub IsReached : CircuitData → List Bool → Type 0
 IsReached c latches = (moments : List Moment) × GoesOn c (resets c) moments latches
 

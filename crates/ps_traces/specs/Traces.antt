@@ -1,5 +1,5 @@
--- Traces of a circuit that come back to their latches, and the words that they make.
---     IsLassoTrace c stem lap      a trace of the stem and then the lap, which leads back to the latches before it
+-- Traces of a circuit that return to the same latches, and their words.
+--     IsLassoTrace c stem lap      a trace of the stem and then the lap, which returns to the latches before the lap
 --     IsLassoWord names c stem lap      the letters of such a trace
 --     AllAccepted file c, NoneAccepted file c      the automaton accepts each of these words, or none of them
 use Rattle.std.specs.Prelude.{ℕ, ◌<◌, Bool, List, length}
@@ -15,7 +15,7 @@ pub record IsLassoTrace (c : CircuitData) (stem lap : List Moment) : Type 0 wher
   pub goes_there : GoesOn c (resets c) stem back
   pub comes_back : GoesOn c back lap back
 
--- a letter for each moment joins its inputs and outputs by name
+-- the letters of a lasso trace; each letter joins the inputs and outputs of a step by name
 pub record IsLassoWord (names : List (List ℕ)) (c : CircuitData) (stem lap : List ℕ) : Type 0 where
   pub stem_moments : List Moment
   pub lap_moments : List Moment

@@ -1,4 +1,4 @@
-//! Laws on traces that return to the same latches.
+//! Laws about traces that return to the same latches.
 
 ghost use Rattle.std.specs.Prelude.{◌≡◌, ◌≢◌, ℕ, ◌<◌, Bool, List, length};
 ghost use Rattle.ps_hoa.specs.Files.{FileData};
@@ -36,23 +36,23 @@ use ps_automaton::automaton_is_there;
 use ps_machine::lassos_won;
 use ps_simulate::circuit_has_one_values;
 
-/// Every periodic input extends to a lasso trace of a circuit. For a stem and a non-empty lap of letters of the
-/// circuit's width there are two numbers of laps, each at least 1. A lasso trace reads the stem and the first number of
-/// laps, and then repeats the second number.
+/// Every periodic input extends to a lasso trace of a circuit. For each stem and each non-empty lap of letters of the
+/// circuit's width, there are two numbers of laps, both at least 1. A lasso trace reads the stem and the first number
+/// of laps, and then repeats the second number of laps.
 pub fn every_input_goes_on()
     ensures { (c : CircuitData) → IsCircuit c → EachInputGoesOn c }
 {
     circuit_has_one_values();
 }
 
-/// If the inputs and outputs of a circuit are the names of propositions, each once, each moment has exactly one letter.
+/// If the inputs and outputs of a circuit are named by propositions, each once, each step has exactly one letter.
 pub fn every_trace_has_letters()
     ensures { (role : Role) (file : FileData) (c : CircuitData) (moments : List Moment) → AreNames file.names →
         HasSymbols role file.names file.controllable c → HasLetters file.names c moments }
 {}
 
-/// A file that was read and is admitted, and a circuit with the inputs and outputs of a role, have a verdict on each
-/// stem and each non-empty lap of letters of the circuit's width.
+/// A sound, admitted file, and a circuit with the inputs and outputs of a role, have a verdict on each stem and each
+/// non-empty lap. The letters of the stem and the lap have the circuit's width.
 pub fn verdict_is_there()
     ensures { (role : Role) (file : FileData) (c : CircuitData) (stem lap : List (List Bool)) → IsSoundFile file →
         IsAdmitted file → IsCircuit c →
@@ -63,13 +63,14 @@ pub fn verdict_is_there()
     circuit_has_one_values();
 }
 
-/// A circuit that is in time at all latches is in time at those to which traces lead, which is what meetings require.
+/// If the outputs of a circuit are in time at all latches, they are in time at the latches that traces reach, which is
+/// all that meetings require.
 pub fn in_time_where_reached()
     ensures { (order : Order) (role : Role) (c : CircuitData) → IsInTime order role c →
         IsInTimeWhereReached order role c }
 {}
 
-/// The circuit of an environment and a finite-state controller have one joint trace of each length.
+/// The circuit of an environment and a finite-state controller have exactly one joint trace of each length.
 pub fn meeting_is_one()
     ensures { (order : Order) (c : CircuitData) (k : FiniteController) (count : ℕ) → IsCircuit c →
         IsInTimeWhereReached order Environment c → IsController order c k → IsOneMeeting c k count }
@@ -77,7 +78,8 @@ pub fn meeting_is_one()
     circuit_has_one_values();
 }
 
-/// The joint trace extends to a lasso trace, at whose end the controller's memory has come back too.
+/// The joint trace of an environment's circuit and a controller extends to a lasso trace, which also returns to the
+/// same memory state of the controller.
 pub fn every_meeting_goes_on()
     ensures { (order : Order) (c : CircuitData) (k : FiniteController) → IsCircuit c →
         IsInTimeWhereReached order Environment c → IsController order c k → MeetsInLasso c k }
@@ -85,7 +87,8 @@ pub fn every_meeting_goes_on()
     circuit_has_one_values();
 }
 
-/// So if no lasso trace of the environment's circuit is accepted, the meeting is rejected.
+/// If no lasso trace of an environment's circuit is accepted, its meeting with every finite-state controller is
+/// rejected.
 pub fn every_meeting_is_rejected()
     ensures { (order : Order) (file : FileData) (c : CircuitData) (k : FiniteController) → AreNames file.names →
         IsCircuit c → HasSymbols Environment file.names file.controllable c → IsInTimeWhereReached order Environment c →
@@ -94,13 +97,14 @@ pub fn every_meeting_is_rejected()
     circuit_has_one_values();
 }
 
-/// The words of a circuit's lasso traces are those of the machine that it encodes.
+/// The words of the lasso traces of a machine's circuit are words of the machine.
 pub fn circuit_has_machine_words()
     ensures { (m : Behaviour) (c : CircuitData) (stem lap : List ℕ) → IsMachine m → Encodes m c →
         IsLassoWord m.names c stem lap → IsLasso m stem lap }
 {}
 
-/// So they are accepted, all or none, as the machine's are.
+/// If a machine of player 0 wins its lassos, the automaton accepts all words of the circuit's lasso traces. If the
+/// machine belongs to player 1, the automaton accepts none of them.
 pub fn circuit_is_won()
     ensures accepted { (file : FileData) (m : Behaviour) (c : CircuitData) → IsMachine m → m.names ≡ file.names →
         Encodes m c → LassosWon file m → m.player ≡ 0 → AllAccepted file c }
@@ -108,13 +112,13 @@ pub fn circuit_is_won()
         Encodes m c → LassosWon file m → m.player ≢ 0 → NoneAccepted file c }
 {}
 
-/// And the circuit has the shape of the machine's player.
+/// The circuit of a machine has the shape of the machine's player.
 pub fn circuit_has_shape()
     ensures { (order : Order) (role : Role) (file : FileData) (m : Behaviour) (c : CircuitData) → IsMachine m →
         IsMachineFor order role file m → Encodes m c → HasShape order role file c }
 {}
 
-/// All of this together: what the circuit of the winner's machine is worth.
+/// The preceding laws together: the properties of the circuit of the winner's machine.
 pub fn circuit_answers()
     ensures { (order : Order) (file : FileData) (m : Behaviour) (c : CircuitData) → IsMachine m →
         IsMachineFor order (role_of m.player) file m → Encodes m c → LassosWon file m →
@@ -123,8 +127,9 @@ pub fn circuit_answers()
     circuit_has_one_values();
 }
 
-/// So a valid certificate of an automaton's game makes a controller whose lasso traces the automaton all accepts, or an
-/// environment whose lasso traces it all rejects, depending on which player wins vertex 0.
+/// If player 0 wins vertex 0, a valid certificate of an automaton's game gives a controller, and the automaton accepts
+/// all lasso traces of that controller. Otherwise the certificate gives an environment, and the automaton accepts none
+/// of the environment's lasso traces.
 pub fn certified_circuit_answers()
     ensures { (file : FileData) (chain : Chain) (a : AutomatonData) (order : Order) (keys : List Key)
         (game : ParityGame) (certificate : CertificateData) (m : Behaviour) (c : CircuitData) →

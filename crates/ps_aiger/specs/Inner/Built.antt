@@ -1,6 +1,6 @@
--- The parts of which the circuit of a machine is made. (For private functions.)
---     AreLatches from next latches      the latches from that variable on, with these next literals
---     IsBuilt b d next outputs c      the circuit of these gates, next literals and outputs
+-- The parts from which the circuit of a machine is built. (For private functions.)
+--     AreLatches from next latches      the latches with these next literals, from variable `from` on
+--     IsBuilt b d next outputs c      the circuit with these gates, next literals and outputs
 use Rattle.std.specs.Prelude.{◌≡◌, ℕ, ◌+◌, ◌*◌, ◌<◌, false, List, length, map, slice_get, slice_index, Some, None}
 use Rattle.std.specs.Prelude.{replicate}
 use Rattle.std.specs.List.{range_with_len}

@@ -1,10 +1,10 @@
--- The bits of a machine's step as functions of latches and inputs, and how their literals are made. (For private
+-- The bits of a machine's step as functions of latches and inputs, and how their literals are built. (For private
 -- functions.)
---     Wanted, wanted_bit w row      one bit of a row: of the next memory, or of the letter
---     node_made m w node d      the literal of the wanted bit of the row to which a node leads, as it is made
---     IsLiteralOf m w d node literal, KnowsMade m w d known      that literal exists; each one that is known exists
---     code_wanted m w latches code d      the same for the memories whose code is `code` with the bits of the first
---               latches
+--     Wanted, wanted_bit w row      one bit of a row: of the next memory state, or of the letter
+--     node_made m w node d      the literal of the wanted bit of the row to which a node leads, with its gates
+--     IsLiteralOf m w d node literal, KnowsMade m w d known      that literal exists; each known literal exists
+--     code_wanted m w latches code d      the literal for the memory states whose codes are `code` plus a number less
+--               than 2^latches
 --     bits_wired m latches ws d      the literals of these bits, one after another
 use Rattle.std.specs.Prelude.{◌≡◌, ℕ, Bool, List, length, map, Option, Some}
 use Rattle.std.specs.List.{range_with_len}
@@ -25,22 +25,22 @@ abbrev pub wanted_bit : Wanted → Row → Bool
 wanted_bit (Next j) row = is_in j row.memory
 wanted_bit (Output p) row = is_in p row.letter
 
--- which bit of the number it is
+-- the index of the bit in its number
 abbrev pub wanted_place : Wanted → ℕ
 wanted_place (Next j) = j
 wanted_place (Output p) = p
 
--- the row that a node leads to
+-- the row to which a node leads at an input letter
 abbrev pub row_by : MachineData → ℕ → ℕ → Row
 row_by m node x = row_of m (unwrap_or (leaf_of m.store node x) (length m.rows))
 
--- the bit that is wanted of that row, at each input letter
+-- the literal of the wanted bit of that row, as a function of the input letter
 unfoldable pub node_made : MachineData → Wanted → ℕ → Drafted → Made
 node_made m w node d =
     over_variables (range_with_len 1 (length m.inputs)) (λ bits.
     wanted_bit w (row_by m node (letter_over m.inputs bits))) d
 
--- a literal over existing gates, which would be made without a further one
+-- a literal over existing gates; building it again would need no further gate
 pub record IsLiteralOf (m : MachineData) (w : Wanted) (d : Drafted) (node literal : ℕ) : Type 0 where
   pub held : IsHeld d literal
   pub made : node_made m w node d ≡ record { draft = d; literal = literal }

@@ -1,6 +1,6 @@
--- The counts that the pairs of a line give for its priorities: those from which the pairs were written.
---     after ps cs so_far      what is known of the counts after the pairs of these
---     after_counts      for each priority it is its count
+-- The counts that the pairs of a line give for its priorities are the counts from which the pairs were written.
+--     after ps cs so_far      the counts that are known after the pairs of ps and cs
+--     after_counts      the count that is known for each priority is its count
 use Rattle.std.proofs.Common.{◌≡◌, ℕ, ◌<◌, Bool, cond, eqb, List, [], ◌∷◌, length, map, refl, arith, rules}
 use Rattle.std.specs.List.{All}
 use Rattle.std.proofs.lemmas.Bool.{eq-eqb, ne_eqb, eqb-true}
@@ -8,7 +8,7 @@ use Rattle.std.proofs.lemmas.List.Elements.{All-head, All-tail}
 use Rattle.ps_certificate.specs.Pairs.{Pairs, with_pair}
 use Rattle.ps_certificate.proofs.OneReading.{Rises}
 
--- what is known of the counts after pairs of these
+-- the counts that are known after the pairs of `ps` and `cs` were read
 abbrev pub after : List ℕ → List ℕ → Pairs → Pairs
 after [] cs so_far = so_far
 after (p ∷ ps) [] so_far = so_far

@@ -1,7 +1,7 @@
--- A certificate that is written is read again.
+-- Parsing the text that was written for a certificate gives that certificate.
 --     writable      the entries of a certificate that fits can be written
 --     IsReadFrom P text v rest      the part P is read from these bytes with the value v, and rest is left
---     then, with_value      one part and then the next one; its value is seen by another function
+--     then, with_value      one part and then the next one; a function is applied to the value of a part
 --     read_byte, read_word, read_number, read_fields, read_version, read_winner, read_choice, read_counts, read_pairs,
 --     read_entry, read_entries, read_text      each part of the text
 --     reads_again      the whole text
@@ -59,7 +59,7 @@ use Rattle.ps_text.proofs.Bytes.Single.{At, byte_taken}
 abbrev seen : ℕ → List ℕ → List Seen
 seen at bytes = signs (pieces_at at bytes)
 
--- wherever the bytes are
+-- a part is read from the given bytes at every offset
 record IsReadFrom {V : Type 0} (P : Field V) (text : List ℕ) (v : V) (rest : List ℕ) : Type 0 where
   read : (at : ℕ) → (to : ℕ) × IsRead P (seen at text) v (seen to rest)
 
@@ -74,7 +74,7 @@ with_value : {A B : Type 0} (h : A → B) {P : Field A} {a : A} {text rest : Lis
     IsReadFrom (mapped h P) text (h a) rest
 with_value h {P} p = record { read = λ at. let r = p.read at in (r.0, read_mapped h P r.1) }
 
--- one of several forms
+-- a part that has several forms, read in one of these forms
 as_form : {V : Type 0} {P Q : Field V} {v : V} {text rest : List ℕ} →
     ((at : ℕ) → Covers (first_of (seen at text)) P Q) → IsReadFrom P text v rest → IsReadFrom Q text v rest
 as_form {P = P} {Q = Q} covers p = record { read = λ at. let r = p.read at in (r.0, read_as P Q (covers at) r.1) }
@@ -91,11 +91,11 @@ one_byte {take = take} {Bad = Bad} {b = b} {rest = rest} takes good = record {
       (at + 1, read_one take Bad (takes s refl) (λ f x. good s f refl x));
 }
 
--- the next sign is not one of these
+-- the next sign is not in a given set
 avoids : (A : Seen → Type 0) (s : Seen) → (A s → ⊥) → Avoids A (Some s)
 avoids A s none t e h = none (subst A (sym (same_some s t e)) h)
 
--- items after spaces: no more of them, or one and then the others
+-- a list of items, each after a space: the list ends, or one more item follows
 module _ {C : Type 0} (item : C → Field C) (l : (c : C) → Laws Odd (item c) (At 32) AtDigit ⊥) where
   no_item : (c : C) (rest : List ℕ) → IsReadFrom (many item c) (10 ∷ rest) c (10 ∷ rest)
   no_item c rest = record {
@@ -215,7 +215,7 @@ read_pair ps so_far p c above there small some fits end = then (chain_pair ps so
     right : (f : CertCause) → ((f ≡ Syntax) × DoesNotRise so_far p) ⊎ ((f ≡ OtherGame) × ¬ Contains ps p) → ⊥
     right f h = grind arith
 
--- none of these is at most the last one, and each of these is one of those
+-- the priorities are greater than the last one that was read, and each of them is in the list of all priorities
 abbrev AllAbove : Pairs → List ℕ → Type 0
 AllAbove so_far ps = All (λ p. DoesNotRise so_far p → ⊥) ps
 
@@ -263,7 +263,8 @@ read_counts_in true ps {cs} {rest} r same small fits = subst (λ xs. IsReadFrom 
 
 module _ (compact : Bool) (ids odd even : List ℕ) (ids_small : All IsWord ids) (odd_rises : Rises odd)
     (even_rises : Rises even) (odd_small : All IsWord odd) (even_small : All IsWord even) where
-  -- the entry can be written, its counts are as many as the winner loses by, and the move is found by its id
+  -- the entry can be written; it has one count for each priority by which the winner loses, and the id of its move is
+  -- the id of a vertex
   record IsReadable (entry : EntryData) : Type 0 where
     winner : entry.winner < 2
     counts : length entry.counts ≡ length (lost_by odd even entry.winner)
@@ -332,7 +333,7 @@ module _ (ids : List ℕ) (differ : AllPairs (λ x y. x ≢ y) ids) where
       (omega (arith, within)) (λ k lt. ne_eqb (get_or ids k 0) id (differ k v 0 lt within)) (λ _. eq-eqb id id refl) in
       grind (arith, lt-ltb)
 
--- each entry of a certificate that fits
+-- a property of the entry at each index of a list is a property of all entries
 each_entry : (P : EntryData → Type 0) (entries : List EntryData)
     → ((v : ℕ) → v < length entries → P (get_or entries v no_entry)) → All P entries
 each_entry P entries h k d lt = subst P (get_or_default entries k no_entry d lt) (h k lt)

@@ -1,6 +1,6 @@
--- What the writer of a certificate has written.
---     all_taken, all_taken_all      of each element so far
---     head_joined      what precedes the lines of the vertices
+-- What the writer of a certificate has written so far.
+--     all_taken, all_taken_all      a property of all elements so far
+--     head_joined      the lines before those of the vertices
 --     pair_written, pair_skipped      one more count
 use Rattle.std.proofs.Common.{◌≡◌, ℕ, ◌+◌, ◌<◌, ◌≤◌, cond, eqb, List, [], ◌∷◌, ◌++◌, length, get_or, drop}
 use Rattle.std.proofs.Common.{take, subst, append_assoc, arith, rules}
@@ -29,7 +29,7 @@ pub head_joined : (o w : List ℕ) (v : ℕ) (a b c d e f : List ℕ) → ((((((
     ++ 10 ∷ e) ++ f) ++ 10 ∷ [] ≡ o ++ (((((((w ++ v ∷ a) ++ b) ++ c) ++ d) ++ 10 ∷ e) ++ f) ++ 10 ∷ [])
 head_joined o w v a b c d e f = grind (arith, append_assoc, eight_joined)
 
--- one place further
+-- the pairs from an index on, in terms of those from the next index on
 pairs_next : (ps cs : List ℕ) (i : ℕ) → i < length cs → length cs ≡ length ps
     → pairs (drop i ps) (drop i cs) ≡ cond (eqb (get_or cs i 0) 0) (pairs (drop (i + 1) ps) (drop (i + 1) cs))
     (32 ∷ decimal (get_or ps i 0) ++ 58 ∷ decimal (get_or cs i 0) ++ pairs (drop (i + 1) ps) (drop (i + 1) cs))

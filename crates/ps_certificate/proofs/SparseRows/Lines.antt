@@ -1,4 +1,4 @@
--- Entries that are kept by winners, lines and one list of placed counts.
+-- Entries that are stored as winners, lines and one shared list of counts with their indices.
 use Rattle.std.proofs.Common.{◌≡◌, ℕ, ◌<◌, ◌≤◌, List, [], ◌∷◌, ◌++◌, length, get_or, take, drop, refl}
 use Rattle.std.proofs.Common.{ap, sym, subst, ◌∙◌, arith, rules}
 use Rattle.std.specs.List.{All, slice_range, zip}
@@ -12,7 +12,7 @@ use Rattle.ps_certificate.specs.Sparse.{row_of}
 use Rattle.ps_certificate.specs.declared.entries.Line.{Line}
 use Rattle.ps_certificate.specs.declared.row.PlacedCount.{PlacedCount}
 
--- a part of a list stays where more is appended
+-- a part of a list does not change when more is appended
 range_kept : {X : Type 0} (xs ys : List X) (i j : ℕ) → j ≤ length xs → slice_range (xs ++ ys) i j ≡ slice_range xs i j
 range_kept xs ys i j h = grind (arith, common_steps)
 
@@ -23,7 +23,7 @@ zip_push [] (b ∷ ls) w l h = absurd (omega arith)
 zip_push (a ∷ ws) [] w l h = absurd (omega arith)
 zip_push (a ∷ ws) (b ∷ ls) w l h = ap (λ rest. (a, b) ∷ rest) (zip_push ws ls w l (omega arith))
 
--- so do entries, and lines
+-- entries and lines do not change when more is appended to the shared list
 entries_kept : (ws : List ℕ) (ls : List Line) {cs : List PlacedCount} (more : List PlacedCount) → All (IsWithin cs) ls
     → entries_in ws ls (cs ++ more) ≡ entries_in ws ls cs
 entries_kept [] ls more h = refl
@@ -46,7 +46,7 @@ begins xs ys h = (drop (length xs) ys, grind (arith, common_steps))
 
 module _ (ws : List ℕ) (ls : List Line) (cs new : List PlacedCount) (are : AreLines ws ls cs)
     (kept : take (length cs) new ≡ cs) where
-  -- what is not named by a line changes no entry
+  -- appending counts to the shared list changes no entry
   pub entries_same : entries_in ws ls new ≡ entries_in ws ls cs
   entries_same = search (rules, begins, entries_kept)
 
@@ -61,7 +61,7 @@ module _ (ws : List ℕ) (ls : List Line) (cs new : List PlacedCount) (are : Are
         (ls ++ line ∷ []) new ≡ entries_in ws ls cs ++ record { winner = w; choice = line.choice; counts = row } ∷ []
     entries_push is = search (rules, zip_push, map-append, entries_same)
 
-    -- one line more, whose counts are there
+    -- one more line, whose counts are in the list
     pub lines_push : IsWithin new line → AreLines (ws ++ w ∷ []) (ls ++ line ∷ []) new
     lines_push is = grind (
       arith,

@@ -1,4 +1,4 @@
--- How a row is compared with another one, and copied.
+-- How a row is compared with another row, and copied.
 use Rattle.std.proofs.Common.{◌≡◌, ℕ, ◌+◌, ◌-◌, ◌<◌, ◌≤◌, List, [], ◌∷◌, ◌++◌, length, replicate, ap, arith}
 use Rattle.std.proofs.Common.{take, inl, inr, rules}
 use Rattle.std.proofs.lemmas.Bool.{cases_order, cases_lt}
@@ -11,7 +11,8 @@ use Rattle.ps_certificate.proofs.SparseRows.Sparse.{place_within, rising, length
 
 -- ## Comparing
 
--- no count before a number is above the one of another list at its place, from a place on
+-- the stored counts after the first `number` have indices of at least `from`; those of the first `number` stored counts
+-- whose indices are at least `from` are not greater than the counts of the other list
 pub record AreNotAbove (own other : List PlacedCount) (from number : ℕ) : Type 0 where
   pub within : number ≤ length own
   pub late : (j : ℕ) → number ≤ j → j < length own → from ≤ place_at own j
@@ -37,14 +38,14 @@ module _ (own other : List PlacedCount) (from number : ℕ) where
 
 -- ## Copying
 
--- a list has the counts up to its end, and those before a number are in it
+-- the list has the counts up to its length, and these include the first `number` stored counts
 pub record IsFilled (width : ℕ) (placed : List PlacedCount) (list : List ℕ) (number : ℕ) : Type 0 where
   pub list_is : list ≡ row_of (length list) placed
   pub long : length list ≤ width
   pub before : (i : ℕ) → i < number → place_at placed i < length list
   pub behind : (i : ℕ) → number ≤ i → i < length placed → length list ≤ place_at placed i
 
--- a list that is resized to more
+-- how a list changes when it is extended with zeros
 pub resized : (list : List ℕ) (n long : ℕ) → long ≡ length list → length list ≤ n →
     take n list ++ replicate (n - long) 0 ≡ list ++ replicate (n - length list) 0
 resized list n long is more = search (rules, take_all)

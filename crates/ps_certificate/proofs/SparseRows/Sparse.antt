@@ -1,4 +1,4 @@
--- Lists of counts of which only those that are not 0 are kept.
+-- Lists of counts of which only the nonzero counts are stored.
 use Rattle.std.proofs.Common.{◌≡◌, ◌≢◌, ℕ, zero, suc, ◌+◌, ◌<◌, ◌≤◌, ◌∙◌, List, [], ◌∷◌, ◌++◌, length, get_or, refl}
 use Rattle.std.proofs.Common.{sym, ap, arith, drop, replicate, cond, inl, inr, ◌-◌, take, rules}
 use Rattle.std.proofs.Math.Seq.{drop-cons}
@@ -30,7 +30,7 @@ counts_from_more ps (suc n) m k =
     let many : suc n + m ≡ suc (n + m) = omega arith in
     grind (arith, counts_from_more ps n m (suc k))
 
--- ## Places
+-- ## Indices
 
 pub place_within : (from width : ℕ) (ps : List PlacedCount) (i : ℕ) → Rises from width ps → i < length ps →
     (from ≤ place_at ps i) × (place_at ps i < width)
@@ -47,7 +47,7 @@ rising from width (p ∷ ps) h zero (suc j) less within =
 rising from width (p ∷ ps) h (suc i) (suc j) less within =
     rising (suc p.place) width ps h.2 i j (omega (arith, less)) (omega (arith, within))
 
--- ## The count at a place
+-- ## The count at an index
 
 abbrev pub number_at : List PlacedCount → ℕ → ℕ
 number_at ps i = (get_or ps i (record { place = 0; count = 0 })).count
@@ -58,13 +58,13 @@ same_place p ps {k} h = ap (λ b. cond b p.count (count_at ps k)) (eq-eqb p.plac
 other_place : (p : PlacedCount) (ps : List PlacedCount) (k : ℕ) → p.place ≢ k → count_at (p ∷ ps) k ≡ count_at ps k
 other_place p ps k h = ap (λ b. cond b p.count (count_at ps k)) (ne_eqb p.place k h)
 
--- there is none at that place
+-- if no stored count has an index, the count at that index is 0
 pub count_missing : (ps : List PlacedCount) (k : ℕ) → ((i : ℕ) → i < length ps → place_at ps i ≢ k) → count_at ps k ≡ 0
 count_missing [] k h = refl
 count_missing (p ∷ ps) k h =
     other_place p ps k (h 0 (omega arith)) ∙ count_missing ps k (λ i within. h (suc i) (omega (arith, within)))
 
--- the one with a number does
+-- the count at the index of a stored count is that stored count
 pub count_here : (ps : List PlacedCount) (i : ℕ) → AreRising ps → i < length ps →
     count_at ps (place_at ps i) ≡ number_at ps i
 count_here [] i h within = absurd (omega (arith, within))
@@ -80,7 +80,7 @@ module _ (ps : List PlacedCount) (k n : ℕ) (rises : AreRising ps) (first : IsF
   pub count_none : (n < length ps → place_at ps n ≢ k) → count_at ps k ≡ 0
   count_none other = search (rules, count_missing, cases_order)
 
--- ## What is appended
+-- ## Appending counts
 
 pub row_next : (ps : List PlacedCount) (n : ℕ) → row_of (n + 1) ps ≡ row_of n ps ++ count_at ps n ∷ []
 row_next ps n = search (rules, counts_from_more)
@@ -91,7 +91,7 @@ zeros_from ps zero k h = refl
 zeros_from ps (suc n) k h = ap (λ c. c ∷ counts_from ps n (suc k)) (grind (arith, count_missing))
     ∙ ap (λ rest. 0 ∷ rest) (zeros_from ps n (suc k) (λ i within late. omega (arith, h i within (omega (arith, late)))))
 
--- zeros up to the next place
+-- a row up to the next stored index is the row so far with zeros appended
 pub row_to : (ps : List PlacedCount) (from to : ℕ) → from ≤ to → ((i : ℕ) → i < length ps →
     from ≤ place_at ps i → to ≤ place_at ps i) → row_of to ps ≡ row_of from ps ++ replicate (to - from) 0
 row_to ps from to h next = let long : to ≡ from + (to - from) = omega (arith, h) in
@@ -110,7 +110,7 @@ pub gathered_zeros : (n k : ℕ) (cs : List ℕ) → gathered k (replicate n 0 +
 gathered_zeros zero k cs = let same : k ≡ k + 0 = omega arith in ap (λ j. gathered j cs) same
 gathered_zeros (suc n) k cs = search (rules, gathered_zero, replicate, gathered_zeros n (suc k) cs)
 
--- the rest of a list, by its first number
+-- the rest of a list as its first number and the numbers after it
 rest_at : (cs : List ℕ) (k : ℕ) → k < length cs → drop k cs ≡ get_or cs k 0 ∷ drop (k + 1) cs
 rest_at cs k within = search (rules, drop-cons)
 

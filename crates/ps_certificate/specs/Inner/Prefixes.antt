@@ -1,5 +1,5 @@
--- What the checks have found so far. The public contracts speak of `IsClosed`, `IsValid` and
--- `IsFirstFlaw`; these are the facts on the way.
+-- Intermediate facts that the checks establish. The public contracts use `IsClosed`, `IsValid` and `IsFirstFlaw`
+-- instead.
 use Rattle.std.specs.Prelude.{◌≡◌, ◌≢◌, ℕ, ◌%◌, ◌<◌, ◌⊎◌, List, length, IfSome, slice_index}
 use Rattle.std.specs.List.{Contains}
 use Rattle.ps_game.specs.Games.{ParityGame, vertex_count, priority_of, successors_of}
@@ -8,27 +8,28 @@ use Rattle.ps_certificate.specs.declared.flaw.Flaw.TheVariants.{Move, Escape, Ra
 use Rattle.ps_certificate.specs.Certificates.{CertificateData, Remains, HasRightMove, IsFlaw, Precedes, StandsBefore}
 use Rattle.ps_certificate.specs.Certificates.{winner_of, choice_of, counts_of, opposing, KeepsCount, opposing_at}
 
--- each edge of a vertex that remains stays with the winner
+-- each remaining edge of a vertex stays with the winner
 abbrev pub StaysInside : ParityGame → CertificateData → ℕ → Type 0
 StaysInside game certificate v =
     (w : ℕ) → Remains game certificate v w → winner_of certificate w ≡ winner_of certificate v
 
--- the move of a vertex is right, and its edges that remain stay with the winner
+-- the move of a vertex is right, and its remaining edges stay with the winner
 pub record IsSoundAt (game : ParityGame) (certificate : CertificateData) (v : ℕ) : Type 0 where
   pub right_move : HasRightMove game certificate v
   pub inside : StaysInside game certificate v
 
--- an edge that remains and leads to the other winner
+-- a remaining edge that leads to a vertex with the other winner
 pub record Leaves (game : ParityGame) (certificate : CertificateData) (v w : ℕ) : Type 0 where
   pub remains : Remains game certificate v w
   pub other_winner : winner_of certificate w ≢ winner_of certificate v
 
--- the vertex's first edge that leaves its winner's region
+-- the vertex's first remaining edge that leaves its winner's region
 pub record IsFirstEscape (game : ParityGame) (certificate : CertificateData) (v w : ℕ) : Type 0 where
   pub leaves : Leaves game certificate v w
   pub first : (other : ℕ) → Leaves game certificate v other → (w ≡ other) ⊎ StandsBefore (successors_of game v) w other
 
--- moves and escapes are looked for first, ranks after them
+-- the stage of the check that reports a flaw: the first stage reports wrong moves and escapes, and the second reports
+-- flaws in counts
 abbrev pub stage_of : Flaw → ℕ
 stage_of (Move _ _) = 0
 stage_of (Escape _ _) = 0
@@ -39,7 +40,7 @@ vertex_of (Move v _) = v
 vertex_of (Escape v _) = v
 vertex_of (Rank v _ _) = v
 
--- the first flaw of a stage at a vertex
+-- the first flaw at a vertex among those of one stage
 pub record IsFirstFlawAt (game : ParityGame) (certificate : CertificateData) (stage v : ℕ) (flaw : Flaw) : Type 0 where
   pub is_flaw : IsFlaw game certificate flaw
   pub at_stage : stage_of flaw ≡ stage
@@ -47,18 +48,18 @@ pub record IsFirstFlawAt (game : ParityGame) (certificate : CertificateData) (st
   pub first : (other : Flaw) → IsFlaw game certificate other → stage_of other ≡ stage → vertex_of other ≡ v →
       (flaw ≡ other) ⊎ Precedes game flaw other
 
--- a list has the priority of each vertex of one parity
+-- a list contains the priority of every vertex whose priority has a given parity
 abbrev pub IsComplete : ParityGame → ℕ → List ℕ → Type 0
 IsComplete game parity list =
     (v : ℕ) → v < vertex_count game → priority_of game v % 2 ≡ parity → Contains list (priority_of game v)
 
--- the entry of a vertex fits a game with that number of vertices
+-- the entry of a vertex fits a game with a given number of vertices
 pub record EntryFits (vertices : ℕ) (certificate : CertificateData) (v : ℕ) : Type 0 where
   pub winner : winner_of certificate v < 2
   pub choice : IfSome (choice_of certificate v) (λ w. w < vertices)
   pub count_each : length (counts_of certificate v) ≡ length (opposing certificate (winner_of certificate v))
 
--- a number is at a place of a list
+-- a number is at a given index of a list
 pub record IsAt (list : List ℕ) (number place : ℕ) : Type 0 where
   pub within : place < length list
   pub is : slice_index list place ≡ number
@@ -68,15 +69,15 @@ abbrev pub KeepsCounts : ParityGame → CertificateData → ℕ → ℕ → Type
 KeepsCounts game certificate v w =
     (k : ℕ) → k < length (opposing certificate (winner_of certificate v)) → KeepsCount game certificate v w k
 
--- each edge of a vertex that remains does so
+-- each remaining edge of a vertex keeps the rule of counts for each opposing priority
 abbrev pub KeepsCountsAt : ParityGame → CertificateData → ℕ → Type 0
 KeepsCountsAt game certificate v = (w : ℕ) → Remains game certificate v w → KeepsCounts game certificate v w
 
--- the vertices before a place do so
+-- the vertices before a given one keep the rule of counts
 abbrev pub KeepCountsBefore : ParityGame → CertificateData → ℕ → Type 0
 KeepCountsBefore game certificate n = (v : ℕ) → v < n → KeepsCountsAt game certificate v
 
--- the first flaw in counts at a vertex, if each earlier one keeps the rule
+-- the first flaw in counts at a vertex, if each earlier vertex keeps the rule
 pub record IsFirstUnranked (game : ParityGame) (certificate : CertificateData) (flaw : Flaw) : Type 0 where
   pub vertex : ℕ
   pub at_vertex : IsFirstFlawAt game certificate 1 vertex flaw

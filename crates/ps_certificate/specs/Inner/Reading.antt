@@ -1,8 +1,8 @@
--- What the private functions of the reader say of what they have read: a part of the grammar, or its first fault.
---     Tells view part old result new      the part was read, or its first fault was found
+-- What the private functions of the parser establish: a part of the grammar was read, or it has a first error.
+--     Tells view part old result new      the function read the part, or located its first error
 --     numeral bytes      the longest run of digits without a leading zero with which the bytes begin
---     TellsNumber old result new      the function moved past this run; or it is empty, or its number does not fit in
---               64 bits
+--     TellsNumber old result new      the function moved past this run; or the run is empty, or its number does not
+--               fit in 64 bits
 --     TellsPriority, TellsHead, TellsEntries      the priority of a pair; what precedes the lines of the vertices; the
 --               text
 use Rattle.std.specs.Prelude.{◌≡◌, ℕ, ◌+◌, ◌^◌, ◌<◌, ◌≤◌, ◌⊎◌, List, [], ◌∷◌, ◌++◌, length, Option, Some, None, Result}
@@ -27,14 +27,14 @@ Tells view part old result new = Meets found_of causes view part old result new
 
 -- ## Bytes
 
--- a space, a newline or a colon
+-- the next byte is a space, a newline or a colon
 abbrev pub is_end : Option ℕ → Bool
 is_end None = false
 is_end (Some b) = (b == 32) || (b == 10) || (b == 58)
 
 -- ## Numbers
 
--- the bytes begin with that one
+-- the bytes begin with a given byte
 abbrev pub comes : ℕ → List ℕ → Bool
 comes byte [] = false
 comes byte (b ∷ bytes) = b == byte
@@ -42,7 +42,7 @@ comes byte (b ∷ bytes) = b == byte
 abbrev pub numeral : List ℕ → List ℕ
 numeral bytes = if comes 48 bytes then 48 ∷ [] else take_while is_ascii_digit bytes
 
--- the function moved past the run that came next, which writes that number
+-- the function moved past the next run of digits, which denotes the given number
 pub record IsNumberRead (old new : Stream Seen) (n : ℕ) : Type 0 where
   pub at : ℕ
   pub digits : List ℕ
@@ -56,7 +56,7 @@ pub record IsNumberRead (old new : Stream Seen) (n : ℕ) : Type 0 where
   pub value : n ≡ decimal_value digits
   pub small : n < 2 ^ 64
 
--- no number comes, or one that is too large
+-- the bytes don't begin with a number, or begin with a number that is too large
 pub record HasNoNumber (old : Stream Seen) : Type 0 where
   pub at : ℕ
   pub bytes : List ℕ
@@ -67,13 +67,13 @@ abbrev pub TellsNumber : Stream Seen → Result ℕ CertFault → Stream Seen �
 TellsNumber old (Ok n) new = IsNumberRead old new n
 TellsNumber old (Err e) new = (e ≡ Text Syntax (place_of old)) × HasNoNumber old
 
--- the number is above the last one
+-- the number is greater than the last priority, if there is one
 abbrev pub rises : Option ℕ → ℕ → Bool
 rises None n = true
 rises (Some last) n = nat_lt last n
 
--- the priority of a count was read, at that place of the list; or its first fault was found, or no colon is allowed
--- after it
+-- the function read the priority of a count, which is at the given index of the list; or it located the first error,
+-- which is in the priority or is a missing colon after it
 abbrev pub TellsPriority : List ℕ → Pairs → Stream Seen → Result ℕ CertFault → Stream Seen → Type 0
 TellsPriority ps pairs old (Ok place) new = ReadsPart (judged (WrongPriority ps pairs)) old
     (slice_index ps place) new
@@ -89,7 +89,7 @@ abbrev pub all_entries : Bool → List ℕ → List ℕ → List ℕ → Field C
 all_entries compact odd even ids = mapped (λ es. record { odd = odd; even = even; entries = es })
     (entries compact odd even ids ids)
 
--- reading the lines of the vertices from here gives what reading the text from its start gives
+-- parsing the lines of the vertices from here gives the same result as parsing the text from its start
 abbrev pub TellsHead : List ℕ → List ℕ → List ℕ → Stream Seen → Result Bool CertFault → Stream Seen → Type 0
 TellsHead odd even ids old (Ok compact) new = Carries causes (certificate odd even ids) old
     (all_entries compact odd even ids) new

@@ -10,10 +10,10 @@ link_of cell = record { source = cell.source; next = cell.next }
 abbrev pub count_cell_of : NarrowCount → CountCell
 count_cell_of cell = record { place = cell.place; count = cell.count; next = cell.next }
 
--- a cell of no link
+-- the default cell for an index past the end of a list of link cells
 abbrev pub no_link : Cell
 no_link = record { source = 0; next = 0 }
 
--- a cell that raises nothing, and is the last of its chain
+-- the default cell for an index past the end of a list of count cells
 abbrev pub no_count : CountCell
 no_count = record { place = 0; count = 0; next = 0 }

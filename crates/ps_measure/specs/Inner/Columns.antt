@@ -1,11 +1,12 @@
--- Counts along the links of a graph whose vertices have weights 0 or 1: one value for each component of what was met.
+-- Counts along the links of a graph whose vertices have weights 0 or 1, with one value for each component of the
+-- vertices that were reached.
 use Rattle.std.specs.Prelude.{◌≡◌, ℕ, ◌+◌, ◌<◌, ◌≤◌, List, length, Option, None, Some, nat_le, if◌then◌else◌, slice_get}
 use Rattle.std.specs.Prelude.{slice_index}
 use Rattle.ps_components.specs.Graphs.{Digraph, Link}
 use Rattle.ps_components.specs.ComponentLists.{ComponentsData, AreComponents, IsIn}
 use Rattle.ps_measure.specs.Sums.{sum_below}
 
--- numbers that grow along each link by the weight of the vertex that the link leads to
+-- numbers that grow along each link by at least the weight of the link's target
 abbrev pub AreCounts : Digraph → (ℕ → ℕ) → (ℕ → ℕ) → Type 0
 AreCounts g weight d = (w v : ℕ) → Link g w v → d w + weight v ≤ d v
 
@@ -14,23 +15,24 @@ pub record AreRoots (g : Digraph) (weight : ℕ → ℕ) (roots : List ℕ) : Ty
   pub sound : (i v : ℕ) → slice_get roots i ≡ Some v → (w : ℕ) × Link g w v × (weight v ≡ 1)
   pub complete : (w v : ℕ) → Link g w v → weight v ≡ 1 → (i : ℕ) × (slice_get roots i ≡ Some v)
 
--- the weight of a vertex whose component has the number k or a greater one
+-- the weight x of a vertex if its component has a number of at least k, and otherwise 0
 abbrev pub weight_from : ℕ → Option (Option ℕ) → ℕ → ℕ
 weight_from k None x = 0
 weight_from k (Some None) x = 0
 weight_from k (Some (Some m)) x = if nat_le k m then x else 0
 
--- the weights of the vertices below n in the components from k on
+-- the sum of the weights of those of the first n vertices whose components have numbers of at least k
 abbrev pub weights_from : ComponentsData → (ℕ → ℕ) → ℕ → ℕ → ℕ
 weights_from c weight k n = sum_below (λ v. weight_from k (slice_get c.numbers v) (weight v)) n
 
--- a value for each component, at most that of any counts, and at most the weights of the components from there on
+-- a value for each component, which is a lower bound for all counts of its vertices, and is at most the sum of the
+-- weights of the components from that one on
 pub record IsColumn (g : Digraph) (weight : ℕ → ℕ) (c : ComponentsData) (values : List ℕ) : Type 0 where
   pub each : length values ≡ length c.order
   pub least : (d : ℕ → ℕ) → AreCounts g weight d → (v k : ℕ) → IsIn c v k → slice_index values k ≤ d v
   pub bounded : (k : ℕ) → slice_index values k ≤ weights_from c weight k g.count
 
--- the components of these vertices have values from 1 on
+-- the components of the given vertices have values of at least 1
 abbrev pub AreRaised : ComponentsData → List ℕ → List ℕ → Type 0
 AreRaised c values roots = (i v k : ℕ) → slice_get roots i ≡ Some v → IsIn c v k → 1 ≤ slice_index values k
 
@@ -39,24 +41,24 @@ pub record IsCounting (g : Digraph) (weight : ℕ → ℕ) (c : ComponentsData) 
   pub components : AreComponents g c
   pub column : IsColumn g weight c values
 
--- the link from w to v is taken into account: it stays in a component and its end has no weight, or the value of the
--- end's component is great enough
+-- the values respect the link from w to v: the link stays in a component and v has weight 0, or the value of v's
+-- component is large enough
 pub data IsPassed (weight : ℕ → ℕ) (c : ComponentsData) (values : List ℕ) (w v : ℕ) : Type 0 where
   inside : (k : ℕ) → IsIn c w k → IsIn c v k → weight v ≡ 0 → IsPassed weight c values w v
   across : (k m : ℕ) → IsIn c w k → IsIn c v m → m < k → slice_index values k + weight v ≤ slice_index values m →
       IsPassed weight c values w v
 
--- no value falls, and those from a place on stay
+-- no value falls, and the values from index `place` on do not change
 pub record GrowsBelow (old new : List ℕ) (place : ℕ) : Type 0 where
   pub grows : (k : ℕ) → slice_index old k ≤ slice_index new k
   pub same : (k : ℕ) → place ≤ k → slice_index new k ≡ slice_index old k
 
--- the links of each vertex in the order from place i on are taken into account
+-- the values respect the links of each vertex in the order from index i on
 abbrev pub ArePassedFrom : Digraph → (ℕ → ℕ) → ComponentsData → List ℕ → ℕ → Type 0
 ArePassedFrom g weight c values i =
     (j w v : ℕ) → i ≤ j → slice_get c.order j ≡ Some w → Link g w v → IsPassed weight c values w v
 
--- a link that stays in a component, to a vertex of weight 1
+-- a link within a component, to a vertex of weight 1
 pub record IsLost (g : Digraph) (weight : ℕ → ℕ) (c : ComponentsData) (w v : ℕ) : Type 0 where
   pub link : Link g w v
   pub number : ℕ
@@ -64,7 +66,7 @@ pub record IsLost (g : Digraph) (weight : ℕ → ℕ) (c : ComponentsData) (w v
   pub to : IsIn c v number
   pub heavy : weight v ≡ 1
 
--- the value of a vertex's component, 0 if the vertex was not met
+-- the value of a vertex's component; 0 if the vertex was not reached
 abbrev pub value_at : List ℕ → Option (Option ℕ) → ℕ
 value_at values None = 0
 value_at values (Some None) = 0

@@ -1,4 +1,4 @@
--- Rows of counts, filled place by place, and cycles in a graph of low vertices.
+-- Rows of counts, filled for one priority after another, and cycles in the graph of low vertices.
 use Rattle.std.specs.Prelude.{◌≡◌, ℕ, ◌<◌, ◌≤◌, Bool, List, length, Option, nat_lt, slice_index}
 use Rattle.ps_components.specs.Graphs.{Digraph}
 use Rattle.ps_components.specs.Trails.{IsTrail}
@@ -12,14 +12,14 @@ use Rattle.ps_measure.specs.Inner.Outcomes.{IsClosing}
 use Rattle.ps_measure.specs.Ranks.{AreLeastFor, AreRows, count_of}
 use Rattle.ps_measure.specs.Tables.{HasColumn}
 
--- the least counts were put at a place; the number is how many of them are not 0
+-- the least counts were written at the index of a priority; `raised` is the number of nonzero counts
 pub record IsFilled (g : Digraph) (weight : ℕ → ℕ) (old new : List (List ℕ)) (place raised : ℕ) : Type 0 where
   pub counts : ℕ → ℕ
   pub least : AreLeast g weight counts
   pub column : HasColumn old new place counts
   pub raised_is : raised ≡ count_below (λ v. nat_lt 0 (counts v)) g.count
 
--- a way from the source of a link back to it
+-- a link, and a way from the link's target back to its source, which together form a cycle
 pub record IsLowCycle (low : LowData) (cycle : List ℕ) : Type 0 where
   pub from : ℕ
   pub to : ℕ
@@ -35,8 +35,8 @@ pub record AreLevels (game : ParityGame) (levels : List ℕ) : Type 0 where
   pub each : length levels ≡ vertex_count game
   pub is : (v : ℕ) → v < vertex_count game → slice_index levels v ≡ priority_of game v
 
--- rows of counts: the least ones for the priorities at the places before one, and 0 for the others; the number is how
--- many are not 0
+-- rows with the least counts for the priorities before index `place`, and 0 for the other priorities; `raises` is the
+-- number of nonzero counts
 pub record AreRanked (game : ParityGame) (player : ℕ) (set : ℕ → Bool) (table : ℕ → Option ℕ) (priorities : List ℕ)
     (rows : List (List ℕ)) (place raises : ℕ) : Type 0 where
   pub shape : AreRows rows (vertex_count game) (length priorities)

@@ -1,5 +1,5 @@
--- The graph of the edges that remain within a region, and its reversed links between vertices that do not exceed a
--- priority.
+-- The graph of the edges that remain within a region, and its reversed links between vertices whose priorities do not
+-- exceed a given one.
 use Rattle.std.specs.Prelude.{◌≡◌, ℕ, ◌+◌, ◌-◌, ◌<◌, ◌≤◌, List, length, Option, None, Some, Bool, not, ◌&&◌, ◌||◌, ◌==◌}
 use Rattle.std.specs.Prelude.{nat_le, false, if◌then◌else◌, slice_index}
 use Rattle.ps_components.specs.Graphs.{Digraph, Link}
@@ -14,12 +14,12 @@ pub record RemainingData : Type 0 where
   pub region : List Bool
   pub strategy : List (Option ℕ)
 
--- there is a place for each vertex
+-- the region and the strategy have one item for each vertex
 pub record IsRemaining (r : RemainingData) : Type 0 where
   pub region_fits : length r.region ≡ vertex_count r.game
   pub strategy_fits : length r.strategy ≡ vertex_count r.game
 
--- the move is this vertex
+-- whether a move leads to vertex w
 abbrev pub is_move : Option ℕ → ℕ → Bool
 is_move None w = false
 is_move (Some move) w = move == w
@@ -37,20 +37,21 @@ remaining_graph r = record {
   target = λ v k. let w = slice_index (successors_of r.game v) k in if may_remain r v w then Some w else None;
 }
 
--- the targets of all vertices, one vertex after another, and where those of each vertex begin; the end comes last
+-- The targets of the links of all vertices, one vertex after another; and the index at which the targets of each vertex
+-- begin. One more index states where the last targets end.
 pub record StarData : Type 0 where
   pub count : ℕ
   pub starts : List ℕ
   pub targets : List ℕ
 
--- each vertex has a part of the targets, which are vertices
+-- each vertex has a range of the list of targets, and the targets are vertices
 pub record IsStar (star : StarData) : Type 0 where
   pub long : length star.starts ≡ star.count + 1
   pub rises : (v : ℕ) → v < star.count → slice_index star.starts v ≤ slice_index star.starts (v + 1)
   pub ends : (v : ℕ) → v ≤ star.count → slice_index star.starts v ≤ length star.targets
   pub within : (i : ℕ) → i < length star.targets → slice_index star.targets i < star.count
 
--- the graph that is stored in this way
+-- the graph that a `StarData` stores
 abbrev pub star_graph : StarData → Digraph
 star_graph star = record {
   count = star.count;
@@ -58,25 +59,25 @@ star_graph star = record {
   target = λ v k. Some (slice_index star.targets (slice_index star.starts v + k));
 }
 
--- the second graph has the links of the first one, reversed
+-- the second graph has the links of the first graph, reversed
 pub record IsReverse (g r : Digraph) : Type 0 where
   pub count : r.count ≡ g.count
   pub there : (v w : ℕ) → Link g v w → Link r w v
   pub back : (v w : ℕ) → Link r w v → Link g v w
 
--- a star, a region of its vertices, a level for each of them, and a priority
+-- a stored graph, a region of its vertices, a level for each vertex, and a priority
 pub record LowData : Type 0 where
   pub star : StarData
   pub region : List Bool
   pub levels : List ℕ
   pub priority : ℕ
 
--- there is a place for each vertex
+-- the region and the levels have one item for each vertex
 pub record IsLow (low : LowData) : Type 0 where
   pub region_fits : length low.region ≡ low.star.count
   pub levels_fit : length low.levels ≡ low.star.count
 
--- the links between vertices whose levels do not exceed the priority
+-- the links between vertices whose levels are at most the priority
 abbrev pub low_graph : LowData → Digraph
 low_graph low = record {
   count = low.star.count;
@@ -85,6 +86,6 @@ low_graph low = record {
       if nat_le (slice_index low.levels w) low.priority then Some w else None;
 }
 
--- 1 at each vertex of the region whose level is the priority
+-- the weight of a vertex: 1 if it is in the region and its level is the priority, and otherwise 0
 abbrev pub low_weight : LowData → ℕ → ℕ
 low_weight low v = counted ((slice_index low.levels v == low.priority) && has low.region v)

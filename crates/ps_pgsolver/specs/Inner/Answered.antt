@@ -1,4 +1,5 @@
--- What the functions of the code answer to a token, and what each says of the part that it reads.
+-- The results of the parser's functions for one token, and what each function establishes about its part of the
+-- grammar.
 use Rattle.std.specs.Prelude.{ℕ, Bool, true, List, Option, None, Some, Result, Ok, Err, IfOk, nat_lt, if◌then◌else◌}
 use Rattle.ps_text.specs.Answers.{Stream, Found}
 use Rattle.ps_text.specs.Parts.{Part, PartAnswers}
@@ -13,18 +14,19 @@ use Rattle.ps_pgsolver.specs.declared.fault.PgCause.TheVariants as causes
 use Rattle.ps_pgsolver.specs.Causes.{PgFault}
 use Rattle.ps_text.specs.declared.faults.Fault.TheVariants as faults
 
--- the part was read from old, and new is left, or its first fault was found
+-- the part was read from `old`, and `new` is left; or the function located the first error of the part
 abbrev pub ReadsAs : {V X : Type 0} → (X → V) → Part Sign V PgCause → Stream Sign → Result X PgFault →
     Stream Sign → Type 0
 ReadsAs view part old result new = Meets found_of pg_causes view part old result new
 
--- if all ids that the value names are among some ids, the part with these as known ids was read too
+-- with every list of ids that contains all ids in the value as the known ids, the part was also read
 abbrev pub ReadsKnown : {V X : Type 0} → (List ℕ → V → Type 0) → (X → V) → (Option (List ℕ) → Part Sign V PgCause) →
     Stream Sign → Result X PgFault → Stream Sign → Type 0
 ReadsKnown Knows view part old result new =
     IfOk result (λ x. (ids : List ℕ) → Knows ids (view x) → WasRead (part (Some ids)) old (view x) new)
 
--- the same of a part that adds to a value; what it names now, it named before
+-- every list of ids that contains all ids in the new value contains all ids in the old value; with such a list as the
+-- known ids, the part was also read
 abbrev pub AddsKnown : {V X : Type 0} → (List ℕ → V → Type 0) → V → V → (Option (List ℕ) → Part Sign V PgCause) →
     Stream Sign → Result X PgFault → Stream Sign → Type 0
 AddsKnown Knows before after part old result new =
@@ -34,7 +36,7 @@ abbrev pub is_known : Option (List ℕ) → ℕ → Bool
 is_known None n = true
 is_known (Some ids) n = is_member ids n
 
--- the answer of a reader that wants a number and meets this sign, or the end, at an offset
+-- the result of a function that expects a number, for a sign or the end of the text, at an offset
 abbrev pub number_answer : Option Sign → ℕ → Result ℕ PgFault
 number_answer (Some (Number n)) at = if nat_lt n too_large then Ok n else Err (faults.Text causes.Number at)
 number_answer _ at = Err (faults.Text causes.Syntax at)
@@ -80,7 +82,7 @@ abbrev pub end_answer : Option Sign → ℕ → Result (Unit {0}) PgFault
 end_answer None at = Ok tt
 end_answer (Some sign) at = Err (faults.Text causes.Syntax at)
 
--- what the reading of a whole text answers
+-- what the result of parsing a whole text means
 abbrev pub FaultAnswers : Option (List ℕ) → Stream Sign → Option (Found PgCause) → Type 0
 FaultAnswers known stream None = Unit {0}
 FaultAnswers known stream (Some found) = PartAnswers pg_causes (game known) stream (Err found)
@@ -89,7 +91,7 @@ abbrev pub TextAnswers : Option (List ℕ) → Stream Sign → Result (List Node
 TextAnswers known stream (Ok nodes) = PartAnswers pg_causes (game known) stream (Ok nodes)
 TextAnswers known stream (Err fault) = FaultAnswers known stream (found_of fault)
 
--- the text's answer when ids are known that include all those that its value names
+-- the answer to a text stays the same if the known ids include all ids in its value
 abbrev pub KnownAnswers : Stream Sign → Result (List NodeData) PgFault → Type 0
 KnownAnswers stream result =
     IfOk result (λ nodes. (ids : List ℕ) → KnowsAll ids nodes →

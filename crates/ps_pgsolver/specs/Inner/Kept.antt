@@ -1,4 +1,4 @@
--- How nodes are stored: their ids, their vertices and their names in three lists. The successors of these vertices are
+-- How nodes are stored: in a list of ids, a list of vertices and a list of names. The successors of these vertices are
 -- ids.
 use Rattle.std.specs.Prelude.{◌≡◌, ℕ, List, [], ◌∷◌, ◌++◌, length, Option, Some, None, Vec}
 use Rattle.std.specs.Global.{Global}
@@ -11,12 +11,12 @@ use Rattle.ps_pgsolver.specs.declared.node.Node.{Node}
 abbrev pub node_kept : ℕ → VertexData → Option (List ℕ) → NodeData
 node_kept id v name = record { id = id; priority = v.priority; owner = v.owner; successors = v.successors; name = name }
 
--- the nodes that are stored in these lists
+-- the nodes that are stored in a list of ids, a list of vertices and a list of names
 unfoldable pub nodes_kept : List ℕ → ParityGame → List (Option (List ℕ)) → List NodeData
 nodes_kept (id ∷ ids) (v ∷ vertices) (name ∷ names) = node_kept id v name ∷ nodes_kept ids vertices names
 nodes_kept _ _ _ = []
 
--- the vertex of a node, before its successors are replaced by their places
+-- the vertex of a node, before its successors are replaced by their indices
 abbrev pub vertex_kept : NodeData → VertexData
 vertex_kept node = vertex_made node.owner node.priority node.successors
 
@@ -31,12 +31,12 @@ node_with node successors =
       name = name_bytes node.name;
     }
 
--- one more name at the end, if there is one
+-- a list with one more name at its end, if there is a name
 abbrev pub names_with : List (Option (Vec ℕ Global)) → Option (Vec ℕ Global) → List (Option (Vec ℕ Global))
 names_with names None = names
 names_with names (Some name) = names ++ Some name ∷ []
 
--- the lists are of one length
+-- the lists have equal lengths and store nodes
 pub record AreKept (ids : List ℕ) (vertices : ParityGame) (names : List (Option (List ℕ))) : Type 0 where
   pub id_each : length ids ≡ length vertices
   pub name_each : length names ≡ length ids

@@ -1,4 +1,5 @@
--- What the functions of the code answer to a token, and what each says of the part that it reads.
+-- The results of the parser's functions for one token, and what each function establishes about its part of the
+-- grammar.
 use Rattle.std.specs.Prelude.{ℕ, List, Option, None, Some, Result, Ok, Err, nat_lt, if◌then◌else◌, ◌&&◌, not}
 use Rattle.std.specs.List.{list_any}
 use Rattle.ps_text.specs.Answers.{Stream}
@@ -16,11 +17,11 @@ use Rattle.ps_pgsolver.specs.Signs.{Sign, Number, Semicolon}
 use Rattle.ps_solution.specs.Solved.{SolvedData}
 use Rattle.ps_solution.specs.Texts.{Field, solution_causes, solution}
 
--- the part was read from old, and new is left, or its first fault was found
+-- the part was read from `old`, and `new` is left; or the function located the first error of the part
 abbrev pub ReadsAs : {V X : Type 0} → (X → V) → Field V → Stream Sign → Result X CertFault → Stream Sign → Type 0
 ReadsAs view part old result new = Meets found_of solution_causes view part old result new
 
--- the answer to a sign, or to the end, at an offset, if the value of a number is judged
+-- the result for a sign, or for the end of the text, at an offset; `judge` checks the value of a number
 abbrev pub value_answer : {V : Type 0} → (ℕ → ℕ → Result V CertFault) → Option Sign → ℕ → Result V CertFault
 value_answer judge (Some (Number n)) at = if nat_lt n too_large then judge at n else Err (Text Syntax at)
 value_answer judge _ at = Err (Text Syntax at)
@@ -46,7 +47,7 @@ abbrev pub end_answer : Option Sign → ℕ → Result (Unit {0}) CertFault
 end_answer None at = Ok tt
 end_answer (Some sign) at = Err (Text Syntax at)
 
--- what the reading of a whole text answers
+-- what the result of parsing a whole text means
 abbrev pub TextAnswers : List ℕ → Stream Sign → Result SolvedData CertFault → Type 0
 TextAnswers ids stream (Ok solved) = PartAnswers solution_causes (solution ids) stream (Ok solved)
 TextAnswers ids stream (Err (Text cause offset)) =

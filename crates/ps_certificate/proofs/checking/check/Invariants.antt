@@ -3,7 +3,7 @@ use Rattle.std.specs.Prelude.{IfNone, IfSome}
 use Rattle.ps_certificate.specs.Inner.Prefixes.{IsSoundAt, KeepCountsBefore, IsFirstUnranked}
 use Rattle.ps_certificate.proofs.checking.check.Given as goal
 
--- each vertex before the place is sound, and keeps the rule where no flaw in counts was found
+-- each vertex before the loop's index is sound, and keeps the rule if no flaw was found in counts
 abbrev pub invariant-loop-vertex : goal.invariant-loop-vertex
 invariant-loop-vertex g l = record {
   sound : (v : ℕ) → v < l.vertex → IsSoundAt (g.A.Arena.game l.arena) l.certificate v;

@@ -2,10 +2,11 @@ use Rattle.std.proofs.Common.{◌≡◌, ℕ, ◌<◌, get_or, true, false}
 use Rattle.ps_certificate.proofs.Windows.{AreMarks}
 use Rattle.ps_certificate.proofs.fitted.window_present.Given as goal
 
--- what is marked is the priority of some vertex, and that of each vertex before the place is marked
+-- each marked number is the priority of some vertex; the priority of each vertex before the loop's index is marked, if
+-- the window has it
 abbrev pub invariant-loop-vertex : goal.invariant-loop-vertex
 invariant-loop-vertex g l = AreMarks (g.A.Arena.game l.arena) l.window l.seen l.vertex
 
--- each number before the place is marked
+-- each number before the loop's index is marked
 abbrev pub invariant-loop-place : goal.invariant-loop-place
 invariant-loop-place g l = (k : ℕ) → k < l.place → get_or l.seen k false ≡ true

@@ -1,7 +1,7 @@
 use Rattle.std.proofs.Common.{◌-◌, ℕ, ◌+◌, ◌<◌, ◌≤◌, length, get_or}
 use Rattle.ps_certificate.proofs.rising.is_rising.Given as goal
 
--- the numbers up to the place rise
+-- the numbers before the loop's index ascend
 abbrev pub invariant-loop-place : goal.invariant-loop-place
 invariant-loop-place l =
     record {

@@ -11,7 +11,7 @@ use Rattle.ps_pgsolver.proofs.reader.node.Goals as goal
 use Rattle.ps_pgsolver.proofs.reader.node.Goals.{After-number, After-owner, After-successors, After-name}
 use Rattle.ps_pgsolver.proofs.reader.node.Goals.{After-semicolon}
 
--- ## What is left after each part, whatever ids are known
+-- ## What is left after each part, for all known ids
 
 abbrev Known : Type 0
 Known = Option (List ℕ)

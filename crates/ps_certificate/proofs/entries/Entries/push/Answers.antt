@@ -7,7 +7,7 @@ use Rattle.ps_certificate.proofs.entries.Entries.push.Goals as goal
 on_err : {T E P : Type 0} (r : Result T E) → P → OnErr r P
 on_err r h = search rules
 
--- if counts could not be put, what was put changes no entry
+-- if storing the counts failed, the counts that were stored before the failure change no entry
 pub invariant_of-self-in_err-start : goal.invariant_of-self-in_err-start
 invariant_of-self-in_err-start c = search (rules, lines_same)
 
